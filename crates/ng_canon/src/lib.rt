@@ -1,0 +1,21 @@
+//! What blocks are turned into: canonical commands and their text, segments, and items handed out.
+//!
+//! The plain types stand here once, for the interpreter above and for the stepper, the device and the
+//! controller beside it. The crate stands on `ng_num` alone.
+#![tactic(auto)]
+
+mod command;
+mod geometry;
+mod item;
+mod outputs;
+mod pace;
+mod plane;
+mod segment;
+
+pub use command::{ArcFeed, Canon, Command};
+pub use geometry::{Axis, Geometry};
+pub use item::{Item, Pulse, Step};
+pub use outputs::{Outputs, Spindle};
+pub use pace::{InverseTime, Pace, Rate};
+pub use plane::{Plane, Turn};
+pub use segment::{Arc, Line, Segment};

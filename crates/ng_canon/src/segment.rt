@@ -1,0 +1,37 @@
+use crate::outputs::Outputs;
+use crate::pace::Pace;
+use crate::plane::{Plane, Turn};
+use ng_num::{Len, Num, Point};
+
+/// A straight move between two machine points, perhaps of no length.
+#[derive(Clone, Copy, Debug, PartialEq, Eq)]
+pub struct Line {
+    pub start: Point,
+    pub end: Point,
+    pub pace: Pace,
+}
+
+/// An arc, perhaps a helix, between two machine points. An end equal to the start is one full turn (own).
+#[derive(Clone, Copy, Debug, PartialEq, Eq)]
+pub struct Arc {
+    pub plane: Plane,
+    pub turn: Turn,
+    pub start: Point,
+    pub end: Point,
+    /// The centre's machine coordinate on the plane's axis a: X, Z, Y.
+    pub centre_a: Len,
+    /// The centre's machine coordinate on the plane's axis b: Y, X, Z.
+    pub centre_b: Len,
+    pub pace: Pace,
+}
+
+/// A part of a block that is journaled before it begins (own).
+#[derive(Clone, Copy, Debug, PartialEq, Eq)]
+pub enum Segment {
+    Line(Line),
+    Arc(Arc),
+    /// Seconds.
+    Dwell(Num),
+    /// All outputs as they then are.
+    Switch(Outputs),
+}

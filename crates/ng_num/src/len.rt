@@ -1,0 +1,74 @@
+ghost use Rattle.std.specs.Prelude.{◌≡◌, pos};
+ghost use Rattle.ng_num.specs.Range.{IsCount, in_range};
+ghost use Rattle.ng_num.specs.Lengths.{nm_of};
+
+use crate::fault::Fault;
+use crate::num::{GREATEST, Num};
+use crate::rounding::inches_to_nm;
+use crate::unit::Unit;
+use std::marker::Model;
+
+/// A length: a whole count of nanometres, in size at most 9,999,999,999,999 (own). Feeds are lengths a minute.
+#[derive(Clone, Copy, Debug, PartialEq, Eq)]
+pub struct Len {
+    nm: i64,
+}
+
+impl Model for Len {
+    ghost use Rattle.std.specs.Prelude.{ℤ};
+    ghost use Rattle.ng_num.specs.Range.{IsCount};
+
+    ghost Value = { ℤ };
+
+    ghost view = { λ n. n.nm };
+
+    ghost invariant = { λ n. IsCount n.nm };
+
+    ghost inverse = { λ z. record { nm = z } };
+}
+
+impl Len {
+    /// The length of a count of nanometres; E3 where the count is beyond the range.
+    pub fn of_nm(nm: i128) -> Result<Len, Fault>
+        ensures { result ≡ in_range nm }
+    {
+        if nm.unsigned_abs() <= GREATEST {
+            Ok(Len { nm: nm as i64 })
+        } else {
+            Err(Fault::OutOfRange)
+        }
+    }
+
+    /// Its count of nanometres.
+    pub fn nm(self) -> i64
+        ensures value { result ≡ self }
+        ensures range { IsCount self }
+    {
+        self.nm
+    }
+
+    /// No length.
+    pub fn zero() -> Len
+        ensures { result ≡ pos 0 }
+    {
+        Len { nm: 0 }
+    }
+}
+
+impl Default for Len {
+    fn default() -> Self {
+        Len::zero()
+    }
+}
+
+/// The length that a number writes in a unit: its count of millionths as nanometres under millimetres, 25.4
+/// times as many under inches, rounded half away from zero (NISTIR 6556, 3.5.7; rounding own). E3 where that is
+/// beyond the range.
+pub fn nm_of(number: Num, unit: Unit) -> Result<Len, Fault>
+    ensures { result ≡ in_range (nm_of number unit) }
+{
+    match unit {
+        Unit::Inches => Len::of_nm(inches_to_nm(number.count())),
+        Unit::Millimetres => Len::of_nm(number.count() as i128),
+    }
+}
