@@ -1,1 +1,5 @@
 pub mod Fresh
+pub mod Limits
+pub mod Inside
+pub mod Text
+pub mod Rates

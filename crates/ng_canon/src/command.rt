@@ -51,6 +51,12 @@ pub enum Command {
     ProgramEnd,
 }
 
+impl Default for Command {
+    fn default() -> Self {
+        Command::ProgramEnd
+    }
+}
+
 /// A canonical command. Comments and messages lie in the line that wrote them.
 #[derive(Clone, Copy, Debug)]
 pub enum Canon<'a> {

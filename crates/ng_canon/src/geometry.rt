@@ -1,7 +1,8 @@
-ghost use Rattle.std.specs.Prelude.{◌≤◌, ◌≤ℤ◌, pos, negsuc};
+ghost use Rattle.std.specs.Prelude.{◌≡◌, ◌≤◌, ◌≤ℤ◌, ◌↔◌, pos, negsuc, IsSome, IfSome};
+ghost use Rattle.ng_canon.specs.Limits.{IsAxis, IsPacing};
 
 use crate::pace::Rate;
-use ng_num::Len;
+use ng_num::{Len, Point};
 
 /// One axis: its step and its travel, in machine coordinates.
 #[derive(Clone, Copy, Debug, PartialEq, Eq)]
@@ -17,6 +18,45 @@ pub struct Axis {
     pub ghost high_in_limits: { (pos 0 ≤ℤ high) × (high ≤ℤ pos 10_000_000_000) },
 }
 
+impl Axis {
+    ghost use Rattle.ng_canon.specs.Inside.{IsStandardAxis, is_on};
+
+    /// An axis of a step and a travel; none where one of them is beyond its limits.
+    pub fn new(step_nm: u32, low: Len, high: Len) -> Option<Axis>
+        ensures when { IsSome result ↔ IsAxis step_nm low high }
+        ensures step { IfSome result (λ axis. axis.step_nm ≡ step_nm) }
+        ensures low { IfSome result (λ axis. axis.low ≡ low) }
+        ensures high { IfSome result (λ axis. axis.high ≡ high) }
+    {
+        let is_step = 10 <= step_nm && step_nm <= 1_000_000;
+        let is_low = -10_000_000_000 <= low.nm() && low.nm() <= 0;
+        let is_high = 0 <= high.nm() && high.nm() <= 10_000_000_000;
+        if is_step && is_low && is_high {
+            Some(Axis { step_nm, low, high })
+        } else {
+            None
+        }
+    }
+
+    /// A step of 1,000 nm and a travel from -1,000,000,000 to 1,000,000,000 nm: the default setting.
+    fn standard() -> Axis
+        ensures { IsStandardAxis result }
+    {
+        Axis {
+            step_nm: 1_000,
+            low: Len::of_nm(-1_000_000_000).unwrap(),
+            high: Len::of_nm(1_000_000_000).unwrap(),
+        }
+    }
+
+    /// Whether a machine coordinate lies within the travel, its ends included.
+    pub fn contains(&self, coordinate: Len) -> bool
+        ensures { result ≡ is_on self.now coordinate }
+    {
+        self.low.nm() <= coordinate.nm() && coordinate.nm() <= self.high.nm()
+    }
+}
+
 /// The machine's geometry, as its settings give it (own).
 #[derive(Clone, Copy, Debug, PartialEq, Eq)]
 pub struct Geometry {
@@ -29,4 +69,52 @@ pub struct Geometry {
     pub least_period_us: u32,
     pub ghost traverse_in_limits: { traverse ≤ 100_000_000_000 },
     pub ghost period_in_limits: { (1 ≤ least_period_us) × (least_period_us ≤ 1_000_000) },
+}
+
+impl Geometry {
+    ghost use Rattle.ng_canon.specs.Inside.{IsStandard, is_inside};
+
+    /// A machine of three axes; none where its traverse rate or least period is beyond its limits.
+    pub fn new(x: Axis, y: Axis, z: Axis, traverse: Rate, least_period_us: u32) -> Option<Geometry>
+        ensures when { IsSome result ↔ IsPacing traverse least_period_us }
+        ensures axes { IfSome result (λ machine. (machine.x ≡ x) × (machine.y ≡ y) × (machine.z ≡ z)) }
+        ensures traverse { IfSome result (λ machine. machine.traverse ≡ traverse) }
+        ensures period { IfSome result (λ machine. machine.least_period_us ≡ least_period_us) }
+    {
+        let is_traverse = traverse.nm_per_min() <= 100_000_000_000;
+        let is_period = 1 <= least_period_us && least_period_us <= 1_000_000;
+        if is_traverse && is_period {
+            Some(Geometry {
+                x,
+                y,
+                z,
+                traverse,
+                least_period_us,
+            })
+        } else {
+            None
+        }
+    }
+
+    /// The default settings: each axis of a step of 1,000 nm and a travel of 1,000,000,000 nm to either side,
+    /// traverses of 6,000,000,000 nm a minute, a least period of 50 us.
+    pub fn standard() -> Geometry
+        ensures { IsStandard result }
+    {
+        let traverse = Len::of_nm(6_000_000_000).unwrap();
+        Geometry {
+            x: Axis::standard(),
+            y: Axis::standard(),
+            z: Axis::standard(),
+            traverse: Rate::of(traverse).unwrap(),
+            least_period_us: 50,
+        }
+    }
+
+    /// Whether a machine point lies within the travel of all three axes, its ends included.
+    pub fn contains(&self, point: Point) -> bool
+        ensures { result ≡ is_inside self.now point }
+    {
+        self.x.contains(point.x) && self.y.contains(point.y) && self.z.contains(point.z)
+    }
 }

@@ -1,5 +1,8 @@
 //! What blocks are turned into: canonical commands and their text, segments, and items handed out.
 //!
+//! `print` appends the text of a command, exact to the byte, and is the only call that takes memory. `Axis` and
+//! `Geometry` are within their limits by their types, and say what lies within the travel.
+//!
 //! The plain types stand here once, for the interpreter above and for the stepper, the device and the
 //! controller beside it. The crate stands on `ng_num` alone.
 #![tactic(auto)]
@@ -10,6 +13,7 @@ mod item;
 mod outputs;
 mod pace;
 mod plane;
+mod printing;
 mod segment;
 
 pub use command::{ArcFeed, Canon, Command};
@@ -18,4 +22,8 @@ pub use item::{Item, Pulse, Step};
 pub use outputs::{Outputs, Spindle};
 pub use pace::{InverseTime, Pace, Rate};
 pub use plane::{Plane, Turn};
+pub use printing::print;
 pub use segment::{Arc, Line, Segment};
+
+#[cfg(test)]
+mod tests;

@@ -1,4 +1,4 @@
-ghost use Rattle.std.specs.Prelude.{ℤ, ◌≡◌, ◌<◌, ◌≤◌, ◌<ℤ◌, pos, IfSome, IfNone, ◌≤ℤ◌};
+ghost use Rattle.std.specs.Prelude.{◌≡◌, ◌<◌, ◌≤◌};
 
 use ng_num::{Len, Num};
 use std::marker::Model;
@@ -24,11 +24,11 @@ impl Model for Rate {
 
 impl Rate {
     ghost use Rattle.ng_num.specs.Range.{greatest};
+    ghost use Rattle.ng_canon.specs.Rates.{above_zero};
 
     /// The rate of a length a minute; none where it isn't above 0.
     pub fn of(per_min: Len) -> Option<Rate>
-        ensures some { IfSome result (λ r. pos r ≡ per_min) }
-        ensures none { IfNone result (per_min ≤ℤ pos 0) }
+        ensures { result ≡ above_zero per_min }
     {
         let nm = per_min.nm();
         if 0 < nm {
@@ -72,11 +72,11 @@ impl Model for InverseTime {
 
 impl InverseTime {
     ghost use Rattle.ng_num.specs.Range.{greatest};
+    ghost use Rattle.ng_canon.specs.Rates.{above_zero};
 
     /// That of a number; none where it isn't above 0.
     pub fn of(number: Num) -> Option<InverseTime>
-        ensures some { IfSome result (λ t. pos t ≡ number) }
-        ensures none { IfNone result (number ≤ℤ pos 0) }
+        ensures { result ≡ above_zero number }
     {
         let count = number.count();
         if 0 < count {

@@ -35,3 +35,9 @@ pub enum Segment {
     /// All outputs as they then are.
     Switch(Outputs),
 }
+
+impl Default for Segment {
+    fn default() -> Self {
+        Segment::Dwell(Num::zero())
+    }
+}

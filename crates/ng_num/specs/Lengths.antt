@@ -1,6 +1,6 @@
 -- Lengths in the units of a program (NISTIR 6556, 3.5.7; rounding own).
-use Rattle.std.specs.Prelude.{ℤ, pos, ◌*ℤ◌}
-use Rattle.ng_num.specs.Rounding.{near}
+use Rattle.std.specs.Prelude.{◌≡◌, ℤ, pos, ◌*ℤ◌}
+use Rattle.ng_num.specs.Rounding.{IsNearest, near}
 use Rattle.ng_num.specs.declared.unit.Unit.{Unit as LengthUnit}
 use Rattle.ng_num.specs.declared.unit.Unit.TheVariants.{Inches, Millimetres}
 
@@ -8,3 +8,8 @@ use Rattle.ng_num.specs.declared.unit.Unit.TheVariants.{Inches, Millimetres}
 abbrev pub nm_of : ℤ → LengthUnit → ℤ
 nm_of count Inches = near (count *ℤ pos 254) 10
 nm_of count Millimetres = count
+
+-- nm is the length that a number writes in a unit, rounded half away from zero
+abbrev pub IsLength : ℤ → LengthUnit → ℤ → Type 0
+IsLength count Inches nm = IsNearest (count *ℤ pos 254) (pos 10) nm
+IsLength count Millimetres nm = nm ≡ count

@@ -4,3 +4,9 @@ pub mod Lengths
 pub mod Points
 pub mod FaultText
 pub mod Gives
+pub mod Text
+pub mod Arithmetic
+pub mod Extremes
+pub mod Whole
+pub mod Root
+pub mod Power

@@ -219,3 +219,6 @@ impl<T: Drop> From<AllocFailed<T>> for Fault {
         Fault::OutOfMemory
     }
 }
+
+#[cfg(test)]
+mod tests;

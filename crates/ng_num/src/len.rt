@@ -1,6 +1,6 @@
-ghost use Rattle.std.specs.Prelude.{◌≡◌, pos};
-ghost use Rattle.ng_num.specs.Range.{IsCount, in_range};
-ghost use Rattle.ng_num.specs.Lengths.{nm_of};
+ghost use Rattle.std.specs.Prelude.{◌≡◌, ◌+ℤ◌, ◌-ℤ◌, neg_ℤ, pos};
+ghost use Rattle.ng_num.specs.Range.{Answers, IsCount, in_range};
+ghost use Rattle.ng_num.specs.Lengths.{IsLength, nm_of};
 
 use crate::fault::Fault;
 use crate::num::{GREATEST, Num};
@@ -9,7 +9,7 @@ use crate::unit::Unit;
 use std::marker::Model;
 
 /// A length: a whole count of nanometres, in size at most 9,999,999,999,999 (own). Feeds are lengths a minute.
-#[derive(Clone, Copy, Debug, PartialEq, Eq)]
+#[derive(Clone, Copy, Debug, PartialEq, Eq, PartialOrd, Ord)]
 pub struct Len {
     nm: i64,
 }
@@ -32,8 +32,20 @@ impl Len {
     pub fn of_nm(nm: i128) -> Result<Len, Fault>
         ensures { result ≡ in_range nm }
     {
-        if nm.unsigned_abs() <= GREATEST {
+        if nm.unsigned_abs() <= GREATEST as u128 {
             Ok(Len { nm: nm as i64 })
+        } else {
+            Err(Fault::OutOfRange)
+        }
+    }
+
+    /// The same of a count that fits 64 bits.
+    #[inline(always)]
+    pub(crate) fn of_i64(nm: i64) -> Result<Len, Fault>
+        ensures { result ≡ in_range nm }
+    {
+        if nm.unsigned_abs() <= GREATEST {
+            Ok(Len { nm })
         } else {
             Err(Fault::OutOfRange)
         }
@@ -45,6 +57,27 @@ impl Len {
         ensures range { IsCount self }
     {
         self.nm
+    }
+
+    /// The sum; E3 beyond the range (own).
+    pub fn add(self, other: Len) -> Result<Len, Fault>
+        ensures { result ≡ in_range (self +ℤ other) }
+    {
+        Len::of_i64(self.nm + other.nm)
+    }
+
+    /// The difference; E3 beyond the range (own).
+    pub fn sub(self, other: Len) -> Result<Len, Fault>
+        ensures { result ≡ in_range (self -ℤ other) }
+    {
+        Len::of_i64(self.nm - other.nm)
+    }
+
+    /// The length of the same size and the other sign.
+    pub fn neg(self) -> Len
+        ensures { result ≡ neg_ℤ self }
+    {
+        Len { nm: -self.nm }
     }
 
     /// No length.
@@ -65,10 +98,11 @@ impl Default for Len {
 /// times as many under inches, rounded half away from zero (NISTIR 6556, 3.5.7; rounding own). E3 where that is
 /// beyond the range.
 pub fn nm_of(number: Num, unit: Unit) -> Result<Len, Fault>
-    ensures { result ≡ in_range (nm_of number unit) }
+    ensures value { result ≡ in_range (nm_of number unit) }
+    ensures length { Answers (IsLength number unit) result }
 {
     match unit {
-        Unit::Inches => Len::of_nm(inches_to_nm(number.count())),
-        Unit::Millimetres => Len::of_nm(number.count() as i128),
+        Unit::Inches => Len::of_i64(inches_to_nm(number.count())),
+        Unit::Millimetres => Len::of_i64(number.count()),
     }
 }

@@ -6,15 +6,23 @@
 //! which grows the caller's text.
 #![tactic(auto)]
 
+mod arithmetic;
 mod fault;
 mod len;
 mod num;
 mod point;
+mod power;
+mod print;
+mod root;
 mod rounding;
+#[cfg(test)]
+mod tests;
 mod unit;
+mod whole;
 
 pub use fault::Fault;
 pub use len::{Len, nm_of};
 pub use num::Num;
 pub use point::Point;
+pub use print::{print_length, print_number, print_whole};
 pub use unit::Unit;

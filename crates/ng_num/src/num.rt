@@ -1,15 +1,16 @@
-ghost use Rattle.std.specs.Prelude.{◌≡◌, pos};
-ghost use Rattle.ng_num.specs.Range.{IsCount, in_range};
+ghost use Rattle.std.specs.Prelude.{◌≡◌, ◌≤◌, pos, unsigned_abs};
+ghost use Rattle.ng_num.specs.Range.{IsCount, greatest, in_range};
+ghost use Rattle.ng_num.specs.Rounding.{is_unlike, signed};
 
 use crate::fault::Fault;
 use std::marker::Model;
 
 /// The greatest size of a count, of millionths or of nanometres.
-pub(crate) const GREATEST: u128 = 9_999_999_999_999;
+pub(crate) const GREATEST: u64 = 9_999_999_999_999;
 
 /// A number: a whole count of millionths, in size at most 9,999,999.999999 (own; NISTIR 6556, 3.3.2.1 leaves
 /// range and precision to the implementation).
-#[derive(Clone, Copy, Debug, PartialEq, Eq)]
+#[derive(Clone, Copy, Debug, PartialEq, Eq, PartialOrd, Ord)]
 pub struct Num {
     count: i64,
 }
@@ -32,7 +33,7 @@ impl Num {
     pub fn of(count: i128) -> Result<Num, Fault>
         ensures { result ≡ in_range count }
     {
-        if count.unsigned_abs() <= GREATEST {
+        if count.unsigned_abs() <= GREATEST as u128 {
             Ok(Num {
                 count: count as i64,
             })
@@ -41,12 +42,71 @@ impl Num {
         }
     }
 
+    /// The same of a count that fits 64 bits.
+    #[inline(always)]
+    pub(crate) fn of_i64(count: i64) -> Result<Num, Fault>
+        ensures { result ≡ in_range count }
+    {
+        if count.unsigned_abs() <= GREATEST {
+            Ok(Num { count })
+        } else {
+            Err(Fault::OutOfRange)
+        }
+    }
+
+    /// The number of a count that is in range.
+    #[inline(always)]
+    pub(crate) fn of_count(count: i64) -> Num
+        requires { IsCount count }
+        ensures { result ≡ count }
+    {
+        Num { count }
+    }
+
+    /// The number of a size and a sign; E3 where the size is beyond the range.
+    #[inline(always)]
+    pub(crate) fn of_size(is_negative: bool, size: u64) -> Result<Num, Fault>
+        ensures { result ≡ in_range (signed is_negative size) }
+    {
+        if size > GREATEST {
+            return Err(Fault::OutOfRange);
+        }
+        let count = size as i64;
+        Ok(Num {
+            count: if is_negative { -count } else { count },
+        })
+    }
+
     /// Its count of millionths.
     pub fn count(self) -> i64
         ensures value { result ≡ self }
         ensures range { IsCount self }
     {
         self.count
+    }
+
+    /// Its size in millionths.
+    #[inline(always)]
+    pub(crate) fn size(self) -> u64
+        ensures value { result ≡ unsigned_abs self }
+        ensures range { result ≤ greatest }
+    {
+        self.count.unsigned_abs()
+    }
+
+    /// Whether one of two is below zero and the other isn't.
+    #[inline(always)]
+    pub(crate) fn is_unlike(self, other: Num) -> bool
+        ensures { result ≡ is_unlike self other }
+    {
+        (self.count < 0) != (other.count < 0)
+    }
+
+    /// One.
+    pub fn one() -> Num
+        ensures { result ≡ pos 1_000_000 }
+    {
+        Num { count: 1_000_000 }
     }
 
     /// Zero.

@@ -1,0 +1,20 @@
+#!/bin/sh
+# Pulses of a long line and of full circles by the stepper, beside a C loop of the same rules: what each counted,
+# which must agree, and milliseconds. The line has 100,000,000 pulses, the circles 80,000,000.
+set -e
+here=$(cd "$(dirname "$0")" && pwd)
+work=$(mktemp -d)
+trap 'rm -rf "$work"' EXIT
+mkdir "$work/crates"
+for crate in ng_num ng_canon ng_step; do
+    cp -r "$here/../crates/$crate" "$work/crates/"
+done
+cp -r "$here/step" "$work/crates/step_bench"
+grep -E '^ng_(num|canon|step):' "$here/../crates.txt" > "$work/crates.txt"
+echo 'step_bench: ng_step ng_canon ng_num' >> "$work/crates.txt"
+echo 'the stepper:'
+(cd "$work/crates/step_bench" && rt run)
+echo 'C:'
+cc=$(command -v clang || command -v gcc || command -v cc)
+"$cc" -O2 -o "$work/rule" "$here/step/rule.c"
+"$work/rule"

@@ -1,0 +1,78 @@
+-- The end of a program, and the whole of a run.
+use Rattle.std.proofs.Common.{arith, ◌≡◌, ◌≢◌, ℕ, List, [], ◌∷◌, ◌++◌, length, take, Bool, true, false, ◌==◌, Option, None, Some, Result, Ok, Err, IfSome, refl, sym, ap, ◌∙◌, subst, append_assoc, append-nil}
+use Rattle.std.proofs.lemmas.Bool.Decides.{nat_tests}
+use Rattle.std.specs.Io.KnownBytes.{Appends, Consumes, IsAtEnd}
+use Rattle.ng_block.specs.Dry.{Output, onto, Finishes}
+use Rattle.ng_block.specs.Parts.{Progress, due, rest_of, HasNoNewline, Closes, Goes, Ends, Breaks}
+use Rattle.ng_block.specs.declared.ending.Ended.{Ended}
+use Rattle.ng_block.specs.declared.ending.DryFault.{DryFault}
+use Rattle.ng_block.proofs.LineLemmas.{lines-alone}
+use Rattle.ng_block.proofs.Streams.{Appends-trans}
+
+pub Closes-from : {E : Type 0} (o before : Output) (text : List ℕ) (r : Result Ended E) → before ≡ o → Closes o text r → Closes before text r
+Closes-from o before text (Ok end) e h = e ∙ h
+Closes-from o before text (Err fault) e h = (h.0, ap (λ (x : Output). x.text) e ∙ h.1)
+
+pub not_empty : (xs : List ℕ) (t : Bool) → t ≡ (length xs == 0) → t ≡ false → xs ≢ []
+not_empty [] t e f h = cc
+not_empty (x ∷ xs) t e f h = cc
+
+-- the last line, which has no newline
+pub rest_of-alone : (p : Progress) (kept line : List ℕ) → HasNoNewline kept → kept ≢ [] → line ≡ kept → rest_of p kept [] ≡ due p (line ∷ [])
+rest_of-alone p [] line h some is = absurd (some refl)
+rest_of-alone p (b ∷ kept) line h some is = ap (rest_of p []) (append-nil (b ∷ kept)) ∙ ap (due p) (lines-alone b kept h) ∙ ap (λ l. due p (l ∷ [])) (sym is)
+
+-- nothing was read
+pub Consumes-none : (a b : Option (List ℕ)) (n : ℕ) (xs : List ℕ) → n ≡ 0 → Consumes a b (take n xs) → Consumes a b []
+Consumes-none a b n xs e h = subst (λ k. Consumes a b (take k xs)) e h
+
+pub Finishes-onto : (a b c : Option (List ℕ)) (text : List ℕ) (o : Output) (r : Result Ended DryFault) → Appends a b text → Finishes b c o r → Finishes a c (onto text o) r
+Finishes-onto a b c text o (Ok end) p q = (Appends-trans a b c text o.text p q.0, q.1)
+Finishes-onto a b c text o (Err fault) p q = (text ++ q.0, q.1, ap (λ l. text ++ l) q.2 ∙ sym (append_assoc text q.0 q.1), Appends-trans a b c text q.0 p q.3)
+
+pub run_end : (r0 r1 r2 w0 w1 w2 : Option (List ℕ)) (before : List ℕ) (out g : List ℕ → Output) (r : Result Ended DryFault) → Consumes r0 r1 before → Consumes r1 r2 [] → IsAtEnd r2
+    → Goes w0 w1 (λ more. out (before ++ more)) g → Finishes w1 w2 (g []) r → IfSome r0 (λ program. Finishes w0 w2 (out program) r)
+run_end None r1 r2 w0 w1 w2 before out g r p q e run f = tt
+run_end (Some x) None r2 w0 w1 w2 before out g r p q e run f = absurd p
+run_end (Some x) (Some y) None w0 w1 w2 before out g r p q e run f = absurd q
+run_end (Some x) (Some y) (Some z) w0 w1 w2 before out g r p q e run f =
+    let all : out x ≡ onto run.text (g []) = ap out (p ∙ ap (λ l. before ++ l) (q ∙ e)) ∙ run.rest [] in
+    subst (λ o. Finishes w0 w2 o r) (sym all) (Finishes-onto w0 w1 w2 run.text (g []) r run.appends f)
+
+pub run_breaks : (r0 r1 r2 w0 w1 w2 : Option (List ℕ)) (before bytes : List ℕ) (out g : List ℕ → Output) (fault : DryFault) → Consumes r0 r1 before → Consumes r1 r2 bytes
+    → Goes w0 w1 (λ more. out (before ++ more)) g → Breaks w1 w2 (λ more. g (bytes ++ more)) → IfSome r0 (λ program. Finishes w0 w2 (out program) (Err fault))
+run_breaks None r1 r2 w0 w1 w2 before bytes out g fault p q run b = tt
+run_breaks (Some x) None r2 w0 w1 w2 before bytes out g fault p q run b = absurd p
+run_breaks (Some x) (Some y) None w0 w1 w2 before bytes out g fault p q run b = absurd q
+run_breaks (Some x) (Some y) (Some z) w0 w1 w2 before bytes out g fault p q run b =
+    let after = b.rest z in (
+      run.text ++ b.text,
+      after.0,
+      ap (λ (o : Output). o.text) (ap out p ∙ run.rest y) ∙ ap (λ l. run.text ++ l) (ap (λ l. (g l).text) q ∙ after.1) ∙ sym (append_assoc run.text b.text after.0),
+      Appends-trans w0 w1 w2 run.text b.text run.appends b.appends,
+    )
+
+pub run_ends : (r0 r1 r2 w0 w1 w2 : Option (List ℕ)) (before bytes : List ℕ) (out g : List ℕ → Output) (end : Ended) → Consumes r0 r1 before → Consumes r1 r2 bytes
+    → Goes w0 w1 (λ more. out (before ++ more)) g → Ends w1 w2 (λ more. g (bytes ++ more)) end → IfSome r0 (λ program. Finishes w0 w2 (out program) (Ok end))
+run_ends None r1 r2 w0 w1 w2 before bytes out g end p q run b = tt
+run_ends (Some x) None r2 w0 w1 w2 before bytes out g end p q run b = absurd p
+run_ends (Some x) (Some y) None w0 w1 w2 before bytes out g end p q run b = absurd q
+run_ends (Some x) (Some y) (Some z) w0 w1 w2 before bytes out g end p q run b =
+    let all : out x ≡ onto run.text (record { text = b.text; ended = end }) = ap out p ∙ run.rest y ∙ ap (λ l. onto run.text (g l)) q ∙ ap (onto run.text) (b.rest z) in
+    (subst (Appends w0 w2) (ap (λ (o : Output). o.text) (sym all)) (Appends-trans w0 w1 w2 run.text b.text run.appends b.appends), ap (λ (o : Output). o.ended) (sym all))
+
+pub run_goes : (w0 w1 w2 : Option (List ℕ)) (before bytes : List ℕ) (out g h : List ℕ → Output)
+    → Goes w0 w1 (λ more. out (before ++ more)) g → Goes w1 w2 (λ more. g (bytes ++ more)) h → Goes w0 w2 (λ more. out ((before ++ bytes) ++ more)) h
+run_goes w0 w1 w2 before bytes out g h p q = record {
+  text = p.text ++ q.text;
+  appends = Appends-trans w0 w1 w2 p.text q.text p.appends q.appends;
+  rest = λ more. ap out (append_assoc before bytes more) ∙ p.rest (bytes ++ more) ∙ ap (onto p.text) (q.rest more)
+      ∙ ap (λ l. record { text = l; ended = (h more).ended }) (sym (append_assoc p.text q.text (h more).text));
+}
+
+-- a reader or a writer that failed at once, or where nothing more was read
+pub run_stops : (r0 r1 w0 w1 : Option (List ℕ)) (before : List ℕ) (out g : List ℕ → Output) (fault : DryFault) → Consumes r0 r1 before
+    → Goes w0 w1 (λ more. out (before ++ more)) g → IfSome r0 (λ program. Finishes w0 w1 (out program) (Err fault))
+run_stops None r1 w0 w1 before out g fault p run = tt
+run_stops (Some x) None w0 w1 before out g fault p run = absurd p
+run_stops (Some x) (Some y) w0 w1 before out g fault p run = (run.text, (g y).text, ap (λ (o : Output). o.text) (ap out p ∙ run.rest y), run.appends)

@@ -1,0 +1,13 @@
+pub mod Codes
+pub mod Fresh
+pub mod Setup
+pub mod Asked
+pub mod Blocks
+pub mod Goals
+pub mod Faults
+pub mod Steps
+pub mod Order
+pub mod After
+pub mod Effects
+pub mod Dry
+pub mod Parts

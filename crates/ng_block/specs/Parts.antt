@@ -1,0 +1,80 @@
+-- The parts of a dry run (own): each says what it did for every continuation of the program.
+use Rattle.std.specs.Prelude.{ℕ, ◌+◌, ◌≡◌, ◌≢◌, List, [], ◌∷◌, ◌++◌, Option, None, Some, Result, Ok, Err, take}
+use Rattle.std.specs.Str.Lines.{lines}
+use Rattle.std.specs.Io.KnownBytes.{Appends}
+use Rattle.ng_block.specs.Setup.{Setup, fresh}
+use Rattle.ng_block.specs.Dry.{Terms, Output, onto, outcome}
+use Rattle.ng_block.specs.declared.ending.Ended.{Ended}
+use Rattle.ng_block.specs.declared.ending.DryFault.{DryFault}
+
+-- a run between two lines: its terms, the state, the number of the next line, and the text not yet written
+pub record Progress : Type 0 where
+  pub terms : Terms
+  pub setup : Setup
+  pub number : ℕ
+  pub text : List ℕ
+
+-- a run with more text to write
+abbrev pub with_text : Progress → List ℕ → Progress
+with_text p text = record p { text = p.text ++ text }
+
+-- a run whose text is written
+abbrev pub written : Progress → Progress
+written p = record p { text = [] }
+
+-- a run before the first line
+abbrev pub begun : Terms → Progress
+begun terms = record { terms = terms; setup = fresh; number = 1; text = [] }
+
+-- what a run has still to write where these lines follow
+abbrev pub due : Progress → List (List ℕ) → Output
+due p ls = onto p.text (outcome p.terms p.setup p.number ls)
+
+-- the same of a run that holds the beginning of a line, where these bytes follow
+abbrev pub rest_of : Progress → List ℕ → List ℕ → Output
+rest_of p line more = due p (lines (line ++ more))
+
+abbrev pub HasNoNewline : List ℕ → Type 0
+HasNoNewline [] = Unit {0}
+HasNoNewline (b ∷ bs) = (b ≢ 10) × HasNoNewline bs
+
+-- a part was to give f. It went on to g; or the run has ended, and the text is whole; or it broke off, and the
+-- text is a beginning
+abbrev pub Took : {X E : Type 0} → (X → Output) → (X → Output) → List ℕ → Result (Option Ended) E → Type 0
+Took f g text (Ok None) = (more : _) → f more ≡ g more
+Took f g text (Ok (Some end)) = (more : _) → f more ≡ record { text = text; ended = end }
+Took f g text (Err fault) = (more : _) → (after : List ℕ) × ((f more).text ≡ text ++ after)
+
+-- the run is over: the text is whole; or it broke off, and the text is a beginning
+abbrev pub Closes : {E : Type 0} → Output → List ℕ → Result Ended E → Type 0
+Closes output text (Ok end) = output ≡ record { text = text; ended = end }
+Closes output text (Err fault) = (after : List ℕ) × (output.text ≡ text ++ after)
+
+-- a part wrote its text, and g gives the rest
+pub record Goes {X : Type 0} (old new : Option (List ℕ)) (f g : X → Output) : Type 0 where
+  pub text : List ℕ
+  pub appends : Appends old new text
+  pub rest : (more : X) → f more ≡ onto text (g more)
+
+-- a part wrote all, and the run has ended
+pub record Ends {X : Type 0} (old new : Option (List ℕ)) (f : X → Output) (end : Ended) : Type 0 where
+  pub text : List ℕ
+  pub appends : Appends old new text
+  pub rest : (more : X) → f more ≡ record { text = text; ended = end }
+
+-- a part wrote a beginning
+pub record Breaks {X : Type 0} (old new : Option (List ℕ)) (f : X → Output) : Type 0 where
+  pub text : List ℕ
+  pub appends : Appends old new text
+  pub rest : (more : X) → (after : List ℕ) × ((f more).text ≡ text ++ after)
+
+-- what a step from f to g wrote: it goes on, it has ended, or it broke off
+abbrev pub Stepped : {X : Type 0} → Option (List ℕ) → Option (List ℕ) → (X → Output) → (X → Output) → Result (Option Ended) DryFault → Type 0
+Stepped old new f g (Ok None) = Goes old new f g
+Stepped old new f g (Ok (Some end)) = Ends old new f end
+Stepped old new f g (Err fault) = Breaks old new f
+
+-- the text is written, or after a fault a beginning of it
+abbrev pub Writes : {T : Type 0} → Option (List ℕ) → Option (List ℕ) → List ℕ → Result T DryFault → Type 0
+Writes old new text (Ok x) = Appends old new text
+Writes old new text (Err fault) = (n : ℕ) × Appends old new (take n text)

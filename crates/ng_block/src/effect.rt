@@ -1,0 +1,195 @@
+//! What a line does in a state.
+ghost use Rattle.std.specs.Prelude.{◌≡◌, MatchResult, Ok, Err};
+ghost use Rattle.ng_params.specs.Points.{origin_of};
+ghost use Rattle.ng_block.specs.After.{modes_after, outputs_after, offsets_after, kept_after, machine_after, changes_of};
+ghost use Rattle.ng_block.specs.Effects.{executed, acted, done_by, stop_of};
+
+use crate::asked::{Asked, asked_of};
+use crate::faults::{block_fault, motion_fault};
+use crate::goal::{Goal, goal_of};
+use crate::machine::{KeptWords, Machine, Offsets};
+use crate::modes::{Distance, FeedMode, Modes, Motion};
+use crate::order::{Commands, Segments, commands_of, segments_of};
+use crate::state::State;
+use crate::tools::Tools;
+use arrayvec::ArrayVec;
+use ng_canon::{Geometry, Outputs, Plane, Spindle};
+use ng_num::{Fault, Num, Point};
+use ng_params::{Change, Index, System};
+use ng_words::{Word, read_line};
+use std::alloc::Allocator;
+
+/// The most parameters that a line changes.
+pub const CHANGES: usize = 72;
+
+/// How the program goes on behind a line.
+#[derive(Clone, Copy, Debug, PartialEq, Eq)]
+pub enum Stop {
+    GoesOn,
+    /// M0, M60.
+    Stops,
+    /// M1: where the operator wants it.
+    StopsIfWanted,
+    /// M2, M30.
+    Ends,
+}
+
+/// What a line does: all that it changes, and what it prints and moves, in order.
+#[derive(Debug, Drop)]
+pub struct Effect {
+    pub machine: Machine,
+    /// The parameters that it sets, taken in order.
+    pub changes: ArrayVec<Change, CHANGES>,
+    pub segments: Segments,
+    pub commands: Commands,
+    pub stop: Stop,
+}
+
+fn modes_after(asked: &Asked, modes: &Modes) -> Modes
+    ensures { result ≡ modes_after asked.now modes.now }
+{
+    let unit = asked.unit.unwrap_or(modes.unit);
+    if asked.end.is_some() {
+        Modes {
+            motion: Motion::Feed,
+            plane: Plane::Xy,
+            distance: Distance::Absolute,
+            feed_mode: FeedMode::PerMinute,
+            unit,
+            retract: modes.retract,
+            system: System::first(),
+            path: modes.path,
+            overrides: true,
+        }
+    } else {
+        Modes {
+            motion: asked.motion.unwrap_or(modes.motion),
+            plane: modes.plane,
+            distance: asked.distance.unwrap_or(modes.distance),
+            feed_mode: modes.feed_mode,
+            unit,
+            retract: modes.retract,
+            system: modes.system,
+            path: modes.path,
+            overrides: modes.overrides,
+        }
+    }
+}
+
+fn outputs_after(asked: &Asked, outputs: Outputs) -> Outputs
+    ensures { result ≡ outputs_after asked.now outputs }
+{
+    if asked.end.is_some() {
+        Outputs {
+            spindle: Spindle::Stopped,
+            mist: false,
+            flood: false,
+            ..outputs
+        }
+    } else {
+        outputs
+    }
+}
+
+fn offsets_after(asked: &Asked, first: Point, offsets: Offsets) -> Offsets
+    ensures { result ≡ offsets_after asked.now first offsets }
+{
+    if asked.end.is_some() {
+        Offsets {
+            origin: first,
+            g92: Point::origin(),
+            tool_length: offsets.tool_length,
+        }
+    } else {
+        offsets
+    }
+}
+
+fn kept_after(asked: &Asked, kept: KeptWords) -> KeptWords
+    ensures { result ≡ kept_after asked.now kept }
+{
+    if asked.motion.is_some() || asked.end.is_some() {
+        KeptWords::none()
+    } else {
+        kept
+    }
+}
+
+/// The machine after a block.
+fn machine_after(asked: &Asked, goal: &Goal, first: Point, machine: &Machine) -> Machine
+    ensures { result ≡ machine_after asked.now goal.now first machine.now }
+{
+    Machine {
+        modes: modes_after(asked, &machine.modes),
+        feed_per_min: goal.feed_per_min,
+        outputs: outputs_after(asked, machine.outputs),
+        offsets: offsets_after(asked, first, machine.offsets),
+        kept: kept_after(asked, machine.kept),
+        point: goal.point,
+        place_known: machine.place_known,
+    }
+}
+
+/// The parameters that a block changes.
+fn changes_of(asked: &Asked) -> ArrayVec<Change, CHANGES>
+    ensures { result.items ≡ changes_of asked.now }
+{
+    let mut changes = ArrayVec::new();
+    if asked.end.is_some() {
+        changes.push(System::first().selection());
+    }
+    changes
+}
+
+fn stop_of(asked: &Asked) -> Stop
+    ensures { result ≡ stop_of asked.now }
+{
+    if asked.end.is_some() {
+        Stop::Ends
+    } else {
+        Stop::GoesOn
+    }
+}
+
+/// What the words of a line do.
+#[tactic(auto, unfolding(crate::specs::Effects::acted))]
+pub fn act<A: Allocator + Copy + Drop>(
+    state: &State<A>,
+    words: &[Word],
+    geometry: &Geometry,
+) -> Result<Effect, Fault>
+    ensures { MatchResult result (λ e. acted state.now words.now geometry.now ≡ Ok (done_by state.now e)) (λ f. acted state.now words.now geometry.now ≡ Err f) }
+{
+    let asked = asked_of(words);
+    if let Some(fault) = block_fault(&asked, &state.machine.modes) {
+        return Err(fault);
+    }
+    let goal = goal_of(&asked, &state.machine)?;
+    if let Some(fault) = motion_fault(&goal, geometry) {
+        return Err(fault);
+    }
+    let first = state.params.origin(System::first());
+    let machine = machine_after(&asked, &goal, first, &state.machine);
+    Ok(Effect {
+        changes: changes_of(&asked),
+        segments: segments_of(&asked, &goal, &state.machine, &machine),
+        commands: commands_of(&asked, &goal, &machine),
+        stop: stop_of(&asked),
+        machine,
+    })
+}
+
+/// What a line does in a state, or the first fault that refuses it; the state stays as it is.
+#[tactic(auto, unfolding(crate::specs::Effects::executed))]
+pub fn execute<A: Allocator + Copy + Drop>(
+    state: &State<A>,
+    text: &[u8],
+    tools: &Tools,
+    geometry: &Geometry,
+) -> Result<Effect, Fault>
+    ensures { MatchResult result (λ e. executed state.now tools.now geometry.now text.now ≡ Ok (done_by state.now e)) (λ f. executed state.now tools.now geometry.now text.now ≡ Err f) }
+{
+    let _ = tools;
+    let line = read_line(text)?;
+    act(state, line.words.as_slice(), geometry)
+}

@@ -1,0 +1,228 @@
+//! The canonical text of commands. A refused growth leaves the text as it was.
+ghost use Rattle.std.specs.Prelude.{◌≡◌, ◌++◌, OnOk, OnErr, codes};
+ghost use Rattle.std.specs.Fmt.{decimal};
+ghost use Rattle.ng_num.specs.Text.{number_text};
+ghost use Rattle.ng_canon.specs.Text.{arc_text, canon_text, command_text, plane_text, point_text, turn_text, unit_text, StaysWithin};
+
+use crate::command::{ArcFeed, Canon, Command};
+use crate::plane::{Plane, Turn};
+use ng_num::{Len, Num, Point, Unit, print_length, print_number, print_whole};
+use std::alloc::{AllocError, Allocator};
+
+/// Appends a length and what stands behind it.
+fn push_length<A: Allocator + Copy + Drop>(
+    text: &mut Vec<u8, A>,
+    length: Len,
+    after: &[u8],
+) -> Result<(), AllocError>
+    ensures ok { OnOk result (text.new.items ≡ text.old.items ++ (number_text length ++ after.now)) }
+    ensures err { OnErr result (StaysWithin text.old.items text.new.items) }
+{
+    print_length(text, length)?;
+    text.extend_from_slice(after)
+}
+
+/// Appends a command with a number.
+fn push_number<A: Allocator + Copy + Drop>(
+    text: &mut Vec<u8, A>,
+    name: &[u8],
+    number: Num,
+) -> Result<(), AllocError>
+    ensures ok { OnOk result (text.new.items ≡ text.old.items ++ (name.now ++ number_text number ++ codes ")\n")) }
+    ensures err { OnErr result (StaysWithin text.old.items text.new.items) }
+{
+    text.extend_from_slice(name)?;
+    print_number(text, number)?;
+    text.extend_from_slice(b")\n")
+}
+
+/// Appends a command with a point.
+fn push_point<A: Allocator + Copy + Drop>(
+    text: &mut Vec<u8, A>,
+    name: &[u8],
+    point: Point,
+) -> Result<(), AllocError>
+    ensures ok { OnOk result (text.new.items ≡ text.old.items ++ (name.now ++ point_text point ++ codes ")\n")) }
+    ensures err { OnErr result (StaysWithin text.old.items text.new.items) }
+{
+    text.extend_from_slice(name)?;
+    push_length(text, point.x, b", ")?;
+    push_length(text, point.y, b", ")?;
+    push_length(text, point.z, b")\n")
+}
+
+/// Appends a command with a length.
+fn push_offset<A: Allocator + Copy + Drop>(
+    text: &mut Vec<u8, A>,
+    name: &[u8],
+    offset: Len,
+) -> Result<(), AllocError>
+    ensures ok { OnOk result (text.new.items ≡ text.old.items ++ (name.now ++ number_text offset ++ codes ")\n")) }
+    ensures err { OnErr result (StaysWithin text.old.items text.new.items) }
+{
+    text.extend_from_slice(name)?;
+    push_length(text, offset, b")\n")
+}
+
+/// Appends a command with a slot.
+fn push_slot<A: Allocator + Copy + Drop>(
+    text: &mut Vec<u8, A>,
+    name: &[u8],
+    slot: u8,
+) -> Result<(), AllocError>
+    ensures ok { OnOk result (text.new.items ≡ text.old.items ++ (name.now ++ decimal slot ++ codes ")\n")) }
+    ensures err { OnErr result (StaysWithin text.old.items text.new.items) }
+{
+    text.extend_from_slice(name)?;
+    print_whole(text, slot as u64)?;
+    text.extend_from_slice(b")\n")
+}
+
+/// Appends the command that selects a plane.
+fn push_plane<A: Allocator + Copy + Drop>(
+    text: &mut Vec<u8, A>,
+    plane: Plane,
+) -> Result<(), AllocError>
+    ensures ok { OnOk result (text.new.items ≡ text.old.items ++ (codes "SELECT_PLANE(" ++ plane_text plane ++ codes ")\n")) }
+    ensures err { OnErr result (StaysWithin text.old.items text.new.items) }
+{
+    match plane {
+        Plane::Xy => text.extend_from_slice(b"SELECT_PLANE(XY)\n"),
+        Plane::Xz => text.extend_from_slice(b"SELECT_PLANE(XZ)\n"),
+        Plane::Yz => text.extend_from_slice(b"SELECT_PLANE(YZ)\n"),
+    }
+}
+
+/// Appends the command that sets the unit.
+fn push_unit<A: Allocator + Copy + Drop>(
+    text: &mut Vec<u8, A>,
+    unit: Unit,
+) -> Result<(), AllocError>
+    ensures ok { OnOk result (text.new.items ≡ text.old.items ++ (codes "USE_LENGTH_UNITS(" ++ unit_text unit ++ codes ")\n")) }
+    ensures err { OnErr result (StaysWithin text.old.items text.new.items) }
+{
+    match unit {
+        Unit::Inches => text.extend_from_slice(b"USE_LENGTH_UNITS(INCHES)\n"),
+        Unit::Millimetres => text.extend_from_slice(b"USE_LENGTH_UNITS(MM)\n"),
+    }
+}
+
+/// Appends the way round an arc, and the end of its line.
+fn push_turn<A: Allocator + Copy + Drop>(
+    text: &mut Vec<u8, A>,
+    turn: Turn,
+) -> Result<(), AllocError>
+    ensures ok { OnOk result (text.new.items ≡ text.old.items ++ (turn_text turn ++ codes ")\n")) }
+    ensures err { OnErr result (text.new.items ≡ text.old.items) }
+{
+    match turn {
+        Turn::Clockwise => text.extend_from_slice(b"CW)\n"),
+        Turn::Counterclockwise => text.extend_from_slice(b"CCW)\n"),
+    }
+}
+
+/// Appends an arc.
+fn push_arc<A: Allocator + Copy + Drop>(
+    text: &mut Vec<u8, A>,
+    arc: ArcFeed,
+) -> Result<(), AllocError>
+    ensures ok { OnOk result (text.new.items ≡ text.old.items ++ (codes "ARC_FEED(" ++ arc_text arc ++ codes ")\n")) }
+    ensures err { OnErr result (StaysWithin text.old.items text.new.items) }
+{
+    let end = arc.end;
+    text.extend_from_slice(b"ARC_FEED(")?;
+    push_length(text, end.x, b", ")?;
+    push_length(text, end.y, b", ")?;
+    push_length(text, end.z, b", ")?;
+    push_length(text, arc.centre_a, b", ")?;
+    push_length(text, arc.centre_b, b", ")?;
+    push_turn(text, arc.turn)
+}
+
+/// Appends a command with the words of a comment.
+fn push_words<A: Allocator + Copy + Drop>(
+    text: &mut Vec<u8, A>,
+    name: &[u8],
+    words: &[u8],
+) -> Result<(), AllocError>
+    ensures ok { OnOk result (text.new.items ≡ text.old.items ++ (name.now ++ words.now ++ codes ")\n")) }
+    ensures err { OnErr result (StaysWithin text.old.items text.new.items) }
+{
+    text.extend_from_slice(name)?;
+    text.extend_from_slice(words)?;
+    text.extend_from_slice(b")\n")
+}
+
+/// Appends a command whose arguments are numbers.
+#[tactic(auto, unfolding(crate::specs::Text::command_text))]
+fn push_command<A: Allocator + Copy + Drop>(
+    text: &mut Vec<u8, A>,
+    command: Command,
+) -> Result<(), AllocError>
+    ensures ok { OnOk result (text.new.items ≡ text.old.items ++ command_text command) }
+    ensures err { OnErr result (StaysWithin text.old.items text.new.items) }
+{
+    match command {
+        Command::FeedRate(rate) => push_offset(text, b"SET_FEED_RATE(", rate),
+        Command::InverseTime(number) => push_number(text, b"INVERSE_TIME(", number),
+        Command::SpindleSpeed(speed) => push_number(text, b"SET_SPINDLE_SPEED(", speed),
+        Command::SelectTool(slot) => push_slot(text, b"SELECT_TOOL(", slot),
+        Command::ChangeTool(slot) => push_slot(text, b"CHANGE_TOOL(", slot),
+        Command::StartSpindleClockwise => text.extend_from_slice(b"START_SPINDLE_CLOCKWISE()\n"),
+        Command::StartSpindleCounterclockwise => {
+            text.extend_from_slice(b"START_SPINDLE_COUNTERCLOCKWISE()\n")
+        }
+        Command::StopSpindle => text.extend_from_slice(b"STOP_SPINDLE_TURNING()\n"),
+        Command::MistOn => text.extend_from_slice(b"MIST_ON()\n"),
+        Command::MistOff => text.extend_from_slice(b"MIST_OFF()\n"),
+        Command::FloodOn => text.extend_from_slice(b"FLOOD_ON()\n"),
+        Command::FloodOff => text.extend_from_slice(b"FLOOD_OFF()\n"),
+        Command::Dwell(seconds) => push_number(text, b"DWELL(", seconds),
+        Command::SelectPlane(plane) => push_plane(text, plane),
+        Command::LengthUnits(unit) => push_unit(text, unit),
+        Command::ToolLength(offset) => push_offset(text, b"USE_TOOL_LENGTH_OFFSET(", offset),
+        Command::OriginOffsets(point) => push_point(text, b"SET_ORIGIN_OFFSETS(", point),
+        Command::Traverse(point) => push_point(text, b"STRAIGHT_TRAVERSE(", point),
+        Command::Feed(point) => push_point(text, b"STRAIGHT_FEED(", point),
+        Command::ArcFeed(arc) => push_arc(text, arc),
+        Command::ProgramStop => text.extend_from_slice(b"PROGRAM_STOP()\n"),
+        Command::OptionalStop => text.extend_from_slice(b"OPTIONAL_PROGRAM_STOP()\n"),
+        Command::PalletShuttle => text.extend_from_slice(b"PALLET_SHUTTLE()\n"),
+        Command::ProgramEnd => text.extend_from_slice(b"PROGRAM_END()\n"),
+    }
+}
+
+/// Appends a command.
+#[tactic(auto, unfolding(crate::specs::Text::canon_text))]
+fn push_canon<A: Allocator + Copy + Drop>(
+    text: &mut Vec<u8, A>,
+    canon: &Canon<'_>,
+) -> Result<(), AllocError>
+    ensures ok { OnOk result (text.new.items ≡ text.old.items ++ canon_text canon.now) }
+    ensures err { OnErr result (StaysWithin text.old.items text.new.items) }
+{
+    match canon {
+        Canon::Comment(words) => push_words(text, b"COMMENT(", words),
+        Canon::Message(words) => push_words(text, b"MESSAGE(", words),
+        Canon::Command(command) => push_command(text, *command),
+    }
+}
+
+/// Appends a command's canonical text, a line with its end: its name and its arguments in parentheses, lengths in
+/// millimetres, machine coordinates (own, after NISTIR 6556, 4.3). A refused growth leaves the text as it was.
+pub fn print<A: Allocator + Copy + Drop>(
+    text: &mut Vec<u8, A>,
+    canon: &Canon<'_>,
+) -> Result<(), AllocError>
+    ensures ok { OnOk result (text.new.items ≡ text.old.items ++ canon_text canon.now) }
+    ensures err { OnErr result (text.new.items ≡ text.old.items) }
+{
+    let before = text.len();
+    match push_canon(text, canon) {
+        Ok(()) => Ok(()),
+        Err(refused) => {
+            text.truncate(before);
+            Err(refused)
+        }
+    }
+}

@@ -1,0 +1,29 @@
+use Rattle.std.proofs.Common.{◌<◌, ◌-ℤ◌, ◌*ℤ◌, ◌∙◌, ap, sym, arith, Some, unsigned_abs, w64}
+use Rattle.std.proofs.lemmas.Int.{ints, to_z-of_z}
+use Rattle.ng_num.specs.Arithmetic.{million}
+use Rattle.ng_num.specs.Rounding.{near}
+use Rattle.ng_num.specs.Whole.{IsClose}
+use Rattle.ng_num.proofs.WholeNumbers.{close_only, none_if_far, whole_if_close}
+use Rattle.ng_num.proofs.num.Num.whole.Goals as goal
+
+pub returns-then-unsigned_abs-le-CLOSE-clause-value :
+    goal.returns-then-unsigned_abs-le-CLOSE-clause-value
+returns-then-unsigned_abs-le-CLOSE-clause-value c =
+    let nearest = c.nearest_whole-nearest in
+    let close : IsClose c.args.self (near c.args.self 1_000_000) = rw (← nearest.ensures.value) (omega (arith, ints)) in
+    ap Some (to_z-of_z w64 nearest.result (record { sfits = nearest.type_inv }) ∙ nearest.ensures.value) ∙ sym (whole_if_close c.args.self close)
+
+far : (c : goal.Else-unsigned_abs-le-CLOSE) → 100 < unsigned_abs (c.args.self -ℤ near c.args.self 1_000_000 *ℤ million)
+far c = rw (← c.nearest_whole-nearest.ensures.value) (omega (arith, ints))
+
+pub returns-else-unsigned_abs-le-CLOSE-clause-value :
+    goal.returns-else-unsigned_abs-le-CLOSE-clause-value
+returns-else-unsigned_abs-le-CLOSE-clause-value c = sym (none_if_far c.args.self (far c))
+
+pub returns-else-unsigned_abs-le-CLOSE-clause-none :
+    goal.returns-else-unsigned_abs-le-CLOSE-clause-none
+returns-else-unsigned_abs-le-CLOSE-clause-none c = λ n close.
+    let only = close_only c.args.self n close in
+    let far_off = far c in
+    let far_from : 100 < unsigned_abs (c.args.self -ℤ n *ℤ million) = rw only far_off in
+    omega (arith, close)

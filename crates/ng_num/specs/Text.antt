@@ -1,0 +1,19 @@
+-- The canonical text of numbers (own): an optional minus, the whole part, a point and six decimals.
+use Rattle.std.specs.Prelude.{ℕ, ◌+◌, ◌/◌, ◌%◌, List, [], ◌∷◌, ◌++◌, ℤ, pos, negsuc, unsigned_abs}
+use Rattle.std.specs.Fmt.{decimal}
+
+-- the digit of n worth unit
+abbrev pub digit_at : ℕ → ℕ → ℕ
+digit_at unit n = 48 + n / unit % 10
+
+-- the last six digits of n
+abbrev pub six_digits : ℕ → List ℕ
+six_digits n = digit_at 100_000 n ∷ digit_at 10_000 n ∷ digit_at 1_000 n ∷ digit_at 100 n ∷ digit_at 10 n ∷ digit_at 1 n ∷ []
+
+abbrev pub minus : ℤ → List ℕ
+minus (pos n) = []
+minus (negsuc n) = 45 ∷ []
+
+-- a count of millionths as a number
+unfoldable pub number_text : ℤ → List ℕ
+number_text z = minus z ++ (decimal (unsigned_abs z / 1_000_000) ++ (46 ∷ six_digits (unsigned_abs z)))

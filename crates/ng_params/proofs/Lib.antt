@@ -1,0 +1,2 @@
+pub mod ClearLemmas
+pub mod ChangeLemmas

@@ -1,0 +1,5 @@
+pub mod Numbers
+pub mod Table
+pub mod Points
+pub mod Lasting
+pub mod Changes

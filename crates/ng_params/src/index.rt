@@ -1,0 +1,65 @@
+ghost use Rattle.std.specs.Prelude.{◌≡◌, ◌≤◌};
+ghost use Rattle.ng_params.specs.Numbers.{index_of};
+
+use std::marker::Model;
+
+/// How many parameters there are.
+pub(crate) const COUNT: usize = 5399;
+
+/// The number of a parameter: 1 to 5399 (NISTIR 6556, 3.3.2.2).
+#[derive(Clone, Copy, Debug, PartialEq, Eq)]
+pub struct Index {
+    number: u16,
+}
+
+impl Model for Index {
+    ghost use Rattle.std.specs.Prelude.{ℕ, ◌≤◌};
+
+    ghost Value = { ℕ };
+
+    ghost view = { λ i. i.number };
+
+    ghost invariant = { λ i. (1 ≤ i.number) × (i.number ≤ 5399) };
+
+    ghost inverse = { λ n. record { number = n } };
+}
+
+impl Index {
+    /// The parameter of a whole number; none where the number isn't 1 to 5399.
+    pub fn of(number: i64) -> Option<Index>
+        ensures { result ≡ index_of number }
+    {
+        if 1 <= number && number <= 5399 {
+            Some(Index {
+                number: number as u16,
+            })
+        } else {
+            None
+        }
+    }
+
+    /// The parameter of a number that is in range.
+    pub fn known(number: u16) -> Index
+        requires low { 1 ≤ number }
+        requires high { number ≤ 5399 }
+        ensures { result ≡ number }
+    {
+        Index { number }
+    }
+
+    /// Its number.
+    pub fn number(self) -> u16
+        ensures value { result ≡ self }
+        ensures low { 1 ≤ self }
+        ensures high { self ≤ 5399 }
+    {
+        self.number
+    }
+}
+
+impl Default for Index {
+    /// Parameter 1.
+    fn default() -> Self {
+        Index { number: 1 }
+    }
+}

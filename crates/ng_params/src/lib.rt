@@ -1,0 +1,23 @@
+//! The numbered parameters of the language (NISTIR 6556, 3.2.1), 1 to 5399: a table of numbers.
+//!
+//! `Params` is a list of 5399 numbers to whoever reads a contract; `Index` and `System` are numbers that are in
+//! range, so that reading and setting never fail. Points are stored as three neighbours, in millimetres, whatever
+//! unit a program writes. `changes_from` says how a table differs from an older one, and `apply` puts such changes
+//! into the older one. The crate stands on `ng_num`; which word sets which parameter, and when an offset acts, is
+//! for the crates above. Memory is taken by `new`, `copy` and `changes_from` alone.
+#![tactic(auto)]
+
+mod change;
+mod index;
+mod lasting;
+mod params;
+mod points;
+mod system;
+
+pub use change::Change;
+pub use index::Index;
+pub use params::Params;
+pub use system::System;
+
+#[cfg(test)]
+mod tests;

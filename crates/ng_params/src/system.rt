@@ -1,0 +1,73 @@
+ghost use Rattle.std.specs.Prelude.{◌≡◌, ◌≤◌, ◌*◌, pos};
+ghost use Rattle.ng_params.specs.Numbers.{system_of, system_in_force};
+
+use crate::change::Change;
+use crate::index::Index;
+use ng_num::Num;
+use std::marker::Model;
+
+/// The number of a coordinate system: 1 to 9 (NISTIR 6556, 3.5.13: G54 to G59.3).
+#[derive(Clone, Copy, Debug, PartialEq, Eq)]
+pub struct System {
+    number: u8,
+}
+
+impl Model for System {
+    ghost use Rattle.std.specs.Prelude.{ℕ, ◌≤◌};
+
+    ghost Value = { ℕ };
+
+    ghost view = { λ s. s.number };
+
+    ghost invariant = { λ s. (1 ≤ s.number) × (s.number ≤ 9) };
+
+    ghost inverse = { λ n. record { number = n } };
+}
+
+impl System {
+    /// The system of a whole number; none where the number isn't 1 to 9.
+    pub fn of(number: i64) -> Option<System>
+        ensures { result ≡ system_of number }
+    {
+        if 1 <= number && number <= 9 {
+            Some(System {
+                number: number as u8,
+            })
+        } else {
+            None
+        }
+    }
+
+    /// System 1, which G54 selects.
+    pub fn first() -> System
+        ensures { result ≡ 1 }
+    {
+        System { number: 1 }
+    }
+
+    /// The change of parameters that puts it in force.
+    pub fn selection(self) -> Change
+        ensures index { result.index ≡ system_in_force }
+        ensures value { result.value ≡ pos (self * 1_000_000) }
+    {
+        Change {
+            index: Index::known(5220),
+            value: Num::of(self.number as i128 * 1_000_000).unwrap(),
+        }
+    }
+
+    /// Its number.
+    pub fn number(self) -> u8
+        ensures value { result ≡ self }
+        ensures low { 1 ≤ self }
+        ensures high { self ≤ 9 }
+    {
+        self.number
+    }
+}
+
+impl Default for System {
+    fn default() -> Self {
+        System::first()
+    }
+}

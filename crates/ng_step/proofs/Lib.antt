@@ -1,0 +1,15 @@
+pub mod TurnLemmas
+pub mod PlaceLemmas
+pub mod ArcLemmas
+pub mod LineLemmas
+pub mod WalkLemmas
+pub mod PulseLemmas
+pub mod PeriodLemmas
+pub mod StartLemmas
+pub mod RoundLemmas
+pub mod LengthLemmas
+pub mod HandLemmas
+pub mod EndLemmas
+pub mod PromiseLemmas
+pub mod CentreLemmas
+pub mod WalkableLemmas

@@ -1,0 +1,14 @@
+use Rattle.ng_step.proofs.PromiseLemmas.{ends, stays, keeps}
+use Rattle.ng_step.proofs.stepper.Stepper.new.Goals as goal
+
+pub returns-in-Line-clause-ends : goal.returns-in-Line-clause-ends
+returns-in-Line-clause-ends c = ends c.args.segment.now c.args.geometry.now
+
+pub returns-in-Line-clause-stays : goal.returns-in-Line-clause-stays
+returns-in-Line-clause-stays c = stays c.args.segment.now c.args.geometry.now
+
+pub returns-in-Arc-clause-ends : goal.returns-in-Arc-clause-ends
+returns-in-Arc-clause-ends c = ends c.args.segment.now c.args.geometry.now
+
+pub returns-in-Arc-clause-keeps : goal.returns-in-Arc-clause-keeps
+returns-in-Arc-clause-keeps c = keeps c.args.segment.now c.args.geometry.now

@@ -1,0 +1,19 @@
+use Rattle.std.proofs.Common.{arith}
+use Rattle.std.proofs.lemmas.Int.{ints}
+use Rattle.ng_step.proofs.WalkLemmas.{kept, small, step_crossing}
+use Rattle.ng_step.proofs.walk.Walk.cross.Goals as goal
+
+pub returns : goal.returns
+returns c =
+    let sizes = small c.args.self.now c.requires.walks in
+    step_crossing c.args.self.now _ _ _ _ _ _ _ c.requires.walks c.requires.outside c.requires.near c.inward-made.ensures c.next.ensures
+    (omega (arith, ints)) (omega (arith, ints)) (omega (arith, ints)) (omega (arith, ints)) (omega (arith, ints))
+
+pub sum-requires-clause-second : goal.sum-requires-clause-second
+sum-requires-clause-second c = kept c.args.self.now.inward (small c.args.self.now c.requires.walks).inward
+
+pub difference-requires-clause-second : goal.difference-requires-clause-second
+difference-requires-clause-second c = kept c.args.self.now.outward (small c.args.self.now c.requires.walks).outward
+
+pub sum-requires-2-clause-first : goal.sum-requires-2-clause-first
+sum-requires-2-clause-first c = kept c.args.self.now.inward (small c.args.self.now c.requires.walks).inward

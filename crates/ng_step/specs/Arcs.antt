@@ -1,0 +1,164 @@
+-- The points of an arc, as offsets from its centre in nanometres.
+use Rattle.std.specs.Prelude.{◌≡◌, ℕ, zero, suc, ◌+◌, ◌-◌, ◌*◌, ◌%◌, ◌<◌, ◌≤◌, max, ℤ, pos, negsuc, ◌+ℤ◌, ◌-ℤ◌, ◌*ℤ◌, ◌≤ℤ◌, int_lt, int_le, unsigned_abs, Bool, true, false, not, ◌&&◌, ◌||◌, ◌==◌, if◌then◌else◌, IsTrue, IsFalse, List, [], ◌∷◌, length, All}
+use Rattle.ng_step.specs.declared.quadrant.Quadrant.{Quadrant}
+use Rattle.ng_step.specs.declared.quadrant.Quadrant.TheVariants.{First, Second, Third, Fourth}
+use Rattle.ng_step.specs.declared.walk.Circle.{Circle}
+use Rattle.ng_step.specs.declared.quadrant.Spot.{Spot}
+use Rattle.ng_step.specs.declared.quadrant.PlaneStep.{PlaneStep}
+use Rattle.ng_step.specs.declared.quadrant.PlaneStep.TheVariants.{AddA, SubA, AddB, SubB}
+
+-- the larger step
+abbrev pub larger : Circle → ℕ
+larger c = max c.step_a c.step_b
+
+-- the first quadrant has a > 0 and b >= 0, the second a <= 0 and b > 0, and so on round
+unfoldable pub quadrant : Spot → Quadrant
+quadrant p =
+    if int_lt (pos 0) p.a && int_le (pos 0) p.b then First
+    else if int_le p.a (pos 0) && int_lt (pos 0) p.b then Second
+    else if int_lt p.a (pos 0) && int_le p.b (pos 0) then Third
+    else Fourth
+
+abbrev pub inward : Quadrant → PlaneStep
+inward First = SubA
+inward Second = SubB
+inward Third = AddA
+inward Fourth = AddB
+
+abbrev pub outward : Quadrant → PlaneStep
+outward First = AddB
+outward Second = SubA
+outward Third = SubB
+outward Fourth = AddA
+
+-- how far a point lies outside the circle, in squares
+unfoldable pub excess : Circle → Spot → ℤ
+excess c p = p.a *ℤ p.a +ℤ p.b *ℤ p.b -ℤ pos c.square
+
+-- the step from a point
+unfoldable pub step_at : Circle → Spot → PlaneStep
+step_at c p = if int_lt (pos 0) (excess c p) then inward (quadrant p) else outward (quadrant p)
+
+abbrev pub moved : Circle → PlaneStep → Spot → Spot
+moved c AddA p = record { a = p.a +ℤ pos c.step_a; b = p.b }
+moved c SubA p = record { a = p.a -ℤ pos c.step_a; b = p.b }
+moved c AddB p = record { a = p.a; b = p.b +ℤ pos c.step_b }
+moved c SubB p = record { a = p.a; b = p.b -ℤ pos c.step_b }
+
+-- the point after this one
+unfoldable pub next_spot : Circle → Spot → Spot
+next_spot c p = moved c (step_at c p) p
+
+abbrev pub same_quadrant : Quadrant → Quadrant → Bool
+same_quadrant First First = true
+same_quadrant Second Second = true
+same_quadrant Third Third = true
+same_quadrant Fourth Fourth = true
+same_quadrant _ _ = false
+
+-- the quadrant behind this one
+abbrev pub quadrant_after : Quadrant → Quadrant
+quadrant_after First = Second
+quadrant_after Second = Third
+quadrant_after Third = Fourth
+quadrant_after Fourth = First
+
+-- the quadrants still to be walked in, the present one included, after a step from p
+unfoldable pub left_after : Circle → ℕ → Spot → ℕ
+left_after c left p = if same_quadrant (quadrant p) (quadrant (next_spot c p)) then left else left - 1
+
+abbrev pub cross : Spot → Spot → ℤ
+cross p e = p.a *ℤ e.b -ℤ p.b *ℤ e.a
+
+-- the stopping rule: past the last quadrant, or in it and not before the end
+unfoldable pub stops : Spot → ℕ → Spot → Bool
+stops e left p = left == 0 || (left == 1 && int_le (cross p e) (pos 0))
+
+abbrev pub number : Quadrant → ℕ
+number First = 0
+number Second = 1
+number Third = 2
+number Fourth = 3
+
+-- the changes of quadrant from an arc's start to its end
+abbrev pub changes : Spot → Spot → ℕ
+changes s e =
+    if same_quadrant (quadrant s) (quadrant e) then (if int_lt (pos 0) (cross s e) then 0 else 4)
+    else (number (quadrant e) + 4 - number (quadrant s)) % 4
+
+-- the quadrants to walk in from p, where the start s is rounded to: one more than the changes from there; 0 where these
+-- would be fewer than none
+unfoldable pub quadrants_to_walk : Spot → Spot → Spot → ℕ
+quadrants_to_walk s e p =
+    if same_quadrant (quadrant_after (quadrant p)) (quadrant s) then changes s e + 2
+    else if same_quadrant (quadrant p) (quadrant_after (quadrant s)) then changes s e
+    else changes s e + 1
+
+-- these are the arc's steps from p: each follows the rule, and the first point that stops is the end
+abbrev pub IsArc : Circle → Spot → ℕ → Spot → List PlaneStep → Type 0
+IsArc c e left p [] = IsTrue (stops e left p)
+IsArc c e left p (m ∷ ms) = (stops e left p ≡ false) × (m ≡ step_at c p) × IsArc c e (left_after c left p) (next_spot c p) ms
+
+-- the arc's steps, at most `fuel` of them
+abbrev pub plane_steps_within : ℕ → Circle → Spot → ℕ → Spot → List PlaneStep
+plane_steps_within zero c e left p = []
+plane_steps_within (suc fuel) c e left p = if stops e left p then [] else (step_at c p ∷ plane_steps_within fuel c e (left_after c left p) (next_spot c p))
+
+-- the points that the steps reach, the first one included
+abbrev pub spots : Circle → Spot → List PlaneStep → List Spot
+spots c p [] = p ∷ []
+spots c p (m ∷ ms) = p ∷ spots c (moved c m p) ms
+
+-- both coordinates are at most w in size
+abbrev pub IsWithin : ℕ → Spot → Type 0
+IsWithin w p = (unsigned_abs p.a ≤ w) × (unsigned_abs p.b ≤ w)
+
+-- steps of the arc from p leave the circle by no more than this
+abbrev pub IsNearCircle : Circle → Spot → List PlaneStep → Type 0
+IsNearCircle c p ms = (w : ℕ) → All (IsWithin w) (spots c p ms)
+    → All (λ x. unsigned_abs (excess c x) ≤ 2 * (larger c * w) + larger c * larger c + unsigned_abs (excess c p)) (spots c p ms)
+
+-- each axis has a step
+pub record HasSteps (c : Circle) : Type 0 where
+  pub a : 0 < c.step_a
+  pub b : 0 < c.step_b
+
+-- the radius is twice the larger step or more, and no more than this
+pub record IsLargeArc (c : Circle) (radius : ℕ) : Type 0 where
+  pub has : HasSteps c
+  pub large : 4 * (larger c * larger c) ≤ c.square
+  pub within : c.square ≤ radius * radius
+
+-- a length that no coordinate of the arc's points passes, for a start of that size
+abbrev pub reach : ℕ → Circle → Spot → ℕ
+reach radius c p = radius + larger c + unsigned_abs p.a + unsigned_abs p.b
+
+-- more steps than an arc has
+abbrev pub most_steps : ℕ → Circle → ℕ → Spot → ℕ
+most_steps radius c left p = left * (2 * reach radius c p + 1) + 2 * reach radius c p
+
+-- the arc's steps: `start` and `e` are its programmed start and end, p is the rounded start
+unfoldable pub plane_steps : Circle → Spot → Spot → ℕ → Spot → List PlaneStep
+plane_steps c start e left p = plane_steps_within (most_steps (unsigned_abs start.a + unsigned_abs start.b) c left p) c e left p
+
+-- how far a step goes along each axis, in steps
+abbrev pub along_a : PlaneStep → ℤ
+along_a AddA = pos 1
+along_a SubA = negsuc 0
+along_a AddB = pos 0
+along_a SubB = pos 0
+
+abbrev pub along_b : PlaneStep → ℤ
+along_b AddA = pos 0
+along_b SubA = pos 0
+along_b AddB = pos 1
+along_b SubB = negsuc 0
+
+-- how far all of them go together
+abbrev pub net_a : List PlaneStep → ℤ
+net_a [] = pos 0
+net_a (m ∷ ms) = along_a m +ℤ net_a ms
+
+abbrev pub net_b : List PlaneStep → ℤ
+net_b [] = pos 0
+net_b (m ∷ ms) = along_b m +ℤ net_b ms

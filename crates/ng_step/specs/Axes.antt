@@ -1,0 +1,23 @@
+-- What an axis keeps on a line.
+use Rattle.std.specs.Prelude.{◌≡◌, ℕ, ◌+◌, ◌*◌, ◌<◌, ◌≤◌, ℤ}
+use Rattle.ng_step.specs.declared.spread.Spread.{Spread}
+use Rattle.ng_canon.specs.declared.item.Step.{Step}
+use Rattle.ng_step.specs.Lines.{made, axis_step}
+
+-- after k pulses of n this error is left over, of a distance d
+pub record Holds (n d k error : ℕ) : Type 0 where
+  pub small : error < 2 * n
+  pub is : 2 * k * d + n ≡ made n d k * (2 * n) + error
+
+-- the axis stands after pulse k of n
+pub record IsSpread (n : ℕ) (k : ℕ) (a : Spread) : Type 0 where
+  pub most : a.count ≤ n
+  pub twice : a.twice ≡ 2 * a.count
+  pub error : Holds n a.count k a.error
+
+-- an axis that made a step of the line
+pub record Stepped (whole : ℕ) (a a' : Spread) (t : Step) : Type 0 where
+  pub step : (n k : ℕ) → whole ≡ 2 * n → IsSpread n k a → t ≡ axis_step n a.forward a.count k
+  pub axis : (n k : ℕ) → whole ≡ 2 * n → IsSpread n k a → IsSpread n (k + 1) a'
+  pub count : a'.count ≡ a.count
+  pub forward : a'.forward ≡ a.forward

@@ -1,0 +1,85 @@
+-- The axes of an arc's plane (NISTIR 6556, 3.5.6), and the side that an arc is seen from (own).
+use Rattle.std.specs.Prelude.{ℤ, neg_ℤ}
+use Rattle.ng_canon.specs.declared.item.Step.{Step}
+use Rattle.ng_canon.specs.declared.item.Step.TheVariants.{Backward, Still, Forward}
+use Rattle.ng_canon.specs.declared.plane.Plane.{Plane}
+use Rattle.ng_canon.specs.declared.plane.Plane.TheVariants.{Xy, Xz, Yz}
+use Rattle.ng_canon.specs.declared.plane.Turn.{Turn}
+use Rattle.ng_canon.specs.declared.plane.Turn.TheVariants.{Clockwise, Counterclockwise}
+use Rattle.ng_step.specs.declared.frame.Frame.{Frame}
+use Rattle.ng_step.specs.declared.line.Steps.{Steps}
+use Rattle.ng_step.specs.declared.quadrant.PlaneStep.{PlaneStep}
+use Rattle.ng_step.specs.declared.quadrant.PlaneStep.TheVariants.{AddA, SubA, AddB, SubB}
+
+-- of what belongs to X, Y and Z: what belongs to the plane's axis a
+abbrev pub of_a : {A : Type 0} → Plane → A → A → A → A
+of_a Xy x y z = x
+of_a Xz x y z = z
+of_a Yz x y z = y
+
+-- to its axis b
+abbrev pub of_b : {A : Type 0} → Plane → A → A → A → A
+of_b Xy x y z = y
+of_b Xz x y z = x
+of_b Yz x y z = z
+
+-- to the axis across it
+abbrev pub of_third : {A : Type 0} → Plane → A → A → A → A
+of_third Xy x y z = z
+of_third Xz x y z = y
+of_third Yz x y z = x
+
+-- and back, of what belongs to a, b and the third axis: what belongs to X
+abbrev pub at_x : {A : Type 0} → Plane → A → A → A → A
+at_x Xy a b third = a
+at_x Xz a b third = b
+at_x Yz a b third = third
+
+-- to Y
+abbrev pub at_y : {A : Type 0} → Plane → A → A → A → A
+at_y Xy a b third = b
+at_y Xz a b third = third
+at_y Yz a b third = a
+
+-- to Z
+abbrev pub at_z : {A : Type 0} → Plane → A → A → A → A
+at_z Xy a b third = third
+at_z Xz a b third = a
+at_z Yz a b third = b
+
+-- a clockwise arc is a counterclockwise one with b negated
+abbrev pub mirrored : Turn → ℤ → ℤ
+mirrored Counterclockwise b = b
+mirrored Clockwise b = neg_ℤ b
+
+abbrev pub mirrored_step : Turn → Step → Step
+mirrored_step Counterclockwise s = s
+mirrored_step Clockwise Backward = Forward
+mirrored_step Clockwise Still = Still
+mirrored_step Clockwise Forward = Backward
+
+-- a step of the plane on its axis a
+abbrev pub on_a : PlaneStep → Step
+on_a AddA = Forward
+on_a SubA = Backward
+on_a AddB = Still
+on_a SubB = Still
+
+-- on its axis b
+abbrev pub on_b : PlaneStep → Step
+on_b AddA = Still
+on_b SubA = Still
+on_b AddB = Forward
+on_b SubB = Backward
+
+-- a pulse of the machine's axes, of what the plane's axes and the third one do
+abbrev pub pulse_of : Plane → Step → Step → Step → Steps
+pulse_of plane a b third = record { x = at_x plane a b third; y = at_y plane a b third; z = at_z plane a b third }
+
+-- a pulse with this step of the arc, and what the third axis does in it
+abbrev pub pulse_with : Frame → PlaneStep → Step → Steps
+pulse_with frame m third = pulse_of frame.plane (on_a m) (mirrored_step frame.turn (on_b m)) third
+
+-- a pulse in which the arc rests
+abbrev pub pulse_without : Frame → Step → Steps
+pulse_without frame third = pulse_of frame.plane Still Still third

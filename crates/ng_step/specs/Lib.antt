@@ -1,0 +1,13 @@
+pub mod Arcs
+pub mod Turned
+pub mod Lines
+pub mod Axes
+pub mod LineModel
+pub mod Frames
+pub mod ArcPulses
+pub mod ArcModel
+pub mod Periods
+pub mod Hands
+pub mod StepperModel
+pub mod Sizes
+pub mod Promises

@@ -1,0 +1,88 @@
+-- The same in every quadrant: a point by the coordinate that inward steps lessen and the one that outward steps make larger.
+use Rattle.std.specs.Prelude.{◌≡◌, ℕ, ◌+◌, ◌-◌, ◌*◌, ◌^◌, ◌<◌, ◌≤◌, ℤ, pos, neg_ℤ, ◌+ℤ◌, ◌-ℤ◌, if◌then◌else◌}
+use Rattle.ng_step.specs.declared.quadrant.Quadrant.{Quadrant}
+use Rattle.ng_step.specs.declared.quadrant.Quadrant.TheVariants.{First, Second, Third, Fourth}
+use Rattle.ng_step.specs.Arcs.{quadrant_after, larger, HasSteps, same_quadrant, step_at, next_spot}
+use Rattle.ng_step.specs.declared.quadrant.PlaneStep.{PlaneStep}
+use Rattle.ng_step.specs.declared.walk.Walk.{Walk}
+use Rattle.ng_step.specs.declared.walk.Circle.{Circle}
+use Rattle.ng_step.specs.declared.quadrant.Spot.{Spot}
+
+-- the point of a quadrant with these two sizes
+abbrev pub place : Quadrant → ℕ → ℕ → Spot
+place First i o = record { a = pos i; b = pos o }
+place Second i o = record { a = neg_ℤ (pos o); b = pos i }
+place Third i o = record { a = neg_ℤ (pos i); b = neg_ℤ (pos o) }
+place Fourth i o = record { a = pos o; b = neg_ℤ (pos i) }
+
+abbrev pub in_step : Circle → Quadrant → ℕ
+in_step c First = c.step_a
+in_step c Second = c.step_b
+in_step c Third = c.step_a
+in_step c Fourth = c.step_b
+
+abbrev pub out_step : Circle → Quadrant → ℕ
+out_step c q = in_step c (quadrant_after q)
+
+-- the square of a point's distance from the centre
+abbrev pub norm : ℕ → ℕ → ℕ
+norm i o = i * i + o * o
+
+-- what every point keeps
+pub record Sound (square radius s k i o : ℕ) : Type 0 where
+  pub some : 0 < i
+  pub inner : i ≤ k
+  pub outer : o ≤ k
+
+-- the numbers of a circle, and a length that no coordinate passes
+pub record Roomy (square radius s k : ℕ) : Type 0 where
+  pub large : 4 * (s * s) ≤ square
+  pub within : square ≤ radius * radius
+  pub room : radius + s ≤ k
+
+-- no radius is larger
+abbrev pub farthest : ℕ
+farthest = 2 ^ 47
+
+-- no coordinate of a walk is larger
+abbrev pub beyond : ℕ
+beyond = 2 ^ 48
+
+abbrev pub spot_of : Walk → Spot
+spot_of w = place w.quadrant w.inner w.outer
+
+-- the differences are those of the point
+pub record Walks (w : Walk) : Type 0 where
+  pub has : HasSteps w.circle
+  pub roomy : Roomy w.circle.square farthest (larger w.circle) beyond
+  pub sound : Sound w.circle.square farthest (larger w.circle) beyond w.inner w.outer
+  pub inner_step : w.inner_step ≡ in_step w.circle w.quadrant
+  pub outer_step : w.outer_step ≡ out_step w.circle w.quadrant
+  pub inner_second : w.inner_second ≡ pos (2 * (w.inner_step * w.inner_step))
+  pub outer_second : w.outer_second ≡ pos (2 * (w.outer_step * w.outer_step))
+  pub excess : w.excess ≡ pos (norm w.inner w.outer) -ℤ pos w.circle.square
+  pub inward : w.inward ≡ pos (w.inner_step * w.inner_step) -ℤ pos (2 * (w.inner * w.inner_step))
+  pub outward : w.outward ≡ pos (w.outer_step * w.outer_step) +ℤ pos (2 * (w.outer * w.outer_step))
+
+-- how much a point has still to go in its quadrant
+abbrev pub room : ℕ → ℕ → ℕ → ℕ
+room k i o = i + (k - o)
+
+-- how much it has still to go in all: each step makes it smaller
+abbrev pub budget : ℕ → ℕ → ℕ → ℕ → ℕ
+budget k left i o = left * (2 * k + 1) + room k i o
+
+-- a walk made a step by the rule
+pub record IsStep (w w' : Walk) (m : PlaneStep) : Type 0 where
+  pub walks : Walks w'
+  pub step : m ≡ step_at w.circle (spot_of w)
+  pub spot : spot_of w' ≡ next_spot w.circle (spot_of w)
+  pub circle : w'.circle ≡ w.circle
+  pub smaller : (left : ℕ) → 0 < left → budget beyond (if same_quadrant w.quadrant w'.quadrant then left else left - 1) w'.inner w'.outer < budget beyond left w.inner w.outer
+
+-- a point seen from a quadrant, as its inner and its outer coordinate
+abbrev pub turned : Quadrant → Spot → Spot
+turned First p = p
+turned Second p = record { a = p.b; b = neg_ℤ p.a }
+turned Third p = record { a = neg_ℤ p.a; b = neg_ℤ p.b }
+turned Fourth p = record { a = neg_ℤ p.b; b = p.a }

@@ -1,0 +1,73 @@
+//! The pulses of an arc.
+
+use crate::frame::Frame;
+use crate::line::Steps;
+use crate::spread::Spread;
+use crate::walk::Walk;
+use ng_canon::Step;
+use std::marker::Model;
+
+/// The pulses of an arc that are still to come, without its closing line.
+#[derive(Drop)]
+pub struct ArcPulses {
+    frame: Frame,
+    total: u64,
+    left: u64,
+    whole: u64,
+    walk: Walk,
+    arc: Spread,
+    third: Spread,
+}
+
+impl Model for ArcPulses {
+    ghost use Rattle.std.specs.Prelude.{List};
+    ghost use Rattle.ng_step.specs.declared.line.Steps.{Steps};
+
+    ghost Value = { List Steps };
+
+    ghost use Rattle.ng_step.specs.ArcModel.{arc_left, IsArcLeft};
+
+    ghost view = { arc_left };
+
+    ghost invariant = { IsArcLeft };
+}
+
+impl ArcPulses {
+    ghost use Rattle.std.specs.Prelude.{◌≡◌, ◌∷◌, [], MatchOption, ◌^◌, ◌<◌, unsigned_abs, max, int_le, pos};
+    ghost use Rattle.ng_step.specs.Turned.{Walks, spot_of};
+    ghost use Rattle.ng_step.specs.ArcPulses.{pulses_from};
+
+    /// Over the next `count` steps of a walk, while the third axis makes its own.
+    pub fn new(frame: Frame, walk: Walk, count: u64, third: i64) -> ArcPulses
+        requires walks { Walks walk }
+        requires count { count < 2 ^ 60 }
+        requires third { unsigned_abs third < 2 ^ 60 }
+        ensures { result ≡ pulses_from frame (max count (unsigned_abs third)) count (int_le (pos 0) third) (unsigned_abs third) walk.circle (spot_of walk) (max count (unsigned_abs third)) }
+    {
+        let total = count.max(third.unsigned_abs());
+        ArcPulses {
+            frame,
+            total,
+            left: total,
+            whole: 2 * total,
+            walk,
+            arc: Spread::new(count as i64, total),
+            third: Spread::new(third, total),
+        }
+    }
+
+    /// The next pulse.
+    pub fn next(&mut self) -> Option<Steps>
+        ensures { MatchOption result ((self.old ≡ []) × (self.new ≡ [])) (λ p. self.old ≡ p ∷ self.new) }
+    {
+        if self.left == 0 {
+            return None;
+        }
+        self.left -= 1;
+        let third = self.third.step(self.whole);
+        match self.arc.step(self.whole) {
+            Step::Still => Some(self.frame.pulse_without(third)),
+            _ => Some(self.frame.pulse_with(self.walk.step(), third)),
+        }
+    }
+}

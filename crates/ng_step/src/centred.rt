@@ -1,0 +1,127 @@
+//! An arc as it is seen from its centre.
+
+use crate::frame::{Frame, mirrored, of_a, of_b};
+use crate::quadrant::Spot;
+use crate::rounding::rounded;
+use crate::walk::Circle;
+use ng_canon::{Arc, Geometry, Plane};
+use ng_num::Point;
+
+/// An arc in the frame of its plane, all offsets from its centre in nanometres, b negated for a clockwise one.
+#[derive(Clone, Copy, Debug, PartialEq, Eq)]
+pub struct CentredArc {
+    pub frame: Frame,
+    pub circle: Circle,
+    /// The programmed start.
+    pub start: Spot,
+    /// The programmed end.
+    pub end: Spot,
+    /// The start rounded to whole steps.
+    pub from: Spot,
+}
+
+impl CentredArc {
+    ghost use Rattle.std.specs.Prelude.{◌≡◌};
+    ghost use Rattle.ng_step.specs.Hands.{centred};
+    ghost use Rattle.ng_step.specs.Sizes.{IsSized};
+
+    /// An arc of the machine.
+    pub(crate) fn of(geometry: &Geometry, arc: &Arc) -> CentredArc
+        ensures value { result ≡ centred geometry.now arc.now }
+        ensures sizes { IsSized result }
+    {
+        let start = programmed(arc, &arc.start);
+        let (step_a, step_b) = (step_a(geometry, arc.plane), step_b(geometry, arc.plane));
+        CentredArc {
+            frame: Frame {
+                plane: arc.plane,
+                turn: arc.turn,
+            },
+            circle: Circle {
+                step_a: step_a as u64,
+                step_b: step_b as u64,
+                square: square_from_centre(start),
+            },
+            start,
+            end: programmed(arc, &arc.end),
+            from: rounded_start(arc, step_a, step_b),
+        }
+    }
+}
+
+ghost use Rattle.std.specs.Prelude.{◌≡◌, ◌+◌, ◌*◌, ◌^◌, ◌<◌, ◌≤◌, ◌-ℤ◌, unsigned_abs};
+ghost use Rattle.ng_step.specs.Hands.{from_centre, programmed, rounded_start, step_a, step_b};
+ghost use Rattle.ng_step.specs.Sizes.{AreWithin};
+
+/// A point of the plane as an offset from the arc's centre.
+fn from_centre(arc: &Arc, a: i64, b: i64) -> Spot
+    requires a { unsigned_abs a < 2 ^ 44 }
+    requires b { unsigned_abs b < 2 ^ 44 }
+    ensures value { result ≡ from_centre arc.now a b }
+    ensures sizes { AreWithin result (2 ^ 45) }
+{
+    Spot {
+        a: a - arc.centre_a.nm(),
+        b: mirrored(arc.turn, b - arc.centre_b.nm()),
+    }
+}
+
+/// A programmed point as an offset from the arc's centre.
+fn programmed(arc: &Arc, at: &Point) -> Spot
+    ensures value { result ≡ programmed arc.now at.now }
+    ensures sizes { AreWithin result (2 ^ 45) }
+{
+    let a = of_a(arc.plane, at.x, at.y, at.z);
+    let b = of_b(arc.plane, at.x, at.y, at.z);
+    from_centre(arc, a.nm(), b.nm())
+}
+
+/// The start rounded to whole steps, as an offset from the arc's centre.
+fn rounded_start(arc: &Arc, step_a: u32, step_b: u32) -> Spot
+    requires a_some { 0 < step_a }
+    requires a_most { step_a ≤ 1_000_000 }
+    requires b_some { 0 < step_b }
+    requires b_most { step_b ≤ 1_000_000 }
+    ensures value { result ≡ rounded_start arc.now step_a step_b }
+    ensures near_a { 2 * unsigned_abs (result.a -ℤ (programmed arc.now arc.now.start).a) ≤ step_a }
+    ensures near_b { 2 * unsigned_abs (result.b -ℤ (programmed arc.now arc.now.start).b) ≤ step_b }
+{
+    let a = of_a(arc.plane, arc.start.x, arc.start.y, arc.start.z);
+    let b = of_b(arc.plane, arc.start.x, arc.start.y, arc.start.z);
+    from_centre(arc, rounded(a, step_a), rounded(b, step_b))
+}
+
+/// The step of the plane's axis a.
+fn step_a(geometry: &Geometry, plane: Plane) -> u32
+    ensures value { result ≡ step_a geometry.now plane }
+    ensures some { 0 < result }
+    ensures most { result ≤ 1_000_000 }
+{
+    match plane {
+        Plane::Xy => geometry.x.step_nm,
+        Plane::Xz => geometry.z.step_nm,
+        Plane::Yz => geometry.y.step_nm,
+    }
+}
+
+/// The step of the plane's axis b.
+fn step_b(geometry: &Geometry, plane: Plane) -> u32
+    ensures value { result ≡ step_b geometry.now plane }
+    ensures some { 0 < result }
+    ensures most { result ≤ 1_000_000 }
+{
+    match plane {
+        Plane::Xy => geometry.y.step_nm,
+        Plane::Xz => geometry.x.step_nm,
+        Plane::Yz => geometry.z.step_nm,
+    }
+}
+
+/// The square of a point's distance from the centre.
+fn square_from_centre(at: Spot) -> u128
+    requires { AreWithin at (2 ^ 45) }
+    ensures { result ≡ unsigned_abs at.a * unsigned_abs at.a + unsigned_abs at.b * unsigned_abs at.b }
+{
+    let (a, b) = (at.a.unsigned_abs() as u128, at.b.unsigned_abs() as u128);
+    a * a + b * b
+}

@@ -1,0 +1,141 @@
+//! The axes of an arc's plane, and the side that an arc is seen from.
+
+use crate::line::{Distances, Steps};
+use crate::quadrant::PlaneStep;
+use ng_canon::{Plane, Step, Turn};
+
+/// How an arc lies in the machine: its plane, and its way round. A clockwise arc is stepped as a counterclockwise
+/// one with b negated.
+#[derive(Clone, Copy, Debug, PartialEq, Eq)]
+pub struct Frame {
+    pub plane: Plane,
+    pub turn: Turn,
+}
+
+impl Frame {
+    ghost use Rattle.std.specs.Prelude.{◌≡◌, ◌<◌, ◌^◌, unsigned_abs};
+    ghost use Rattle.ng_step.specs.Frames.{pulse_with, pulse_without};
+    ghost use Rattle.ng_step.specs.Hands.{across, closing_after};
+    ghost use Rattle.ng_step.specs.Sizes.{AreSized};
+
+    /// The pulse with this step of the arc, and what the third axis does in it.
+    pub(crate) fn pulse_with(self, made: PlaneStep, third: Step) -> Steps
+        ensures { result ≡ pulse_with self made third }
+    {
+        let b = mirrored_step(self.turn, made.on_b());
+        pulse_of(self.plane, made.on_a(), b, third)
+    }
+
+    /// The pulse in which the arc rests.
+    pub(crate) fn pulse_without(self, third: Step) -> Steps
+        ensures { result ≡ pulse_without self third }
+    {
+        pulse_of(self.plane, Step::Still, Step::Still, third)
+    }
+
+    /// The steps of the third axis.
+    pub(crate) fn across(self, distance: &Distances) -> i64
+        requires { AreSized distance.now (2 ^ 50) }
+        ensures value { result ≡ across self distance.now }
+        ensures size { unsigned_abs result < 2 ^ 50 }
+    {
+        of_third(self.plane, distance.x, distance.y, distance.z)
+    }
+
+    /// What is left of the distances behind an arc's steps, this far along a and b, and those of the third axis.
+    pub(crate) fn closing_after(self, distance: &Distances, net_a: i64, net_b: i64) -> Distances
+        requires distance { AreSized distance.now (2 ^ 50) }
+        requires a { unsigned_abs net_a < 2 ^ 53 }
+        requires b { unsigned_abs net_b < 2 ^ 53 }
+        ensures value { result ≡ closing_after self distance.now net_a net_b }
+        ensures sizes { AreSized result (2 ^ 54) }
+    {
+        let a = of_a(self.plane, distance.x, distance.y, distance.z) - net_a;
+        let b = of_b(self.plane, distance.x, distance.y, distance.z) - mirrored(self.turn, net_b);
+        match self.plane {
+            Plane::Xy => Distances { x: a, y: b, z: 0 },
+            Plane::Xz => Distances { x: b, y: 0, z: a },
+            Plane::Yz => Distances { x: 0, y: a, z: b },
+        }
+    }
+}
+
+ghost use Rattle.std.specs.Prelude.{◌≡◌, ◌<◌, ◌^◌, unsigned_abs};
+ghost use Rattle.ng_step.specs.Frames.{of_a, of_b, of_third, mirrored, mirrored_step, pulse_of};
+
+/// What belongs to the plane's axis a, of what belongs to X, Y and Z.
+pub(crate) fn of_a<T: Copy>(plane: Plane, x: T, y: T, z: T) -> T
+    ensures { result ≡ of_a plane x y z }
+{
+    match plane {
+        Plane::Xy => x,
+        Plane::Xz => z,
+        Plane::Yz => y,
+    }
+}
+
+/// What belongs to the plane's axis b.
+pub(crate) fn of_b<T: Copy>(plane: Plane, x: T, y: T, z: T) -> T
+    ensures { result ≡ of_b plane x y z }
+{
+    match plane {
+        Plane::Xy => y,
+        Plane::Xz => x,
+        Plane::Yz => z,
+    }
+}
+
+/// What belongs to the axis across the plane.
+fn of_third<T: Copy>(plane: Plane, x: T, y: T, z: T) -> T
+    ensures { result ≡ of_third plane x y z }
+{
+    match plane {
+        Plane::Xy => z,
+        Plane::Xz => y,
+        Plane::Yz => x,
+    }
+}
+
+/// A coordinate of the plane's axis b, as the arc is stepped.
+pub(crate) fn mirrored(turn: Turn, b: i64) -> i64
+    requires { unsigned_abs b < 2 ^ 58 }
+    ensures value { result ≡ mirrored turn b }
+    ensures size { unsigned_abs result ≡ unsigned_abs b }
+{
+    match turn {
+        Turn::Clockwise => -b,
+        Turn::Counterclockwise => b,
+    }
+}
+
+fn mirrored_step(turn: Turn, step: Step) -> Step
+    ensures { result ≡ mirrored_step turn step }
+{
+    match (turn, step) {
+        (Turn::Clockwise, Step::Backward) => Step::Forward,
+        (Turn::Clockwise, Step::Forward) => Step::Backward,
+        (_, step) => step,
+    }
+}
+
+fn pulse_of(plane: Plane, a: Step, b: Step, third: Step) -> Steps
+    ensures { result ≡ pulse_of plane a b third }
+{
+    match plane {
+        Plane::Xy => Steps {
+            x: a,
+            y: b,
+            z: third,
+        },
+        Plane::Xz => Steps {
+            x: b,
+            y: third,
+            z: a,
+        },
+        Plane::Yz => Steps {
+            x: third,
+            y: a,
+            z: b,
+        },
+    }
+}

@@ -1,0 +1,58 @@
+//! Machine coordinates in whole steps.
+
+ghost use Rattle.std.specs.Prelude.{◌≡◌, ◌<◌, ◌≤◌, ◌^◌, ◌*◌, ◌-ℤ◌, unsigned_abs};
+ghost use Rattle.ng_num.specs.Range.{IsCount};
+ghost use Rattle.ng_step.specs.Lines.{in_steps};
+ghost use Rattle.ng_step.specs.Hands.{rounded, square_between};
+
+use ng_num::{Len, Point};
+
+/// A coordinate in steps, rounded half away from zero.
+pub(crate) fn in_steps(at: Len, step_nm: u32) -> i64
+    requires { 0 < step_nm }
+    ensures value { result ≡ in_steps at step_nm }
+    ensures size { unsigned_abs result < 2 ^ 45 }
+    ensures range { IsCount at }
+{
+    let nm = at.nm();
+    let step = step_nm as u64;
+    let steps = ((2 * nm.unsigned_abs() + step) / (2 * step)) as i64;
+    if nm < 0 { -steps } else { steps }
+}
+
+/// A coordinate rounded to whole steps, in nanometres.
+pub(crate) fn rounded(at: Len, step_nm: u32) -> i64
+    requires some { 0 < step_nm }
+    requires most { step_nm ≤ 1_000_000 }
+    ensures value { result ≡ rounded at step_nm }
+    ensures near { 2 * unsigned_abs (result -ℤ at) ≤ step_nm }
+    ensures size { unsigned_abs result < 2 ^ 44 }
+{
+    in_steps(at, step_nm) * step_nm as i64
+}
+
+/// The steps from one coordinate to another.
+pub(crate) fn steps_between(from: Len, to: Len, step_nm: u32) -> i64
+    requires { 0 < step_nm }
+    ensures value { result ≡ in_steps to step_nm -ℤ in_steps from step_nm }
+    ensures size { unsigned_abs result < 2 ^ 46 }
+{
+    in_steps(to, step_nm) - in_steps(from, step_nm)
+}
+
+/// The square of the distance between two coordinates.
+fn square_of(from: Len, to: Len) -> u128
+    ensures value { result ≡ unsigned_abs (to -ℤ from) * unsigned_abs (to -ℤ from) }
+    ensures size { result < 2 ^ 90 }
+{
+    let size = (to.nm() - from.nm()).unsigned_abs() as u128;
+    size * size
+}
+
+/// The square of the distance between two points.
+pub(crate) fn square_between(start: &Point, end: &Point) -> u128
+    ensures value { result ≡ square_between start.now end.now }
+    ensures size { result < 2 ^ 92 }
+{
+    square_of(start.x, end.x) + square_of(start.y, end.y) + square_of(start.z, end.z)
+}

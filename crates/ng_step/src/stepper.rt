@@ -1,0 +1,169 @@
+//! One item at a time.
+
+use crate::arc::ArcPulses;
+use crate::centred::CentredArc;
+use crate::line::{Distances, LinePulses, Steps};
+use crate::quadrant::quadrants_to_walk;
+use crate::rounding::square_between;
+use crate::timing::{pulse_us, root_up};
+use crate::walk::Walk;
+use ng_canon::{Arc, Geometry, Item, Pace, Pulse, Segment};
+use ng_num::{Num, Point};
+use std::marker::Model;
+
+/// The items of a segment that are still to come.
+#[derive(Drop)]
+pub struct Stepper {
+    single: Option<Item>,
+    arc: Option<ArcPulses>,
+    line: LinePulses,
+    period_us: u64,
+}
+
+impl Model for Stepper {
+    ghost use Rattle.std.specs.Prelude.{List};
+    ghost use Rattle.ng_canon.specs.declared.item.Item.{Item};
+
+    ghost Value = { List Item };
+
+    ghost use Rattle.ng_step.specs.StepperModel.{items_left};
+
+    ghost view = { items_left };
+}
+
+impl Stepper {
+    ghost use Rattle.std.specs.Prelude.{◌≡◌, ◌∷◌, ◌++◌, ◌^◌, [], MatchOption, map};
+    ghost use Rattle.ng_step.specs.Hands.{pulse_item, line_items, arc_items, large_arc_items, hand};
+    ghost use Rattle.ng_step.specs.Promises.{EndsOnItsEnd, StaysInside, KeepsToItsCircle};
+    ghost use Rattle.ng_step.specs.Sizes.{AreSized, IsWalkable};
+    ghost use Rattle.ng_step.specs.StepperModel.{or_none};
+
+    /// At the start of a segment: any one, inside the travel or not. An arc is walked once here, since its
+    /// period needs the number of its steps.
+    pub fn new(segment: &Segment, geometry: &Geometry) -> Stepper
+        ensures items { result ≡ hand segment.now geometry.now }
+        ensures ends { EndsOnItsEnd segment.now geometry.now }
+        ensures stays { StaysInside segment.now geometry.now }
+        ensures keeps { KeepsToItsCircle segment.now geometry.now }
+    {
+        match segment {
+            Segment::Line(line) => Stepper::over_line(geometry, line.pace, &line.start, &line.end),
+            Segment::Arc(arc) => Stepper::over_arc(geometry, arc),
+            Segment::Dwell(time) => Stepper::single(Item::Dwell {
+                us: dwell_us(*time),
+            }),
+            Segment::Switch(outputs) => Stepper::single(Item::Switch(*outputs)),
+        }
+    }
+
+    /// An arc's pulses, then its closing line's.
+    fn over(arc: Option<ArcPulses>, line: LinePulses, period_us: u64) -> Stepper
+        ensures { result ≡ map (pulse_item period_us) (or_none arc ++ line) }
+    {
+        Stepper {
+            single: None,
+            arc,
+            line,
+            period_us,
+        }
+    }
+
+    /// A line's pulses.
+    fn over_line(geometry: &Geometry, pace: Pace, start: &Point, end: &Point) -> Stepper
+        ensures { result ≡ line_items geometry.now pace start.now end.now }
+    {
+        let distances = Distances::between(geometry, start, end);
+        let length = root_up(square_between(start, end));
+        let period_us = pulse_us(geometry, pace, length, distances.largest());
+        Stepper::over(None, LinePulses::new(distances), period_us)
+    }
+
+    /// An arc's pulses and its closing line's, or a line's where the arc is small.
+    fn over_arc(geometry: &Geometry, arc: &Arc) -> Stepper
+        ensures { result ≡ arc_items geometry.now arc.now }
+    {
+        let centred = CentredArc::of(geometry, arc);
+        if centred.circle.is_small() {
+            return Stepper::over_line(geometry, arc.pace, &arc.start, &arc.end);
+        }
+        let distance = Distances::between(geometry, &arc.start, &arc.end);
+        Stepper::over_large_arc(geometry, arc.pace, &centred, &distance)
+    }
+
+    /// An arc's pulses, then those of a line to its rounded end.
+    fn over_large_arc(
+        geometry: &Geometry,
+        pace: Pace,
+        arc: &CentredArc,
+        distance: &Distances,
+    ) -> Stepper
+        requires walkable { IsWalkable arc.now }
+        requires distance { AreSized distance.now (2 ^ 50) }
+        ensures { result ≡ large_arc_items geometry.now pace arc.now distance.now }
+    {
+        let walk = Walk::new(arc.circle, arc.from);
+        let count = walk.count(arc.end, quadrants_to_walk(arc.start, arc.end, arc.from));
+        let across = arc.frame.across(distance);
+        let closing = arc.frame.closing_after(distance, count.a, count.b);
+        let pulses = count.steps.max(across.unsigned_abs()) + closing.largest();
+        let length = pulses as u128 * arc.circle.larger() as u128;
+        let period_us = pulse_us(geometry, pace, length, pulses);
+        Stepper::over(
+            Some(ArcPulses::new(arc.frame, walk, count.steps, across)),
+            LinePulses::new(closing),
+            period_us,
+        )
+    }
+
+    /// One item alone.
+    fn single(item: Item) -> Stepper
+        ensures { result ≡ item ∷ [] }
+    {
+        Stepper {
+            single: Some(item),
+            arc: None,
+            line: LinePulses::new(Distances { x: 0, y: 0, z: 0 }),
+            period_us: 0,
+        }
+    }
+
+    /// The next item.
+    pub fn next(&mut self) -> Option<Item>
+        ensures { MatchOption result ((self.old ≡ []) × (self.new ≡ [])) (λ i. self.old ≡ i ∷ self.new) }
+    {
+        if let Some(item) = self.single {
+            self.single = None;
+            return Some(item);
+        }
+        if let Some(arc) = &mut self.arc {
+            if let Some(steps) = arc.next() {
+                return Some(pulse_item(steps, self.period_us));
+            }
+        }
+        match self.line.next() {
+            Some(steps) => Some(pulse_item(steps, self.period_us)),
+            None => None,
+        }
+    }
+}
+
+ghost use Rattle.std.specs.Prelude.{◌≡◌};
+ghost use Rattle.ng_step.specs.Hands.{pulse_item, dwell_us};
+
+/// The microseconds of a time; none where it is below 0.
+fn dwell_us(time: Num) -> u64
+    ensures { result ≡ dwell_us time }
+{
+    time.count().max(0) as u64
+}
+
+fn pulse_item(steps: Steps, period_us: u64) -> Item
+    ensures { result ≡ pulse_item period_us steps }
+{
+    Item::Pulse(Pulse {
+        x: steps.x,
+        y: steps.y,
+        z: steps.z,
+        period_us,
+    })
+}

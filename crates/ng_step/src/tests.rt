@@ -1,0 +1,263 @@
+use crate::Stepper;
+use ng_canon::{
+    Arc, Axis, Geometry, InverseTime, Item, Line, Outputs, Pace, Plane, Pulse, Rate, Segment, Step,
+    Turn,
+};
+use ng_num::{Len, Num, Point};
+use std::alloc::Global;
+use std::test::Fail;
+
+type Text = Result<String<Global>, Fail>;
+
+fn len(nm: i64) -> Len {
+    Len::of_nm(nm as i128).unwrap_or(Len::zero())
+}
+
+fn point(x: i64, y: i64, z: i64) -> Point {
+    Point {
+        x: len(x),
+        y: len(y),
+        z: len(z),
+    }
+}
+
+/// F60: a micrometre a millisecond.
+fn feed() -> Pace {
+    match Rate::of(len(60_000_000)) {
+        Some(rate) => Pace::Feed(rate),
+        None => Pace::Traverse,
+    }
+}
+
+/// Axes whose steps are these.
+fn steps_of(x: u32, y: u32, z: u32) -> Geometry {
+    let machine = Geometry::standard();
+    let axis = |step| Axis::new(step, Len::zero(), Len::zero()).unwrap_or(machine.x);
+    Geometry {
+        x: axis(x),
+        y: axis(y),
+        z: axis(z),
+        traverse: machine.traverse,
+        least_period_us: machine.least_period_us,
+    }
+}
+
+fn line(start: Point, end: Point, pace: Pace) -> Segment {
+    Segment::Line(Line { start, end, pace })
+}
+
+fn arc(plane: Plane, turn: Turn, start: Point, end: Point, centre: (i64, i64)) -> Segment {
+    Segment::Arc(Arc {
+        plane,
+        turn,
+        start,
+        end,
+        centre_a: len(centre.0),
+        centre_b: len(centre.1),
+        pace: feed(),
+    })
+}
+
+fn push_step(text: &mut String<Global>, step: Step, letter: &str) -> Result<(), Fail> {
+    match step {
+        Step::Still => {}
+        Step::Forward => {
+            text.push_str("+")?;
+            text.push_str(letter)?;
+        }
+        Step::Backward => {
+            text.push_str("-")?;
+            text.push_str(letter)?;
+        }
+    }
+    Ok(())
+}
+
+fn push_pulse(text: &mut String<Global>, pulse: Pulse) -> Result<(), Fail> {
+    push_step(text, pulse.x, "X")?;
+    push_step(text, pulse.y, "Y")?;
+    push_step(text, pulse.z, "Z")
+}
+
+/// All items: a pulse as its steps, and its period where it differs from the one before.
+fn items(alloc: Global, segment: &Segment, machine: &Geometry) -> Text {
+    let mut text = String::new(alloc);
+    let mut period_us = 0;
+    let mut stepper = Stepper::new(segment, machine);
+    for _ in 0..1_000 {
+        let Some(item) = stepper.next() else {
+            return Ok(text);
+        };
+        if !text.is_empty() {
+            text.push_str(" ")?;
+        }
+        match item {
+            Item::Pulse(pulse) => {
+                if pulse.period_us != period_us {
+                    period_us = pulse.period_us;
+                    text.push_str(&format!(in alloc; "{period_us}: ")?)?;
+                }
+                push_pulse(&mut text, pulse)?;
+            }
+            Item::Dwell { us } => text.push_str(&format!(in alloc; "dwell {us}")?)?,
+            Item::Switch(outputs) => {
+                text.push_str(&format!(in alloc; "switch {}", outputs.selected_slot)?)?
+            }
+        }
+    }
+    text.push_str(" and more")?;
+    Ok(text)
+}
+
+#[test]
+fn lines(rt: HostRuntime) -> Result<(), Fail> {
+    let machine = Geometry::standard();
+    let origin = Point::origin();
+    let inverse = InverseTime::of(Num::of(60_000_000)?).map_or(Pace::Traverse, Pace::InverseTime);
+    for (end, pace, want) in [
+        (point(5_000, 2_000, 0), feed(), "1078: +X +X+Y +X +X+Y +X"),
+        (point(5_000, 0, 0), inverse, "200000: +X +X +X +X +X"),
+        (point(2_000, 0, 0), Pace::Traverse, "50: +X +X"),
+        (
+            point(-3_000, 1_499, 3_000),
+            feed(),
+            "1500: -X+Z -X+Y+Z -X+Z",
+        ),
+        (origin, feed(), ""),
+        (point(499, -499, 0), feed(), ""),
+    ] {
+        assert_eq!(rt;
+            items(rt.alloc(), &line(origin, end, pace), &machine)?.as_str(),
+            want
+        );
+    }
+    Ok(())
+}
+
+/// Full circles of two steps' radius: each plane and way round.
+#[test]
+fn circles(rt: HostRuntime) -> Result<(), Fail> {
+    let machine = Geometry::standard();
+    let origin = Point::origin();
+    for (plane, turn, want) in [
+        (
+            Plane::Xy,
+            Turn::Counterclockwise,
+            "1000: +Y -X +Y -X -X -Y -X -Y -Y +X -Y +X +X +Y +X +Y",
+        ),
+        (
+            Plane::Xy,
+            Turn::Clockwise,
+            "1000: -Y -X -Y -X -X +Y -X +Y +Y +X +Y +X +X -Y +X -Y",
+        ),
+        (
+            Plane::Xz,
+            Turn::Counterclockwise,
+            "1000: +X -Z +X -Z -Z -X -Z -X -X +Z -X +Z +Z +X +Z +X",
+        ),
+        (
+            Plane::Xz,
+            Turn::Clockwise,
+            "1000: -X -Z -X -Z -Z +X -Z +X +X +Z +X +Z +Z -X +Z -X",
+        ),
+        (
+            Plane::Yz,
+            Turn::Counterclockwise,
+            "1000: +Z -Y +Z -Y -Y -Z -Y -Z -Z +Y -Z +Y +Y +Z +Y +Z",
+        ),
+        (
+            Plane::Yz,
+            Turn::Clockwise,
+            "1000: -Z -Y -Z -Y -Y +Z -Y +Z +Z +Y +Z +Y +Y -Z +Y -Z",
+        ),
+    ] {
+        let circle = arc(plane, turn, origin, origin, (-2_000, 0));
+        assert_eq!(rt; items(rt.alloc(), &circle, &machine)?.as_str(), want);
+    }
+    Ok(())
+}
+
+/// Counterclockwise in the plane of X and Y: rounded starts, a helix, arcs of one quadrant, small ones.
+#[test]
+fn arcs(rt: HostRuntime) -> Result<(), Fail> {
+    let machine = Geometry::standard();
+    for (start, end, centre, want) in [
+        (
+            point(0, 400, 0),
+            point(0, 400, 0),
+            (-2_000, 300),
+            "1000: +Y -X +Y +Y -X -Y -X -X -Y -Y +X -Y -Y +X +Y +X +X +Y +Y -Y",
+        ),
+        (
+            point(0, 0, 0),
+            point(0, 0, 4_000),
+            (-2_000, 0),
+            "1000: +Y -X+Z +Y -X -X -Y+Z -X -Y -Y +X+Z -Y +X +X +Y+Z +X +Y",
+        ),
+        (
+            point(0, 0, 0),
+            point(-8_000, 4_000, 0),
+            (-5_000, 0),
+            "1000: +Y -X +Y +Y +Y -X +Y -X -X -X -X -Y -X -X",
+        ),
+        (
+            point(5_000, 300, 0),
+            point(0, 5_000, 0),
+            (0, 400),
+            "1000: +Y -X +Y +Y +Y -X +Y -X -X +Y -X -Y",
+        ),
+        (point(5_000, -400, 0), point(5_000, -300, 0), (0, 0), ""),
+        (point(0, 0, 0), point(0, 0, 0), (-1_000, 0), ""),
+        (
+            point(0, 0, 0),
+            point(-3_998, 0, 0),
+            (-1_999, 0),
+            "1000: -X -X -X -X",
+        ),
+    ] {
+        let round = arc(Plane::Xy, Turn::Counterclockwise, start, end, centre);
+        assert_eq!(rt; items(rt.alloc(), &round, &machine)?.as_str(), want);
+    }
+    Ok(())
+}
+
+#[test]
+fn unequal_steps(rt: HostRuntime) -> Result<(), Fail> {
+    let machine = steps_of(1_000, 500, 1_000);
+    let flat = arc(
+        Plane::Xy,
+        Turn::Counterclockwise,
+        point(4_000, 0, 0),
+        point(0, 4_000, 0),
+        (0, 0),
+    );
+    let helix = arc(
+        Plane::Yz,
+        Turn::Clockwise,
+        point(0, 4_000, 0),
+        point(3_000, 0, -4_000),
+        (0, 0),
+    );
+    for (segment, want) in [
+        (flat, "1000: +Y -X +Y +Y +Y +Y +Y -X +Y -X +Y -X"),
+        (helix, "1000: -Z +X-Y -Z -Y -Z +X-Y -Z -Y -Y +X-Y -Y -Y"),
+    ] {
+        assert_eq!(rt; items(rt.alloc(), &segment, &machine)?.as_str(), want);
+    }
+    Ok(())
+}
+
+#[test]
+fn single_items(rt: HostRuntime) -> Result<(), Fail> {
+    let machine = Geometry::standard();
+    let mut outputs = Outputs::fresh();
+    outputs.selected_slot = 7;
+    for (segment, want) in [
+        (Segment::Dwell(Num::of(1_500_000)?), "dwell 1500000"),
+        (Segment::Dwell(Num::of(-1)?), "dwell 0"),
+        (Segment::Switch(outputs), "switch 7"),
+    ] {
+        assert_eq!(rt; items(rt.alloc(), &segment, &machine)?.as_str(), want);
+    }
+    Ok(())
+}

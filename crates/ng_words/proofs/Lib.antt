@@ -1,0 +1,5 @@
+pub mod Round
+pub mod Numbers
+pub mod Words
+pub mod Lines
+pub mod ReadLaws

@@ -1,0 +1,106 @@
+ghost use Rattle.std.specs.Prelude.{◌≡◌, ◌+◌, ◌-◌, ◌*◌, ◌≤◌, [], ◌∷◌, Some, None, MatchOption, IfSome, IsTrue, min};
+ghost use Rattle.ng_words.specs.Grammar.{is_digit};
+ghost use Rattle.ng_words.specs.Scan.{fraction_from, front_digits, after_digits, whole_after, is_empty, unsigned_at, sign_at, number_at};
+
+use crate::cursor::Cursor;
+use ng_num::Num;
+
+/// The whole part past which every number is out of range.
+const WHOLE_LIMIT: u32 = 10_000_000;
+
+/// The whole part with one digit more, kept at its limit so that it never overflows.
+#[inline]
+pub(crate) fn with_digit(whole: u32, digit: u8) -> u32
+    requires small { whole ≤ 10_000_000 }
+    requires digit { IsTrue (is_digit digit) }
+    ensures value { result ≡ min 10_000_000 (whole * 10 + (digit - 48)) }
+    ensures bound { result ≤ 10_000_000 }
+{
+    (whole * 10 + (digit - b'0') as u32).min(WHOLE_LIMIT)
+}
+
+/// Takes the digits that come next: their number, which stops at ten million, and whether there are none.
+#[inline]
+fn whole(cursor: &mut Cursor<'_>) -> (u32, bool)
+    ensures rest { cursor.new ≡ after_digits cursor.old }
+    ensures value { result.0 ≡ whole_after 0 (front_digits cursor.old) }
+    ensures bound { result.0 ≤ 10_000_000 }
+    ensures none { result.1 ≡ is_empty (front_digits cursor.old) }
+{
+    let mut whole: u32 = 0;
+    let mut none = true;
+    while let Some(digit) = cursor.digit() {
+        whole = with_digit(whole, digit);
+        none = false;
+    }
+    (whole, none)
+}
+
+/// Takes the digits behind a point: the ten-millionths that the first seven give, and whether there are none.
+#[inline]
+fn fraction(cursor: &mut Cursor<'_>) -> (u32, bool)
+    ensures rest { cursor.new ≡ after_digits cursor.old }
+    ensures value { result.0 ≡ fraction_from 1_000_000 (front_digits cursor.old) }
+    ensures bound { result.0 ≤ 10_000_000 }
+    ensures none { result.1 ≡ is_empty (front_digits cursor.old) }
+{
+    let mut sum: u32 = 0;
+    let mut unit: u32 = 1_000_000;
+    let mut none = true;
+    while let Some(digit) = cursor.digit() {
+        none = false;
+        sum += (digit - b'0') as u32 * unit;
+        unit /= 10;
+    }
+    (sum, none)
+}
+
+/// Takes a number without a sign: its millionths.
+#[inline]
+fn unsigned(cursor: &mut Cursor<'_>) -> Option<u64>
+    ensures bound { IfSome result (λ n. n ≤ 10_000_001_000_001) }
+    ensures value { MatchOption result (unsigned_at cursor.old ≡ None) (λ n. unsigned_at cursor.old ≡ Some (n, cursor.new)) }
+{
+    let (whole_part, no_whole) = whole(cursor);
+    if cursor.peek() != Some(b'.') {
+        return if no_whole {
+            None
+        } else {
+            Some(whole_part as u64 * 1_000_000)
+        };
+    }
+    cursor.advance();
+    let (tenths, no_fraction) = fraction(cursor);
+    if no_whole && no_fraction {
+        return None;
+    }
+    Some(whole_part as u64 * 1_000_000 + (tenths as u64 + 5) / 10)
+}
+
+/// Takes an optional sign, and answers whether it is a minus.
+#[inline]
+fn minus(cursor: &mut Cursor<'_>) -> bool
+    ensures { (result, cursor.new) ≡ sign_at cursor.old }
+{
+    match cursor.peek() {
+        Some(b'+') => {
+            cursor.advance();
+            false
+        }
+        Some(b'-') => {
+            cursor.advance();
+            true
+        }
+        _ => false,
+    }
+}
+
+/// Takes a number: its count of millionths, or nothing within where that is out of range.
+pub(crate) fn number(cursor: &mut Cursor<'_>) -> Option<Option<Num>>
+    ensures { MatchOption result (number_at cursor.old ≡ None) (λ v. number_at cursor.old ≡ Some (v, cursor.new)) }
+{
+    let negative = minus(cursor);
+    let size = unsigned(cursor)? as i128;
+    let count = if negative { -size } else { size };
+    Some(Num::of(count).ok())
+}

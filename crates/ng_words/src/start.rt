@@ -1,0 +1,62 @@
+ghost use Rattle.std.specs.Prelude.{false, ◌≡◌, Some, None, MatchOption};
+ghost use Rattle.ng_words.specs.Plain.{plain};
+ghost use Rattle.ng_words.specs.Scan.{front_digits, after_digits, slash_at, numbered, block_number_at};
+
+use crate::cursor::Cursor;
+use crate::number::with_digit;
+
+/// The most digits of a block number.
+const DIGITS: u32 = 5;
+
+/// Takes the slash, where one comes next.
+#[inline]
+pub(crate) fn slash(cursor: &mut Cursor<'_>) -> bool
+    ensures { (result, cursor.new) ≡ slash_at cursor.old }
+{
+    match cursor.peek() {
+        Some(b'/') => {
+            cursor.advance();
+            true
+        }
+        _ => false,
+    }
+}
+
+/// Whether a line begins with the slash of block delete, blanks before it left aside (NISTIR 6556, 3.3).
+pub fn is_deletable(text: &[u8]) -> bool
+    ensures { result ≡ (slash_at (plain false text.now)).0 }
+{
+    slash(&mut Cursor::new(text))
+}
+
+/// Takes one to five digits.
+fn block_digits(cursor: &mut Cursor<'_>) -> Option<u32>
+    ensures { MatchOption result (numbered (front_digits cursor.old) (after_digits cursor.old) ≡ None)
+        (λ n. numbered (front_digits cursor.old) (after_digits cursor.old) ≡ Some (Some n, cursor.new)) }
+{
+    let mut number: u32 = 0;
+    let mut count: u32 = 0;
+    while let Some(digit) = cursor.digit() {
+        if count == DIGITS {
+            return None;
+        }
+        number = with_digit(number, digit);
+        count += 1;
+    }
+    if count == 0 { None } else { Some(number) }
+}
+
+/// Takes the block number, where an N comes next.
+#[inline]
+pub(crate) fn block_number(cursor: &mut Cursor<'_>) -> Option<Option<u32>>
+    ensures { MatchOption result (block_number_at cursor.old ≡ None) (λ n. block_number_at cursor.old ≡ Some (n, cursor.new)) }
+{
+    match cursor.peek() {
+        Some(b'N') => {
+            cursor.advance();
+            let number = block_digits(cursor)?;
+            Some(Some(number))
+        }
+        _ => Some(None),
+    }
+}
