@@ -2,12 +2,12 @@
 use Rattle.std.proofs.Common.{arith, ◌≡◌, ◌≢◌, ℕ, List, [], ◌∷◌, ◌++◌, length, take, Bool, true, false, ◌==◌, Option, None, Some, Result, Ok, Err, IfSome, refl, sym, ap, ◌∙◌, subst, append_assoc, append-nil}
 use Rattle.std.proofs.lemmas.Bool.Decides.{nat_tests}
 use Rattle.std.specs.Io.KnownBytes.{Appends, Consumes, IsAtEnd}
-use Rattle.ng_block.specs.Dry.{Output, onto, Finishes}
-use Rattle.ng_block.specs.Parts.{Progress, due, rest_of, HasNoNewline, Closes, Goes, Ends, Breaks}
+use Rattle.ng_block.specs.Dry.{Terms, Output, onto, Finishes, output_of}
+use Rattle.ng_block.specs.Parts.{Progress, begun, due, rest_of, HasNoNewline, Closes, Goes, Ends, Breaks}
 use Rattle.ng_block.specs.declared.ending.Ended.{Ended}
 use Rattle.ng_block.specs.declared.ending.DryFault.{DryFault}
 use Rattle.ng_block.proofs.LineLemmas.{lines-alone}
-use Rattle.ng_block.proofs.Streams.{Appends-trans}
+use Rattle.ng_block.proofs.Streams.{Appends-nil, Appends-trans}
 
 pub Closes-from : {E : Type 0} (o before : Output) (text : List ℕ) (r : Result Ended E) → before ≡ o → Closes o text r → Closes before text r
 Closes-from o before text (Ok end) e h = e ∙ h
@@ -76,3 +76,11 @@ pub run_stops : (r0 r1 w0 w1 : Option (List ℕ)) (before : List ℕ) (out g : L
 run_stops None r1 w0 w1 before out g fault p run = tt
 run_stops (Some x) None w0 w1 before out g fault p run = absurd p
 run_stops (Some x) (Some y) w0 w1 before out g fault p run = (run.text, (g y).text, ap (λ (o : Output). o.text) (ap out p ∙ run.rest y), run.appends)
+
+-- a run before the first read
+pub Goes-begun : (a : Option (List ℕ)) (terms : Terms) (p : Progress) (kept : List ℕ) → p ≡ begun terms → kept ≡ [] → Goes a a (λ more. output_of terms ([] ++ more)) (λ more. rest_of p kept more)
+Goes-begun a terms p kept e f = record {
+  text = [];
+  appends = Appends-nil a;
+  rest = λ more. ap (λ q. onto [] (rest_of q [] more)) (sym e) ∙ ap (λ k. onto [] (rest_of p k more)) (sym f);
+}

@@ -22,6 +22,9 @@ use std::alloc::Allocator;
 /// The most parameters that a line changes.
 pub const CHANGES: usize = 72;
 
+/// The parameters that a line changes, in order.
+pub type Changes = ArrayVec<Change, CHANGES>;
+
 /// How the program goes on behind a line.
 #[derive(Clone, Copy, Debug, PartialEq, Eq)]
 pub enum Stop {
@@ -39,7 +42,7 @@ pub enum Stop {
 pub struct Effect {
     pub machine: Machine,
     /// The parameters that it sets, taken in order.
-    pub changes: ArrayVec<Change, CHANGES>,
+    pub changes: Changes,
     pub segments: Segments,
     pub commands: Commands,
     pub stop: Stop,
@@ -130,15 +133,14 @@ fn machine_after(asked: &Asked, goal: &Goal, first: Point, machine: &Machine) ->
     }
 }
 
-/// The parameters that a block changes.
-fn changes_of(asked: &Asked) -> ArrayVec<Change, CHANGES>
-    ensures { result.items ≡ changes_of asked.now }
+/// Lists the parameters that a block changes.
+fn changes_of(asked: &Asked, changes: &mut Changes)
+    ensures { changes.new.items ≡ changes_of asked.now }
 {
-    let mut changes = ArrayVec::new();
+    changes.clear();
     if asked.end.is_some() {
         changes.push(System::first().selection());
     }
-    changes
 }
 
 fn stop_of(asked: &Asked) -> Stop
@@ -151,14 +153,38 @@ fn stop_of(asked: &Asked) -> Stop
     }
 }
 
-/// What the words of a line do.
+impl Effect {
+    ghost use Rattle.std.specs.Prelude.{[]};
+    ghost use Rattle.ng_block.specs.declared.effect.Stop.TheVariants.{GoesOn};
+
+    /// No effect on a machine.
+    pub fn none(machine: Machine) -> Effect
+        ensures machine { result.machine ≡ machine }
+        ensures changes { result.changes.items ≡ [] }
+        ensures segments { result.segments.items ≡ [] }
+        ensures commands { result.commands.items ≡ [] }
+        ensures stop { result.stop ≡ GoesOn }
+    {
+        Effect {
+            machine,
+            changes: Changes::new(),
+            segments: Segments::new(),
+            commands: Commands::new(),
+            stop: Stop::GoesOn,
+        }
+    }
+}
+
+/// What the words of a line do in a state, put into the places of an effect; or the first fault that refuses
+/// them. After a fault the effect may hold anything.
 #[tactic(auto, unfolding(crate::specs::Effects::acted))]
 pub fn act<A: Allocator + Copy + Drop>(
     state: &State<A>,
     words: &[Word],
     geometry: &Geometry,
-) -> Result<Effect, Fault>
-    ensures { MatchResult result (λ e. acted state.now words.now geometry.now ≡ Ok (done_by state.now e)) (λ f. acted state.now words.now geometry.now ≡ Err f) }
+    effect: &mut Effect,
+) -> Result<(), Fault>
+    ensures { MatchResult result (λ _. acted state.now words.now geometry.now ≡ Ok (done_by state.now effect.new)) (λ f. acted state.now words.now geometry.now ≡ Err f) }
 {
     let asked = asked_of(words);
     if let Some(fault) = block_fault(&asked, &state.machine.modes) {
@@ -169,17 +195,22 @@ pub fn act<A: Allocator + Copy + Drop>(
         return Err(fault);
     }
     let first = state.params.origin(System::first());
-    let machine = machine_after(&asked, &goal, first, &state.machine);
-    Ok(Effect {
-        changes: changes_of(&asked),
-        segments: segments_of(&asked, &goal, &state.machine, &machine),
-        commands: commands_of(&asked, &goal, &machine),
-        stop: stop_of(&asked),
-        machine,
-    })
+    effect.machine = machine_after(&asked, &goal, first, &state.machine);
+    changes_of(&asked, &mut effect.changes);
+    segments_of(
+        &asked,
+        &goal,
+        &state.machine,
+        &effect.machine,
+        &mut effect.segments,
+    );
+    commands_of(&asked, &goal, &effect.machine, &mut effect.commands);
+    effect.stop = stop_of(&asked);
+    Ok(())
 }
 
-/// What a line does in a state, or the first fault that refuses it; the state stays as it is.
+/// What a line does in a state, or the first fault that refuses it, in the order of docs/LANGUAGE.md; the state
+/// stays as it is. Source: NISTIR 6556, 3.8, and own.
 #[tactic(auto, unfolding(crate::specs::Effects::executed))]
 pub fn execute<A: Allocator + Copy + Drop>(
     state: &State<A>,
@@ -191,5 +222,7 @@ pub fn execute<A: Allocator + Copy + Drop>(
 {
     let _ = tools;
     let line = read_line(text)?;
-    act(state, line.words.as_slice(), geometry)
+    let mut effect = Effect::none(state.machine);
+    act(state, line.words.as_slice(), geometry, &mut effect)?;
+    Ok(effect)
 }

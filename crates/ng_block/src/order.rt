@@ -87,16 +87,15 @@ fn print_end(end: Option<End>, origin: Point, commands: &mut Commands)
     commands.push(Command::ProgramEnd);
 }
 
-/// The commands of a block.
-pub fn commands_of(asked: &Asked, goal: &Goal, after: &Machine) -> Commands
-    ensures { result.items ≡ commands_of asked.now goal.now after.now }
+/// Lists the commands of a block.
+pub fn commands_of(asked: &Asked, goal: &Goal, after: &Machine, commands: &mut Commands)
+    ensures { commands.new.items ≡ commands_of asked.now goal.now after.now }
 {
-    let mut commands = Commands::new();
-    print_feed(asked.values.f, goal.feed_per_min, &mut commands);
-    print_unit(asked.unit, &mut commands);
-    print_motion(goal.motion, goal.point, &mut commands);
-    print_end(asked.end, after.offsets.origin, &mut commands);
-    commands
+    commands.clear();
+    print_feed(asked.values.f, goal.feed_per_min, commands);
+    print_unit(asked.unit, commands);
+    print_motion(goal.motion, goal.point, commands);
+    print_end(asked.end, after.offsets.origin, commands);
 }
 
 /// The path of a block's motion.
@@ -126,11 +125,11 @@ fn end_switch(end: Option<End>, after: &Machine) -> Option<Outputs>
     }
 }
 
-/// The segments of a path, and a switch behind them.
-fn listed(path: Option<Path>, switch: Option<Outputs>) -> Segments
-    ensures { result.items ≡ path_segments path ++ switch_segments switch }
+/// Lists the segments of a path, and a switch behind them.
+fn list(path: Option<Path>, switch: Option<Outputs>, segments: &mut Segments)
+    ensures { segments.new.items ≡ path_segments path ++ switch_segments switch }
 {
-    let mut segments = Segments::new();
+    segments.clear();
     match path {
         Some(Path::Straight(line)) => segments.push(Segment::Line(line)),
         Some(Path::Round(arc)) => segments.push(Segment::Arc(arc)),
@@ -139,16 +138,22 @@ fn listed(path: Option<Path>, switch: Option<Outputs>) -> Segments
     if let Some(outputs) = switch {
         segments.push(Segment::Switch(outputs));
     }
-    segments
 }
 
-/// The segments of a block.
-pub fn segments_of(asked: &Asked, goal: &Goal, before: &Machine, after: &Machine) -> Segments
-    ensures { result.items ≡ segments_of asked.now goal.now before.now after.now }
+/// Lists the segments of a block.
+pub fn segments_of(
+    asked: &Asked,
+    goal: &Goal,
+    before: &Machine,
+    after: &Machine,
+    segments: &mut Segments,
+)
+    ensures { segments.new.items ≡ segments_of asked.now goal.now before.now after.now }
 {
     let pace = pace_of(goal.motion, goal.feed_per_min);
-    listed(
+    list(
         straight(pace, before.point, goal.point),
         end_switch(asked.end, after),
+        segments,
     )
 }

@@ -6,11 +6,10 @@ ghost use Rattle.ng_block.specs.Parts.{due, Took, with_text, begun, written, Wri
 
 use crate::effect::{Effect, Stop, act};
 use crate::ending::{DryFault, Ended};
-use crate::order::{Commands, Segments};
+use crate::machine::Machine;
 use crate::output::{print_commands, print_refusal, write_out};
 use crate::state::State;
 use crate::tools::Tools;
-use arrayvec::ArrayVec;
 use ng_canon::Geometry;
 use ng_num::Fault;
 use ng_words::{Line, is_deletable};
@@ -45,6 +44,8 @@ pub struct Run<'a, A: Allocator> {
     text: Vec<u8, A>,
     /// The places that each line is read into.
     line: Line,
+    /// The places that each line's effect is put into.
+    effect: Effect,
 }
 
 impl<'a, A: Allocator> Model for Run<'a, A> {
@@ -55,20 +56,44 @@ impl<'a, A: Allocator> Model for Run<'a, A> {
     ghost view = { λ r. record { terms = r.terms; setup = r.state; number = r.number; text = r.text.items } };
 }
 
-/// What a deleted line does.
-fn deleted<A: Allocator + Copy + Drop>(state: &State<A>, line: &[u8]) -> Result<Effect, Fault>
-    ensures { MatchResult result (λ e. deleted state.now line.now ≡ Ok (done_by state.now e)) (λ f. deleted state.now line.now ≡ Err f) }
+/// A deleted line does nothing; its length alone is looked at.
+fn delete<A: Allocator + Copy + Drop>(
+    state: &State<A>,
+    text: &[u8],
+    effect: &mut Effect,
+) -> Result<(), Fault>
+    ensures { MatchResult result (λ _. deleted state.now text.now ≡ Ok (done_by state.now effect.new)) (λ f. deleted state.now text.now ≡ Err f) }
 {
-    if line.len() > 256 {
+    if text.len() > 256 {
         return Err(Fault::LineTooLong);
     }
-    Ok(Effect {
-        machine: state.machine,
-        changes: ArrayVec::new(),
-        segments: Segments::new(),
-        commands: Commands::new(),
-        stop: Stop::GoesOn,
-    })
+    effect.machine = state.machine;
+    effect.changes.clear();
+    effect.segments.clear();
+    effect.commands.clear();
+    effect.stop = Stop::GoesOn;
+    Ok(())
+}
+
+/// What a line of the program does, read into the places of a line and put into those of an effect. After a
+/// fault both may hold anything.
+#[tactic(auto, unfolding(crate::specs::Effects::executed))]
+fn line_done<A: Allocator + Copy + Drop>(
+    terms: &Terms<'_>,
+    state: &State<A>,
+    text: &[u8],
+    line: &mut Line,
+    effect: &mut Effect,
+) -> Result<(), Fault>
+    ensures { MatchResult result (λ _. line_done terms.now state.now text.now ≡ Ok (done_by state.now effect.new)) (λ f. line_done terms.now state.now text.now ≡ Err f) }
+{
+    if terms.block_delete && is_deletable(text) {
+        return delete(state, text, effect);
+    }
+    match line.read(text) {
+        Ok(()) => act(state, line.words.as_slice(), terms.geometry, effect),
+        Err(fault) => Err(fault),
+    }
 }
 
 impl<'a, A: Allocator + Copy + Drop> Run<'a, A> {
@@ -82,6 +107,7 @@ impl<'a, A: Allocator + Copy + Drop> Run<'a, A> {
             number: 1,
             text: Vec::new(alloc),
             line: Line::new(),
+            effect: Effect::none(Machine::fresh()),
         })
     }
 
@@ -96,21 +122,6 @@ impl<'a, A: Allocator + Copy + Drop> Run<'a, A> {
         }
         self.text.clear();
         Ok(())
-    }
-
-    /// What a line does.
-    #[tactic(auto, unfolding(crate::specs::Effects::executed))]
-    fn effect(&mut self, line: &[u8]) -> Result<Effect, Fault>
-        ensures effect { MatchResult result (λ e. line_done self.old.terms self.old.setup line.now ≡ Ok (done_by self.old.setup e)) (λ f. line_done self.old.terms self.old.setup line.now ≡ Err f) }
-        ensures same { self.new ≡ self.old }
-    {
-        if self.terms.block_delete && is_deletable(line) {
-            return deleted(&self.state, line);
-        }
-        match self.line.read(line) {
-            Ok(()) => act(&self.state, self.line.words.as_slice(), self.terms.geometry),
-            Err(fault) => Err(fault),
-        }
     }
 
     /// Ends the run by a refusal of the next line.
@@ -129,23 +140,29 @@ impl<'a, A: Allocator + Copy + Drop> Run<'a, A> {
         ensures took { Took (λ more. due self.old (line.now ∷ more)) (λ more. due self.new more) self.new.text result }
         ensures number { self.new.number ≤ self.old.number + 1 }
     {
-        match self.effect(line) {
-            Err(fault) => self.refuse(fault),
-            Ok(effect) => {
-                if let Err(refused) = print_commands(&mut self.text, effect.commands.as_slice()) {
-                    return Err(refused);
-                }
-                self.state.change(effect.machine, effect.changes.as_slice());
-                match effect.stop {
-                    Stop::Ends => Ok(Some(Ended::Done)),
-                    Stop::GoesOn | Stop::Stops | Stop::StopsIfWanted => {
-                        self.number += 1;
-                        Ok(None)
-                    }
-                }
+        if let Err(fault) = line_done(
+            &self.terms,
+            &self.state,
+            line,
+            &mut self.line,
+            &mut self.effect,
+        ) {
+            return self.refuse(fault);
+        }
+        if let Err(refused) = print_commands(&mut self.text, self.effect.commands.as_slice()) {
+            return Err(refused);
+        }
+        self.state
+            .change(self.effect.machine, self.effect.changes.as_slice());
+        match self.effect.stop {
+            Stop::Ends => Ok(Some(Ended::Done)),
+            Stop::GoesOn | Stop::Stops | Stop::StopsIfWanted => {
+                self.number += 1;
+                Ok(None)
             }
         }
     }
+
     /// Ends the run at the end of a text that has no program end.
     pub fn end_of_text(&mut self) -> Result<Ended, AllocError>
         ensures { Closes (due self.old []) self.new.text result }

@@ -32,9 +32,9 @@ abbrev pub turn_text : Turn → List ℕ
 turn_text Clockwise = codes "CW"
 turn_text Counterclockwise = codes "CCW"
 
--- the end, the centre on the plane's axes, the way round
-abbrev pub arc_text : Arc → List ℕ
-arc_text arc = point_text arc.end ++ codes ", " ++ number_text arc.centre_a ++ codes ", " ++ number_text arc.centre_b ++ codes ", " ++ turn_text arc.turn
+-- the centre on the plane's axes, the way round
+abbrev pub round_text : Arc → List ℕ
+round_text arc = number_text arc.centre_a ++ codes ", " ++ number_text arc.centre_b ++ codes ", " ++ turn_text arc.turn
 
 -- a command whose arguments are numbers
 unfoldable pub command_text : Command → List ℕ
@@ -57,7 +57,7 @@ command_text (ToolLength offset) = codes "USE_TOOL_LENGTH_OFFSET(" ++ number_tex
 command_text (OriginOffsets point) = codes "SET_ORIGIN_OFFSETS(" ++ point_text point ++ codes ")\n"
 command_text (Traverse point) = codes "STRAIGHT_TRAVERSE(" ++ point_text point ++ codes ")\n"
 command_text (Feed point) = codes "STRAIGHT_FEED(" ++ point_text point ++ codes ")\n"
-command_text (ArcFeed arc) = codes "ARC_FEED(" ++ arc_text arc ++ codes ")\n"
+command_text (ArcFeed arc) = codes "ARC_FEED(" ++ point_text arc.end ++ codes ", " ++ round_text arc ++ codes ")\n"
 command_text ProgramStop = codes "PROGRAM_STOP()\n"
 command_text OptionalStop = codes "OPTIONAL_PROGRAM_STOP()\n"
 command_text PalletShuttle = codes "PALLET_SHUTTLE()\n"

@@ -2,7 +2,7 @@
 ghost use Rattle.std.specs.Prelude.{◌≡◌, ◌++◌, OnOk, OnErr, codes};
 ghost use Rattle.std.specs.Fmt.{decimal};
 ghost use Rattle.ng_num.specs.Text.{number_text};
-ghost use Rattle.ng_canon.specs.Text.{arc_text, canon_text, command_text, plane_text, point_text, turn_text, unit_text, StaysWithin};
+ghost use Rattle.ng_canon.specs.Text.{canon_text, command_text, plane_text, point_text, round_text, turn_text, unit_text, StaysWithin};
 
 use crate::command::{ArcFeed, Canon, Command};
 use crate::plane::{Plane, Turn};
@@ -36,6 +36,20 @@ fn push_number<A: Allocator + Copy + Drop>(
     text.extend_from_slice(b")\n")
 }
 
+/// Appends three coordinates and what stands behind them.
+fn push_coordinates<A: Allocator + Copy + Drop>(
+    text: &mut Vec<u8, A>,
+    point: Point,
+    after: &[u8],
+) -> Result<(), AllocError>
+    ensures ok { OnOk result (text.new.items ≡ text.old.items ++ (point_text point ++ after.now)) }
+    ensures err { OnErr result (StaysWithin text.old.items text.new.items) }
+{
+    push_length(text, point.x, b", ")?;
+    push_length(text, point.y, b", ")?;
+    push_length(text, point.z, after)
+}
+
 /// Appends a command with a point.
 fn push_point<A: Allocator + Copy + Drop>(
     text: &mut Vec<u8, A>,
@@ -46,9 +60,7 @@ fn push_point<A: Allocator + Copy + Drop>(
     ensures err { OnErr result (StaysWithin text.old.items text.new.items) }
 {
     text.extend_from_slice(name)?;
-    push_length(text, point.x, b", ")?;
-    push_length(text, point.y, b", ")?;
-    push_length(text, point.z, b")\n")
+    push_coordinates(text, point, b")\n")
 }
 
 /// Appends a command with a length.
@@ -121,22 +133,30 @@ fn push_turn<A: Allocator + Copy + Drop>(
     }
 }
 
+/// Appends an arc's centre and way round, and the end of its line.
+fn push_round<A: Allocator + Copy + Drop>(
+    text: &mut Vec<u8, A>,
+    arc: ArcFeed,
+) -> Result<(), AllocError>
+    ensures ok { OnOk result (text.new.items ≡ text.old.items ++ (round_text arc ++ codes ")\n")) }
+    ensures err { OnErr result (StaysWithin text.old.items text.new.items) }
+{
+    push_length(text, arc.centre_a, b", ")?;
+    push_length(text, arc.centre_b, b", ")?;
+    push_turn(text, arc.turn)
+}
+
 /// Appends an arc.
 fn push_arc<A: Allocator + Copy + Drop>(
     text: &mut Vec<u8, A>,
     arc: ArcFeed,
 ) -> Result<(), AllocError>
-    ensures ok { OnOk result (text.new.items ≡ text.old.items ++ (codes "ARC_FEED(" ++ arc_text arc ++ codes ")\n")) }
+    ensures ok { OnOk result (text.new.items ≡ text.old.items ++ (codes "ARC_FEED(" ++ point_text arc.end ++ codes ", " ++ round_text arc ++ codes ")\n")) }
     ensures err { OnErr result (StaysWithin text.old.items text.new.items) }
 {
-    let end = arc.end;
     text.extend_from_slice(b"ARC_FEED(")?;
-    push_length(text, end.x, b", ")?;
-    push_length(text, end.y, b", ")?;
-    push_length(text, end.z, b", ")?;
-    push_length(text, arc.centre_a, b", ")?;
-    push_length(text, arc.centre_b, b", ")?;
-    push_turn(text, arc.turn)
+    push_coordinates(text, arc.end, b", ")?;
+    push_round(text, arc)
 }
 
 /// Appends a command with the words of a comment.

@@ -89,6 +89,10 @@ impl Len {
 }
 
 impl Default for Len {
+    ghost use Rattle.std.specs.Prelude.{◌≡◌, pos};
+
+    ghost is_default = { λ n. n ≡ pos 0 };
+
     fn default() -> Self {
         Len::zero()
     }

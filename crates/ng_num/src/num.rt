@@ -118,6 +118,10 @@ impl Num {
 }
 
 impl Default for Num {
+    ghost use Rattle.std.specs.Prelude.{◌≡◌, pos};
+
+    ghost is_default = { λ n. n ≡ pos 0 };
+
     fn default() -> Self {
         Num::zero()
     }

@@ -1,3 +1,4 @@
+pub mod QuadrantLemmas
 pub mod TurnLemmas
 pub mod PlaceLemmas
 pub mod ArcLemmas

@@ -78,6 +78,8 @@ after_crossing w = record {
   outward = w.inward +ℤ w.inner_second;
   inner_second = w.outer_second;
   outer_second = w.inner_second;
+  inward_made = inward (quadrant_after w.quadrant);
+  outward_made = outward (quadrant_after w.quadrant);
 }
 
 inside_of : (w : Walk) → Walks w → w.excess ≤ℤ pos 0 → norm w.inner w.outer ≤ w.circle.square
@@ -102,6 +104,8 @@ outward_is w h excess_low =
         has = h.has;
         roomy = h.roomy;
         sound = sound_outward _ _ _ _ w.inner w.outer w.outer_step h.roomy inside outer_le h.sound;
+        inward_made = h.inward_made;
+        outward_made = h.outward_made;
         inner_step = h.inner_step;
         outer_step = h.outer_step;
         inner_second = h.inner_second;
@@ -132,6 +136,8 @@ inward_is w h excess_high far =
         has = h.has;
         roomy = h.roomy;
         sound = sound_inward _ _ _ _ j w.outer w.inner_step (omega arith) (subst (λ x. Sound w.circle.square farthest (larger w.circle) beyond x w.outer) split h.sound);
+        inward_made = h.inward_made;
+        outward_made = h.outward_made;
         inner_step = h.inner_step;
         outer_step = h.outer_step;
         inner_second = h.inner_second;
@@ -171,6 +177,8 @@ crossing_is w h excess_high near =
         has = h.has;
         roomy = h.roomy;
         sound = sound_crossing _ _ _ _ w.inner w.outer j h.roomy outside (omega arith) h.sound;
+        inward_made = refl;
+        outward_made = refl;
         inner_step = h.outer_step;
         outer_step = h.inner_step ∙ sym (turn_turn w.circle w.quadrant);
         inner_second = h.outer_second;
@@ -215,9 +223,9 @@ pub step_inward : (w : Walk) (excess change : ℤ) (m : PlaneStep) → Walks w �
     → IsStep w (record w { excess = excess; inward = change; inner = w.inner - w.inner_step }) m
 step_inward w excess change m h high far is e f = rw (is, e, f) (inward_is w h high far)
 
-pub step_crossing : (w : Walk) (q : Quadrant) (excess change back first second : ℤ) (m : PlaneStep) → Walks w → pos 0 <ℤ w.excess → w.inner ≤ w.inner_step → m ≡ inward w.quadrant
+pub step_crossing : (w : Walk) (q : Quadrant) (excess change back first second : ℤ) (m in_made out_made : PlaneStep) → Walks w → pos 0 <ℤ w.excess → w.inner ≤ w.inner_step → m ≡ inward w.quadrant
     → q ≡ quadrant_after w.quadrant → excess ≡ w.excess +ℤ w.inward → change ≡ w.outer_second -ℤ w.outward → back ≡ w.inward +ℤ w.inner_second
-    → first ≡ w.outer_second → second ≡ w.inner_second
+    → first ≡ w.outer_second → second ≡ w.inner_second → in_made ≡ inward q → out_made ≡ outward q
     → IsStep w (record {
       circle = w.circle;
       quadrant = q;
@@ -230,8 +238,10 @@ pub step_crossing : (w : Walk) (q : Quadrant) (excess change back first second :
       outward = back;
       inner_second = first;
       outer_second = second;
+      inward_made = in_made;
+      outward_made = out_made;
     }) m
-step_crossing w q excess change back first second m h high near is turned e f g k l = rw (is, turned, e, f, g, k, l) (crossing_is w h high near)
+step_crossing w q excess change back first second m in_made out_made h high near is turned e f g k l i o = rw (is, i, o, turned, e, f, g, k, l) (crossing_is w h high near)
 
 -- ---- past the end
 

@@ -2,7 +2,7 @@
 use Rattle.std.specs.Prelude.{◌≡◌, ℕ, ◌+◌, ◌-◌, ◌*◌, ◌^◌, ◌<◌, ◌≤◌, ℤ, pos, neg_ℤ, ◌+ℤ◌, ◌-ℤ◌, if◌then◌else◌}
 use Rattle.ng_step.specs.declared.quadrant.Quadrant.{Quadrant}
 use Rattle.ng_step.specs.declared.quadrant.Quadrant.TheVariants.{First, Second, Third, Fourth}
-use Rattle.ng_step.specs.Arcs.{quadrant_after, larger, HasSteps, same_quadrant, step_at, next_spot}
+use Rattle.ng_step.specs.Arcs.{inward, outward, quadrant_after, larger, HasSteps, same_quadrant, step_at, next_spot}
 use Rattle.ng_step.specs.declared.quadrant.PlaneStep.{PlaneStep}
 use Rattle.ng_step.specs.declared.walk.Walk.{Walk}
 use Rattle.ng_step.specs.declared.walk.Circle.{Circle}
@@ -58,6 +58,8 @@ pub record Walks (w : Walk) : Type 0 where
   pub sound : Sound w.circle.square farthest (larger w.circle) beyond w.inner w.outer
   pub inner_step : w.inner_step ≡ in_step w.circle w.quadrant
   pub outer_step : w.outer_step ≡ out_step w.circle w.quadrant
+  pub inward_made : w.inward_made ≡ inward w.quadrant
+  pub outward_made : w.outward_made ≡ outward w.quadrant
   pub inner_second : w.inner_second ≡ pos (2 * (w.inner_step * w.inner_step))
   pub outer_second : w.outer_second ≡ pos (2 * (w.outer_step * w.outer_step))
   pub excess : w.excess ≡ pos (norm w.inner w.outer) -ℤ pos w.circle.square

@@ -80,16 +80,11 @@ impl Quadrant {
     ghost use Rattle.std.specs.Prelude.{◌≡◌};
     ghost use Rattle.ng_step.specs.Arcs.{inward, outward, same_quadrant, quadrant_after, number};
 
+    #[tactic(auto, using(crate::proofs::QuadrantLemmas::same_numbers))]
     pub(crate) fn is_same(self, other: Quadrant) -> bool
         ensures { result ≡ same_quadrant self other }
     {
-        match (self, other) {
-            (Quadrant::First, Quadrant::First) => true,
-            (Quadrant::Second, Quadrant::Second) => true,
-            (Quadrant::Third, Quadrant::Third) => true,
-            (Quadrant::Fourth, Quadrant::Fourth) => true,
-            _ => false,
-        }
+        self.number() == other.number()
     }
 
     fn number(self) -> u64

@@ -14,7 +14,8 @@ pub struct Circle {
 }
 
 /// A point on the way round a circle, seen from its quadrant: `inner` is the coordinate that an inward step
-/// lessens, `outer` the one that an outward step makes larger. The rest are differences.
+/// lessens, `outer` the one that an outward step makes larger. The rest are differences, and what the steps of the
+/// quadrant are.
 #[derive(Clone, Copy, Debug)]
 pub struct Walk {
     circle: Circle,
@@ -28,6 +29,8 @@ pub struct Walk {
     outward: i128,
     inner_second: i128,
     outer_second: i128,
+    inward_made: PlaneStep,
+    outward_made: PlaneStep,
 }
 
 /// How many steps an arc has, and how far they go along each axis, in steps.
@@ -132,6 +135,8 @@ impl Walk {
             outward: sum(outer_square, twice(outer, outer_step)),
             inner_second: sum(inner_square, inner_square),
             outer_second: sum(outer_square, outer_square),
+            inward_made: quadrant.inward(),
+            outward_made: quadrant.outward(),
         }
     }
 
@@ -209,7 +214,7 @@ impl Walk {
         self.excess = sum(self.excess, self.outward);
         self.outward = sum(self.outward, self.outer_second);
         self.outer += self.outer_step;
-        self.quadrant.outward()
+        self.outward_made
     }
 
     #[tactic(auto, using(crate::proofs::WalkLemmas::small))]
@@ -222,7 +227,7 @@ impl Walk {
         self.excess = sum(self.excess, self.inward);
         self.inward = sum(self.inward, self.inner_second);
         self.inner -= self.inner_step;
-        self.quadrant.inward()
+        self.inward_made
     }
 
     #[tactic(auto, using(crate::proofs::WalkLemmas::small))]
@@ -232,10 +237,11 @@ impl Walk {
         requires near { self.old.inner ≤ self.old.inner_step }
         ensures { IsStep self.old self.new result }
     {
-        let made = self.quadrant.inward();
+        let made = self.inward_made;
+        let quadrant = self.quadrant.next();
         *self = Walk {
             circle: self.circle,
-            quadrant: self.quadrant.next(),
+            quadrant,
             inner: self.outer,
             outer: self.inner_step - self.inner,
             inner_step: self.outer_step,
@@ -245,6 +251,8 @@ impl Walk {
             outward: sum(self.inward, self.inner_second),
             inner_second: self.outer_second,
             outer_second: self.inner_second,
+            inward_made: quadrant.inward(),
+            outward_made: quadrant.outward(),
         };
         made
     }

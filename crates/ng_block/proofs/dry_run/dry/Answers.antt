@@ -1,9 +1,9 @@
-use Rattle.std.proofs.Common.{arith, ◌<◌, ◌≤◌, ◌++◌, length-take, take, length, List, ℕ}
+use Rattle.std.proofs.Common.{arith, [], ◌≡◌, ap, ◌<◌, ◌≤◌, ◌++◌, length-take, take, length, List, ℕ}
 use Rattle.ng_block.specs.Dry.{Terms, output_of}
-use Rattle.ng_block.specs.Parts.{rest_of}
+use Rattle.ng_block.specs.Parts.{Progress, rest_of}
 use Rattle.ng_block.specs.declared.ending.DryFault.TheVariants.{Reader}
-use Rattle.ng_block.proofs.CloseLemmas.{Consumes-none, run_end, run_breaks, run_ends, run_goes, run_stops}
-use Rattle.ng_block.proofs.Streams.{Consumes-trans}
+use Rattle.ng_block.proofs.CloseLemmas.{Consumes-none, run_end, run_breaks, run_ends, run_goes, run_stops, Goes-begun}
+use Rattle.ng_block.proofs.Streams.{Consumes-nil, Consumes-trans}
 use Rattle.ng_block.proofs.dry_run.dry.Goals as goal
 
 pub returns-in-Err-read : goal.returns-in-Err-read
@@ -51,3 +51,9 @@ pub returns : goal.returns
 returns g c =
     let terms : Terms = record { block_delete = c.args.block_delete; tools = c.args.tools.now; geometry = c.args.geometry.now } in
     run_stops _ _ _ _ _ (output_of terms) (λ more. rest_of c.loop-turn.session.run c.loop-turn.session.kept.items more) Reader c.loop-turn.invariant.0.1 c.loop-turn.invariant.0.2
+
+pub loop-turn-init : goal.loop-turn-init
+loop-turn-init g c =
+    let terms : Terms = record { block_delete = c.args.block_delete; tools = c.args.tools.now; geometry = c.args.geometry.now } in
+    let first : c.in-Ok.run'.number ≡ 1 = ap (λ (p : Progress). p.number) c.in-Ok.ensures in
+    (([], Consumes-nil _, Goes-begun _ terms _ _ c.in-Ok.ensures c.new-2.ensures), rw c.new-2.ensures tt, omega (arith, first))

@@ -6,7 +6,7 @@ use Rattle.ng_step.proofs.walk.Walk.go_outward.Goals as goal
 pub returns : goal.returns
 returns c =
     let sizes = small c.args.self.now c.requires.walks in
-    step_outward c.args.self.now _ _ _ c.requires.walks c.requires.inside c.outward.ensures (omega (arith, ints)) (omega (arith, ints))
+    step_outward c.args.self.now _ _ _ c.requires.walks c.requires.inside c.requires.walks.outward_made (omega (arith, ints)) (omega (arith, ints))
 
 pub sum-self-requires-clause-second : goal.sum-self-requires-clause-second
 sum-self-requires-clause-second c = kept c.args.self.now.outward (small c.args.self.now c.requires.walks).outward
