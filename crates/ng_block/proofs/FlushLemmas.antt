@@ -1,5 +1,5 @@
 -- What is written of what a part took.
-use Rattle.std.proofs.Common.{◌≡◌, ℕ, List, ◌++◌, Option, None, Some, Result, Ok, Err, refl, sym, ap, ◌∙◌, subst, append_assoc, append-nil, take, drop, take-append-drop}
+use Rattle.std.proofs.Common.{◌≡◌, ℕ, List, ◌++◌, Option, None, Some, Result, Ok, Err, sym, ap, ◌∙◌, append_assoc, take, drop, take-append-drop}
 use Rattle.std.specs.Io.KnownBytes.{Appends}
 use Rattle.ng_block.specs.Dry.{Output, outcome, Finishes}
 use Rattle.ng_block.specs.Parts.{Progress, rest_of, Took, Closes, Breaks}

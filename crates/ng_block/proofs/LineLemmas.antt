@@ -1,10 +1,10 @@
 -- The lines of bytes, a newline at a time.
-use Rattle.std.proofs.Common.{rules, arith, ◌≡◌, ◌≢◌, ℕ, zero, suc, ◌+◌, ◌-◌, ◌<◌, ◌≤◌, List, [], ◌∷◌, ◌++◌, length, take, drop, Bool, true, false, cond, ◌&&◌, ◌==◌, get_or, nat_lt, refl, sym, ap, ◌∙◌, subst, append-nil, length-append, length-take, Result, Ok, Err}
+use Rattle.std.proofs.Common.{arith, ◌≡◌, ◌≢◌, ℕ, zero, suc, ◌+◌, ◌-◌, ◌<◌, ◌≤◌, List, [], ◌∷◌, ◌++◌, length, take, drop, Bool, true, false, cond, ◌&&◌, ◌==◌, get_or, nat_lt, refl, sym, ap, ◌∙◌, length-append, length-take, Err}
 use Rattle.std.proofs.lemmas.Bool.Decides.{nat_tests}
 use Rattle.std.specs.List.{slice_split, onto_first}
 use Rattle.std.specs.Str.Lines.{lines, lines_of_parts, strip_carriage_return}
 use Rattle.std.specs.Prelude.{slice_index}
-use Rattle.memchr.specs.Find.{IsFirstByte, is_byte}
+use Rattle.memchr.specs.Find.{is_byte}
 use Rattle.ng_num.specs.declared.fault.Fault.TheVariants.{LineTooLong}
 use Rattle.ng_words.specs.Reading.{read}
 use Rattle.ng_block.specs.Setup.{Setup}

@@ -1,9 +1,8 @@
 -- The parts of a run, each for every continuation of the program.
-use Rattle.std.proofs.Common.{arith, ◌≡◌, ◌≢◌, ℕ, ◌+◌, ◌<◌, List, [], ◌∷◌, ◌++◌, length, Option, None, Some, Result, Ok, Err, OnOk, OnErr, IfOk, refl, sym, ap, ◌∙◌, append_assoc}
+use Rattle.std.proofs.Common.{◌≡◌, ℕ, ◌+◌, ◌<◌, List, [], ◌∷◌, ◌++◌, length, Option, None, Some, Result, Ok, Err, OnOk, OnErr, IfOk, sym, ap, ◌∙◌, append_assoc}
 use Rattle.std.specs.Str.Lines.{lines, strip_carriage_return}
 use Rattle.ng_num.specs.declared.fault.Fault.{Fault}
 use Rattle.ng_num.specs.declared.fault.Fault.TheVariants.{LineTooLong}
-use Rattle.ng_block.specs.Setup.{Setup}
 use Rattle.ng_block.specs.Dry.{Output, onto, outcome, after_line, refused, refusal_text}
 use Rattle.ng_block.specs.Parts.{Progress, due, rest_of, with_text, Took, HasNoNewline}
 use Rattle.ng_block.specs.declared.ending.Ended.{Ended}

@@ -1,5 +1,5 @@
 -- The state after a block, one equation for each field (NISTIR 6556, 3.5, 3.6, 3.8; the program's end 3.6.1).
-use Rattle.std.specs.Prelude.{ℤ, pos, List, [], ◌∷◌, Bool, true, false, ◌||◌, Option, Some, None, unwrap_or, if◌then◌else◌}
+use Rattle.std.specs.Prelude.{pos, List, [], ◌∷◌, false, ◌||◌, unwrap_or, if◌then◌else◌}
 use Rattle.std.specs.Option.{is_some}
 use Rattle.ng_num.specs.Points.{origin as nowhere}
 use Rattle.ng_num.specs.declared.point.Point.{Point}

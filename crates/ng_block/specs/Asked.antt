@@ -1,5 +1,5 @@
 -- What the words of a line ask for: values by letter, codes by modal group (NISTIR 6556, 3.3 and 3.4).
-use Rattle.std.specs.Prelude.{ℕ, ℤ, List, [], ◌∷◌, Bool, true, false, ◌||◌, Option, Some, None, fold}
+use Rattle.std.specs.Prelude.{ℤ, List, true, false, ◌||◌, Option, Some, None, fold}
 use Rattle.std.specs.Option.{is_some}
 use Rattle.ng_num.specs.declared.unit.Unit.TheVariants.{Inches, Millimetres}
 use Rattle.ng_words.specs.declared.letter.Letter.{Letter}

@@ -1,5 +1,5 @@
 -- What a line does to motion: its motion, its feed and its end (NISTIR 6556, 3.4, 3.5, 3.8).
-use Rattle.std.specs.Prelude.{ℕ, ℤ, pos, ◌+ℤ◌, ◌-ℤ◌, Bool, true, false, not, ◌||◌, ◌&&◌, int_lt, Option, Some, None, unwrap_or, Result, Ok, Err, List, [], ◌∷◌, if◌then◌else◌}
+use Rattle.std.specs.Prelude.{ℤ, ◌+ℤ◌, ◌-ℤ◌, Bool, ◌||◌, Option, Some, None, unwrap_or, Result, Ok, Err, if◌then◌else◌}
 use Rattle.std.specs.Option.{is_some, option_or}
 use Rattle.ng_num.specs.Range.{in_range}
 use Rattle.ng_num.specs.Lengths.{nm_of}
@@ -8,7 +8,6 @@ use Rattle.ng_num.specs.declared.point.Point.{Point}
 use Rattle.ng_num.specs.declared.fault.Fault.{Fault}
 use Rattle.ng_block.specs.declared.modes.Modes.{Modes}
 use Rattle.ng_block.specs.declared.modes.Motion.{Motion}
-use Rattle.ng_block.specs.declared.modes.Motion.TheVariants.{Off, Traverse, Feed}
 use Rattle.ng_block.specs.declared.modes.Distance.{Distance}
 use Rattle.ng_block.specs.declared.modes.Distance.TheVariants.{Absolute, Incremental}
 use Rattle.ng_block.specs.declared.machine.Machine.{Machine}

@@ -1,5 +1,5 @@
 -- Where a line takes the machine (NISTIR 6556, 3.5.1, 3.5.2, 3.5.17).
-use Rattle.std.specs.Prelude.{ℤ, Result, Ok, Err, Option}
+use Rattle.std.specs.Prelude.{Result, Ok}
 use Rattle.ng_num.specs.declared.fault.Fault.{Fault}
 use Rattle.ng_block.specs.declared.machine.Machine.{Machine}
 use Rattle.ng_block.specs.declared.asked.Asked.{Asked}

@@ -1,5 +1,5 @@
 -- What each step of a block prints, moves and switches (NISTIR 6556, 3.5 and 3.6).
-use Rattle.std.specs.Prelude.{ℕ, ℤ, pos, List, [], ◌∷◌, ◌++◌, Bool, true, false, Option, Some, None, flat_map}
+use Rattle.std.specs.Prelude.{ℕ, ℤ, List, [], ◌∷◌, Option, Some, None, flat_map}
 use Rattle.ng_num.specs.declared.point.Point.{Point}
 use Rattle.ng_num.specs.declared.unit.Unit.{Unit as LengthUnit}
 use Rattle.ng_canon.specs.Rates.{above_zero}
@@ -9,7 +9,6 @@ use Rattle.ng_canon.specs.declared.pace.Pace.TheVariants as pace
 use Rattle.ng_canon.specs.declared.command.Command.{Command}
 use Rattle.ng_canon.specs.declared.command.Command.TheVariants as command
 use Rattle.ng_canon.specs.declared.outputs.Outputs.{Outputs}
-use Rattle.ng_canon.specs.declared.segment.Line.{Line}
 use Rattle.ng_canon.specs.declared.segment.Segment.{Segment}
 use Rattle.ng_canon.specs.declared.segment.Segment.TheVariants as segment
 use Rattle.ng_block.specs.declared.modes.Motion.{Motion}

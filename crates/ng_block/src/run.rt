@@ -152,8 +152,7 @@ impl<'a, A: Allocator + Copy + Drop> Run<'a, A> {
         if let Err(refused) = print_commands(&mut self.text, self.effect.commands.as_slice()) {
             return Err(refused);
         }
-        self.state
-            .change(self.effect.machine, self.effect.changes.as_slice());
+        self.state.apply(&self.effect);
         match self.effect.stop {
             Stop::Ends => Ok(Some(Ended::Done)),
             Stop::GoesOn | Stop::Stops | Stop::StopsIfWanted => {

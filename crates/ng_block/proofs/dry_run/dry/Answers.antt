@@ -1,4 +1,4 @@
-use Rattle.std.proofs.Common.{arith, [], ◌≡◌, ap, ◌<◌, ◌≤◌, ◌++◌, length-take, take, length, List, ℕ}
+use Rattle.std.proofs.Common.{arith, [], ◌≡◌, ap, ◌<◌, ◌≤◌, ◌++◌, length-take, take, length}
 use Rattle.ng_block.specs.Dry.{Terms, output_of}
 use Rattle.ng_block.specs.Parts.{Progress, rest_of}
 use Rattle.ng_block.specs.declared.ending.DryFault.TheVariants.{Reader}

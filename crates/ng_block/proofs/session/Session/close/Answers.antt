@@ -1,4 +1,4 @@
-use Rattle.std.proofs.Common.{◌∙◌, ◌∷◌, [], ap, sym, Ok, Err, None, Some}
+use Rattle.std.proofs.Common.{◌∙◌, [], ap}
 use Rattle.ng_block.specs.Dry.{Output}
 use Rattle.ng_block.proofs.CloseLemmas.{Closes-from, rest_of-alone, not_empty}
 use Rattle.ng_block.proofs.session.Session.close.Goals as goal

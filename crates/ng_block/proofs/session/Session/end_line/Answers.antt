@@ -1,4 +1,4 @@
-use Rattle.std.proofs.Common.{arith, ◌++◌, ◌∷◌, ◌∙◌, ap, sym, [], ◌+◌, ◌<◌, length, length-append}
+use Rattle.std.proofs.Common.{◌++◌, ◌∷◌, ◌∙◌, ap, sym}
 use Rattle.std.specs.Str.Lines.{strip_carriage_return}
 use Rattle.ng_num.specs.declared.fault.Fault.TheVariants.{LineTooLong}
 use Rattle.ng_block.proofs.LineLemmas.{HasNoNewline-append, empty_is, no_room}

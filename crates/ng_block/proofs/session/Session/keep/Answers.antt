@@ -1,4 +1,3 @@
-use Rattle.std.proofs.Common.{arith, ◌++◌, ◌<◌, length, length-append}
 use Rattle.ng_num.specs.declared.fault.Fault.TheVariants.{LineTooLong}
 use Rattle.ng_block.proofs.LineLemmas.{HasNoNewline-append, no_room}
 use Rattle.ng_block.proofs.TookLemmas.{Took-refused, rest_of-long}

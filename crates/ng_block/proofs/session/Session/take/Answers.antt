@@ -1,4 +1,4 @@
-use Rattle.std.proofs.Common.{◌++◌, ap, arith, length, length-append, List, ℕ, Ok, Err, None}
+use Rattle.std.proofs.Common.{◌++◌, ap, arith, length, length-append, Ok, Err, None}
 use Rattle.std.specs.declared.alloc.AllocError.{AllocError}
 use Rattle.ng_block.specs.Parts.{rest_of}
 use Rattle.ng_block.proofs.TookLemmas.{Took-next, Took-from}
