@@ -58,7 +58,7 @@ impl Num {
         ensures by_zero { divisor ≡ pos 0 → result ≡ Err Fault.BadArithmetic }
         ensures rest { (divisor ≡ pos 0 → ⊥) → Answers (IsRemainder self divisor) result }
     {
-        if divisor.size() == 0 {
+        if divisor.count() == 0 {
             return Err(Fault::BadArithmetic);
         }
         Num::of_i64(self.count().rem_euclid(divisor.count()))

@@ -1,257 +1,244 @@
-//! Values worked out by hand from the definitions.
+//! Each operation on many counts, and lengths.
 use crate::{Fault, Len, Num, Unit, nm_of};
 use std::test::Fail;
 
-/// The count of an answer, or its fault.
-fn seen(answer: Result<Num, Fault>) -> Result<i64, Fault> {
-    answer.map(|number| number.count())
+/// An operation on counts of millionths.
+#[derive(Clone, Copy, Debug)]
+enum Operation {
+    Add(i64, i64),
+    Sub(i64, i64),
+    Mul(i64, i64),
+    Div(i64, i64),
+    Modulo(i64, i64),
+    Power(i64, i64),
+    Sqrt(i64),
+    Fix(i64),
+    Fup(i64),
+    Round(i64),
+    Abs(i64),
+    Whole(i64),
+    Inches(i64),
+    Millimetres(i64),
 }
+
+/// What it answers: a count of millionths or nanometres, or a whole number; or why there is none.
+#[derive(Clone, Copy, Debug, PartialEq, Eq)]
+enum Answer {
+    Is(i64),
+    Not(Fault),
+    NotWhole,
+}
+
+use Answer::{Is, Not, NotWhole};
+use Operation::{
+    Abs, Add, Div, Fix, Fup, Inches, Millimetres, Modulo, Mul, Power, Round, Sqrt, Sub, Whole,
+};
+
+const GREATEST: i64 = 9_999_999_999_999;
 
 /// The number of a count in range.
 fn num(count: i64) -> Num {
     Num::of(count as i128).unwrap_or_default()
 }
 
-const GREATEST: i64 = 9_999_999_999_999;
-
-#[test]
-fn sums_end_at_the_range(rt: HostRuntime) {
-    for (a, b, sum, difference) in [
-        (1_500_000, 2_250_000, Ok(3_750_000), Ok(-750_000)),
-        (GREATEST, 1, Err(Fault::OutOfRange), Ok(GREATEST - 1)),
-        (-GREATEST, 1, Ok(1 - GREATEST), Err(Fault::OutOfRange)),
-        (GREATEST, -GREATEST, Ok(0), Err(Fault::OutOfRange)),
-    ] {
-        assert_eq!(rt; seen(num(a).add(num(b))), sum, "{a} + {b}");
-        assert_eq!(rt; seen(num(a).sub(num(b))), difference, "{a} - {b}");
+/// The answer that is a number, or its fault.
+fn number(answer: Result<Num, Fault>) -> Answer {
+    match answer {
+        Ok(number) => Is(number.count()),
+        Err(fault) => Not(fault),
     }
 }
 
-#[test]
-fn products_round_half_away_from_zero(rt: HostRuntime) {
-    for (a, b, product) in [
-        (1_500_000, 1_500_000, Ok(2_250_000)),
-        (1, 500_000, Ok(1)),
-        (-1, 500_000, Ok(-1)),
-        (1, 499_999, Ok(0)),
-        (-1, -500_000, Ok(1)),
-        (-1, 499_999, Ok(0)),
-        (0, -GREATEST, Ok(0)),
-        (GREATEST, 1_000_000, Ok(GREATEST)),
-        (GREATEST, -1_000_000, Ok(-GREATEST)),
-        // 9999999.999999 times 1.000001 is over by ten
-        (GREATEST, 1_000_001, Err(Fault::OutOfRange)),
-        (GREATEST, GREATEST, Err(Fault::OutOfRange)),
-        // 18446744.073709551615 and ..616: to either side of 2^64
-        (4_294_967_295, 4_294_967_297, Err(Fault::OutOfRange)),
-        (4_294_967_296, 4_294_967_296, Err(Fault::OutOfRange)),
-        (3_000_000_000, 3_000_000_000, Ok(9_000_000_000_000)),
-    ] {
-        assert_eq!(rt; seen(num(a).mul(num(b))), product, "{a} * {b}");
+/// The answer that is the length of a count in a unit, or its fault.
+fn length(count: i64, unit: Unit) -> Answer {
+    match nm_of(num(count), unit) {
+        Ok(length) => Is(length.nm()),
+        Err(fault) => Not(fault),
     }
 }
 
+/// What the crate answers.
+fn answered(operation: Operation) -> Answer {
+    match operation {
+        Add(a, b) => number(num(a).add(num(b))),
+        Sub(a, b) => number(num(a).sub(num(b))),
+        Mul(a, b) => number(num(a).mul(num(b))),
+        Div(a, b) => number(num(a).div(num(b))),
+        Modulo(a, b) => number(num(a).modulo(num(b))),
+        Power(a, b) => number(num(a).power(num(b))),
+        Sqrt(a) => number(num(a).sqrt()),
+        Fix(a) => number(num(a).fix()),
+        Fup(a) => number(num(a).fup()),
+        Round(a) => number(num(a).round()),
+        Abs(a) => Is(num(a).abs().count()),
+        Whole(a) => match num(a).whole() {
+            Some(n) => Is(n),
+            None => NotWhole,
+        },
+        Inches(a) => length(a, Unit::Inches),
+        Millimetres(a) => length(a, Unit::Millimetres),
+    }
+}
+
+/// The answers were worked out apart from this crate, from the definitions in exact fractions, each rounded half
+/// away from zero (roots cut, of 200 decimals).
 #[test]
-fn quotients_round_half_away_from_zero(rt: HostRuntime) {
-    for (a, b, quotient) in [
-        (1_000_000, 3_000_000, Ok(333_333)),
-        (2_000_000, 3_000_000, Ok(666_667)),
-        (1_000_000, -3_000_000, Ok(-333_333)),
-        (-2_000_000, 3_000_000, Ok(-666_667)),
-        (-2_000_000, -3_000_000, Ok(666_667)),
+fn operations_answer_what_exact_fractions_say(rt: HostRuntime) {
+    for (operation, answer) in [
+        (Add(1_500_000, 2_250_000), Is(3_750_000)),
+        (Add(9_999_999_999_998, 1), Is(GREATEST)),
+        (Add(GREATEST, 1), Not(Fault::OutOfRange)),
+        (Add(-GREATEST, -1), Not(Fault::OutOfRange)),
+        (Sub(1_500_000, 2_250_000), Is(-750_000)),
+        (Sub(-9_999_999_999_998, 1), Is(-GREATEST)),
+        (Sub(-GREATEST, 1), Not(Fault::OutOfRange)),
+        (Sub(GREATEST, -1), Not(Fault::OutOfRange)),
+        (Mul(1_500_000, 1_500_000), Is(2_250_000)),
+        // half a millionth and less
+        (Mul(1, 500_000), Is(1)),
+        (Mul(-1, 500_000), Is(-1)),
+        (Mul(-1, -500_000), Is(1)),
+        (Mul(1, 499_999), Is(0)),
+        (Mul(-1, 499_999), Is(0)),
+        (Mul(0, -GREATEST), Is(0)),
+        (Mul(GREATEST, 1_000_000), Is(GREATEST)),
+        (Mul(GREATEST, 1_000_001), Not(Fault::OutOfRange)),
+        (Mul(3_000_000_000, 3_333_333_333), Is(9_999_999_999_000)),
+        (Mul(2_000_000, 5_000_000_000_000), Not(Fault::OutOfRange)),
+        // to either side of 2^64 in the product of counts
+        (Mul(4_294_967_295, 4_294_967_297), Not(Fault::OutOfRange)),
+        (Mul(4_294_967_296, -4_294_967_296), Not(Fault::OutOfRange)),
+        (Mul(GREATEST, GREATEST), Not(Fault::OutOfRange)),
+        (Div(1_000_000, 3_000_000), Is(333_333)),
+        (Div(2_000_000, 3_000_000), Is(666_667)),
+        (Div(1_000_000, -3_000_000), Is(-333_333)),
+        (Div(-2_000_000, 3_000_000), Is(-666_667)),
+        (Div(-2_000_000, -3_000_000), Is(666_667)),
         // half a millionth
-        (1, 2_000_000, Ok(1)),
-        (1, -2_000_000, Ok(-1)),
-        (0, -7, Ok(0)),
-        (GREATEST, 1_000_000, Ok(GREATEST)),
-        (GREATEST, GREATEST, Ok(1_000_000)),
-        (GREATEST, 1, Err(Fault::OutOfRange)),
-        (GREATEST, 999_999, Err(Fault::OutOfRange)),
-        (1_000_000, 0, Err(Fault::BadArithmetic)),
-        (0, 0, Err(Fault::BadArithmetic)),
+        (Div(1, 2_000_000), Is(1)),
+        (Div(1, -2_000_000), Is(-1)),
+        (Div(0, -7), Is(0)),
+        (Div(GREATEST, GREATEST), Is(1_000_000)),
+        (Div(GREATEST, 1_000_001), Is(9_999_990_000_009)),
+        (Div(GREATEST, -1), Not(Fault::OutOfRange)),
+        (Div(9_999_999, 1), Is(9_999_999_000_000)),
+        (Div(1_000_000, 0), Not(Fault::BadArithmetic)),
+        (Div(0, 0), Not(Fault::BadArithmetic)),
+        (Modulo(7_000_000, 3_000_000), Is(1_000_000)),
+        (Modulo(-7_000_000, 3_000_000), Is(2_000_000)),
+        (Modulo(7_000_000, -3_000_000), Is(1_000_000)),
+        (Modulo(-7_000_000, -3_000_000), Is(2_000_000)),
+        (Modulo(-6_000_000, 3_000_000), Is(0)),
+        (Modulo(6_000_000, -3_000_000), Is(0)),
+        (Modulo(5_500_000, -2_300_000), Is(900_000)),
+        (Modulo(-1, GREATEST), Is(9_999_999_999_998)),
+        (Modulo(-1, -GREATEST), Is(9_999_999_999_998)),
+        (Modulo(-GREATEST, GREATEST), Is(0)),
+        (Modulo(1, 0), Not(Fault::BadArithmetic)),
+        (Modulo(0, 0), Not(Fault::BadArithmetic)),
+        // roots of 0, of 0.000001 and of the greatest number
+        (Sqrt(0), Is(0)),
+        // between two millionths: cut, not rounded
+        (Sqrt(1), Is(1_000)),
+        (Sqrt(2), Is(1_414)),
+        (Sqrt(3), Is(1_732)),
+        (Sqrt(2_000_000), Is(1_414_213)),
+        (Sqrt(4_000_000), Is(2_000_000)),
+        (Sqrt(3_999_999), Is(1_999_999)),
+        (Sqrt(1_000_001), Is(1_000_000)),
+        (Sqrt(9_999_999_999_998), Is(3_162_277_660)),
+        (Sqrt(GREATEST), Is(3_162_277_660)),
+        (Sqrt(-1), Not(Fault::BadArithmetic)),
+        (Power(2_000_000, 10_000_000), Is(1_024_000_000)),
+        (Power(-2_000_000, 3_000_000), Is(-8_000_000)),
+        (Power(0, 0), Is(1_000_000)),
+        (Power(0, 5_000_000), Is(0)),
+        (Power(GREATEST, 0), Is(1_000_000)),
+        (Power(GREATEST, 1_000_000), Is(GREATEST)),
+        (Power(GREATEST, 2_000_000), Not(Fault::OutOfRange)),
+        // exponents -0.0001, -0.000101, 0.0001
+        (Power(7_000_000, -100), Is(1_000_000)),
+        (Power(7_000_000, -101), Not(Fault::BadArithmetic)),
+        (Power(7_000_000, 100), Is(1_000_000)),
+        (Power(-1_000_000, 32_000_000), Is(1_000_000)),
+        (Power(-1_000_000, 32_000_100), Is(1_000_000)),
+        (Power(1_000_000, 32_000_101), Not(Fault::BadArithmetic)),
+        (Power(1_000_000, 33_000_000), Not(Fault::BadArithmetic)),
+        (Power(1_000_000, -1_000_000), Not(Fault::BadArithmetic)),
+        (Power(4_000_000, 500_000), Not(Fault::BadArithmetic)),
+        (Power(10_000_000, 6_000_000), Is(1_000_000_000_000)),
+        (Power(10_000_000, 7_000_000), Not(Fault::OutOfRange)),
+        (Power(2_000_000, 23_000_000), Is(8_388_608_000_000)),
+        (Power(2_000_000, 24_000_000), Not(Fault::OutOfRange)),
+        (Power(-2_000_000, 23_000_000), Is(-8_388_608_000_000)),
+        // each product rounds
+        (Power(1_500, 2_000_000), Is(2)),
+        (Power(500, 2_000_000), Is(0)),
+        (Power(1_000_001, 2_000_000), Is(1_000_002)),
+        (Power(1_200_000, 32_000_000), Is(341_821_878)),
+        (Power(-1_100_000, 31_000_000), Is(-19_194_347)),
+        (Fix(0), Is(0)),
+        (Fix(-1), Is(-1_000_000)),
+        (Fix(2_800_000), Is(2_000_000)),
+        (Fix(-2_800_000), Is(-3_000_000)),
+        (Fix(2_500_000), Is(2_000_000)),
+        (Fix(-2_500_000), Is(-3_000_000)),
+        (Fix(7_000_000), Is(7_000_000)),
+        (Fix(-7_000_000), Is(-7_000_000)),
+        (Fix(GREATEST), Is(9_999_999_000_000)),
+        (Fix(-GREATEST), Not(Fault::OutOfRange)),
+        (Fup(0), Is(0)),
+        (Fup(1), Is(1_000_000)),
+        (Fup(-1), Is(0)),
+        (Fup(2_800_000), Is(3_000_000)),
+        (Fup(-2_800_000), Is(-2_000_000)),
+        (Fup(-2_500_000), Is(-2_000_000)),
+        (Fup(7_000_000), Is(7_000_000)),
+        (Fup(-7_000_000), Is(-7_000_000)),
+        (Fup(GREATEST), Not(Fault::OutOfRange)),
+        (Fup(-GREATEST), Is(-9_999_999_000_000)),
+        (Round(0), Is(0)),
+        (Round(-1), Is(0)),
+        (Round(2_800_000), Is(3_000_000)),
+        (Round(-2_800_000), Is(-3_000_000)),
+        (Round(2_500_000), Is(3_000_000)),
+        (Round(-2_500_000), Is(-3_000_000)),
+        (Round(2_499_999), Is(2_000_000)),
+        (Round(-2_500_001), Is(-3_000_000)),
+        (Round(GREATEST), Not(Fault::OutOfRange)),
+        (Round(9_999_999_499_999), Is(9_999_999_000_000)),
+        (Round(-9_999_999_500_000), Not(Fault::OutOfRange)),
+        (Abs(0), Is(0)),
+        (Abs(-2_800_000), Is(2_800_000)),
+        (Abs(-GREATEST), Is(GREATEST)),
+        (Whole(0), Is(0)),
+        (Whole(100), Is(0)),
+        (Whole(101), NotWhole),
+        (Whole(-100), Is(0)),
+        (Whole(-101), NotWhole),
+        (Whole(999_900), Is(1)),
+        (Whole(999_899), NotWhole),
+        (Whole(1_000_100), Is(1)),
+        (Whole(1_000_101), NotWhole),
+        (Whole(-5_000_100), Is(-5)),
+        (Whole(-5_000_101), NotWhole),
+        (Whole(500_000), NotWhole),
+        (Whole(GREATEST), Is(10_000_000)),
+        (Whole(-GREATEST), Is(-10_000_000)),
+        (Inches(0), Is(0)),
+        (Inches(1), Is(25)),
+        (Inches(2), Is(51)),
+        (Inches(-1), Is(-25)),
+        (Inches(-2), Is(-51)),
+        (Inches(1_000_000), Is(25_400_000)),
+        (Inches(-1_000_000), Is(-25_400_000)),
+        (Inches(393_700_787_401), Is(9_999_999_999_985)),
+        (Inches(393_700_787_402), Not(Fault::OutOfRange)),
+        (Inches(-393_700_787_402), Not(Fault::OutOfRange)),
+        (Millimetres(1), Is(1)),
+        (Millimetres(GREATEST), Is(GREATEST)),
     ] {
-        assert_eq!(rt; seen(num(a).div(num(b))), quotient, "{a} / {b}");
-    }
-}
-
-#[test]
-fn remainders_go_from_zero_to_below_the_divisor(rt: HostRuntime) {
-    for (a, b, rest) in [
-        (7_000_000, 3_000_000, Ok(1_000_000)),
-        (-7_000_000, 3_000_000, Ok(2_000_000)),
-        (7_000_000, -3_000_000, Ok(1_000_000)),
-        (-7_000_000, -3_000_000, Ok(2_000_000)),
-        (-6_000_000, 3_000_000, Ok(0)),
-        (-1, GREATEST, Ok(GREATEST - 1)),
-        (1, 0, Err(Fault::BadArithmetic)),
-    ] {
-        assert_eq!(rt; seen(num(a).modulo(num(b))), rest, "{a} MOD {b}");
-    }
-}
-
-#[test]
-fn roots_round_down(rt: HostRuntime) {
-    for (a, root) in [
-        (0, Ok(0)),
-        // the root of 0.000001 is 0.001
-        (1, Ok(1_000)),
-        // 1.414213562.., 1.732050807.., 0.001414213..: cut, not rounded
-        (2_000_000, Ok(1_414_213)),
-        (3_000_000, Ok(1_732_050)),
-        (2, Ok(1_414)),
-        (4_000_000, Ok(2_000_000)),
-        // 3162.277660168.. is the root of ten million
-        (GREATEST, Ok(3_162_277_660)),
-        (-1, Err(Fault::BadArithmetic)),
-        (-GREATEST, Err(Fault::BadArithmetic)),
-    ] {
-        assert_eq!(rt; seen(num(a).sqrt()), root, "the root of {a}");
-    }
-}
-
-#[test]
-fn powers_take_whole_exponents_from_0_to_32(rt: HostRuntime) {
-    for (a, b, power) in [
-        (2_000_000, 10_000_000, Ok(1_024_000_000)),
-        (-2_000_000, 3_000_000, Ok(-8_000_000)),
-        (0, 0, Ok(1_000_000)),
-        (0, 5_000_000, Ok(0)),
-        (GREATEST, 0, Ok(1_000_000)),
-        (GREATEST, 1_000_000, Ok(GREATEST)),
-        (7_000_000, -100, Ok(1_000_000)),
-        (7_000_000, 100, Ok(1_000_000)),
-        (-1_000_000, 32_000_000, Ok(1_000_000)),
-        (-1_000_000, 32_000_100, Ok(1_000_000)),
-        (1_000_000, 32_000_101, Err(Fault::BadArithmetic)),
-        (1_000_000, 33_000_000, Err(Fault::BadArithmetic)),
-        (1_000_000, -1_000_000, Err(Fault::BadArithmetic)),
-        (1_000_000, -101, Err(Fault::BadArithmetic)),
-        (4_000_000, 500_000, Err(Fault::BadArithmetic)),
-        // 10**7 is past the range, and 10**33 no power
-        (10_000_000, 6_000_000, Ok(1_000_000_000_000)),
-        (10_000_000, 7_000_000, Err(Fault::OutOfRange)),
-        (10_000_000, 33_000_000, Err(Fault::BadArithmetic)),
-        // each product rounds: 0.0015 to the 3 is 0.000002 (of 0.00000225) times 0.0015, 0.000000003
-        (1_500, 2_000_000, Ok(2)),
-        (1_500, 3_000_000, Ok(0)),
-        // 0.0005 to the 2 is 0.00000025, so 0
-        (500, 2_000_000, Ok(0)),
-        // 1.000001 to the 2 is 1.000002000001
-        (1_000_001, 2_000_000, Ok(1_000_002)),
-    ] {
-        assert_eq!(rt; seen(num(a).power(num(b))), power, "{a} ** {b}");
-    }
-}
-
-#[test]
-fn numbers_become_whole(rt: HostRuntime) {
-    for (a, fix, fup, round, size) in [
-        (
-            2_800_000,
-            Ok(2_000_000),
-            Ok(3_000_000),
-            Ok(3_000_000),
-            2_800_000,
-        ),
-        (
-            -2_800_000,
-            Ok(-3_000_000),
-            Ok(-2_000_000),
-            Ok(-3_000_000),
-            2_800_000,
-        ),
-        (
-            2_500_000,
-            Ok(2_000_000),
-            Ok(3_000_000),
-            Ok(3_000_000),
-            2_500_000,
-        ),
-        (
-            -2_500_000,
-            Ok(-3_000_000),
-            Ok(-2_000_000),
-            Ok(-3_000_000),
-            2_500_000,
-        ),
-        (
-            2_499_999,
-            Ok(2_000_000),
-            Ok(3_000_000),
-            Ok(2_000_000),
-            2_499_999,
-        ),
-        (0, Ok(0), Ok(0), Ok(0), 0),
-        (-1, Ok(-1_000_000), Ok(0), Ok(0), 1),
-        (
-            7_000_000,
-            Ok(7_000_000),
-            Ok(7_000_000),
-            Ok(7_000_000),
-            7_000_000,
-        ),
-        (
-            GREATEST,
-            Ok(9_999_999_000_000),
-            Err(Fault::OutOfRange),
-            Err(Fault::OutOfRange),
-            GREATEST,
-        ),
-        (
-            -GREATEST,
-            Err(Fault::OutOfRange),
-            Ok(-9_999_999_000_000),
-            Err(Fault::OutOfRange),
-            GREATEST,
-        ),
-    ] {
-        assert_eq!(rt; seen(num(a).fix()), fix, "FIX {a}");
-        assert_eq!(rt; seen(num(a).fup()), fup, "FUP {a}");
-        assert_eq!(rt; seen(num(a).round()), round, "ROUND {a}");
-        assert_eq!(rt; num(a).abs().count(), size, "ABS {a}");
-    }
-}
-
-#[test]
-fn numbers_within_a_ten_thousandth_count_as_whole(rt: HostRuntime) {
-    for (a, whole) in [
-        (0, Some(0)),
-        (100, Some(0)),
-        (101, None),
-        (-100, Some(0)),
-        (-101, None),
-        (999_900, Some(1)),
-        (999_899, None),
-        (1_000_100, Some(1)),
-        (1_000_101, None),
-        (-4_999_950, Some(-5)),
-        (500_000, None),
-        (GREATEST, Some(10_000_000)),
-    ] {
-        assert_eq!(rt; num(a).whole(), whole, "{a}");
-    }
-}
-
-#[test]
-fn inches_are_25_4_millimetres(rt: HostRuntime) {
-    for (count, inches) in [
-        // 25.4, 50.8 and 127 nanometres
-        (1, Ok(25)),
-        (2, Ok(51)),
-        (5, Ok(127)),
-        (-1, Ok(-25)),
-        (-2, Ok(-51)),
-        (1_000_000, Ok(25_400_000)),
-        (-1_000_000, Ok(-25_400_000)),
-        // 393700.787401 inches are 9999999.9999854 millimetres
-        (393_700_787_401, Ok(9_999_999_999_985)),
-        (393_700_787_402, Err(Fault::OutOfRange)),
-        (-393_700_787_402, Err(Fault::OutOfRange)),
-    ] {
-        let length = nm_of(num(count), Unit::Inches).map(|length| length.nm());
-        assert_eq!(rt; length, inches, "{count} inches");
-        let length = nm_of(num(count), Unit::Millimetres).map(|length| length.nm());
-        assert_eq!(rt; length, Ok(count), "{count} millimetres");
+        assert_eq!(rt; answered(operation), answer, "{operation:?}");
     }
 }
 
@@ -267,6 +254,6 @@ fn lengths_add_and_compare(rt: HostRuntime) -> Result<(), Fail> {
     assert!(rt; longest > short.neg());
     assert!(rt; num(-1) < num(0));
     assert_eq!(rt; Len::of_nm(10_000_000_000_000), Err(Fault::OutOfRange));
-    assert_eq!(rt; seen(Num::of(-10_000_000_000_000)), Err(Fault::OutOfRange));
+    assert_eq!(rt; Num::of(-10_000_000_000_000), Err(Fault::OutOfRange));
     Ok(())
 }

@@ -1,19 +1,18 @@
 -- An arc's steps end, are the only ones, and keep near the circle.
-use Rattle.std.proofs.Common.{arith, ℕ, zero, suc, ◌+◌, ◌-◌, ◌*◌, ◌<◌, ◌≤◌, ◌≡◌, ◌⊎◌, inl, inr, refl, sym, ap, ◌∙◌, subst, ℤ, pos, negsuc, neg_ℤ, ◌+ℤ◌, ◌-ℤ◌, ◌*ℤ◌, Bool, true, false, max, List, [], ◌∷◌, length, cond}
+use Rattle.std.proofs.Common.{arith, ℕ, zero, suc, ◌+◌, ◌-◌, ◌*◌, ◌<◌, ◌≤◌, ◌≡◌, ◌⊎◌, inl, inr, refl, sym, ◌∙◌, subst, pos, neg_ℤ, ◌-ℤ◌, Bool, true, false, List, [], ◌∷◌, length}
 use Rattle.std.proofs.lemmas.Int.{ints}
-use Rattle.std.proofs.lemmas.Bool.Decides.{nat_tests}
 use Rattle.std.proofs.lemmas.Bool.{cases_lt}
 use Rattle.std.proofs.lemmas.List.Elements.{All-nil, All-cons, All-head, All-tail}
-use Rattle.std.specs.Prelude.{int_lt, int_le, unsigned_abs, All, IsTrue, ◌==◌, ◌||◌, ◌&&◌, if◌then◌else◌}
+use Rattle.std.specs.Prelude.{unsigned_abs, All, if◌then◌else◌}
 use Rattle.ng_step.specs.declared.quadrant.Quadrant.{Quadrant}
 use Rattle.ng_step.specs.declared.quadrant.Quadrant.TheVariants.{First, Second, Third, Fourth}
 use Rattle.ng_step.specs.declared.quadrant.PlaneStep.{PlaneStep}
-use Rattle.ng_step.specs.Arcs.{quadrant_after, quadrant, inward, outward, excess, step_at, moved, next_spot, left_after, larger, same_quadrant, stops, cross, IsArc, plane_steps_within, spots, IsWithin, IsNearCircle, reach, most_steps, HasSteps, IsLargeArc}
-use Rattle.ng_step.specs.declared.walk.Circle.{Circle}
+use Rattle.ng_step.specs.Arcs.{quadrant_after, excess, step_at, moved, next_spot, left_after, larger, same_quadrant, stops, IsArc, plane_steps_within, spots, IsWithin, IsNearCircle, reach, most_steps, HasSteps, IsLargeArc}
+use Rattle.ng_step.specs.declared.circle.Circle.{Circle}
 use Rattle.ng_step.specs.declared.quadrant.Spot.{Spot}
 use Rattle.ng_step.specs.Turned.{place, in_step, out_step, norm, Sound, Roomy, room, budget}
 use Rattle.ng_step.proofs.TurnLemmas.{Below, below_outward, below_inward, below_crossing, sound_outward, sound_inward, sound_crossing}
-use Rattle.ng_step.proofs.PlaceLemmas.{quadrant-place, excess-place, moved_inward, moved_crossing, moved_outward, next_outside, next_inside, in_step_le, same_quadrant-self, same_quadrant-quadrant_after, Placed, placed}
+use Rattle.ng_step.proofs.PlaceLemmas.{quadrant-place, excess-place, moved_inward, moved_crossing, moved_outward, next_outside, next_inside, in_step_le, same_quadrant-self, same_quadrant-quadrant_after, placed}
 
 -- where a step leads
 pub record Onward (c : Circle) (radius k : ℕ) (q : Quadrant) (i o : ℕ) : Type 0 where

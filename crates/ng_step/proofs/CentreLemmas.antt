@@ -1,22 +1,19 @@
 -- An arc seen from its centre: the code's numbers are those of the definition.
-use Rattle.std.proofs.Common.{arith, ℕ, zero, suc, ◌+◌, ◌-◌, ◌*◌, ◌^◌, ◌<◌, ◌≤◌, ◌≡◌, refl, sym, ap, ◌∙◌, ℤ, pos, negsuc, neg_ℤ, ◌+ℤ◌, ◌-ℤ◌, ◌*ℤ◌, to_z, of_z, Bool, true, false}
+use Rattle.std.proofs.Common.{arith, ℕ, ◌+◌, ◌*◌, ◌^◌, ◌<◌, ◌≡◌, refl, sym, ap, ◌∙◌, ℤ, pos, ◌-ℤ◌, ◌*ℤ◌, to_z, of_z}
 use mir.Syntax.{w64}
 use Rattle.std.proofs.lemmas.Int.{ints}
 use Rattle.std.specs.Prelude.{unsigned_abs, int_lt}
 use Rattle.ng_canon.specs.declared.geometry.Geometry.{Geometry}
 use Rattle.ng_canon.specs.declared.plane.Plane.{Plane}
 use Rattle.ng_canon.specs.declared.plane.Plane.TheVariants.{Xy, Xz, Yz}
-use Rattle.ng_canon.specs.declared.plane.Turn.{Turn}
-use Rattle.ng_canon.specs.declared.plane.Turn.TheVariants.{Clockwise, Counterclockwise}
 use Rattle.ng_canon.specs.declared.segment.Arc.{Arc}
-use Rattle.ng_step.specs.declared.walk.Circle.{Circle}
 use Rattle.ng_step.specs.declared.quadrant.Spot.{Spot}
 use Rattle.ng_step.specs.declared.frame.Frame.{Frame}
 use Rattle.ng_step.specs.declared.line.Distances.{Distances}
 use Rattle.ng_step.specs.declared.centred.CentredArc.{CentredArc}
 use Rattle.ng_step.specs.Arcs.{cross}
 use Rattle.ng_step.specs.Frames.{of_a, of_b, of_third, at_x, at_y, at_z, mirrored}
-use Rattle.ng_step.specs.Hands.{from_centre, programmed, rounded_start, step_a, step_b, circle, centred, closing_after}
+use Rattle.ng_step.specs.Hands.{from_centre, programmed, rounded_start, step_a, step_b, centred, closing_after}
 use Rattle.ng_step.specs.Sizes.{AreSized}
 use Rattle.ng_step.proofs.RoundLemmas.{stored}
 

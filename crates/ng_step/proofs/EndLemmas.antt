@@ -1,5 +1,5 @@
 -- A segment's items lead from its rounded start to its rounded end.
-use Rattle.std.proofs.Common.{arith, ℕ, zero, suc, ◌+◌, ◌-◌, ◌*◌, ◌<◌, ◌≤◌, ◌≡◌, ◌⊎◌, inl, inr, refl, sym, ap, ◌∙◌, ℤ, pos, negsuc, neg_ℤ, ◌+ℤ◌, ◌-ℤ◌, Bool, true, false, max, List, [], ◌∷◌, ◌++◌, map, length}
+use Rattle.std.proofs.Common.{arith, ℕ, zero, suc, ◌+◌, ◌-◌, ◌<◌, ◌≤◌, ◌≡◌, inl, inr, refl, sym, ap, ◌∙◌, ℤ, pos, negsuc, neg_ℤ, ◌+ℤ◌, ◌-ℤ◌, Bool, true, false, max, List, [], ◌∷◌, ◌++◌, map, length}
 use Rattle.std.proofs.lemmas.Int.{ints}
 use Rattle.std.proofs.lemmas.Bool.{cases_lt}
 use Rattle.std.proofs.lemmas.List.{map-append}
@@ -19,7 +19,7 @@ use Rattle.ng_step.specs.Arcs.{along_a, along_b, net_a, net_b}
 use Rattle.ng_step.specs.Frames.{at_x, at_y, at_z, of_a, of_b, of_third, mirrored, mirrored_step, on_a, on_b, pulse_of, pulse_with, pulse_without}
 use Rattle.ng_step.specs.Lines.{made, line_at, line_step, axis_step, step_toward, line_pulse, line_from, largest, line_pulses}
 use Rattle.ng_step.specs.ArcPulses.{taking, taken, interleaved, arc_pulses}
-use Rattle.ng_step.specs.Hands.{pulse_item, across, closing, closing_after}
+use Rattle.ng_step.specs.Hands.{pulse_item, across, closing}
 use Rattle.ng_step.specs.Promises.{step_value, moved_by, stands_after}
 use Rattle.ng_step.proofs.LineLemmas.{made_none, made_all, made_more, made_le, line_at_none, line_at_all}
 use Rattle.ng_step.proofs.StartLemmas.{line_at-step}
@@ -55,7 +55,7 @@ axis_moves n k a d some le =
     let e : (a +ℤ d) -ℤ a ≡ d = difference_is a d in
     let le' : unsigned_abs ((a +ℤ d) -ℤ a) ≤ n = rw e le in
     let step : line_at n a (a +ℤ d) (k + 1) ≡ line_at n a (a +ℤ d) k +ℤ step_value (line_step n d k) =
-        line_at-step n k a (a +ℤ d) some le' ∙ ap (λ x. line_at n a (a +ℤ d) k +ℤ step_value (line_step n x k)) e in
+    line_at-step n k a (a +ℤ d) some le' ∙ ap (λ x. line_at n a (a +ℤ d) k +ℤ step_value (line_step n x k)) e in
     sym step
 
 pub line_moves : (us n k : ℕ) (p d : Distances) → 0 < n → AreAtMost d n → moved_by (pulse_item us (line_pulse n d k)) (line_point n p d k) ≡ line_point n p d (k + 1)
@@ -245,7 +245,7 @@ arc_stands us frame n count forward d ms p (suc left) some le_c le_d small len =
     let here = moved p (placed frame.plane t.a (mirrored frame.turn t.b) (step_value (axis_step n forward d k))) in
     let len' : length rest ≡ count - made n count (n - left) = t.rest ∙ ap (λ x. count - made n count x) e in
     let third : step_value (axis_step n forward d k) +ℤ signed forward (d - made n d (n - left)) ≡ signed forward (d - made n d k) =
-        ap (λ x. step_value (axis_step n forward d k) +ℤ signed forward (d - made n d x)) (sym e) ∙ third_moves forward d (made n d k) (made n d (k + 1)) more_d.0 more_d.1 most_d in
+    ap (λ x. step_value (axis_step n forward d k) +ℤ signed forward (d - made n d x)) (sym e) ∙ third_moves forward d (made n d k) (made n d (k + 1)) more_d.0 more_d.1 most_d in
     ap (stands_after (map (pulse_item us) (interleaved frame n count forward d rest left))) t.moves
     ∙ arc_stands us frame n count forward d rest here left some le_c le_d (omega arith) len'
     ∙ add_placed frame.plane p t.a (mirrored frame.turn t.b) (step_value (axis_step n forward d k)) (net_a rest) (mirrored frame.turn (net_b rest)) (signed forward (d - made n d (n - left)))

@@ -1,5 +1,7 @@
 -- The items of a segment, put together.
-use Rattle.std.proofs.Common.{arith, ℕ, zero, suc, ◌+◌, ◌*◌, ◌<◌, ◌≡◌, refl, sym, ap, ◌∙◌, ℤ, pos, Bool, true, false, max, List, [], ◌∷◌, ◌++◌, map, length}
+use Rattle.std.proofs.Common.{arith, ℕ, zero, suc, ◌+◌, ◌*◌, ◌<◌, ◌≡◌, refl, sym, ap, ◌∙◌, ℤ, pos, Bool, true, false, max, List, [], ◌++◌, map, length}
+use Rattle.std.proofs.Common.{◌≤◌, ◌^◌}
+use Rattle.std.proofs.lemmas.Nat.{mul-le}
 use Rattle.std.specs.Prelude.{unsigned_abs, int_le}
 use Rattle.ng_canon.specs.declared.segment.Arc.{Arc}
 use Rattle.ng_step.specs.declared.quadrant.PlaneStep.{PlaneStep}
@@ -83,24 +85,24 @@ abbrev code_total : CentredArc → Distances → ℕ → Distances → ℕ
 code_total c d steps close = max steps (unsigned_abs (across c.frame d)) + largest close
 
 pub large_is : (g : Geometry) (pace : Pace) (c : CentredArc) (d : Distances) (w : Walk) (quadrants steps : ℕ) (net_a net_b : ℤ) (third : ℤ) (close : Distances) (us : ℕ) (arc line : List Steps)
-    → IsWalkable c → w.circle ≡ c.circle → spot_of w ≡ c.from → quadrants ≡ quadrants_to_walk c.start c.end c.from
+    → IsWalkable c → w.frame ≡ c.frame → w.circle ≡ c.circle → spot_of w ≡ c.from → quadrants ≡ quadrants_to_walk c.start c.end c.from
     → ((ms : List PlaneStep) → IsArc w.circle c.end quadrants (spot_of w) ms → steps ≡ length ms)
     → ((ms : List PlaneStep) → IsArc w.circle c.end quadrants (spot_of w) ms → net_a ≡ net_a_of ms)
     → ((ms : List PlaneStep) → IsArc w.circle c.end quadrants (spot_of w) ms → net_b ≡ net_b_of ms)
     → close ≡ closing_after c.frame d net_a net_b
     → (0 < code_total c d steps close → us ≡ pulse_us g pace (code_total c d steps close * larger c.circle) (code_total c d steps close))
     → third ≡ across c.frame d
-    → arc ≡ pulses_from c.frame (max steps (unsigned_abs third)) steps (int_le (pos 0) third) (unsigned_abs third) w.circle (spot_of w) (max steps (unsigned_abs third))
+    → arc ≡ pulses_from w.frame (max steps (unsigned_abs third)) steps (int_le (pos 0) third) (unsigned_abs third) w.circle (spot_of w) (max steps (unsigned_abs third))
     → line ≡ line_pulses close
     → map (pulse_item us) (arc ++ line) ≡ large_arc_items g pace c d
 unfolding large_arc_items
-large_is g pace c d w quadrants steps net_a net_b third close us arc line h circle spot few hs ha hb hc ht h3 harc hline =
+large_is g pace c d w quadrants steps net_a net_b third close us arc line h frame circle spot few hs ha hb hc ht h3 harc hline =
     let ms = arc_path c in
     let is : IsArc c.circle c.end (quadrants_to_walk c.start c.end c.from) c.from ms = path_is c h in
     let is' : IsArc w.circle c.end quadrants (spot_of w) ms = rw (circle, spot, few) is in
     let es : steps ≡ length ms = hs ms is' in
     let ec : close ≡ closing c.frame d ms = hc ∙ ap (λ x. closing_after c.frame d x net_b) (ha ms is') ∙ ap (closing_after c.frame d (net_a_of ms)) (hb ms is') in
-    let pulses : arc ≡ arc_pulses c.frame ms (across c.frame d) = harc ∙ rw (h3, es, circle, spot) (pulses_of c.frame c.circle c.end (quadrants_to_walk c.start c.end c.from) c.from ms (across c.frame d) is) in
+    let pulses : arc ≡ arc_pulses c.frame ms (across c.frame d) = harc ∙ rw (frame, h3, es, circle, spot) (pulses_of c.frame c.circle c.end (quadrants_to_walk c.start c.end c.from) c.from ms (across c.frame d) is) in
     let times : 0 < arc_total c.frame d ms → us ≡ pulse_us g pace (arc_total c.frame d ms * larger c.circle) (arc_total c.frame d ms) = rw (es, ec) at ht in
     rw (pulses, hline, ec) (over g pace c.frame (larger c.circle) us d ms times)
 
@@ -110,3 +112,7 @@ time_is g pace us length pulses step total other e f l h some = rw (← e, ← f
 
 pub total_is : (steps abs most large other : ℕ) (third t : ℤ) → most ≡ max steps abs → abs ≡ unsigned_abs third → third ≡ t → large ≡ other → most + large ≡ max steps (unsigned_abs t) + other
 total_is steps abs most large other third t e f g h = rw (e, f, g, h) refl
+
+-- an arc's length is bounded by its pulses
+pub arc_length_few : (pulses step other : ℕ) → step ≡ other → other ≤ 1_000_000 → pulses * step ≤ pulses * 2 ^ 23
+arc_length_few pulses step other e h = mul-le pulses step pulses (2 ^ 23) (omega arith) (omega arith)

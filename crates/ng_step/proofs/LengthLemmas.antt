@@ -1,5 +1,5 @@
 -- A line's length is bounded by its pulses: so its period is, too.
-use Rattle.std.proofs.Common.{arith, ℕ, zero, suc, ◌+◌, ◌-◌, ◌*◌, ◌^◌, ◌<◌, ◌≤◌, ◌≡◌, ◌⊎◌, inl, inr, refl, sym, ap, ◌∙◌, ℤ, pos, negsuc, neg_ℤ, ◌+ℤ◌, ◌-ℤ◌, ◌*ℤ◌, max}
+use Rattle.std.proofs.Common.{arith, ℕ, suc, ◌+◌, ◌-◌, ◌*◌, ◌^◌, ◌<◌, ◌≤◌, ◌≡◌, inl, inr, ap, ◌∙◌, ℤ, pos, negsuc, neg_ℤ, ◌-ℤ◌, ◌*ℤ◌}
 use Rattle.std.proofs.lemmas.Int.{ints}
 use Rattle.std.proofs.lemmas.Nat.{mul-le}
 use Rattle.std.proofs.lemmas.Bool.{cases_lt}
@@ -10,7 +10,7 @@ use Rattle.ng_step.specs.declared.line.Distances.{Distances}
 use Rattle.ng_step.specs.Lines.{in_steps, largest}
 use Rattle.ng_step.specs.Periods.{root_up}
 use Rattle.ng_step.specs.Hands.{distances, square_between}
-use Rattle.ng_step.proofs.RoundLemmas.{rounded_near, neg_scaled}
+use Rattle.ng_step.proofs.RoundLemmas.{rounded_near}
 use Rattle.ng_step.proofs.PeriodLemmas.{root_up_is}
 
 -- the distance of two multiples of a step

@@ -4,6 +4,8 @@ pub mod PlaceLemmas
 pub mod ArcLemmas
 pub mod LineLemmas
 pub mod WalkLemmas
+pub mod CountLemmas
+pub mod BeginLemmas
 pub mod PulseLemmas
 pub mod PeriodLemmas
 pub mod StartLemmas

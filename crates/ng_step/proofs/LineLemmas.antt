@@ -1,5 +1,5 @@
 -- Error accumulators make the steps of the closed formula.
-use Rattle.std.proofs.Common.{arith, ℕ, zero, suc, ◌+◌, ◌-◌, ◌*◌, ◌/◌, ◌%◌, ◌<◌, ◌≤◌, ◌≡◌, ◌⊎◌, inl, inr, refl, sym, ap, ◌∙◌, subst, ℤ, pos, negsuc, neg_ℤ, ◌+ℤ◌, ◌-ℤ◌, ◌*ℤ◌, List, [], ◌∷◌, Bool, true, false}
+use Rattle.std.proofs.Common.{arith, ℕ, zero, suc, ◌+◌, ◌-◌, ◌*◌, ◌/◌, ◌%◌, ◌<◌, ◌≤◌, ◌≡◌, ◌⊎◌, inl, inr, refl, ap, ◌∙◌, ℤ, pos, negsuc, neg_ℤ, ◌-ℤ◌, ◌*ℤ◌, ◌∷◌, Bool}
 use Rattle.std.proofs.lemmas.Int.{ints, by_lt_z, to_z-of_z}
 use Rattle.std.proofs.Common.{to_z, of_z, ◌^◌, rules}
 use mir.Syntax.{w64}
@@ -7,13 +7,12 @@ use mir.Val.{SFits}
 use Rattle.std.proofs.lemmas.Nat.{div-mul-add, mul-le, div_below}
 use Rattle.std.proofs.lemmas.Bool.{cases_lt}
 use Rattle.std.specs.Prelude.{unsigned_abs, ◌≤ℤ◌, int_le}
-use Rattle.ng_step.specs.declared.line.Steps.{Steps}
 use Rattle.ng_step.specs.declared.line.Distances.{Distances}
 use Rattle.ng_canon.specs.declared.item.Step.{Step}
-use Rattle.ng_canon.specs.declared.item.Step.TheVariants.{Backward, Still, Forward}
+use Rattle.ng_canon.specs.declared.item.Step.TheVariants.{Still}
 use Rattle.ng_step.specs.declared.spread.Spread.{Spread}
 use Rattle.ng_num.specs.Rounding.{nearest}
-use Rattle.ng_step.specs.Lines.{made, toward, line_at, in_steps, IsByHalfIn, step_toward, axis_step, line_pulse, line_from, largest, line_pulses}
+use Rattle.ng_step.specs.Lines.{made, toward, line_at, in_steps, IsByHalfIn, step_toward, axis_step, line_from, largest, line_pulses}
 use Rattle.ng_step.specs.Axes.{Holds, IsSpread, Stepped}
 use Rattle.ng_step.specs.LineModel.{axes_from, spread_step, pulses_left, IsLine}
 use Rattle.ng_step.specs.declared.line.LinePulses.TheInside.{Inside}

@@ -1,14 +1,9 @@
 -- The root rounded up is the least.
-use Rattle.std.proofs.Common.{arith, ℕ, zero, suc, ◌+◌, ◌-◌, ◌*◌, ◌/◌, ◌^◌, max, ◌<◌, ◌≤◌, ◌≡◌, ◌⊎◌, inl, inr, refl, Bool, true, false}
+use Rattle.std.proofs.Common.{arith, ℕ, zero, suc, ◌+◌, ◌-◌, ◌*◌, ◌/◌, ◌<◌, ◌≤◌, ◌≡◌, refl, Bool, true, false}
 use Rattle.std.proofs.lemmas.Nat.{mul-le, mul-lt, div_below}
-use Rattle.std.proofs.lemmas.Bool.{cases_lt}
 use Rattle.std.proofs.lemmas.Bool.Decides.{nat_tests}
 use Rattle.std.specs.Prelude.{nat_le, if◌then◌else◌}
-use Rattle.ng_step.specs.Periods.{root_up, ceil_div}
-
-pub record IsRootUp (n r : ℕ) : Type 0 where
-  pub enough : n ≤ r * r
-  pub least : (k : ℕ) → n ≤ k * k → r ≤ k
+use Rattle.ng_step.specs.Periods.{root_up, ceil_div, IsRootUp}
 
 pub root_lt : (o w : ℕ) → o * o < w * w → o < w
 root_lt o w h = grind (arith, mul-le)

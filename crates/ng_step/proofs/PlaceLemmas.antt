@@ -1,11 +1,11 @@
 -- A step from a point of a quadrant, in the turned frame.
-use Rattle.std.proofs.Common.{arith, ℕ, zero, suc, ◌+◌, ◌-◌, ◌*◌, ◌<◌, ◌≤◌, ◌≡◌, ◌⊎◌, inl, inr, refl, sym, ap, ◌∙◌, subst, ℤ, pos, negsuc, neg_ℤ, ◌+ℤ◌, ◌-ℤ◌, ◌*ℤ◌, Bool, true, false, max}
+use Rattle.std.proofs.Common.{arith, ℕ, zero, suc, ◌+◌, ◌*◌, ◌<◌, ◌≤◌, ◌≡◌, refl, ℤ, pos, negsuc, neg_ℤ, ◌-ℤ◌, ◌*ℤ◌, true, false}
 use Rattle.std.proofs.lemmas.Int.{ints}
-use Rattle.std.specs.Prelude.{int_lt, int_le, unsigned_abs}
+use Rattle.std.specs.Prelude.{int_lt, unsigned_abs}
 use Rattle.ng_step.specs.declared.quadrant.Quadrant.{Quadrant}
 use Rattle.ng_step.specs.declared.quadrant.Quadrant.TheVariants.{First, Second, Third, Fourth}
 use Rattle.ng_step.specs.Arcs.{quadrant_after, quadrant, inward, outward, excess, step_at, moved, next_spot, larger, same_quadrant}
-use Rattle.ng_step.specs.declared.walk.Circle.{Circle}
+use Rattle.ng_step.specs.declared.circle.Circle.{Circle}
 use Rattle.ng_step.specs.declared.quadrant.Spot.{Spot}
 use Rattle.ng_step.specs.Turned.{place, in_step, out_step, norm}
 

@@ -1,5 +1,5 @@
 -- What holds of every segment's items.
-use Rattle.std.proofs.Common.{arith, ℕ, zero, suc, ◌+◌, ◌-◌, ◌*◌, ◌<◌, ◌≤◌, ◌≡◌, ◌⊎◌, inl, inr, refl, sym, ap, ◌∙◌, subst, ℤ, pos, ◌+ℤ◌, ◌-ℤ◌, ◌*ℤ◌, Bool, true, false, max, List, [], ◌∷◌, ◌++◌, map, length}
+use Rattle.std.proofs.Common.{take, arith, ℕ, zero, suc, ◌+◌, ◌-◌, ◌*◌, ◌<◌, ◌≤◌, ◌≡◌, inl, inr, refl, sym, ap, ◌∙◌, subst, ℤ, ◌+ℤ◌, ◌-ℤ◌, Bool, true, false, [], map}
 use Rattle.std.proofs.lemmas.Int.{ints}
 use Rattle.std.proofs.lemmas.Bool.{cases_lt}
 use Rattle.std.proofs.lemmas.Bool.Decides.{nat_tests}
@@ -19,14 +19,14 @@ use Rattle.ng_canon.specs.declared.segment.Segment.{Segment}
 use Rattle.ng_canon.specs.declared.segment.Segment.TheVariants.{Line as LineSegment, Arc as ArcSegment, Dwell as DwellSegment, Switch as SwitchSegment}
 use Rattle.ng_step.specs.declared.line.Distances.{Distances}
 use Rattle.ng_step.specs.declared.centred.CentredArc.{CentredArc}
-use Rattle.ng_step.specs.Arcs.{larger, HasSteps, IsLargeArc, quadrants_to_walk, plane_steps, plane_steps_within}
+use Rattle.ng_step.specs.Arcs.{larger, HasSteps, IsLargeArc, quadrants_to_walk, plane_steps}
 use Rattle.ng_step.specs.Frames.{mirrored}
 use Rattle.ng_step.specs.Lines.{in_steps, line_at, line_from, largest, line_pulses, IsByHalfIn}
 use Rattle.ng_step.specs.Hands.{pulse_item, distances, line_items, centred, is_small, arc_path, large_arc_items, arc_items, step_a, step_b}
-use Rattle.ng_step.specs.Promises.{point_in_steps, stands_after, stands_at, LeadsTo, EndsOnItsEnd, IsInsideByHalf, StaysInside, IsTrueArc, KeepsToItsCircle}
+use Rattle.ng_step.specs.Promises.{stands_after, on_line, FollowsItsLine, point_in_steps, stands_at, LeadsTo, EndsOnItsEnd, IsInsideByHalf, StaysInside, IsTrueArc, KeepsToItsCircle}
 use Rattle.ng_step.proofs.LineLemmas.{in_steps_near, line_inside}
 use Rattle.ng_step.proofs.RoundLemmas.{rounded_near}
-use Rattle.ng_step.proofs.LengthLemmas.{HasLimits, limits}
+use Rattle.ng_step.proofs.LengthLemmas.{limits}
 use Rattle.ng_step.proofs.StartLemmas.{start_some}
 use Rattle.ng_step.proofs.ArcLemmas.{is_arc, is_near_circle, length-plane_steps_within, larger_some}
 use Rattle.ng_step.proofs.HandLemmas.{line_none}
@@ -58,6 +58,41 @@ ends (LineSegment l) g = line_ends g l.pace l.start l.end
 ends (ArcSegment arc) g = arc_ends g arc
 ends (DwellSegment time) g = tt
 ends (SwitchSegment outputs) g = tt
+
+-- ---- the points of a line
+
+first_stands : (us n : ℕ) (p d : Distances) (left j : ℕ) → 0 < n → AreAtMost d n → left ≤ n → j ≤ left
+    → stands_after (take j (map (pulse_item us) (line_from n d left))) (line_point n p d (n - left)) ≡ line_point n p d (n - left + j)
+first_stands us n p d zero zero some most small le = let e : n - 0 ≡ n - 0 + 0 = omega arith in ap (line_point n p d) e
+first_stands us n p d zero (suc j) some most small le = absurd (omega arith)
+first_stands us n p d (suc left) zero some most small le = let e : n - suc left ≡ n - suc left + 0 = omega arith in ap (line_point n p d) e
+first_stands us n p d (suc left) (suc j) some most small le =
+    let e : n - suc left + 1 ≡ n - left = omega arith in
+    let e' : n - left + j ≡ n - suc left + suc j = omega arith in
+    let step = line_moves us n (n - suc left) p d some most ∙ ap (line_point n p d) e in
+    ap (stands_after (take j (map (pulse_item us) (line_from n d left)))) step ∙ first_stands us n p d left j some most (omega arith) (omega arith) ∙ ap (line_point n p d) e'
+
+pulses_follow : (g : Geometry) (us : ℕ) (p q : Point) (k : ℕ) → 0 < largest (distances g p q) → k ≤ largest (distances g p q)
+    → stands_after (take k (map (pulse_item us) (line_pulses (distances g p q)))) (point_in_steps g p) ≡ on_line (largest (distances g p q)) (point_in_steps g p) (point_in_steps g q) k
+unfolding line_pulses
+pulses_follow g us p q k some le =
+    let n = largest (distances g p q) in
+    let e : n - n + k ≡ k = omega arith in
+    ap (stands_after (take k (map (pulse_item us) (line_from n (distances g p q) n)))) (sym (line_point_none n (point_in_steps g p) (distances g p q) some))
+    ∙ first_stands us n (point_in_steps g p) (distances g p q) n k some (at_most_largest (distances g p q)) (omega arith) le
+    ∙ ap (line_point n (point_in_steps g p) (distances g p q)) e
+    ∙ distances_same _ _ _ _ _ _ (ap (λ z. line_at n (in_steps p.x g.x.step_nm) z k) (rest_of _ _)) (ap (λ z. line_at n (in_steps p.y g.y.step_nm) z k) (rest_of _ _)) (ap (λ z. line_at n (in_steps p.z g.z.step_nm) z k) (rest_of _ _))
+
+line_follows : (g : Geometry) (pace : Pace) (p q : Point) (k : ℕ) → 0 < largest (distances g p q) → k ≤ largest (distances g p q)
+    → stands_after (take k (line_items g pace p q)) (point_in_steps g p) ≡ on_line (largest (distances g p q)) (point_in_steps g p) (point_in_steps g q) k
+unfolding line_items
+line_follows g pace p q k some le = pulses_follow g _ p q k some le
+
+pub follows : (s : Segment) (g : Geometry) → FollowsItsLine s g
+follows (LineSegment l) g = λ k some le. line_follows g l.pace l.start l.end k some le
+follows (ArcSegment arc) g = tt
+follows (DwellSegment time) g = tt
+follows (SwitchSegment outputs) g = tt
 
 -- ---- the travel
 

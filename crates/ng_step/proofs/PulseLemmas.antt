@@ -1,11 +1,11 @@
 -- An arc's pulses, by a list of steps and by the rule.
-use Rattle.std.proofs.Common.{arith, ℕ, zero, suc, ◌+◌, ◌-◌, ◌*◌, ◌^◌, ◌<◌, ◌≤◌, ◌≡◌, ◌⊎◌, inl, inr, refl, sym, ap, ◌∙◌, subst, ℤ, pos, Bool, true, false, List, [], ◌∷◌, length, max, rules}
-use Rattle.std.proofs.Common.{to_z, of_z}
+use Rattle.std.proofs.Common.{arith, ℕ, zero, suc, ◌+◌, ◌-◌, ◌^◌, ◌<◌, ◌≤◌, ◌≡◌, inl, inr, refl, sym, ap, ◌∙◌, ℤ, pos, Bool, true, List, [], ◌∷◌, length, max}
+use Rattle.std.proofs.Common.{to_z}
 use mir.Syntax.{w64}
 use Rattle.std.proofs.lemmas.Int.{ints}
 use Rattle.std.proofs.lemmas.Bool.{cases_lt}
 use Rattle.std.specs.Prelude.{unsigned_abs, int_le}
-use Rattle.ng_step.specs.declared.walk.Circle.{Circle}
+use Rattle.ng_step.specs.declared.circle.Circle.{Circle}
 use Rattle.ng_step.specs.declared.quadrant.Spot.{Spot}
 use Rattle.ng_step.specs.declared.walk.Walk.{Walk}
 use Rattle.ng_step.specs.declared.quadrant.PlaneStep.{PlaneStep}
@@ -15,11 +15,13 @@ use Rattle.ng_canon.specs.declared.item.Step.{Step}
 use Rattle.ng_canon.specs.declared.item.Step.TheVariants.{Backward, Still, Forward}
 use Rattle.ng_step.specs.declared.arc.ArcPulses.TheInside.{Inside}
 use Rattle.ng_step.specs.Arcs.{step_at, next_spot, IsArc, left_after}
-use Rattle.ng_step.specs.Turned.{Walks, spot_of, IsStep}
+use Rattle.ng_step.specs.Turned.{spot_of, IsStep}
 use Rattle.ng_step.specs.Lines.{axis_step, made, step_toward}
-use Rattle.ng_step.specs.Axes.{Holds, IsSpread, Stepped}
+use Rattle.ng_step.specs.Axes.{Stepped}
 use Rattle.ng_step.specs.declared.frame.Frame.{Frame}
-use Rattle.ng_step.specs.Frames.{pulse_with, pulse_without}
+use Rattle.ng_canon.specs.declared.plane.Plane.{Plane}
+use Rattle.ng_canon.specs.declared.plane.Plane.TheVariants.{Xy, Xz, Yz}
+use Rattle.ng_step.specs.Frames.{pulse_of, pulse_with, pulse_without, with_third, on_a, on_b, mirrored_step}
 use Rattle.ng_step.specs.ArcPulses.{taking, taken, interleaved, arc_pulses, walking, walked, pulses_from}
 use Rattle.ng_step.specs.ArcModel.{arc_left, IsArcLeft}
 use Rattle.ng_step.proofs.LineLemmas.{made_more, made_le, made_none, axis_left}
@@ -44,10 +46,10 @@ rest_keeps a arc third i j h some sa st = record {
 }
 
 pub rest_next : (a : Inside) (arc third : Spread) (i j : Step) (p : Steps) → IsArcLeft a → 0 < a.left → Stepped a.whole a.arc arc i → Stepped a.whole a.third third j
-    → i ≡ Still → p ≡ pulse_without a.frame j
+    → i ≡ Still → p ≡ pulse_without a.walk.frame j
     → arc_left a ≡ p ∷ arc_left (record a { left = a.left - 1; arc = arc; third = third })
 rest_next a arc third i j p h some sa st still is =
-    let first = pulses_from_more a.frame a.total a.arc.count a.third.forward a.third.count a.walk.circle (spot_of a.walk) a.left some in
+    let first = pulses_from_more a.walk.frame a.total a.arc.count a.third.forward a.third.count a.walk.circle (spot_of a.walk) a.left some in
     let onward = h.onward in
     let ei : i ≡ axis_step a.total true a.arc.count (a.total - a.left) = sa.step a.total (a.total - a.left) h.whole (h.arc some) ∙ ap (λ f. axis_step a.total f a.arc.count (a.total - a.left)) onward in
     let rests : axis_step a.total true a.arc.count (a.total - a.left) ≡ Still = sym ei ∙ still in
@@ -55,9 +57,9 @@ rest_next a arc third i j p h some sa st still is =
     first ∙ rw (rests, is, ej, sa.count, st.count, st.forward) refl
 
 -- a pulse with a step of the arc
-pub step_keeps : (a : Inside) (walk : Walk) (arc third : Spread) (i j : Step) (m : PlaneStep) → IsArcLeft a → 0 < a.left → Stepped a.whole a.arc arc i → Stepped a.whole a.third third j
-    → IsStep a.walk walk m → IsArcLeft (record a { left = a.left - 1; arc = arc; third = third; walk = walk })
-step_keeps a walk arc third i j m h some sa st s = record {
+pub step_keeps : (a : Inside) (walk : Walk) (arc third : Spread) (i j : Step) (made : Steps) → IsArcLeft a → 0 < a.left → Stepped a.whole a.arc arc i → Stepped a.whole a.third third j
+    → IsStep a.walk walk made → IsArcLeft (record a { left = a.left - 1; arc = arc; third = third; walk = walk })
+step_keeps a walk arc third i j made h some sa st s = record {
   whole = h.whole;
   small = h.small;
   left = (let le = h.left in omega arith);
@@ -75,16 +77,30 @@ onward_step : (n d k : ℕ) → (axis_step n true d k ≡ Still → ⊥) → axi
 unfolding axis_step
 onward_step n d k h = step_forward (made n d (k + 1) - made n d k) h
 
-pub step_next : (a : Inside) (walk : Walk) (arc third : Spread) (i j : Step) (m : PlaneStep) (p : Steps) → IsArcLeft a → 0 < a.left → Stepped a.whole a.arc arc i → Stepped a.whole a.third third j
-    → IsStep a.walk walk m → (i ≡ Still → ⊥) → p ≡ pulse_with a.frame m j
+pub third_set : (plane : Plane) (a b third : Step) → with_third plane (pulse_of plane a b Still) third ≡ pulse_of plane a b third
+third_set Xy a b Backward = refl
+third_set Xy a b Still = refl
+third_set Xy a b Forward = refl
+third_set Xz a b Backward = refl
+third_set Xz a b Still = refl
+third_set Xz a b Forward = refl
+third_set Yz a b Backward = refl
+third_set Yz a b Still = refl
+third_set Yz a b Forward = refl
+
+pub step_next : (a : Inside) (walk : Walk) (arc third : Spread) (i j : Step) (made p : Steps) → IsArcLeft a → 0 < a.left → Stepped a.whole a.arc arc i → Stepped a.whole a.third third j
+    → IsStep a.walk walk made → (i ≡ Still → ⊥) → p ≡ with_third a.walk.frame.plane made j
     → arc_left a ≡ p ∷ arc_left (record a { left = a.left - 1; arc = arc; third = third; walk = walk })
-step_next a walk arc third i j m p h some sa st s moves is =
-    let first = pulses_from_more a.frame a.total a.arc.count a.third.forward a.third.count a.walk.circle (spot_of a.walk) a.left some in
+step_next a walk arc third i j made p h some sa st s moves is =
+    let first = pulses_from_more a.walk.frame a.total a.arc.count a.third.forward a.third.count a.walk.circle (spot_of a.walk) a.left some in
     let onward = h.onward in
     let ei : i ≡ axis_step a.total true a.arc.count (a.total - a.left) = sa.step a.total (a.total - a.left) h.whole (h.arc some) ∙ ap (λ f. axis_step a.total f a.arc.count (a.total - a.left)) onward in
     let goes : axis_step a.total true a.arc.count (a.total - a.left) ≡ Forward = onward_step a.total a.arc.count (a.total - a.left) (λ e. moves (ei ∙ e)) in
     let ej = st.step a.total (a.total - a.left) h.whole (h.third some) in
-    first ∙ rw (goes, is, ej, sa.count, st.count, st.forward, s.circle, s.spot, s.step) refl
+    let same : p ≡ pulse_with a.walk.frame (step_at a.walk.circle (spot_of a.walk)) j =
+    is ∙ ap (λ (q : Steps). with_third a.walk.frame.plane q j) s.step
+    ∙ third_set a.walk.frame.plane (on_a (step_at a.walk.circle (spot_of a.walk))) (mirrored_step a.walk.frame.turn (on_b (step_at a.walk.circle (spot_of a.walk)))) j in
+    first ∙ rw (goes, same, ej, sa.count, st.count, st.forward, s.circle, s.spot, s.frame) refl
 
 pub onward_count : (n : ℕ) (b : Bool) → n < 2 ^ 60 → b ≡ int_le (pos 0) (to_z w64 n) → b ≡ true
 onward_count n b h e = let same : to_z w64 n ≡ pos n = omega (arith, ints) in rw (e, same) (grind (arith, ints))

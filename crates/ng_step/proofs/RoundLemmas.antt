@@ -1,13 +1,13 @@
 -- Rounding to whole steps.
-use Rattle.std.proofs.Common.{arith, ℕ, zero, suc, ◌+◌, ◌*◌, ◌/◌, ◌^◌, ◌<◌, ◌≤◌, ◌≡◌, refl, ℤ, pos, negsuc, neg_ℤ, ◌+ℤ◌, ◌-ℤ◌, ◌*ℤ◌, to_z, of_z, ap, ◌∙◌}
+use Rattle.std.proofs.Common.{arith, ℕ, zero, suc, ◌+◌, ◌*◌, ◌/◌, ◌^◌, ◌<◌, ◌≤◌, ◌≡◌, refl, ℤ, pos, negsuc, neg_ℤ, ◌-ℤ◌, ◌*ℤ◌, to_z, of_z, ap, ◌∙◌}
 use mir.Syntax.{w64}
 use Rattle.std.proofs.lemmas.Int.{ints, to_z-of_z}
-use Rattle.std.proofs.lemmas.Nat.{div_below, mul-lt}
+use Rattle.std.proofs.lemmas.Nat.{div_below, div-mul-add, mul-lt, mul-le}
 use Rattle.std.proofs.Common.{rules}
 use mir.Val.{SFits}
 use Rattle.ng_num.specs.Rounding.{nearest}
 use Rattle.std.specs.Prelude.{unsigned_abs, ◌<ℤ◌, ◌≤ℤ◌}
-use Rattle.ng_num.specs.Range.{greatest, IsCount}
+use Rattle.ng_num.specs.Range.{greatest}
 use Rattle.ng_step.specs.Lines.{in_steps}
 
 -- a rounded size fits
@@ -56,3 +56,40 @@ stored p h = omega (arith, ints)
 
 pub stored_near : (p z : ℤ) (s : ℕ) → unsigned_abs p < 2 ^ 44 → 2 * unsigned_abs (p -ℤ z) ≤ s → 2 * unsigned_abs (to_z w64 (of_z w64 p) -ℤ z) ≤ s
 stored_near p z s small h = let same = stored p (omega arith) in rw same h
+
+exact_div : (k s : ℕ) → 0 < s → (k * s) / s ≡ k
+exact_div k s some = let e : k * s ≡ k * s + 0 = omega arith in rw e (div-mul-add k s 0 some)
+
+product_some : (k s : ℕ) → 0 < s → 0 < suc k * s
+product_some k s some = let p : 1 * 1 ≤ suc k * s = mul-le 1 1 (suc k) s (omega arith) some in omega arith
+
+-- the whole steps of a length
+pub whole_above : (z n : ℤ) (s q : ℕ) → 0 < s → z ≡ n *ℤ pos s → q ≡ unsigned_abs z / s → pos 0 ≤ℤ z → pos q ≡ n
+whole_above z (pos k) s q some is eq above =
+    let size : unsigned_abs z ≡ k * s = ap unsigned_abs is in
+    ap pos (eq ∙ ap (λ x. x / s) size ∙ exact_div k s some)
+whole_above z (negsuc k) s q some is eq above =
+    let negative : z ≡ neg_ℤ (pos (suc k * s)) = is in
+    let size = product_some k s some in
+    absurd (omega (arith, ints))
+
+pub whole_below : (z n : ℤ) (s q : ℕ) → 0 < s → z ≡ n *ℤ pos s → q ≡ unsigned_abs z / s → z <ℤ pos 0 → neg_ℤ (pos q) ≡ n
+whole_below z (pos k) s q some is eq below =
+    let positive : z ≡ pos (k * s) = is in
+    absurd (omega (arith, ints))
+whole_below z (negsuc k) s q some is eq below =
+    let negative : z ≡ neg_ℤ (pos (suc k * s)) = is in
+    let size : unsigned_abs z ≡ suc k * s = omega (arith, ints) in
+    ap (λ x. neg_ℤ (pos x)) (eq ∙ ap (λ x. x / s) size ∙ exact_div (suc k) s some)
+
+pub div_small : (u s : ℕ) → 0 < s → u < 2 ^ 60 → u / s < 2 ^ 60
+div_small u s some h =
+    let more : u * 1 ≤ u * s = mul-le u 1 u s (omega arith) some in
+    let wide : 2 ^ 60 * 1 ≤ 2 ^ 60 * s = mul-le (2 ^ 60) 1 (2 ^ 60) s (omega arith) some in
+    div_below u s (2 ^ 60) some (omega arith)
+
+pub below_stored : (q : ℕ) → q < 2 ^ 60 → to_z w64 (of_z w64 (pos 0 -ℤ to_z w64 q)) ≡ neg_ℤ (pos q)
+below_stored q h = omega (arith, ints)
+
+pub above_stored : (q : ℕ) → q < 2 ^ 60 → to_z w64 q ≡ pos q
+above_stored q h = omega (arith, ints)

@@ -1,12 +1,10 @@
 -- The rounded start isn't the centre; a line's pulses are the differences of its points.
-use Rattle.std.proofs.Common.{arith, ℕ, zero, suc, ◌+◌, ◌-◌, ◌*◌, ◌<◌, ◌≤◌, ◌≡◌, ◌⊎◌, inl, inr, refl, sym, ap, ◌∙◌, ℤ, pos, negsuc, ◌+ℤ◌, ◌-ℤ◌, Bool, true, false}
+use Rattle.std.proofs.Common.{arith, ℕ, ◌+◌, ◌-◌, ◌*◌, ◌<◌, ◌≤◌, ◌≡◌, inl, inr, refl, ℤ, pos, ◌+ℤ◌, ◌-ℤ◌, Bool, true, false}
 use Rattle.std.proofs.lemmas.Int.{ints}
 use Rattle.std.proofs.lemmas.Nat.{mul-le}
 use Rattle.std.proofs.lemmas.Bool.{cases_lt}
-use Rattle.std.specs.Prelude.{unsigned_abs, int_le, int_lt, if◌then◌else◌}
+use Rattle.std.specs.Prelude.{unsigned_abs, int_le}
 use Rattle.ng_step.specs.declared.quadrant.Spot.{Spot}
-use Rattle.ng_canon.specs.declared.item.Step.{Step}
-use Rattle.ng_canon.specs.declared.item.Step.TheVariants.{Backward, Still, Forward}
 use Rattle.ng_step.specs.Promises.{step_value}
 use Rattle.ng_step.specs.Lines.{made, toward, line_at, step_toward, axis_step, line_step}
 use Rattle.ng_step.proofs.LineLemmas.{made_more}

@@ -1,22 +1,24 @@
 -- The differences that a walk keeps are those of its next point.
-use Rattle.std.proofs.Common.{arith, ℕ, zero, suc, ◌+◌, ◌-◌, ◌*◌, ◌^◌, ◌<◌, ◌≤◌, ◌≡◌, ◌⊎◌, inl, inr, refl, sym, ap, ◌∙◌, subst, ℤ, pos, negsuc, neg_ℤ, ◌+ℤ◌, ◌-ℤ◌, ◌*ℤ◌, List, [], ◌∷◌, length, drop, add-one, true, false}
+use Rattle.std.proofs.Common.{arith, ℕ, zero, suc, ◌+◌, ◌-◌, ◌*◌, ◌^◌, ◌<◌, ◌≤◌, ◌≡◌, refl, sym, ap, ◌∙◌, subst, ℤ, pos, negsuc, neg_ℤ, ◌+ℤ◌, ◌-ℤ◌, ◌*ℤ◌}
 use Rattle.std.proofs.Common.{to_z, of_z}
-use mir.Syntax.{w64, w128}
+use mir.Syntax.{w128}
 use Rattle.std.proofs.lemmas.Int.{ints}
 use Rattle.std.proofs.lemmas.Nat.{mul-le}
-use Rattle.std.specs.Prelude.{unsigned_abs, ◌≤ℤ◌, ◌<ℤ◌, int_le, if◌then◌else◌}
+use Rattle.std.specs.Prelude.{unsigned_abs, ◌≤ℤ◌, ◌<ℤ◌, int_le}
 use Rattle.ng_step.specs.declared.quadrant.Quadrant.{Quadrant}
 use Rattle.ng_step.specs.declared.quadrant.Quadrant.TheVariants.{First, Second, Third, Fourth}
-use Rattle.ng_step.specs.declared.walk.Circle.{Circle}
+use Rattle.ng_step.specs.declared.circle.Circle.{Circle}
 use Rattle.ng_step.specs.declared.quadrant.Spot.{Spot}
 use Rattle.ng_step.specs.declared.walk.Walk.{Walk}
 use Rattle.ng_step.specs.declared.quadrant.PlaneStep.{PlaneStep}
-use Rattle.ng_step.specs.declared.quadrant.PlaneStep.TheVariants.{AddA, SubA, AddB, SubB}
-use Rattle.ng_step.specs.Arcs.{quadrant_after, along_a, along_b, net_a, net_b, quadrant, cross, same_quadrant, stops, left_after, IsArc, next_spot, step_at, inward, outward, larger, moved}
-use Rattle.ng_step.specs.Turned.{turned, place, in_step, out_step, norm, Sound, Roomy, spot_of, Walks, IsStep, room, budget, farthest, beyond}
+use Rattle.ng_step.specs.Arcs.{quadrant_after, cross, same_quadrant, inward, outward, larger, moved}
+use Rattle.ng_step.specs.Turned.{turned, place, in_step, out_step, norm, Sound, Walks, IsStep, farthest, beyond}
 use Rattle.ng_step.proofs.TurnLemmas.{sound_outward, sound_inward, sound_crossing}
-use Rattle.ng_step.proofs.ArcLemmas.{in_step_some, left_some, budget_same, budget_next, abs_neg}
-use Rattle.ng_step.proofs.PlaceLemmas.{placed, quadrant-place, same_quadrant-self, same_quadrant-quadrant_after, moved_inward, moved_crossing, moved_outward, next_outside, next_inside, step_outside, step_inside, in_step_le}
+use Rattle.ng_step.proofs.ArcLemmas.{in_step_some, budget_same, budget_next}
+use Rattle.ng_step.proofs.PlaceLemmas.{same_quadrant-self, same_quadrant-quadrant_after, moved_inward, moved_crossing, moved_outward, next_outside, next_inside, step_outside, step_inside, in_step_le}
+use Rattle.ng_canon.specs.declared.item.Step.TheVariants.{Still}
+use Rattle.ng_step.specs.declared.line.Steps.{Steps}
+use Rattle.ng_step.specs.Frames.{pulse_with}
 
 -- the differences are far from the ends of their type
 pub record Small (w : Walk) : Type 0 where
@@ -59,6 +61,10 @@ small w h =
       outer = omega arith;
     }
 
+-- the pulse of a step of the plane, the third axis still
+abbrev pub flat : Walk → PlaneStep → Steps
+flat w m = pulse_with w.frame m Still
+
 abbrev pub after_outward : Walk → Walk
 after_outward w = record w { excess = w.excess +ℤ w.outward; outward = w.outward +ℤ w.outer_second; outer = w.outer + w.outer_step }
 
@@ -78,8 +84,9 @@ after_crossing w = record {
   outward = w.inward +ℤ w.inner_second;
   inner_second = w.outer_second;
   outer_second = w.inner_second;
-  inward_made = inward (quadrant_after w.quadrant);
-  outward_made = outward (quadrant_after w.quadrant);
+  frame = w.frame;
+  inward_made = flat w (inward (quadrant_after w.quadrant));
+  outward_made = flat w (outward (quadrant_after w.quadrant));
 }
 
 inside_of : (w : Walk) → Walks w → w.excess ≤ℤ pos 0 → norm w.inner w.outer ≤ w.circle.square
@@ -94,7 +101,7 @@ turn_turn c Second = refl
 turn_turn c Third = refl
 turn_turn c Fourth = refl
 
-pub outward_is : (w : Walk) → Walks w → w.excess ≤ℤ pos 0 → IsStep w (after_outward w) (outward w.quadrant)
+pub outward_is : (w : Walk) → Walks w → w.excess ≤ℤ pos 0 → IsStep w (after_outward w) (flat w (outward w.quadrant))
 outward_is w h excess_low =
     let inside = inside_of w h excess_low in
     let outer_le : w.outer_step ≤ larger w.circle = rw h.outer_step (in_step_le w.circle (quadrant_after w.quadrant)) in
@@ -114,7 +121,8 @@ outward_is w h excess_low =
         inward = h.inward;
         outward = omega (arith, ints);
       };
-      step = sym (step_inside w.circle w.quadrant w.inner w.outer h.sound.some inside);
+      frame = refl;
+      step = ap (flat w) (sym (step_inside w.circle w.quadrant w.inner w.outer h.sound.some inside));
       spot = sym (next_inside w.circle w.quadrant w.inner w.outer h.sound.some inside ∙ moved_outward w.circle w.quadrant w.inner w.outer
           ∙ ap (λ s. place w.quadrant w.inner (w.outer + s)) (sym h.outer_step));
       circle = refl;
@@ -123,7 +131,7 @@ outward_is w h excess_low =
           let after = (sound_outward _ _ _ _ w.inner w.outer w.outer_step h.roomy inside outer_le h.sound).outer in omega arith);
     }
 
-pub inward_is : (w : Walk) → Walks w → pos 0 <ℤ w.excess → w.inner_step < w.inner → IsStep w (after_inward w) (inward w.quadrant)
+pub inward_is : (w : Walk) → Walks w → pos 0 <ℤ w.excess → w.inner_step < w.inner → IsStep w (after_inward w) (flat w (inward w.quadrant))
 inward_is w h excess_high far =
     let outside = outside_of w h excess_high in
     let j = w.inner - w.inner_step in
@@ -146,7 +154,8 @@ inward_is w h excess_high far =
         inward = inward_inward w.inner_step j w.inner split w.inward w.inner_second f g;
         outward = h.outward;
       };
-      step = sym (step_outside w.circle w.quadrant w.inner w.outer h.sound.some outside);
+      frame = refl;
+      step = ap (flat w) (sym (step_outside w.circle w.quadrant w.inner w.outer h.sound.some outside));
       spot = sym (next_outside w.circle w.quadrant w.inner w.outer h.sound.some outside
           ∙ ap (λ x. moved w.circle (inward w.quadrant) (place w.quadrant x w.outer)) (split ∙ ap (λ s. s + j) h.inner_step)
           ∙ moved_inward w.circle w.quadrant j w.outer);
@@ -166,7 +175,7 @@ inward_is w h excess_high far =
         let two : i * s ≡ (s + j) * s = ap (λ x. x * s) split in
         omega (arith, ints)
 
-pub crossing_is : (w : Walk) → Walks w → pos 0 <ℤ w.excess → w.inner ≤ w.inner_step → IsStep w (after_crossing w) (inward w.quadrant)
+pub crossing_is : (w : Walk) → Walks w → pos 0 <ℤ w.excess → w.inner ≤ w.inner_step → IsStep w (after_crossing w) (flat w (inward w.quadrant))
 crossing_is w h excess_high near =
     let outside = outside_of w h excess_high in
     let j = w.inner_step - w.inner in
@@ -187,7 +196,8 @@ crossing_is w h excess_high near =
         inward = inward_crossing w.outer_step w.outer w.outward w.outer_second h.outward h.outer_second;
         outward = outward_crossing w.inner_step j w.inner split w.inward w.inner_second h.inward h.inner_second;
       };
-      step = sym (step_outside w.circle w.quadrant w.inner w.outer h.sound.some outside);
+      frame = refl;
+      step = ap (flat w) (sym (step_outside w.circle w.quadrant w.inner w.outer h.sound.some outside));
       spot = sym (next_outside w.circle w.quadrant w.inner w.outer h.sound.some outside
           ∙ moved_crossing w.circle w.quadrant w.inner w.outer j (sym split ∙ h.inner_step));
       circle = refl;
@@ -213,19 +223,19 @@ pub kept : (z : ℤ) → unsigned_abs z < 2 ^ 100 → unsigned_abs (to_z w128 (o
 kept z h = omega (arith, ints)
 
 -- the same, as the code has it
-pub step_outward : (w : Walk) (excess change : ℤ) (m : PlaneStep) → Walks w → w.excess ≤ℤ pos 0 → m ≡ outward w.quadrant
+pub step_outward : (w : Walk) (excess change : ℤ) (m : Steps) → Walks w → w.excess ≤ℤ pos 0 → m ≡ flat w (outward w.quadrant)
     → excess ≡ w.excess +ℤ w.outward → change ≡ w.outward +ℤ w.outer_second
     → IsStep w (record w { excess = excess; outward = change; outer = w.outer + w.outer_step }) m
 step_outward w excess change m h low is e f = rw (is, e, f) (outward_is w h low)
 
-pub step_inward : (w : Walk) (excess change : ℤ) (m : PlaneStep) → Walks w → pos 0 <ℤ w.excess → w.inner_step < w.inner → m ≡ inward w.quadrant
+pub step_inward : (w : Walk) (excess change : ℤ) (m : Steps) → Walks w → pos 0 <ℤ w.excess → w.inner_step < w.inner → m ≡ flat w (inward w.quadrant)
     → excess ≡ w.excess +ℤ w.inward → change ≡ w.inward +ℤ w.inner_second
     → IsStep w (record w { excess = excess; inward = change; inner = w.inner - w.inner_step }) m
 step_inward w excess change m h high far is e f = rw (is, e, f) (inward_is w h high far)
 
-pub step_crossing : (w : Walk) (q : Quadrant) (excess change back first second : ℤ) (m in_made out_made : PlaneStep) → Walks w → pos 0 <ℤ w.excess → w.inner ≤ w.inner_step → m ≡ inward w.quadrant
+pub step_crossing : (w : Walk) (q : Quadrant) (excess change back first second : ℤ) (m in_made out_made : Steps) → Walks w → pos 0 <ℤ w.excess → w.inner ≤ w.inner_step → m ≡ flat w (inward w.quadrant)
     → q ≡ quadrant_after w.quadrant → excess ≡ w.excess +ℤ w.inward → change ≡ w.outer_second -ℤ w.outward → back ≡ w.inward +ℤ w.inner_second
-    → first ≡ w.outer_second → second ≡ w.inner_second → in_made ≡ inward q → out_made ≡ outward q
+    → first ≡ w.outer_second → second ≡ w.inner_second → in_made ≡ flat w (inward q) → out_made ≡ flat w (outward q)
     → IsStep w (record {
       circle = w.circle;
       quadrant = q;
@@ -238,6 +248,7 @@ pub step_crossing : (w : Walk) (q : Quadrant) (excess change back first second :
       outward = back;
       inner_second = first;
       outer_second = second;
+      frame = w.frame;
       inward_made = in_made;
       outward_made = out_made;
     }) m
@@ -268,143 +279,3 @@ cross-place Fourth i o e = simp (mul_neg_right, mul_neg_left) (omega (arith, int
 pub past_is : (q : Quadrant) (i o : ℕ) (e t : Spot) (x y : ℤ) → t ≡ turned q e → x ≡ pos i *ℤ t.b → y ≡ pos o *ℤ t.a
     → int_le x y ≡ int_le (cross (place q i o) e) (pos 0)
 past_is q i o e t x y is f g = le_as_difference x y (cross (place q i o) e) (rw (f, g, is) (cross-place q i o e))
-
--- ---- counting
-
--- a walk has made n steps of the arc, and has as many quadrants left
-pub record Counts (e : Spot) (first : Walk) (quadrants : ℕ) (w : Walk) (left n : ℕ) (a b : ℤ) : Type 0 where
-  pub walks : Walks w
-  pub circle : w.circle ≡ first.circle
-  pub rest : (ms : List PlaneStep) → IsArc first.circle e quadrants (spot_of first) ms → (n ≤ length ms) × IsArc first.circle e left (spot_of w) (drop n ms)
-  pub net : (ms : List PlaneStep) → IsArc first.circle e quadrants (spot_of first) ms → (a +ℤ net_a (drop n ms) ≡ net_a ms) × (b +ℤ net_b (drop n ms) ≡ net_b ms)
-  pub size_a : unsigned_abs a ≤ n
-  pub size_b : unsigned_abs b ≤ n
-  pub bound : n + budget beyond left w.inner w.outer ≤ budget beyond quadrants first.inner first.outer
-
-pub counts_none : (e : Spot) (w : Walk) (quadrants : ℕ) → Walks w → Counts e w quadrants w quadrants 0 (pos 0) (pos 0)
-counts_none e w quadrants h = record { walks = h; circle = refl; rest = λ ms arc. (omega arith, arc); net = λ ms arc. (omega (arith, ints), omega (arith, ints)); size_a = omega arith; size_b = omega arith; bound = omega arith }
-
--- where the arc does not stop there is a step more
-arc_more : (c : Circle) (e : Spot) (left : ℕ) (p : Spot) (ms : List PlaneStep) (n : ℕ) → stops e left p ≡ false → n ≤ length ms → IsArc c e left p (drop n ms)
-    → (suc n ≤ length ms) × IsArc c e (left_after c left p) (next_spot c p) (drop (suc n) ms)
-    × (net_a (drop n ms) ≡ along_a (step_at c p) +ℤ net_a (drop (suc n) ms)) × (net_b (drop n ms) ≡ along_b (step_at c p) +ℤ net_b (drop (suc n) ms))
-arc_more c e left p [] zero go le h = absurd (cc)
-arc_more c e left p (m ∷ ms) zero go le h = (omega arith, h.2, ap (λ x. along_a x +ℤ net_a ms) h.1, ap (λ x. along_b x +ℤ net_b ms) h.1)
-arc_more c e left p [] (suc n) go le h = absurd (omega arith)
-arc_more c e left p (m ∷ ms) (suc n) go le h =
-    let more = arc_more c e left p ms n go (omega arith) h in
-    (omega (arith, more.0), more.1, more.2, more.3)
-
-arc_all : (c : Circle) (e : Spot) (left : ℕ) (p : Spot) (ms : List PlaneStep) (n : ℕ) → stops e left p ≡ true → n ≤ length ms → IsArc c e left p (drop n ms) → n ≡ length ms
-arc_all c e left p [] zero stop le h = refl
-arc_all c e left p (m ∷ ms) zero stop le h = absurd (cc (h.0, stop))
-arc_all c e left p [] (suc n) stop le h = absurd (omega arith)
-arc_all c e left p (m ∷ ms) (suc n) stop le h = let others = arc_all c e left p ms n stop (omega arith) h in omega arith
-
-left_is : (w w' : Walk) (m : PlaneStep) (left : ℕ) → Walks w → IsStep w w' m → left_after w.circle left (spot_of w) ≡ (if same_quadrant w.quadrant w'.quadrant then left else left - 1)
-unfolding left_after
-left_is w w' m left h s =
-    let after = s.walks in
-    rw (← s.spot, quadrant-place w.quadrant w.inner w.outer h.sound.some, quadrant-place w'.quadrant w'.inner w'.outer after.sound.some) refl
-
-pub along_a_small : (m : PlaneStep) → unsigned_abs (along_a m) ≤ 1
-along_a_small AddA = omega arith
-along_a_small SubA = omega arith
-along_a_small AddB = omega arith
-along_a_small SubB = omega arith
-
-pub along_b_small : (m : PlaneStep) → unsigned_abs (along_b m) ≤ 1
-along_b_small AddA = omega arith
-along_b_small SubA = omega arith
-along_b_small AddB = omega arith
-along_b_small SubB = omega arith
-
-pub counts_more : (e : Spot) (first : Walk) (quadrants : ℕ) (w w' : Walk) (m : PlaneStep) (left left' n : ℕ) (a b a' b' : ℤ) → Counts e first quadrants w left n a b
-    → stops e left (spot_of w) ≡ false → IsStep w w' m → left' ≡ (if same_quadrant w.quadrant w'.quadrant then left else left - 1) → a' ≡ a +ℤ along_a m → b' ≡ b +ℤ along_b m
-    → Counts e first quadrants w' left' (n + 1) a' b'
-counts_more e first quadrants w w' m left left' n a b a' b' h go s is ea eb =
-    let lefts : left_after first.circle left (spot_of w) ≡ left' = rw (← h.circle) (left_is w w' m left h.walks s ∙ sym is) in
-    let spots : next_spot first.circle (spot_of w) ≡ spot_of w' = rw (← h.circle) (sym s.spot) in
-    record {
-      walks = s.walks;
-      circle = s.circle ∙ h.circle;
-      rest = λ ms arc.
-          let before = h.rest ms arc in
-          let more = arc_more first.circle e left (spot_of w) ms n go before.0 before.1 in
-          rw add-one (more.0, rw (lefts, spots) at more.1);
-      net = λ ms arc.
-          let before = h.rest ms arc in
-          let more = arc_more first.circle e left (spot_of w) ms n go before.0 before.1 in
-          let made : m ≡ step_at first.circle (spot_of w) = s.step ∙ ap (λ x. step_at x (spot_of w)) h.circle in
-          let nets = h.net ms arc in
-          let one = ap along_a made in
-          let two = ap along_b made in
-          rw add-one (omega (arith, ints, more.2, nets.0), omega (arith, ints, more.3, nets.1));
-      size_a = (let small = along_a_small m in let size = h.size_a in omega (arith, ints));
-      size_b = (let small = along_b_small m in let size = h.size_b in omega (arith, ints));
-      bound = (let less = s.smaller left (left_some e left (spot_of w) go) in let bound = h.bound in rw is (omega arith));
-    }
-
-pub counts_all : (e : Spot) (first : Walk) (quadrants : ℕ) (w : Walk) (left n : ℕ) (a b : ℤ) → Counts e first quadrants w left n a b → stops e left (spot_of w) ≡ true
-    → (ms : List PlaneStep) → IsArc first.circle e quadrants (spot_of first) ms → n ≡ length ms
-counts_all e first quadrants w left n a b h stop ms arc = arc_all first.circle e left (spot_of w) ms n stop (h.rest ms arc).0 (h.rest ms arc).1
-
-drop_all : (n : ℕ) (ms : List PlaneStep) → n ≡ length ms → drop n ms ≡ []
-drop_all n ms e = rw e (drop_length ms)
-  where
-    drop_length : (ms : List PlaneStep) → drop (length ms) ms ≡ []
-    drop_length [] = refl
-    drop_length (m ∷ ms) = drop_length ms
-
-pub counts_net : (e : Spot) (first : Walk) (quadrants : ℕ) (w : Walk) (left n : ℕ) (a b : ℤ) → Counts e first quadrants w left n a b → stops e left (spot_of w) ≡ true
-    → (ms : List PlaneStep) → IsArc first.circle e quadrants (spot_of first) ms → (a ≡ net_a ms) × (b ≡ net_b ms)
-counts_net e first quadrants w left n a b h stop ms arc =
-    let none : drop n ms ≡ [] = drop_all n ms (counts_all e first quadrants w left n a b h stop ms arc) in
-    let nets = h.net ms arc in
-    let one = ap net_a none in
-    let two = ap net_b none in
-    (omega (arith, ints, nets.0), omega (arith, ints, nets.1))
-
--- ---- the start
-
--- the sizes are those of the place
-pub record Starts (q : Quadrant) (i o : ℕ) (p : Spot) : Type 0 where
-  pub some : 0 < i
-  pub is : place q i o ≡ p
-
-upright : (q : Quadrant) (i o n m : ℕ) → (q ≡ First) ⊎ (q ≡ Third) → n ≡ unsigned_abs (place q i o).a → m ≡ unsigned_abs (place q i o).b → (n ≡ i) × (m ≡ o)
-upright First i o n m h e f = (e, f)
-upright Second i o n m (inl h) e f = absurd (cc)
-upright Second i o n m (inr h) e f = absurd (cc)
-upright Third i o n m h e f = (e ∙ abs_neg i, f ∙ abs_neg o)
-upright Fourth i o n m (inl h) e f = absurd (cc)
-upright Fourth i o n m (inr h) e f = absurd (cc)
-
-lying : (q : Quadrant) (i o n m : ℕ) → (q ≡ Second) ⊎ (q ≡ Fourth) → n ≡ unsigned_abs (place q i o).a → m ≡ unsigned_abs (place q i o).b → (m ≡ i) × (n ≡ o)
-lying First i o n m (inl h) e f = absurd (cc)
-lying First i o n m (inr h) e f = absurd (cc)
-lying Second i o n m h e f = (f, e ∙ abs_neg o)
-lying Third i o n m (inl h) e f = absurd (cc)
-lying Third i o n m (inr h) e f = absurd (cc)
-lying Fourth i o n m h e f = (f ∙ abs_neg i, e)
-
-pub starts_upright : (p : Spot) (q : Quadrant) (n m : ℕ) → 0 < unsigned_abs p.a + unsigned_abs p.b → q ≡ quadrant p → (q ≡ First) ⊎ (q ≡ Third)
-    → n ≡ unsigned_abs p.a → m ≡ unsigned_abs p.b → Starts q n m p
-starts_upright p q n m some is h e f =
-    let at = placed p.a p.b some in
-    let here : p ≡ place at.q at.i at.o = at.is in
-    let same : q ≡ at.q = is ∙ ap quadrant here ∙ quadrant-place at.q at.i at.o at.some in
-    let sizes = upright at.q at.i at.o n m (rw same at h) (e ∙ ap (λ (x : Spot). unsigned_abs x.a) here) (f ∙ ap (λ (x : Spot). unsigned_abs x.b) here) in
-    record { some = rw sizes.0 at.some; is = rw (same, sizes.0, sizes.1) (sym here) }
-
-pub starts_lying : (p : Spot) (q : Quadrant) (n m : ℕ) → 0 < unsigned_abs p.a + unsigned_abs p.b → q ≡ quadrant p → (q ≡ Second) ⊎ (q ≡ Fourth)
-    → n ≡ unsigned_abs p.a → m ≡ unsigned_abs p.b → Starts q m n p
-starts_lying p q n m some is h e f =
-    let at = placed p.a p.b some in
-    let here : p ≡ place at.q at.i at.o = at.is in
-    let same : q ≡ at.q = is ∙ ap quadrant here ∙ quadrant-place at.q at.i at.o at.some in
-    let sizes = lying at.q at.i at.o n m (rw same at h) (e ∙ ap (λ (x : Spot). unsigned_abs x.a) here) (f ∙ ap (λ (x : Spot). unsigned_abs x.b) here) in
-    record { some = rw sizes.0 at.some; is = rw (same, sizes.0, sizes.1) (sym here) }
-
-pub size_kept : (z : ℤ) (n : ℕ) → unsigned_abs z ≤ 2 ^ 48 → n ≡ unsigned_abs (to_z w64 (of_z w64 z)) → n ≡ unsigned_abs z
-size_kept z n h e = omega (arith, ints)

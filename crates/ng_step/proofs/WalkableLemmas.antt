@@ -1,14 +1,13 @@
 -- An arc that isn't small can be walked.
-use Rattle.std.proofs.Common.{arith, ℕ, ◌+◌, ◌*◌, ◌^◌, ◌<◌, ◌≤◌, ◌≡◌, refl, ℤ, ◌-ℤ◌, false}
+use Rattle.std.proofs.Common.{arith, ℕ, ◌*◌, ◌^◌, ◌<◌, ◌≤◌, ◌≡◌, ℤ, ◌-ℤ◌, false}
 use Rattle.std.proofs.lemmas.Int.{ints}
 use Rattle.std.proofs.lemmas.Bool.Decides.{nat_tests}
 use Rattle.std.specs.Prelude.{unsigned_abs, nat_lt}
-use Rattle.ng_step.specs.declared.walk.Circle.{Circle}
 use Rattle.ng_step.specs.declared.centred.CentredArc.{CentredArc}
-use Rattle.ng_step.specs.Arcs.{larger, IsLargeArc}
+use Rattle.ng_step.specs.Arcs.{larger}
 use Rattle.ng_step.specs.Turned.{beyond}
 use Rattle.ng_step.specs.Hands.{is_small}
-use Rattle.ng_step.specs.Sizes.{IsSized, IsWalkable, AreWithin}
+use Rattle.ng_step.specs.Sizes.{IsSized, IsWalkable}
 use Rattle.ng_step.proofs.StartLemmas.{start_some}
 use Rattle.ng_step.proofs.ArcLemmas.{larger_some}
 

@@ -1,5 +1,5 @@
 -- The pulses of an arc as a model.
-use Rattle.std.specs.Prelude.{◌≡◌, ℕ, ◌+◌, ◌-◌, ◌*◌, ◌^◌, ◌<◌, ◌≤◌, true, List}
+use Rattle.std.specs.Prelude.{◌≡◌, ◌-◌, ◌*◌, ◌^◌, ◌<◌, ◌≤◌, true, List}
 use Rattle.ng_step.specs.declared.line.Steps.{Steps}
 use Rattle.ng_step.specs.declared.arc.ArcPulses.TheInside.{Inside}
 use Rattle.ng_step.specs.Axes.{IsSpread}
@@ -7,7 +7,7 @@ use Rattle.ng_step.specs.Turned.{Walks, spot_of}
 use Rattle.ng_step.specs.ArcPulses.{pulses_from}
 
 abbrev pub arc_left : Inside → List Steps
-arc_left a = pulses_from a.frame a.total a.arc.count a.third.forward a.third.count a.walk.circle (spot_of a.walk) a.left
+arc_left a = pulses_from a.walk.frame a.total a.arc.count a.third.forward a.third.count a.walk.circle (spot_of a.walk) a.left
 
 pub record IsArcLeft (a : Inside) : Type 0 where
   pub whole : a.whole ≡ 2 * a.total

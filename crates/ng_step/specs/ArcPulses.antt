@@ -1,6 +1,6 @@
 -- The pulses of an arc: its steps and those of the third axis, spread over as many pulses as the larger number.
-use Rattle.std.specs.Prelude.{◌≡◌, ℕ, zero, suc, ◌+◌, ◌-◌, ◌*◌, ◌<◌, ◌≤◌, max, ℤ, pos, unsigned_abs, int_le, Bool, true, false, if◌then◌else◌, List, [], ◌∷◌, length}
-use Rattle.ng_step.specs.declared.walk.Circle.{Circle}
+use Rattle.std.specs.Prelude.{ℕ, zero, suc, ◌-◌, max, ℤ, pos, unsigned_abs, int_le, Bool, true, List, [], ◌∷◌, length}
+use Rattle.ng_step.specs.declared.circle.Circle.{Circle}
 use Rattle.ng_step.specs.declared.quadrant.Spot.{Spot}
 use Rattle.ng_step.specs.declared.quadrant.PlaneStep.{PlaneStep}
 use Rattle.ng_step.specs.declared.frame.Frame.{Frame}

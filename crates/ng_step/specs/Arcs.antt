@@ -1,8 +1,8 @@
 -- The points of an arc, as offsets from its centre in nanometres.
-use Rattle.std.specs.Prelude.{◌≡◌, ℕ, zero, suc, ◌+◌, ◌-◌, ◌*◌, ◌%◌, ◌<◌, ◌≤◌, max, ℤ, pos, negsuc, ◌+ℤ◌, ◌-ℤ◌, ◌*ℤ◌, ◌≤ℤ◌, int_lt, int_le, unsigned_abs, Bool, true, false, not, ◌&&◌, ◌||◌, ◌==◌, if◌then◌else◌, IsTrue, IsFalse, List, [], ◌∷◌, length, All}
+use Rattle.std.specs.Prelude.{◌≡◌, ℕ, zero, suc, ◌+◌, ◌-◌, ◌*◌, ◌%◌, ◌<◌, ◌≤◌, max, ℤ, pos, negsuc, ◌+ℤ◌, ◌-ℤ◌, ◌*ℤ◌, int_lt, int_le, unsigned_abs, Bool, true, false, ◌&&◌, ◌||◌, ◌==◌, if◌then◌else◌, IsTrue, List, [], ◌∷◌, All}
 use Rattle.ng_step.specs.declared.quadrant.Quadrant.{Quadrant}
 use Rattle.ng_step.specs.declared.quadrant.Quadrant.TheVariants.{First, Second, Third, Fourth}
-use Rattle.ng_step.specs.declared.walk.Circle.{Circle}
+use Rattle.ng_step.specs.declared.circle.Circle.{Circle}
 use Rattle.ng_step.specs.declared.quadrant.Spot.{Spot}
 use Rattle.ng_step.specs.declared.quadrant.PlaneStep.{PlaneStep}
 use Rattle.ng_step.specs.declared.quadrant.PlaneStep.TheVariants.{AddA, SubA, AddB, SubB}

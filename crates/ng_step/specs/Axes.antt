@@ -1,5 +1,5 @@
 -- What an axis keeps on a line.
-use Rattle.std.specs.Prelude.{◌≡◌, ℕ, ◌+◌, ◌*◌, ◌<◌, ◌≤◌, ℤ}
+use Rattle.std.specs.Prelude.{◌≡◌, ℕ, ◌+◌, ◌*◌, ◌<◌, ◌≤◌}
 use Rattle.ng_step.specs.declared.spread.Spread.{Spread}
 use Rattle.ng_canon.specs.declared.item.Step.{Step}
 use Rattle.ng_step.specs.Lines.{made, axis_step}

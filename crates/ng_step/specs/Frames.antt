@@ -80,6 +80,13 @@ pulse_of plane a b third = record { x = at_x plane a b third; y = at_y plane a b
 abbrev pub pulse_with : Frame → PlaneStep → Step → Steps
 pulse_with frame m third = pulse_of frame.plane (on_a m) (mirrored_step frame.turn (on_b m)) third
 
+-- a pulse in which the third axis stands still so far, with what it does
+abbrev pub with_third : Plane → Steps → Step → Steps
+with_third plane flat Still = flat
+with_third Xy flat third = record { x = flat.x; y = flat.y; z = third }
+with_third Xz flat third = record { x = flat.x; y = third; z = flat.z }
+with_third Yz flat third = record { x = third; y = flat.y; z = flat.z }
+
 -- a pulse in which the arc rests
 abbrev pub pulse_without : Frame → Step → Steps
 pulse_without frame third = pulse_of frame.plane Still Still third

@@ -1,5 +1,5 @@
 -- The pulses of a line as a model.
-use Rattle.std.specs.Prelude.{◌≡◌, ℕ, zero, suc, ◌+◌, ◌-◌, ◌*◌, ◌^◌, ◌<◌, ◌≤◌, List, [], ◌∷◌}
+use Rattle.std.specs.Prelude.{◌≡◌, ℕ, zero, suc, ◌-◌, ◌*◌, ◌^◌, ◌<◌, ◌≤◌, List, [], ◌∷◌}
 use Rattle.ng_step.specs.declared.line.Steps.{Steps}
 use Rattle.ng_canon.specs.declared.item.Step.{Step}
 use Rattle.ng_step.specs.declared.spread.Spread.{Spread}

@@ -1,5 +1,5 @@
 -- How long a pulse lasts (own).
-use Rattle.std.specs.Prelude.{ℕ, zero, suc, ◌+◌, ◌-◌, ◌*◌, ◌/◌, max, nat_le, if◌then◌else◌}
+use Rattle.std.specs.Prelude.{ℕ, zero, suc, ◌+◌, ◌-◌, ◌*◌, ◌/◌, ◌≤◌, max, nat_le, if◌then◌else◌}
 use Rattle.ng_canon.specs.declared.geometry.Geometry.{Geometry}
 use Rattle.ng_canon.specs.declared.pace.Pace.{Pace}
 use Rattle.ng_canon.specs.declared.pace.Pace.TheVariants.{Traverse, Feed, InverseTime}
@@ -8,6 +8,11 @@ use Rattle.ng_canon.specs.declared.pace.Pace.TheVariants.{Traverse, Feed, Invers
 unfoldable pub root_up : ℕ → ℕ
 root_up zero = 0
 root_up (suc n) = if nat_le (suc n) (root_up n * root_up n) then root_up n else root_up n + 1
+
+-- what that says: its square isn't below, and no smaller number's is so
+pub record IsRootUp (n root : ℕ) : Type 0 where
+  pub enough : n ≤ root * root
+  pub least : (k : ℕ) → n ≤ k * k → root ≤ k
 
 -- a quotient rounded up
 abbrev pub ceil_div : ℕ → ℕ → ℕ

@@ -1,5 +1,5 @@
 -- What holds of every segment's items (own).
-use Rattle.std.specs.Prelude.{◌≡◌, ℕ, ◌+◌, ◌≤◌, ℤ, pos, negsuc, ◌+ℤ◌, unsigned_abs, true, false, List, [], ◌∷◌, All, length}
+use Rattle.std.specs.Prelude.{◌≡◌, ℕ, ◌+◌, ◌<◌, ◌≤◌, take, ℤ, pos, negsuc, ◌+ℤ◌, unsigned_abs, true, false, List, [], ◌∷◌, All, length}
 use Rattle.ng_num.specs.declared.point.Point.{Point}
 use Rattle.ng_canon.specs.Inside.{is_inside}
 use Rattle.ng_canon.specs.declared.geometry.Geometry.{Geometry}
@@ -12,12 +12,16 @@ use Rattle.ng_canon.specs.declared.item.Item.TheVariants.{Pulse as PulseItem, Dw
 use Rattle.ng_step.specs.declared.line.Distances.{Distances}
 use Rattle.ng_step.specs.declared.centred.CentredArc.{CentredArc}
 use Rattle.ng_step.specs.Arcs.{IsArc, IsNearCircle, quadrants_to_walk, most_steps}
-use Rattle.ng_step.specs.Lines.{in_steps, IsByHalfIn}
-use Rattle.ng_step.specs.Hands.{hand, centred, is_small, arc_path}
+use Rattle.ng_step.specs.Lines.{in_steps, line_at, largest, IsByHalfIn}
+use Rattle.ng_step.specs.Hands.{hand, distances, centred, is_small, arc_path}
 
 -- a machine point in whole steps
 abbrev pub point_in_steps : Geometry → Point → Distances
 point_in_steps g p = record { x = in_steps p.x g.x.step_nm; y = in_steps p.y g.y.step_nm; z = in_steps p.z g.z.step_nm }
+
+-- where the axes stand after pulse k of n on a line, in steps
+abbrev pub on_line : ℕ → Distances → Distances → ℕ → Distances
+on_line n p q k = record { x = line_at n p.x q.x k; y = line_at n p.y q.y k; z = line_at n p.z q.z k }
 
 -- what a step adds to a coordinate in steps
 abbrev pub step_value : Step → ℤ
@@ -50,6 +54,14 @@ EndsOnItsEnd (LineSegment l) g = LeadsTo g (hand (LineSegment l) g) l.start l.en
 EndsOnItsEnd (ArcSegment arc) g = LeadsTo g (hand (ArcSegment arc) g) arc.start arc.end
 EndsOnItsEnd (DwellSegment time) g = Unit {0}
 EndsOnItsEnd (SwitchSegment outputs) g = Unit {0}
+
+-- after pulse k of a line each axis has made the steps of the closed formula
+abbrev pub FollowsItsLine : Segment → Geometry → Type 0
+FollowsItsLine (LineSegment l) g = (k : ℕ) → 0 < largest (distances g l.start l.end) → k ≤ largest (distances g l.start l.end)
+    → stands_after (take k (hand (LineSegment l) g)) (point_in_steps g l.start) ≡ on_line (largest (distances g l.start l.end)) (point_in_steps g l.start) (point_in_steps g l.end) k
+FollowsItsLine (ArcSegment arc) g = Unit {0}
+FollowsItsLine (DwellSegment time) g = Unit {0}
+FollowsItsLine (SwitchSegment outputs) g = Unit {0}
 
 -- a point lies in the travel, made half a step longer at each end
 pub record IsInsideByHalf (g : Geometry) (at : Distances) : Type 0 where

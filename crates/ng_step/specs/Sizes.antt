@@ -4,7 +4,7 @@ use Rattle.ng_step.specs.declared.centred.CentredArc.{CentredArc}
 use Rattle.ng_step.specs.declared.quadrant.Spot.{Spot}
 use Rattle.ng_step.specs.declared.line.Distances.{Distances}
 use Rattle.ng_step.specs.Arcs.{larger, HasSteps, IsLargeArc}
-use Rattle.ng_step.specs.Turned.{farthest, beyond}
+use Rattle.ng_step.specs.Turned.{beyond}
 
 pub record AreSized (d : Distances) (most : ℕ) : Type 0 where
   pub x : unsigned_abs d.x < most

@@ -1,11 +1,13 @@
 -- The same in every quadrant: a point by the coordinate that inward steps lessen and the one that outward steps make larger.
-use Rattle.std.specs.Prelude.{◌≡◌, ℕ, ◌+◌, ◌-◌, ◌*◌, ◌^◌, ◌<◌, ◌≤◌, ℤ, pos, neg_ℤ, ◌+ℤ◌, ◌-ℤ◌, if◌then◌else◌}
+use Rattle.std.specs.Prelude.{◌≡◌, ℕ, ◌+◌, ◌-◌, ◌*◌, ◌^◌, ◌<◌, ◌≤◌, pos, neg_ℤ, ◌+ℤ◌, ◌-ℤ◌, if◌then◌else◌}
 use Rattle.ng_step.specs.declared.quadrant.Quadrant.{Quadrant}
 use Rattle.ng_step.specs.declared.quadrant.Quadrant.TheVariants.{First, Second, Third, Fourth}
 use Rattle.ng_step.specs.Arcs.{inward, outward, quadrant_after, larger, HasSteps, same_quadrant, step_at, next_spot}
-use Rattle.ng_step.specs.declared.quadrant.PlaneStep.{PlaneStep}
+use Rattle.ng_canon.specs.declared.item.Step.TheVariants.{Still}
+use Rattle.ng_step.specs.declared.line.Steps.{Steps}
+use Rattle.ng_step.specs.Frames.{pulse_with}
 use Rattle.ng_step.specs.declared.walk.Walk.{Walk}
-use Rattle.ng_step.specs.declared.walk.Circle.{Circle}
+use Rattle.ng_step.specs.declared.circle.Circle.{Circle}
 use Rattle.ng_step.specs.declared.quadrant.Spot.{Spot}
 
 -- the point of a quadrant with these two sizes
@@ -58,8 +60,8 @@ pub record Walks (w : Walk) : Type 0 where
   pub sound : Sound w.circle.square farthest (larger w.circle) beyond w.inner w.outer
   pub inner_step : w.inner_step ≡ in_step w.circle w.quadrant
   pub outer_step : w.outer_step ≡ out_step w.circle w.quadrant
-  pub inward_made : w.inward_made ≡ inward w.quadrant
-  pub outward_made : w.outward_made ≡ outward w.quadrant
+  pub inward_made : w.inward_made ≡ pulse_with w.frame (inward w.quadrant) Still
+  pub outward_made : w.outward_made ≡ pulse_with w.frame (outward w.quadrant) Still
   pub inner_second : w.inner_second ≡ pos (2 * (w.inner_step * w.inner_step))
   pub outer_second : w.outer_second ≡ pos (2 * (w.outer_step * w.outer_step))
   pub excess : w.excess ≡ pos (norm w.inner w.outer) -ℤ pos w.circle.square
@@ -75,9 +77,10 @@ abbrev pub budget : ℕ → ℕ → ℕ → ℕ → ℕ
 budget k left i o = left * (2 * k + 1) + room k i o
 
 -- a walk made a step by the rule
-pub record IsStep (w w' : Walk) (m : PlaneStep) : Type 0 where
+pub record IsStep (w w' : Walk) (made : Steps) : Type 0 where
   pub walks : Walks w'
-  pub step : m ≡ step_at w.circle (spot_of w)
+  pub frame : w'.frame ≡ w.frame
+  pub step : made ≡ pulse_with w.frame (step_at w.circle (spot_of w)) Still
   pub spot : spot_of w' ≡ next_spot w.circle (spot_of w)
   pub circle : w'.circle ≡ w.circle
   pub smaller : (left : ℕ) → 0 < left → budget beyond (if same_quadrant w.quadrant w'.quadrant then left else left - 1) w'.inner w'.outer < budget beyond left w.inner w.outer

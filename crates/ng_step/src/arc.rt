@@ -1,6 +1,6 @@
 //! The pulses of an arc.
 
-use crate::frame::Frame;
+use crate::frame::with_third;
 use crate::line::Steps;
 use crate::spread::Spread;
 use crate::walk::Walk;
@@ -10,7 +10,6 @@ use std::marker::Model;
 /// The pulses of an arc that are still to come, without its closing line.
 #[derive(Drop)]
 pub struct ArcPulses {
-    frame: Frame,
     total: u64,
     left: u64,
     whole: u64,
@@ -38,15 +37,14 @@ impl ArcPulses {
     ghost use Rattle.ng_step.specs.ArcPulses.{pulses_from};
 
     /// Over the next `count` steps of a walk, while the third axis makes its own.
-    pub fn new(frame: Frame, walk: Walk, count: u64, third: i64) -> ArcPulses
+    pub(crate) fn new(walk: Walk, count: u64, third: i64) -> ArcPulses
         requires walks { Walks walk }
         requires count { count < 2 ^ 60 }
         requires third { unsigned_abs third < 2 ^ 60 }
-        ensures { result ≡ pulses_from frame (max count (unsigned_abs third)) count (int_le (pos 0) third) (unsigned_abs third) walk.circle (spot_of walk) (max count (unsigned_abs third)) }
+        ensures { result ≡ pulses_from walk.frame (max count (unsigned_abs third)) count (int_le (pos 0) third) (unsigned_abs third) walk.circle (spot_of walk) (max count (unsigned_abs third)) }
     {
         let total = count.max(third.unsigned_abs());
         ArcPulses {
-            frame,
             total,
             left: total,
             whole: 2 * total,
@@ -57,7 +55,7 @@ impl ArcPulses {
     }
 
     /// The next pulse.
-    pub fn next(&mut self) -> Option<Steps>
+    pub(crate) fn next(&mut self) -> Option<Steps>
         ensures { MatchOption result ((self.old ≡ []) × (self.new ≡ [])) (λ p. self.old ≡ p ∷ self.new) }
     {
         if self.left == 0 {
@@ -66,8 +64,8 @@ impl ArcPulses {
         self.left -= 1;
         let third = self.third.step(self.whole);
         match self.arc.step(self.whole) {
-            Step::Still => Some(self.frame.pulse_without(third)),
-            _ => Some(self.frame.pulse_with(self.walk.step(), third)),
+            Step::Still => Some(self.walk.frame().pulse_without(third)),
+            _ => Some(with_third(self.walk.frame().plane, self.walk.step(), third)),
         }
     }
 }

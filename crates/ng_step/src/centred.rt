@@ -1,9 +1,9 @@
 //! An arc as it is seen from its centre.
 
+use crate::circle::Circle;
 use crate::frame::{Frame, mirrored, of_a, of_b};
 use crate::quadrant::Spot;
 use crate::rounding::rounded;
-use crate::walk::Circle;
 use ng_canon::{Arc, Geometry, Plane};
 use ng_num::Point;
 

@@ -45,8 +45,8 @@ impl Frame {
     /// What is left of the distances behind an arc's steps, this far along a and b, and those of the third axis.
     pub(crate) fn closing_after(self, distance: &Distances, net_a: i64, net_b: i64) -> Distances
         requires distance { AreSized distance.now (2 ^ 50) }
-        requires a { unsigned_abs net_a < 2 ^ 53 }
-        requires b { unsigned_abs net_b < 2 ^ 53 }
+        requires a { unsigned_abs net_a < 2 ^ 50 }
+        requires b { unsigned_abs net_b < 2 ^ 50 }
         ensures value { result ≡ closing_after self distance.now net_a net_b }
         ensures sizes { AreSized result (2 ^ 54) }
     {
@@ -61,7 +61,7 @@ impl Frame {
 }
 
 ghost use Rattle.std.specs.Prelude.{◌≡◌, ◌<◌, ◌^◌, unsigned_abs};
-ghost use Rattle.ng_step.specs.Frames.{of_a, of_b, of_third, mirrored, mirrored_step, pulse_of};
+ghost use Rattle.ng_step.specs.Frames.{of_a, of_b, of_third, mirrored, mirrored_step, pulse_of, with_third};
 
 /// What belongs to the plane's axis a, of what belongs to X, Y and Z.
 pub(crate) fn of_a<T: Copy>(plane: Plane, x: T, y: T, z: T) -> T
@@ -136,6 +136,30 @@ fn pulse_of(plane: Plane, a: Step, b: Step, third: Step) -> Steps
             x: third,
             y: a,
             z: b,
+        },
+    }
+}
+
+/// A pulse in which the third axis stands still so far, with what it does.
+pub(crate) fn with_third(plane: Plane, flat: Steps, third: Step) -> Steps
+    ensures { result ≡ with_third plane flat third }
+{
+    match (plane, third) {
+        (_, Step::Still) => flat,
+        (Plane::Xy, _) => Steps {
+            x: flat.x,
+            y: flat.y,
+            z: third,
+        },
+        (Plane::Xz, _) => Steps {
+            x: flat.x,
+            y: third,
+            z: flat.z,
+        },
+        (Plane::Yz, _) => Steps {
+            x: third,
+            y: flat.y,
+            z: flat.z,
         },
     }
 }

@@ -84,7 +84,7 @@ impl LinePulses {
     ghost use Rattle.ng_step.specs.Lines.{line_pulses};
 
     /// Over these distances.
-    pub fn new(distance: Distances) -> LinePulses
+    pub(crate) fn new(distance: Distances) -> LinePulses
         requires x { unsigned_abs distance.x < 2 ^ 61 }
         requires y { unsigned_abs distance.y < 2 ^ 61 }
         requires z { unsigned_abs distance.z < 2 ^ 61 }
@@ -106,7 +106,7 @@ impl LinePulses {
     }
 
     /// The next pulse.
-    pub fn next(&mut self) -> Option<Steps>
+    pub(crate) fn next(&mut self) -> Option<Steps>
         ensures { MatchOption result ((self.old ≡ []) × (self.new ≡ [])) (λ s. self.old ≡ s ∷ self.new) }
     {
         if self.left == 0 {

@@ -30,7 +30,6 @@ pub struct Spot {
 
 impl PlaneStep {
     ghost use Rattle.std.specs.Prelude.{◌≡◌};
-    ghost use Rattle.ng_step.specs.Arcs.{along_a, along_b};
     ghost use Rattle.ng_step.specs.Frames.{on_a, on_b};
 
     /// What it does on the plane's axis a.
@@ -52,26 +51,6 @@ impl PlaneStep {
             PlaneStep::AddB => Step::Forward,
             PlaneStep::SubB => Step::Backward,
             PlaneStep::AddA | PlaneStep::SubA => Step::Still,
-        }
-    }
-
-    pub(crate) fn along_a(self) -> i64
-        ensures { result ≡ along_a self }
-    {
-        match self {
-            PlaneStep::AddA => 1,
-            PlaneStep::SubA => -1,
-            PlaneStep::AddB | PlaneStep::SubB => 0,
-        }
-    }
-
-    pub(crate) fn along_b(self) -> i64
-        ensures { result ≡ along_b self }
-    {
-        match self {
-            PlaneStep::AddB => 1,
-            PlaneStep::SubB => -1,
-            PlaneStep::AddA | PlaneStep::SubA => 0,
         }
     }
 }

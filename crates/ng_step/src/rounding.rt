@@ -1,6 +1,6 @@
 //! Machine coordinates in whole steps.
 
-ghost use Rattle.std.specs.Prelude.{◌≡◌, ◌<◌, ◌≤◌, ◌^◌, ◌*◌, ◌-ℤ◌, unsigned_abs};
+ghost use Rattle.std.specs.Prelude.{◌≡◌, ◌<◌, ◌≤◌, ◌^◌, ◌*◌, ℤ, ◌-ℤ◌, ◌*ℤ◌, pos, unsigned_abs};
 ghost use Rattle.ng_num.specs.Range.{IsCount};
 ghost use Rattle.ng_step.specs.Lines.{in_steps};
 ghost use Rattle.ng_step.specs.Hands.{rounded, square_between};
@@ -29,6 +29,18 @@ pub(crate) fn rounded(at: Len, step_nm: u32) -> i64
     ensures size { unsigned_abs result < 2 ^ 44 }
 {
     in_steps(at, step_nm) * step_nm as i64
+}
+
+/// The steps between two coordinates that are whole steps apart.
+pub(crate) fn whole_steps(from: i64, to: i64, step_nm: u64) -> i64
+    requires step { 0 < step_nm }
+    requires from { unsigned_abs from ≤ 2 ^ 48 }
+    requires to { unsigned_abs to ≤ 2 ^ 48 }
+    ensures value { (n : ℤ) → to -ℤ from ≡ n *ℤ pos step_nm → result ≡ n }
+    ensures size { unsigned_abs result < 2 ^ 50 }
+{
+    let steps = ((to - from).unsigned_abs() / step_nm) as i64;
+    if to < from { -steps } else { steps }
 }
 
 /// The steps from one coordinate to another.

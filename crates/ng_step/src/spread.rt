@@ -17,7 +17,7 @@ impl Spread {
     ghost use Rattle.ng_step.specs.Axes.{IsSpread, Stepped};
 
     /// At the start of a line of `total` pulses.
-    pub fn new(distance: i64, total: u64) -> Spread
+    pub(crate) fn new(distance: i64, total: u64) -> Spread
         requires small { total < 2 ^ 61 }
         requires most { unsigned_abs distance ≤ total }
         ensures axis { 0 < total → IsSpread total 0 result }
@@ -34,7 +34,7 @@ impl Spread {
     }
 
     /// The axis's part of the next pulse; `whole` is twice the number of pulses.
-    pub fn step(&mut self, whole: u64) -> Step
+    pub(crate) fn step(&mut self, whole: u64) -> Step
         requires error { self.old.error < whole }
         requires twice { self.old.twice ≤ whole }
         requires small { whole < 2 ^ 62 }

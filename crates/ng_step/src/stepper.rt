@@ -1,4 +1,4 @@
-//! One item at a time.
+//! The items of a segment, one at a time (own).
 
 use crate::arc::ArcPulses;
 use crate::centred::CentredArc;
@@ -11,7 +11,8 @@ use ng_canon::{Arc, Geometry, Item, Pace, Pulse, Segment};
 use ng_num::{Num, Point};
 use std::marker::Model;
 
-/// The items of a segment that are still to come.
+/// The items of a segment that are still to come, seen as their list. A pulse carries at most one step of each
+/// axis and the microseconds until the next pulse.
 #[derive(Drop)]
 pub struct Stepper {
     single: Option<Item>,
@@ -34,15 +35,16 @@ impl Model for Stepper {
 impl Stepper {
     ghost use Rattle.std.specs.Prelude.{◌≡◌, ◌∷◌, ◌++◌, ◌^◌, [], MatchOption, map};
     ghost use Rattle.ng_step.specs.Hands.{pulse_item, line_items, arc_items, large_arc_items, hand};
-    ghost use Rattle.ng_step.specs.Promises.{EndsOnItsEnd, StaysInside, KeepsToItsCircle};
+    ghost use Rattle.ng_step.specs.Promises.{EndsOnItsEnd, FollowsItsLine, StaysInside, KeepsToItsCircle};
     ghost use Rattle.ng_step.specs.Sizes.{AreSized, IsWalkable};
     ghost use Rattle.ng_step.specs.StepperModel.{or_none};
 
-    /// At the start of a segment: any one, inside the travel or not. An arc is walked once here, since its
-    /// period needs the number of its steps.
+    /// At the start of a segment: any one, inside the travel or not. It takes no memory and doesn't fail. An arc is
+    /// walked once here, since its period needs the number of its steps.
     pub fn new(segment: &Segment, geometry: &Geometry) -> Stepper
         ensures items { result ≡ hand segment.now geometry.now }
         ensures ends { EndsOnItsEnd segment.now geometry.now }
+        ensures follows { FollowsItsLine segment.now geometry.now }
         ensures stays { StaysInside segment.now geometry.now }
         ensures keeps { KeepsToItsCircle segment.now geometry.now }
     {
@@ -101,7 +103,7 @@ impl Stepper {
         requires distance { AreSized distance.now (2 ^ 50) }
         ensures { result ≡ large_arc_items geometry.now pace arc.now distance.now }
     {
-        let walk = Walk::new(arc.circle, arc.from);
+        let walk = Walk::new(arc.frame, arc.circle, arc.from);
         let count = walk.count(arc.end, quadrants_to_walk(arc.start, arc.end, arc.from));
         let across = arc.frame.across(distance);
         let closing = arc.frame.closing_after(distance, count.a, count.b);
@@ -109,7 +111,7 @@ impl Stepper {
         let length = pulses as u128 * arc.circle.larger() as u128;
         let period_us = pulse_us(geometry, pace, length, pulses);
         Stepper::over(
-            Some(ArcPulses::new(arc.frame, walk, count.steps, across)),
+            Some(ArcPulses::new(walk, count.steps, across)),
             LinePulses::new(closing),
             period_us,
         )
@@ -127,7 +129,7 @@ impl Stepper {
         }
     }
 
-    /// The next item.
+    /// The next item; none once all were given, and none ever after.
     pub fn next(&mut self) -> Option<Item>
         ensures { MatchOption result ((self.old ≡ []) × (self.new ≡ [])) (λ i. self.old ≡ i ∷ self.new) }
     {

@@ -1,14 +1,15 @@
 //! How long a pulse lasts.
 
 ghost use Rattle.std.specs.Prelude.{◌≡◌, ◌+◌, ◌*◌, ◌^◌, ◌<◌, ◌≤◌};
-ghost use Rattle.ng_step.specs.Periods.{root_up, ceil_div, time_us, pulse_us};
+ghost use Rattle.ng_step.specs.Periods.{root_up, IsRootUp, ceil_div, time_us, pulse_us};
 
 use ng_canon::{Geometry, Pace, Rate};
 
 /// The least whole number whose square isn't below.
-pub fn root_up(square: u128) -> u128
+pub(crate) fn root_up(square: u128) -> u128
     requires { square < 2 ^ 100 }
-    ensures { result ≡ root_up square }
+    ensures value { result ≡ root_up square }
+    ensures least { IsRootUp square result }
 {
     let root = square.isqrt();
     if root * root == square {

@@ -2,16 +2,13 @@
 
 ghost use Rattle.std.specs.Prelude.{◌≡◌};
 
-use crate::quadrant::{PlaneStep, Quadrant, Spot, left_after};
-use crate::wide::{difference, product, square, sum, total, twice};
-
-/// What the step from a point of an arc depends on: the steps of the two axes and the square of the radius.
-#[derive(Clone, Copy, Debug, PartialEq, Eq)]
-pub struct Circle {
-    pub step_a: u64,
-    pub step_b: u64,
-    pub square: u128,
-}
+use crate::circle::Circle;
+use crate::frame::Frame;
+use crate::line::Steps;
+use crate::quadrant::{Quadrant, Spot, left_after};
+use crate::rounding::whole_steps;
+use crate::wide::{difference, product, square, sum, twice};
+use ng_canon::Step;
 
 /// A point on the way round a circle, seen from its quadrant: `inner` is the coordinate that an inward step
 /// lessens, `outer` the one that an outward step makes larger. The rest are differences, and what the steps of the
@@ -29,8 +26,9 @@ pub struct Walk {
     outward: i128,
     inner_second: i128,
     outer_second: i128,
-    inward_made: PlaneStep,
-    outward_made: PlaneStep,
+    frame: Frame,
+    inward_made: Steps,
+    outward_made: Steps,
 }
 
 /// How many steps an arc has, and how far they go along each axis, in steps.
@@ -41,28 +39,6 @@ pub struct Count {
     pub b: i64,
 }
 
-impl Circle {
-    ghost use Rattle.std.specs.Prelude.{◌≡◌, ◌≤◌};
-    ghost use Rattle.ng_step.specs.Arcs.{larger};
-    ghost use Rattle.ng_step.specs.Hands.{is_small};
-
-    /// The larger step.
-    pub(crate) fn larger(self) -> u64
-        ensures { result ≡ larger self }
-    {
-        self.step_a.max(self.step_b)
-    }
-
-    /// Whether the radius is below twice the larger step.
-    pub(crate) fn is_small(self) -> bool
-        requires { larger self ≤ 1_000_000 }
-        ensures { result ≡ is_small self }
-    {
-        let step = self.larger() as u128;
-        self.square < 4 * (step * step)
-    }
-}
-
 impl Walk {
     ghost use Rattle.std.specs.Prelude.{List, length, ◌^◌, int_le, unsigned_abs, ◌≡◌, ℕ, ◌+◌, ◌*◌, ◌<◌, ◌≤◌, ◌≤ℤ◌, ◌<ℤ◌, pos};
     ghost use Rattle.ng_step.specs.Arcs.{step_at, next_spot, cross, stops, IsArc, IsLargeArc, larger, net_a, net_b};
@@ -70,7 +46,7 @@ impl Walk {
     ghost use Rattle.ng_step.specs.Turned.{spot_of, Walks, IsStep, budget, beyond, farthest, place, in_step, out_step};
 
     /// From a point that isn't the centre.
-    pub fn new(circle: Circle, from: Spot) -> Walk
+    pub(crate) fn new(frame: Frame, circle: Circle, from: Spot) -> Walk
         requires arc { IsLargeArc circle farthest }
         requires small { larger circle ≤ 2 ^ 47 }
         requires some { 0 < unsigned_abs from.a + unsigned_abs from.b }
@@ -79,11 +55,13 @@ impl Walk {
         ensures walks { Walks result }
         ensures spot { spot_of result ≡ from }
         ensures circle { result.circle ≡ circle }
+        ensures frame { result.frame ≡ frame }
     {
         let quadrant = from.quadrant();
         let (a, b) = (from.a.unsigned_abs(), from.b.unsigned_abs());
         match quadrant {
             Quadrant::First | Quadrant::Third => Walk::begin(
+                frame,
                 circle,
                 quadrant,
                 a,
@@ -92,6 +70,7 @@ impl Walk {
                 circle.step_b,
             ),
             Quadrant::Second | Quadrant::Fourth => Walk::begin(
+                frame,
                 circle,
                 quadrant,
                 b,
@@ -103,6 +82,7 @@ impl Walk {
     }
 
     fn begin(
+        frame: Frame,
         circle: Circle,
         quadrant: Quadrant,
         inner: u64,
@@ -120,6 +100,7 @@ impl Walk {
         ensures walks { Walks result }
         ensures spot { spot_of result ≡ place quadrant inner outer }
         ensures circle { result.circle ≡ circle }
+        ensures frame { result.frame ≡ frame }
     {
         let inner_square = square(inner_step);
         let outer_square = square(outer_step);
@@ -135,8 +116,9 @@ impl Walk {
             outward: sum(outer_square, twice(outer, outer_step)),
             inner_second: sum(inner_square, inner_square),
             outer_second: sum(outer_square, outer_square),
-            inward_made: quadrant.inward(),
-            outward_made: quadrant.outward(),
+            frame,
+            inward_made: frame.pulse_with(quadrant.inward(), Step::Still),
+            outward_made: frame.pulse_with(quadrant.outward(), Step::Still),
         }
     }
 
@@ -163,7 +145,7 @@ impl Walk {
     }
 
     /// How many steps there are to the end, and how far they go.
-    pub fn count(&self, end: Spot, quadrants: u64) -> Count
+    pub(crate) fn count(&self, end: Spot, quadrants: u64) -> Count
         requires walks { Walks self.now }
         requires end_a { unsigned_abs end.a < 2 ^ 50 }
         requires end_b { unsigned_abs end.b < 2 ^ 50 }
@@ -172,27 +154,61 @@ impl Walk {
         ensures a { (ms : List PlaneStep) → IsArc self.now.circle end quadrants (spot_of self.now) ms → result.a ≡ net_a ms }
         ensures b { (ms : List PlaneStep) → IsArc self.now.circle end quadrants (spot_of self.now) ms → result.b ≡ net_b ms }
         ensures bounded { result.steps < 2 ^ 52 }
-        ensures size_a { unsigned_abs result.a ≤ result.steps }
-        ensures size_b { unsigned_abs result.b ≤ result.steps }
+        ensures size_a { unsigned_abs result.a < 2 ^ 50 }
+        ensures size_b { unsigned_abs result.b < 2 ^ 50 }
     {
         let mut walk = *self;
         let mut left = quadrants;
         let mut steps: u64 = 0;
-        let mut a: i64 = 0;
-        let mut b: i64 = 0;
         'steps: while !walk.stops(end, left) {
             let before = walk.quadrant;
-            let made = walk.step();
+            let _made = walk.step();
             left = left_after(left, before, walk.quadrant);
             steps += 1;
-            a = total(a, made.along_a());
-            b = total(b, made.along_b());
         }
-        Count { steps, a, b }
+        let first = self.spot();
+        let last = walk.spot();
+        Count {
+            steps,
+            a: whole_steps(first.a, last.a, self.circle.step_a),
+            b: whole_steps(first.b, last.b, self.circle.step_b),
+        }
     }
 
-    /// Makes the next step, and says which it was.
-    pub fn step(&mut self) -> PlaneStep
+    /// How its arc lies in the machine.
+    pub(crate) fn frame(&self) -> Frame
+        ensures { result ≡ self.now.frame }
+    {
+        self.frame
+    }
+
+    /// The point that it stands at.
+    fn spot(&self) -> Spot
+        requires { Walks self.now }
+        ensures value { result ≡ spot_of self.now }
+        ensures a { unsigned_abs result.a ≤ beyond }
+        ensures b { unsigned_abs result.b ≤ beyond }
+    {
+        let (inner, outer) = (self.inner as i64, self.outer as i64);
+        match self.quadrant {
+            Quadrant::First => Spot { a: inner, b: outer },
+            Quadrant::Second => Spot {
+                a: -outer,
+                b: inner,
+            },
+            Quadrant::Third => Spot {
+                a: -inner,
+                b: -outer,
+            },
+            Quadrant::Fourth => Spot {
+                a: outer,
+                b: -inner,
+            },
+        }
+    }
+
+    /// Makes the next step, and says what pulse it is; the third axis stands still in it.
+    pub(crate) fn step(&mut self) -> Steps
         requires { Walks self.old }
         ensures { IsStep self.old self.new result }
     {
@@ -206,7 +222,7 @@ impl Walk {
     }
 
     #[tactic(auto, using(crate::proofs::WalkLemmas::small))]
-    fn go_outward(&mut self) -> PlaneStep
+    fn go_outward(&mut self) -> Steps
         requires walks { Walks self.old }
         requires inside { self.old.excess ≤ℤ pos 0 }
         ensures { IsStep self.old self.new result }
@@ -218,7 +234,7 @@ impl Walk {
     }
 
     #[tactic(auto, using(crate::proofs::WalkLemmas::small))]
-    fn go_inward(&mut self) -> PlaneStep
+    fn go_inward(&mut self) -> Steps
         requires walks { Walks self.old }
         requires outside { pos 0 <ℤ self.old.excess }
         requires far { self.old.inner_step < self.old.inner }
@@ -230,8 +246,10 @@ impl Walk {
         self.inward_made
     }
 
+    #[cold]
+    #[inline(never)]
     #[tactic(auto, using(crate::proofs::WalkLemmas::small))]
-    fn cross(&mut self) -> PlaneStep
+    fn cross(&mut self) -> Steps
         requires walks { Walks self.old }
         requires outside { pos 0 <ℤ self.old.excess }
         requires near { self.old.inner ≤ self.old.inner_step }
@@ -251,8 +269,9 @@ impl Walk {
             outward: sum(self.inward, self.inner_second),
             inner_second: self.outer_second,
             outer_second: self.inner_second,
-            inward_made: quadrant.inward(),
-            outward_made: quadrant.outward(),
+            frame: self.frame,
+            inward_made: self.frame.pulse_with(quadrant.inward(), Step::Still),
+            outward_made: self.frame.pulse_with(quadrant.outward(), Step::Still),
         };
         made
     }

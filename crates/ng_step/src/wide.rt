@@ -43,14 +43,6 @@ pub(crate) fn twice(a: u64, b: u64) -> i128
     2 * (a as i128 * b as i128)
 }
 
-pub(crate) fn total(a: i64, b: i64) -> i64
-    requires first { unsigned_abs a < 2 ^ 60 }
-    requires second { unsigned_abs b ≤ 1 }
-    ensures { result ≡ a +ℤ b }
-{
-    a + b
-}
-
 pub(crate) fn signed_product(a: i64, b: i64) -> i128
     requires first { unsigned_abs a < 2 ^ 50 }
     requires second { unsigned_abs b < 2 ^ 50 }

@@ -1,7 +1,7 @@
-use Rattle.std.proofs.Common.{arith, rules, ◌≡◌, ◌*ℤ◌}
+use Rattle.std.proofs.Common.{rules, ◌≡◌, ◌*ℤ◌}
 use mir.Syntax.{w64, w128}
 use mir.Val.{SFits}
-use Rattle.std.proofs.lemmas.Int.{ints, to_z-of_z}
+use Rattle.std.proofs.lemmas.Int.{to_z-of_z}
 use Rattle.ng_step.proofs.CentreLemmas.{ahead_is}
 use Rattle.ng_step.proofs.quadrant.is_ahead.Goals as goal
 

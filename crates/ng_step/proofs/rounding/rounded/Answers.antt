@@ -1,8 +1,5 @@
-use Rattle.std.proofs.Common.{arith, rules, refl, ◌∙◌, to_z, of_z, ◌*ℤ◌, ◌-ℤ◌, ◌≤◌, ◌*◌, ◌≡◌, ℤ}
-use mir.Syntax.{w64}
-use mir.Val.{SFits}
-use Rattle.std.specs.Prelude.{unsigned_abs}
-use Rattle.std.proofs.lemmas.Int.{ints, to_z-of_z}
+use Rattle.std.proofs.Common.{arith, refl, ◌∙◌}
+use Rattle.std.proofs.lemmas.Int.{ints}
 use Rattle.ng_step.proofs.RoundLemmas.{product_kept, stored, stored_near}
 use Rattle.ng_step.proofs.rounding.rounded.Goals as goal
 

@@ -1,4 +1,4 @@
-use Rattle.std.proofs.Common.{rules, arith}
+use Rattle.std.proofs.Common.{arith}
 use Rattle.ng_step.specs.Periods.{pulse_us}
 use Rattle.ng_step.proofs.timing.pulse_us.Goals as goal
 

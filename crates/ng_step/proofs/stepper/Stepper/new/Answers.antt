@@ -1,8 +1,11 @@
-use Rattle.ng_step.proofs.PromiseLemmas.{ends, stays, keeps}
+use Rattle.ng_step.proofs.PromiseLemmas.{ends, follows, stays, keeps}
 use Rattle.ng_step.proofs.stepper.Stepper.new.Goals as goal
 
 pub returns-in-Line-clause-ends : goal.returns-in-Line-clause-ends
 returns-in-Line-clause-ends c = ends c.args.segment.now c.args.geometry.now
+
+pub returns-in-Line-clause-follows : goal.returns-in-Line-clause-follows
+returns-in-Line-clause-follows c = follows c.args.segment.now c.args.geometry.now
 
 pub returns-in-Line-clause-stays : goal.returns-in-Line-clause-stays
 returns-in-Line-clause-stays c = stays c.args.segment.now c.args.geometry.now

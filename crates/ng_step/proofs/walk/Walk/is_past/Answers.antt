@@ -1,7 +1,7 @@
-use Rattle.std.proofs.Common.{arith, rules, ◌≡◌, pos, ◌*ℤ◌}
+use Rattle.std.proofs.Common.{rules, ◌≡◌, pos, ◌*ℤ◌}
 use mir.Syntax.{w64, w128}
 use mir.Val.{SFits}
-use Rattle.std.proofs.lemmas.Int.{ints, to_z-of_z}
+use Rattle.std.proofs.lemmas.Int.{to_z-of_z}
 use Rattle.ng_step.proofs.WalkLemmas.{past_is}
 use Rattle.ng_step.proofs.walk.Walk.is_past.Goals as goal
 

@@ -1,5 +1,5 @@
-use Rattle.std.proofs.Common.{arith, ◌∙◌}
-use Rattle.ng_step.proofs.WalkLemmas.{starts_upright, starts_lying, size_kept}
+use Rattle.std.proofs.Common.{◌∙◌}
+use Rattle.ng_step.proofs.BeginLemmas.{starts_upright, starts_lying, size_kept}
 use Rattle.ng_step.proofs.walk.Walk.new.Goals as goal
 
 pub begin-requires-clause-some : goal.begin-requires-clause-some

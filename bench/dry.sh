@@ -1,0 +1,90 @@
+#!/bin/sh
+# Lines per second and peak memory of `ngc dry` on programs of G0 and G1 moves as a CAM system writes them.
+#
+# usage, at the top of the repository: bench/dry.sh [LINES..]      (200000 and 2000000 where none is given)
+#
+# It proves and builds ng_console by rt where that is needed, writes each program itself from a fixed seed, and runs
+# the executable on it three times with its output to /dev/null and three times to a file. It shows the time of the
+# whole process on the clock, and the processor time that the system counted for it (wait4), which other work on the
+# machine disturbs less. Memory is the greatest resident size (VmHWM of /proc/PID/status, read until the process ends,
+# in a run of its own).
+set -eu
+cd "$(dirname "$0")/.."
+[ $# -gt 0 ] || set -- 200000 2000000
+(cd crates/ng_console && rt run -- dry ../../examples/first.ngc >/dev/null 2>&1)
+work=$(mktemp -d)
+trap 'rm -rf "$work"' EXIT
+
+# A program of $1 lines: a header, then passes of short cuts, each begun by a traverse and a plunge, then M2.
+write_program() {
+    awk -v lines="$1" -v seed=7 '
+    function below(n) { state = (state * 16807) % 2147483647; return state % n }
+    BEGIN {
+        state = seed
+        print "G21 G90"
+        print "G0 Z5."
+        x = 0; y = 0; left = 0
+        for (n = 3; n < lines; n++) {
+            if (left == 0) {
+                step = step + 1
+                if (step == 1) { print "G0 Z5."; continue }
+                if (step == 2) {
+                    x = below(800000) - 400000; y = below(800000) - 400000
+                    printf "G0 X%.3f Y%.3f\n", x / 1000, y / 1000; continue
+                }
+                if (step == 3) { printf "G1 Z-%.3f F300\n", below(5000) / 1000; continue }
+                x += below(2001) - 1000; y += below(2001) - 1000
+                printf "G1 X%.3f Y%.3f F1200\n", x / 1000, y / 1000
+                step = 0; left = 100 + below(400)
+                continue
+            }
+            x += below(2001) - 1000; y += below(2001) - 1000
+            printf "X%.3f Y%.3f\n", x / 1000, y / 1000
+            left--
+        }
+        print "M2"
+    }'
+}
+
+for lines in "$@"; do
+    write_program "$lines" >"$work/program.ngc"
+    python3 - "$lines" "$work" <<'PY'
+import os, statistics, subprocess, sys, time
+lines, work = int(sys.argv[1]), sys.argv[2]
+program = os.path.join(work, "program.ngc")
+command = ["crates/ng_console/out/ng_console", "dry", program]
+
+def run(text):
+    start = time.monotonic()
+    child = subprocess.Popen(command, stdout=text)
+    _, status, usage = os.wait4(child.pid, 0)
+    child.returncode = status
+    if status != 0:
+        sys.exit(f"ngc ended with {status}")
+    return time.monotonic() - start, usage.ru_utime + usage.ru_stime
+
+def peak():
+    child = subprocess.Popen(command, stdout=subprocess.DEVNULL)
+    most = 0
+    while child.poll() is None:
+        try:
+            for line in open(f"/proc/{child.pid}/status"):
+                if line.startswith("VmHWM:"):
+                    most = max(most, int(line.split()[1]))
+        except OSError:
+            pass
+        time.sleep(0.002)
+    return most
+
+print(f"{lines} lines, {os.path.getsize(program)} bytes, load {os.getloadavg()[0]:.2f} on {os.cpu_count()} processors")
+for name, path in [("/dev/null", os.devnull), ("a file", os.path.join(work, "text"))]:
+    runs = []
+    for _ in range(3):
+        with open(path, "wb") as text:
+            runs.append(run(text))
+    for clock, times in [("on the clock", [r[0] for r in runs]), ("of processor", [r[1] for r in runs])]:
+        best, median = min(times), statistics.median(times)
+        print(f"  to {name}, a second {clock}: best {lines / best:,.0f} lines ({best:.3f} s), median {lines / median:,.0f} ({median:.3f} s)")
+print(f"  peak resident memory {peak()} KiB")
+PY
+done

@@ -1,0 +1,3 @@
+mod Walked
+mod Program
+mod Defaults

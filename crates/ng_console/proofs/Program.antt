@@ -1,0 +1,118 @@
+-- Where clap finds no fault in a command line of `ngc`, it has met `dry`, with a value of PROGRAM.
+use Rattle.std.proofs.Common.{◌≡◌, ◌∙◌, ◌<◌, refl, sym, ap, subst, ℕ, Bool, true, false, List, [], ◌∷◌, length, Option, Some, None, is_some, codes, arith}
+use Rattle.std.specs.Prelude.{◌&&◌, ◌||◌, not, slice_get, find, option_and_then, if◌then◌else◌}
+use Rattle.std.specs.Option.{option_map_or}
+use Rattle.std.specs.Prelude.{option_map, unwrap_or}
+use Rattle.std.specs.List.{list_any}
+use Rattle.std.specs.Str.{bytes_eq}
+use Rattle.clap.specs.Faults.{check_fault, entered_fault, fault_of, is_simple_and_free, level_fault}
+use Rattle.clap.specs.Facts.{explicit_source}
+use Rattle.clap.specs.Kinds.{Kinds, check_kinds, or_else}
+use Rattle.clap.specs.Simple.{Shape, argument_words, built, entered, label_of, matches_of, names_of, new_shape, rows_at, subcommand_of}
+use Rattle.clap.specs.Takes.{is_given}
+use Rattle.clap.specs.Walk.{Held, Names, Row, Rule, Text, answers_to, finished, first_of, nothing_held, rows_after, stop_after, walk}
+use Rattle.ng_console.specs.Words.{Asks, HasFiles, ngc_app}
+use Rattle.ng_console.specs.declared.words.Job.{Job}
+use Rattle.ng_console.specs.declared.words.Job.TheVariants.{Dry}
+use Rattle.ng_console.proofs.Walked.{Full, program, help, rules, rows_full}
+
+abbrev first_shape : List Shape → Shape
+first_shape [] = new_shape []
+first_shape (s ∷ ss) = s
+
+-- the subcommand `dry` as clap builds it
+abbrev dry_shape : Shape
+dry_shape = first_shape (built ngc_app).subs
+
+-- the command is one whose faults clap defines
+pub is_plain : is_simple_and_free ngc_app ≡ true
+is_plain = refl
+
+neither : (a b : Kinds) → or_else a b ≡ [] → (a ≡ []) × (b ≡ [])
+neither [] b h = (refl, h)
+neither (k ∷ ks) b h = cc
+
+-- nothing is wrong at a level: neither below it nor in its last checks
+level_right : (s : Shape) (names : Names) (words : List Text) (has : Bool) (below : Kinds) → level_fault s names nothing_held words has below ≡ []
+    → (below ≡ []) × (check_fault s (rows_after s.rules names words) has ≡ [])
+level_right s names words has below h =
+    let past_walk = (neither _ _ h).1 in
+    let past_below = neither _ _ past_walk in
+    let past_settling = (neither _ _ past_below.1).1 in
+    (past_below.0, (neither _ _ past_settling).1)
+
+wanted_none : (wants_help wants_subcommand wants_argument : Bool) → check_kinds wants_help wants_subcommand wants_argument ≡ []
+    → (wants_subcommand ≡ false) × (wants_argument ≡ false)
+wanted_none true s a h = cc
+wanted_none false true a h = cc
+wanted_none false false true h = cc
+wanted_none false false false h = (refl, refl)
+
+-- the last checks found neither a subcommand nor an argument missing
+nothing_wanted : (s : Shape) (rows : List Row) (has : Bool) → check_fault s rows has ≡ []
+    → ((not has && s.subcommand_required) ≡ false)
+    × ((not (s.subcommand_negates_reqs && has) && list_any (λ a. a.required && not (is_given a.id rows)) s.rules) ≡ false)
+nothing_wanted s rows has h =
+    wanted_none (not has && (s.arg_required_else_help && not (list_any (λ r. explicit_source r.source) rows))) (not has && s.subcommand_required)
+    (not (s.subcommand_negates_reqs && has) && list_any (λ a. a.required && not (is_given a.id rows)) s.rules) h
+
+-- what is given has a first value
+first_given : (id : Text) (rows : List Row) → Full rows → is_given id rows ≡ true → is_some (first_of id rows) ≡ true
+first_given id [] full given = cc
+first_given id (r ∷ rs) full given = go (bytes_eq r.id id) given (first_given id rs full.1)
+  where
+    some_value : (vs : List Text) → 0 < length vs → is_some (slice_get vs 0) ≡ true
+    some_value [] lt = absurd (omega arith)
+    some_value (v ∷ vs) lt = refl
+
+    go : (b : Bool) → option_map_or (λ (x : Row). explicit_source x.source) (if b then Some r else find (λ (x : Row). bytes_eq x.id id) rs) false ≡ true
+        → (is_given id rs ≡ true → is_some (first_of id rs) ≡ true)
+        → is_some (option_and_then (λ (x : Row). slice_get x.values 0) (if b then Some r else find (λ (x : Row). bytes_eq x.id id) rs)) ≡ true
+    go true g rest = some_value r.values full.0
+    go false g rest = rest g
+
+-- `dry` without a fault has PROGRAM
+dry_right : (words : List Text) → level_fault dry_shape [] nothing_held words false [] ≡ []
+    → is_some (first_of (codes "PROGRAM") (rows_after dry_shape.rules [] words)) ≡ true
+dry_right words h =
+    let rows = rows_after rules [] words in
+    let checked : check_fault dry_shape rows false ≡ [] = (level_right dry_shape [] words false [] h).1 in
+    let wanted = (nothing_wanted dry_shape rows false checked).1 in
+    first_given (codes "PROGRAM") rows (rows_full words) (go (is_given (codes "PROGRAM") rows) (is_given (codes "help") rows) wanted)
+  where
+    go : (b d : Bool) → ((true && not b) || ((false && not d) || false)) ≡ false → b ≡ true
+    go true d e = refl
+    go false d e = cc
+
+-- where clap's definition finds no fault, the words name `dry` and its program
+pub names_a_program : (words : List Text) → fault_of ngc_app words ≡ []
+    → (rows : List Row) × (subcommand_of ngc_app words ≡ Some (codes "dry", rows)) × (is_some (first_of (codes "PROGRAM") rows) ≡ true)
+names_a_program words h =
+    let app = built ngc_app in
+    let rest = argument_words ngc_app words in
+    go (stop_after app.top.rules (names_of app) rest) (level_right app.top (names_of app) rest _ _ h)
+  where
+    met : (b : Bool) (p : Text × List Text) (top : List Row) → option_map_or (λ s. level_fault s [] nothing_held p.1 false []) (if b then Some dry_shape else None) [] ≡ []
+        → check_fault (built ngc_app).top top (is_some (option_map (λ s. rows_at s p.1) (if b then Some dry_shape else None))) ≡ []
+        → (rows : List Row) × (option_map (λ s. rows_at s p.1) (if b then Some dry_shape else None) ≡ Some (codes "dry", rows)) × (is_some (first_of (codes "PROGRAM") rows) ≡ true)
+    met true p top below checked = (rows_after dry_shape.rules [] p.1, refl, dry_right p.1 below)
+    met false p top below checked =
+        let no : true ≡ false = (nothing_wanted (built ngc_app).top top false checked).0 in
+        cc
+
+    go : (stop : Option (Text × List Text))
+        → (entered_fault (built ngc_app) stop ≡ []) × (check_fault (built ngc_app).top (matches_of ngc_app words) (is_some (entered (built ngc_app) stop)) ≡ [])
+        → (rows : List Row) × (entered (built ngc_app) stop ≡ Some (codes "dry", rows)) × (is_some (first_of (codes "PROGRAM") rows) ≡ true)
+    go None right =
+        let no : true ≡ false = (nothing_wanted (built ngc_app).top (matches_of ngc_app words) false right.1).0 in
+        cc
+    go (Some p) right = met (answers_to p.0 (label_of dry_shape)) p (matches_of ngc_app words) right.0 right.1
+
+-- the matches that were found are those that the words name
+pub same_rows : (met : Option (Text × List Row)) (rows found : List Row) → met ≡ Some (codes "dry", rows)
+    → option_map (λ p. p.1) met ≡ Some found → rows ≡ found
+same_rows met rows found is has = ap (λ o. unwrap_or o rows) (sym (ap (option_map (λ p. p.1)) is) ∙ has)
+
+pub is_asked : (words : List Text) (job : Job) (rows found : List Row) → subcommand_of ngc_app words ≡ Some (codes "dry", rows) → rows ≡ found
+    → HasFiles found job → Asks words job
+is_asked words (Dry file) rows found named same files = (found, named ∙ ap (λ r. Some (codes "dry", r)) same, files)

@@ -1,0 +1,12 @@
+use Rattle.std.proofs.Common.{rules, ap, ap₂, refl, codes, ◌≡◌, ◌∙◌}
+use Rattle.std.proofs.lemmas.Result.{IfOk-weaker}
+use Rattle.clap.specs.Words.{app_of, new_app, rule_of, with_rule}
+use Rattle.clap.specs.Simple.{app_of_fields}
+use Rattle.ng_console.specs.Words.{program_rule}
+use Rattle.ng_console.proofs.words.dry_command.Goals as goal
+
+pub returns : goal.returns
+returns c =
+    let program_is : rule_of c.required-program.result ≡ program_rule = search rules in
+    let dry_is : app_of c.about.result ≡ new_app (codes "dry") = ap app_of_fields c.about.ensures ∙ c.new-2.ensures.app in
+    IfOk-weaker c.arg.result _ _ (λ r h. h.shape (search rules) ∙ ap₂ with_rule dry_is program_is) c.arg.ensures

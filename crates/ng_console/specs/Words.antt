@@ -1,0 +1,34 @@
+-- The command line of `ngc` (own), in the words by which clap defines what a command makes of its words.
+use Rattle.std.specs.Prelude.{◌≡◌, List, Some, true, codes}
+use Rattle.clap.specs.Words.{App, Row, Rule, Text, first_of, new_app, new_rule, subcommand_of, with_rule, with_subcommand}
+use Rattle.clap.specs.declared.builder.ArgAction.TheVariants.{Set}
+use Rattle.ng_console.specs.declared.words.Job.{Job}
+use Rattle.ng_console.specs.declared.words.Job.TheVariants.{Dry}
+
+-- PROGRAM, a file that has to be named
+abbrev pub program_rule : Rule
+program_rule = record (new_rule (codes "PROGRAM")) { action = Some Set; required = true }
+
+-- dry PROGRAM
+abbrev pub dry_app : App
+dry_app = with_rule (new_app (codes "dry")) program_rule
+
+-- a command line names one of the subcommands; help comes by --help alone
+abbrev pub only_by_subcommands : App → App
+only_by_subcommands app = record app { top = record app.top { subcommand_required = true; arg_required_else_help = true; disable_help_subcommand = true } }
+
+-- ngc dry PROGRAM
+abbrev pub ngc_app : App
+ngc_app = with_subcommand (only_by_subcommands (new_app (codes "ngc"))) dry_app.top
+
+-- the name of the job's subcommand
+abbrev pub subcommand_name : Job → Text
+subcommand_name (Dry program) = codes "dry"
+
+-- the job's files are those that the subcommand's matches name
+abbrev pub HasFiles : List Row → Job → Type 0
+HasFiles rows (Dry program) = first_of (codes "PROGRAM") rows ≡ Some program.now
+
+-- the job is what clap's definition makes of the words: the subcommand that they name, and its files
+abbrev pub Asks : List Text → Job → Type 0
+Asks words job = (rows : List Row) × (subcommand_of ngc_app words ≡ Some (subcommand_name job, rows)) × HasFiles rows job

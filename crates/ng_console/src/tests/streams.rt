@@ -1,0 +1,132 @@
+//! Readers that give little, and readers and writers that fail.
+use super::{CUTS, CUTS_TEXT, dry_run};
+use ng_block::{DryFault, Ended};
+use std::io;
+use std::io::{ErrorKind, Read, Write};
+use std::test::Fail;
+
+/// A reader that gives a few bytes at a read, and fails at one of its reads.
+#[derive(Drop)]
+struct Drip<'a> {
+    bytes: &'a [u8],
+    at_most: usize,
+    /// The reads that succeed first.
+    reads_left: usize,
+}
+
+impl Read for Drip<'_> {
+    fn read(&mut self, buf: &mut [u8]) -> io::Result<usize> {
+        if self.reads_left == 0 {
+            return Err(io::Error::from(ErrorKind::Other));
+        }
+        self.reads_left -= 1;
+        let n = self.at_most.min(self.bytes.len()).min(buf.len());
+        buf[..n].copy_from_slice(&self.bytes[..n]);
+        self.bytes = &self.bytes[n..];
+        Ok(n)
+    }
+}
+
+/// A writer that takes a few bytes at a write, and at one of its writes fails or takes none.
+#[derive(Drop)]
+struct Full {
+    taken: Vec<u8>,
+    at_most: usize,
+    /// The writes that succeed first.
+    writes_left: usize,
+    takes_none: bool,
+}
+
+impl Write for Full {
+    fn write(&mut self, buf: &[u8]) -> io::Result<usize> {
+        if self.writes_left == 0 {
+            return if self.takes_none {
+                Ok(0)
+            } else {
+                Err(io::Error::from(ErrorKind::Other))
+            };
+        }
+        self.writes_left -= 1;
+        let n = self.at_most.min(buf.len());
+        match self.taken.extend_from_slice(&buf[..n]) {
+            Ok(()) => Ok(n),
+            Err(_) => Err(io::Error::from(ErrorKind::OutOfMemory)),
+        }
+    }
+
+    fn flush(&mut self) -> io::Result<()> {
+        Ok(())
+    }
+}
+
+#[test]
+fn stops_where_the_reader_fails(rt: HostRuntime) -> Result<(), Fail> {
+    for at_most in [1, 7, 8192] {
+        let mut whole = 0u32;
+        let mut cut = 0u32;
+        for reads_left in 0..60 {
+            let mut reader = Drip {
+                bytes: CUTS.as_bytes(),
+                at_most,
+                reads_left,
+            };
+            let mut text = Vec::new(rt.alloc());
+            match dry_run(rt.alloc(), &mut reader, &mut text, false) {
+                Ok(ended) => {
+                    assert!(rt; ended == Ended::Done && text.as_slice() == CUTS_TEXT.as_bytes());
+                    whole = whole.saturating_add(1);
+                }
+                Err(fault) => {
+                    assert!(rt; matches!(fault, DryFault::Reader), "{at_most} {reads_left}");
+                    assert!(rt;
+                        CUTS_TEXT.as_bytes().starts_with(text.as_slice()),
+                        "{at_most} {reads_left}"
+                    );
+                    assert!(rt; whole == 0, "{at_most} {reads_left}");
+                    cut = cut.saturating_add(1);
+                }
+            }
+        }
+        assert!(rt; whole > 0 && cut > 0, "{at_most}");
+    }
+    Ok(())
+}
+
+#[test]
+fn stops_where_the_writer_fails(rt: HostRuntime) -> Result<(), Fail> {
+    for (at_most, takes_none) in [(1, false), (50, true), (8192, false)] {
+        let mut whole = 0u32;
+        let mut cut = 0u32;
+        for writes_left in 0..500 {
+            let mut reader = CUTS.as_bytes();
+            let mut writer = Full {
+                taken: Vec::new(rt.alloc()),
+                at_most,
+                writes_left,
+                takes_none,
+            };
+            match dry_run(rt.alloc(), &mut reader, &mut writer, false) {
+                Ok(ended) => {
+                    assert!(rt;
+                        ended == Ended::Done && writer.taken.as_slice() == CUTS_TEXT.as_bytes()
+                    );
+                    whole = whole.saturating_add(1);
+                }
+                Err(fault) => {
+                    assert!(rt;
+                        matches!(fault, DryFault::Writer),
+                        "{at_most} {writes_left}"
+                    );
+                    assert!(rt;
+                        CUTS_TEXT.as_bytes().starts_with(writer.taken.as_slice()),
+                        "{at_most} {writes_left}"
+                    );
+                    assert!(rt; whole == 0, "{at_most} {writes_left}");
+                    cut = cut.saturating_add(1);
+                }
+            }
+        }
+        assert!(rt; whole > 0 && cut > 0, "{at_most}");
+    }
+    Ok(())
+}

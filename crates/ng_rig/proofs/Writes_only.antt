@@ -1,0 +1,50 @@
+-- Writes of what may be written.
+use Rattle.std.proofs.Common.{◌≡◌, inl, inr, ⊎_elim, ℕ, List, refl, sym, ◌∙◌, subst, Result, Ok, Err}
+use Rattle.ng_rig.specs.Life.{Life, Wrote, Perhaps, Synced, MayHold, reads, items}
+use Rattle.ng_rig.specs.Calls.{Writes}
+use Rattle.ng_rig.specs.Onward.{Onward}
+use Rattle.ng_rig.specs.Only.{Blend, WritesOnly}
+use Rattle.ng_rig.proofs.Running.{may_hold-reads, stays, joined, weaker, on_write, on_perhaps, on_sync}
+
+module _ (May : ℕ → List ℕ → Type 0) where
+  pub only_none : (life : Life) → WritesOnly May life life
+  only_none life = record { stops = stays life (Blend life May); holds = λ n c may. inl may; items_are = refl }
+
+  here : (n m : ℕ) (c bytes : List ℕ) → May m bytes → n ≡ m → c ≡ bytes → May n c
+  here n m c bytes may same is = subst (λ (x : List ℕ). May n x) (sym is) (subst (λ (k : ℕ). May k bytes) (sym same) may)
+
+  only_one : (life : Life) (m : ℕ) (bytes : List ℕ) → May m bytes → WritesOnly May life (Wrote m bytes life)
+  only_one life m bytes may = record {
+    stops = on_write life m bytes (Blend life May) (λ image handed s. record { each = λ n. ⊎_elim (λ new. inr (here n m (image n) bytes may new.0 new.1)) (λ old. inl old) (s.0 n); handed_is = s.1 });
+    holds = λ n c h. ⊎_elim (λ new. inr (here n m c bytes may new.0 new.1)) (λ old. inl old) h;
+    items_are = refl;
+  }
+
+  only_perhaps : (life : Life) (m : ℕ) (bytes : List ℕ) → May m bytes → WritesOnly May life (Perhaps m bytes life)
+  only_perhaps life m bytes may = record {
+    stops = on_perhaps life m bytes (Blend life May) (λ image handed s. record { each = λ n. ⊎_elim (λ new. inr (here n m (image n) bytes may new.0 new.1)) (λ old. inl old) (s.0 n); handed_is = s.1 });
+    holds = λ n c h. ⊎_elim (λ new. inr (here n m c bytes may new.0 new.1)) (λ old. inl old) h;
+    items_are = refl;
+  }
+
+  pub only_more : (old mid new : Life) → WritesOnly May old mid → WritesOnly May mid new → WritesOnly May old new
+  only_more old mid new a b = record {
+    stops = joined old mid new (Blend old May) a.stops (weaker mid new (Blend mid May) (Blend old May) b.stops (λ image handed p. record { each = λ n. ⊎_elim (λ m. a.holds n (image n) m) (λ r. inr r) (p.each n); handed_is = p.handed_is ∙ a.items_are }));
+    holds = λ n c h. ⊎_elim (λ m. a.holds n c m) (λ r. inr r) (b.holds n c h);
+    items_are = b.items_are ∙ a.items_are;
+  }
+
+  -- a write, also one that fails
+  pub only_write : {T E : Type 0} (result : Result T E) (m : ℕ) (bytes : List ℕ) (old new : Life) → May m bytes → Writes result m bytes old new → WritesOnly May old new
+  only_write (Ok _) m bytes old new may is = subst (λ (l : Life). WritesOnly May old l) (sym is) (only_one old m bytes may)
+  only_write (Err _) m bytes old new may (inl none) = subst (λ (l : Life). WritesOnly May old l) (sym none) (only_none old)
+  only_write (Err _) m bytes old new may (inr (inl is)) = subst (λ (l : Life). WritesOnly May old l) (sym is) (only_one old m bytes may)
+  only_write (Err _) m bytes old new may (inr (inr is)) = subst (λ (l : Life). WritesOnly May old l) (sym is) (only_perhaps old m bytes may)
+
+  -- what a read gives is such a blend
+  pub reads_blend : (old new : Life) → WritesOnly May old new → Blend old May (reads new) (items new)
+  reads_blend old new w = record { each = λ n. w.holds n (reads new n) (may_hold-reads new n); handed_is = w.items_are }
+
+  -- and so is each stop up to a sync and at it
+  pub only_sync : (old mid : Life) → WritesOnly May old mid → Onward old (Synced mid) (Blend old May)
+  only_sync old mid w = joined old mid (Synced mid) (Blend old May) w.stops (on_sync mid (Blend old May) (λ image handed s. record { each = λ n. w.holds n (image n) (subst (λ (c : List ℕ). MayHold mid n c) (sym (s.0 n)) (may_hold-reads mid n)); handed_is = s.1 ∙ w.items_are }))

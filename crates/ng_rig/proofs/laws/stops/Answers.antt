@@ -1,0 +1,10 @@
+use Rattle.std.proofs.Common.{refl}
+use Rattle.ng_rig.proofs.Running.{may_hold-reads}
+use Rattle.ng_rig.proofs.Since.{since-between, between-since}
+use Rattle.ng_rig.proofs.laws.stops.Goals as goal
+
+pub returns-clause-reads : goal.returns-clause-reads
+returns-clause-reads c = λ life. (may_hold-reads life, refl)
+
+pub returns-clause-since : goal.returns-clause-since
+returns-clause-since c = λ life t image handed le. (since-between image handed life t le, between-since image handed life t)

@@ -1,0 +1,15 @@
+use Rattle.std.proofs.Common.{◌∙◌, arith, length, length-set}
+use Rattle.std.proofs.lemmas.Bool.{lt-ltb}
+use Rattle.ng_rig.proofs.Replaying.{within-push, reads-push_write, life-push}
+use Rattle.ng_rig.specs.declared.call.Call.TheVariants.{Write}
+use Rattle.ng_rig.proofs.memory.MemoryRigRig.write.Goals as goal
+
+pub invariant_of-self : goal.invariant_of-self
+invariant_of-self g c = record {
+  same_size = length-set c.args.self.now.present.items c.args.sector c.args.bytes.now ∙ c.args.self.now.same_size;
+  within = within-push _ _ _ (Write c.args.sector c.args.bytes.now) c.in-Ok.ensures.items c.args.self.now.within (lt-ltb c.args.sector (length c.args.self.now.first.items) c.requires);
+  present_is = reads-push_write _ _ _ _ c.args.sector c.args.bytes.now c.in-Ok.ensures.items (omega (arith, c.args.self.now.same_size)) c.args.self.now.present_is;
+}
+
+pub returns-in-Ok-clause-life : goal.returns-in-Ok-clause-life
+returns-in-Ok-clause-life g c = life-push _ _ _ (Write c.args.sector c.args.bytes.now) c.in-Ok.ensures.items

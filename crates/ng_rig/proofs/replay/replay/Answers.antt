@@ -1,0 +1,23 @@
+use Rattle.std.proofs.Common.{length, take, sym, ◌∙◌, ap, arith}
+use Rattle.ng_rig.specs.Life.{Life, reads}
+use Rattle.ng_rig.specs.Kept.{contents, life_of}
+use Rattle.ng_rig.proofs.Lived.{life_of-next}
+use Rattle.ng_rig.proofs.Replaying.{within_at, reads_write}
+use Rattle.ng_rig.proofs.replay.replay.Goals as goal
+use Rattle.ng_rig.proofs.replay.replay.Goals.{in-Write, in-Sync, in-Hand}
+
+pub loop-call-preserved : goal.loop-call-preserved
+loop-call-preserved c =
+    elim c.match-call.branch [
+      | in-Write w ↦
+          let at = sym c.call-item.is ∙ w.in-Write.is in
+          let next = life_of-next c.args.image.now c.args.calls.now c.loop-call.call-index _ _ c.loop-call-test.true at in
+          let within = within_at (length c.args.image.now) c.args.calls.now c.loop-call.call-index _ _ _ c.requires c.loop-call-test.true at in
+          λ n. reads_write (life_of c.args.image.now (take c.loop-call.call-index c.args.calls.now)) _ _ w.in-Write.sector w.in-Write.bytes (omega arith) w.image-is c.loop-call.invariant n ∙ sym (ap (λ (l : Life). reads l n) next)
+      | in-Sync w ↦ λ n.
+          let next = life_of-next c.args.image.now c.args.calls.now c.loop-call.call-index _ _ c.loop-call-test.true (sym c.call-item.is ∙ w.in-Sync.is) in
+          ap (λ xs. contents xs n) w.image-is ∙ c.loop-call.invariant n ∙ sym (ap (λ (l : Life). reads l n) next)
+      | in-Hand w ↦ λ n.
+          let next = life_of-next c.args.image.now c.args.calls.now c.loop-call.call-index _ _ c.loop-call-test.true (sym c.call-item.is ∙ w.in-Hand.is) in
+          ap (λ xs. contents xs n) w.image-is ∙ c.loop-call.invariant n ∙ sym (ap (λ (l : Life). reads l n) next)
+    ]

@@ -1,0 +1,27 @@
+-- A device that fails one call, once.
+use Rattle.std.specs.Prelude.{◌≡◌, ◌+◌, ◌-◌, ◌==◌, if◌then◌else◌, ℕ, Option, Some, None, Result, IsErr}
+use Rattle.ng_rig.specs.Calls.{Counts}
+use Rattle.ng_rig.specs.declared.fail.FailRig.{FailRig}
+
+-- the device that calls are passed on to
+abbrev pub inner : {R : Type 0} → FailRig R → R
+inner rig = rig.rig
+
+-- the failures that it counts
+abbrev pub failure_count : {R : Type 0} → FailRig R → ℕ
+failure_count rig = rig.failures
+
+-- how many calls are passed on before the one that fails; none where it has failed
+abbrev pub calls_before : {R : Type 0} → FailRig R → Option ℕ
+calls_before rig = rig.before
+
+-- that number after one call
+abbrev pub after_one : Option ℕ → Option ℕ
+after_one None = None
+after_one (Some n) = if n == 0 then None else Some (n - 1)
+
+-- One call fails with no effect; each other one is passed on, and fails exactly where the inner device fails.
+pub record FailsOnce {R T E : Type 0} (result : Result T E) (failed : R → ℕ) (old new : FailRig R) : Type 0 where
+  pub sooner : (n : ℕ) → calls_before old ≡ Some (n + 1) → (calls_before new ≡ Some n) × Counts result (failed (inner old)) (failed (inner new))
+  pub failing : calls_before old ≡ Some 0 → (calls_before new ≡ None) × IsErr result × (inner new ≡ inner old)
+  pub later : calls_before old ≡ None → (calls_before new ≡ None) × Counts result (failed (inner old)) (failed (inner new))

@@ -1,0 +1,10 @@
+pub mod Calls
+pub mod FailOnce
+pub mod Fuse
+pub mod Kept
+pub mod Life
+pub mod MemoryRig
+pub mod Moments
+pub mod Onward
+pub mod Only
+pub mod Stops

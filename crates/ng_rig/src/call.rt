@@ -1,0 +1,10 @@
+use ng_canon::Item;
+
+/// A call that a device in memory keeps.
+#[derive(Clone, Copy, Drop)]
+pub(crate) enum Call {
+    /// Of a sector, its bytes.
+    Write(usize, [u8; 512]),
+    Sync,
+    Hand(Item),
+}

@@ -1,0 +1,165 @@
+ghost use Rattle.std.specs.Prelude.{◌≡◌};
+
+use crate::rig::{Failed, Rig};
+use ng_canon::Item;
+
+/// A device that passes some calls on to another, and then fails each one with no effect: as a device does whose
+/// power was cut. Reads, writes, syncs and hand-outs count.
+#[derive(Drop)]
+pub struct FuseRig<R> {
+    rig: R,
+    left: u64,
+    failures: u64,
+}
+
+impl<R: Rig> FuseRig<R> {
+    ghost use Rattle.std.specs.Prelude.{◌≡◌, ◌≢◌, ◌↔◌, ◌+◌, ◌<◌, IsTrue, true, false};
+    ghost use Rattle.ng_rig.specs.Calls.{Counts};
+    ghost use Rattle.ng_rig.specs.Fuse.{inner, failure_count, calls_left};
+
+    /// Passes this many calls on, and counts failures on from those of the device.
+    pub fn new(rig: R, calls: u64) -> Self
+        ensures inner { inner result ≡ rig }
+        ensures calls { calls_left result ≡ calls }
+        ensures failures { failure_count result ≡ R.failed rig }
+    {
+        let failures = rig.failures();
+        FuseRig {
+            rig,
+            left: calls,
+            failures,
+        }
+    }
+
+    /// Whether the next call is passed on; it is taken off those left.
+    fn passes(&mut self) -> bool
+        ensures when { IsTrue result ↔ (0 < calls_left self.old) }
+        ensures passed { result ≡ true → calls_left self.new + 1 ≡ calls_left self.old }
+        ensures blown { result ≡ false → calls_left self.new ≡ calls_left self.old }
+        ensures inner { inner self.new ≡ inner self.old }
+        ensures failures { failure_count self.new ≡ failure_count self.old }
+    {
+        if self.left == 0 {
+            return false;
+        }
+        self.left -= 1;
+        true
+    }
+
+    /// Counts a failure.
+    fn counted(&mut self, outcome: Result<(), Failed>) -> Result<(), Failed>
+        ensures same { result ≡ outcome }
+        ensures inner { inner self.new ≡ inner self.old }
+        ensures calls { calls_left self.new ≡ calls_left self.old }
+        ensures failures { Counts result (failure_count self.old) (failure_count self.new) }
+    {
+        if outcome.is_err() {
+            self.failures = self.failures.wrapping_add(1);
+        }
+        outcome
+    }
+}
+
+impl<R> FuseRig<R> {
+    ghost use Rattle.std.specs.Prelude.{◌≡◌};
+    ghost use Rattle.ng_rig.specs.Fuse.{inner};
+
+    /// Gives the device back.
+    pub fn into_inner(self) -> R
+        ensures { result ≡ inner self }
+    {
+        let FuseRig {
+            rig,
+            left: _,
+            failures: _,
+        } = self;
+        rig
+    }
+}
+
+impl<R: Rig> Rig for FuseRig<R> {
+    ghost use Rattle.std.specs.Prelude.{◌≡◌, ◌<◌, OnOk};
+    ghost use Rattle.ng_rig.specs.Life.{reads};
+    ghost use Rattle.ng_rig.specs.Calls.{Promises, Writes, Syncs, Hands, Counts};
+    ghost use Rattle.ng_rig.specs.Fuse.{inner, failure_count, calls_left, Fuses};
+
+    ghost life = { λ rig. R.life (inner rig) };
+
+    ghost honest = { λ rig. R.honest (inner rig) };
+
+    ghost sectors = { λ rig. R.sectors (inner rig) };
+
+    ghost failed = { failure_count };
+
+    fn size(&self) -> usize {
+        self.rig.size()
+    }
+
+    fn failures(&self) -> u64 {
+        self.failures
+    }
+
+    fn read(&mut self, sector: usize, into: &mut [u8; 512]) -> Result<(), Failed>
+        requires { sector < R.sectors (inner self.old) }
+        ensures bytes { R.honest (inner self.old) → OnOk result (into.new ≡ reads (R.life (inner self.old)) sector) }
+        ensures untouched { calls_left self.old ≡ 0 → into.new ≡ into.old }
+        ensures life { Promises (R.honest (inner self.old)) (R.honest (inner self.new))
+            (R.life (inner self.new) ≡ R.life (inner self.old)) }
+        ensures size { R.sectors (inner self.new) ≡ R.sectors (inner self.old) }
+        ensures failures { Counts result (failure_count self.old) (failure_count self.new) }
+        ensures fuse { Fuses result R.failed self.old self.new }
+    {
+        let read = if self.passes() {
+            self.rig.read(sector, into)
+        } else {
+            Err(Failed)
+        };
+        self.counted(read)
+    }
+
+    fn write(&mut self, sector: usize, bytes: &[u8; 512]) -> Result<(), Failed>
+        requires { sector < R.sectors (inner self.old) }
+        ensures life { Promises (R.honest (inner self.old)) (R.honest (inner self.new))
+            (Writes result sector bytes.now (R.life (inner self.old)) (R.life (inner self.new))) }
+        ensures size { R.sectors (inner self.new) ≡ R.sectors (inner self.old) }
+        ensures failures { Counts result (failure_count self.old) (failure_count self.new) }
+        ensures fuse { Fuses result R.failed self.old self.new }
+    {
+        let written = if self.passes() {
+            self.rig.write(sector, bytes)
+        } else {
+            Err(Failed)
+        };
+        self.counted(written)
+    }
+
+    fn sync(&mut self) -> Result<(), Failed>
+        ensures life { Promises (R.honest (inner self.old)) (R.honest (inner self.new))
+            (Syncs result (R.life (inner self.old)) (R.life (inner self.new))) }
+        ensures size { R.sectors (inner self.new) ≡ R.sectors (inner self.old) }
+        ensures failures { Counts result (failure_count self.old) (failure_count self.new) }
+        ensures fuse { Fuses result R.failed self.old self.new }
+    {
+        let synced = if self.passes() {
+            self.rig.sync()
+        } else {
+            Err(Failed)
+        };
+        self.counted(synced)
+    }
+
+    fn hand_out(&mut self, item: Item) -> Result<(), Failed>
+        ensures life { Promises (R.honest (inner self.old)) (R.honest (inner self.new))
+            (Hands result item (R.life (inner self.old)) (R.life (inner self.new))) }
+        ensures size { R.sectors (inner self.new) ≡ R.sectors (inner self.old) }
+        ensures failures { Counts result (failure_count self.old) (failure_count self.new) }
+        ensures fuse { Fuses result R.failed self.old self.new }
+    {
+        let handed = if self.passes() {
+            self.rig.hand_out(item)
+        } else {
+            Err(Failed)
+        };
+        self.counted(handed)
+    }
+}

@@ -1,0 +1,184 @@
+ghost use Rattle.std.specs.Prelude.{◌≡◌, ◌<◌, ◌≤◌, ℕ, length};
+ghost use Rattle.ng_rig.specs.Life.{reads};
+ghost use Rattle.ng_rig.specs.Kept.{contents, life_of, AllWithin};
+
+use crate::call::Call;
+use crate::replay::{items_of, stop_image};
+use crate::rig::{Failed, Rig};
+use ng_canon::Item;
+use std::alloc::{AllocError, Allocator};
+
+/// A device in memory, which keeps its writes, syncs and hand-outs, and can be stopped after any of them. It is
+/// always honest; only want of memory makes a call of it fail.
+#[derive(Drop)]
+pub struct MemoryRig<A: Allocator + Copy + Drop> {
+    alloc: A,
+    first: Vec<[u8; 512], A>,
+    present: Vec<[u8; 512], A>,
+    calls: Vec<Call, A>,
+    failures: u64,
+    ghost same_size: { length present.items ≡ length first.items },
+    ghost within: { AllWithin (length first.items) calls.items },
+    ghost present_is: { contents present.items ≡ reads (life_of first.items calls.items) },
+}
+
+impl<A: Allocator + Copy + Drop> MemoryRig<A> {
+    ghost use Rattle.std.specs.Prelude.{◌≡◌, ◌+◌, ◌%◌, ◌^◌, ℕ, List, IfOk, length, take, replicate};
+    ghost use Rattle.ng_canon.specs.declared.item.Item.{Item};
+    ghost use Rattle.ng_rig.specs.Life.{Began, reads, items, moment, life_at, IsStop};
+    ghost use Rattle.ng_rig.specs.Kept.{contents};
+    ghost use Rattle.ng_rig.specs.Stops.{kept_image, IsReached};
+    ghost use Rattle.ng_rig.specs.MemoryRig.{life_kept, sector_count, failure_count};
+
+    /// A device of this many sectors, all zeros.
+    pub fn new(alloc: A, sectors: usize) -> Result<Self, AllocError>
+        ensures size { IfOk result (λ rig. sector_count rig ≡ sectors) }
+        ensures zeros { IfOk result (λ rig. life_kept rig ≡ Began (contents (replicate sectors (replicate 512 0)))) }
+        ensures failures { IfOk result (λ rig. failure_count rig ≡ 0) }
+    {
+        let mut first = Vec::new(alloc);
+        first.resize(sectors, [0; 512])?;
+        MemoryRig::holding(alloc, first)
+    }
+
+    /// A device that holds these sectors.
+    fn holding(alloc: A, first: Vec<[u8; 512], A>) -> Result<Self, AllocError>
+        ensures size { IfOk result (λ rig. sector_count rig ≡ length first.items) }
+        ensures life { IfOk result (λ rig. life_kept rig ≡ Began (contents first.items)) }
+        ensures failures { IfOk result (λ rig. failure_count rig ≡ 0) }
+    {
+        let mut present = Vec::new(alloc);
+        present.extend_from_slice(&first)?;
+        Ok(MemoryRig {
+            alloc,
+            first,
+            present,
+            calls: Vec::new(alloc),
+            failures: 0,
+        })
+    }
+
+    /// How many writes, syncs and hand-outs were made that didn't fail.
+    pub fn calls(&self) -> usize
+        ensures { result ≡ moment (life_kept self.now) }
+    {
+        self.calls.len()
+    }
+
+    /// The items handed out by the first n of its calls, or by all where there are fewer.
+    pub fn handed(&self, n: usize) -> Result<Vec<Item, A>, AllocError>
+        ensures { IfOk result (λ handed. handed.items ≡ items (life_at n (life_kept self.now))) }
+    {
+        items_of(self.alloc, self.before(n))
+    }
+
+    /// The first n of its calls, or all where there are fewer.
+    fn before(&self, n: usize) -> &[Call]
+        ensures { result.now ≡ take n self.now.calls.items }
+    {
+        &self.calls[..n.min(self.calls.len())]
+    }
+
+    /// The device as power leaves it when it is cut after the first n calls, or after all where there are fewer:
+    /// sector i keeps the keep[i]-th content that was written to it since the last sync, from 1. At 0, and past the
+    /// end of `keep`, it keeps none of them, and beyond their number the last. It has no calls and no failures.
+    pub fn stopped(&self, n: usize, keep: &[usize]) -> Result<Self, AllocError>
+        ensures size { IfOk result (λ rig. sector_count rig ≡ sector_count self.now) }
+        ensures exact { IfOk result (λ rig. life_kept rig ≡ Began (kept_image (life_at n (life_kept self.now)) keep.now)) }
+        ensures failures { IfOk result (λ rig. failure_count rig ≡ 0) }
+
+        // in no way that a stop there doesn't allow
+        ensures only { IfOk result (λ rig.
+            IsStop (life_at n (life_kept self.now)) (reads (life_kept rig)) (items (life_at n (life_kept self.now)))) }
+
+        // and in every way that it allows
+        ensures every { (image : ℕ → List ℕ) (handed : List Item) →
+            IsStop (life_at n (life_kept self.now)) image handed → IsReached (life_at n (life_kept self.now)) image }
+    {
+        let image = stop_image(self.alloc, &self.first, self.before(n), keep)?;
+        MemoryRig::holding(self.alloc, image)
+    }
+
+    /// Counts a failure.
+    fn fail(&mut self) -> Failed
+        ensures size { sector_count self.new ≡ sector_count self.old }
+        ensures life { life_kept self.new ≡ life_kept self.old }
+        ensures failures { failure_count self.new ≡ (failure_count self.old + 1) % 2 ^ 64 }
+    {
+        self.failures = self.failures.wrapping_add(1);
+        Failed
+    }
+}
+
+impl<A: Allocator + Copy + Drop> Rig for MemoryRig<A> {
+    ghost use Rattle.std.specs.Prelude.{◌≡◌, ◌<◌, IsOk};
+    ghost use Rattle.ng_rig.specs.Life.{Wrote, Synced, Handed, reads};
+    ghost use Rattle.ng_rig.specs.Calls.{Counts, KeepsOrNot};
+    ghost use Rattle.ng_rig.specs.MemoryRig.{life_kept, sector_count, failure_count};
+
+    ghost life = { life_kept };
+
+    ghost honest = { λ _. Unit {0} };
+
+    ghost sectors = { sector_count };
+
+    ghost failed = { failure_count };
+
+    fn size(&self) -> usize {
+        self.first.len()
+    }
+
+    fn failures(&self) -> u64 {
+        self.failures
+    }
+
+    /// Never fails.
+    fn read(&mut self, sector: usize, into: &mut [u8; 512]) -> Result<(), Failed>
+        requires { sector < sector_count self.old }
+        ensures never { IsOk result }
+        ensures bytes { into.new ≡ reads (life_kept self.old) sector }
+        ensures life { life_kept self.new ≡ life_kept self.old }
+        ensures size { sector_count self.new ≡ sector_count self.old }
+        ensures failures { failure_count self.new ≡ failure_count self.old }
+    {
+        *into = self.present[sector];
+        Ok(())
+    }
+
+    fn write(&mut self, sector: usize, bytes: &[u8; 512]) -> Result<(), Failed>
+        requires { sector < sector_count self.old }
+        ensures life { KeepsOrNot result (Wrote sector bytes.now (life_kept self.old)) (life_kept self.old) (life_kept self.new) }
+        ensures size { sector_count self.new ≡ sector_count self.old }
+        ensures failures { Counts result (failure_count self.old) (failure_count self.new) }
+    {
+        match self.calls.push(Call::Write(sector, *bytes)) {
+            Ok(()) => {
+                self.present[sector] = *bytes;
+                Ok(())
+            }
+            Err(_) => Err(self.fail()),
+        }
+    }
+
+    fn sync(&mut self) -> Result<(), Failed>
+        ensures life { KeepsOrNot result (Synced (life_kept self.old)) (life_kept self.old) (life_kept self.new) }
+        ensures size { sector_count self.new ≡ sector_count self.old }
+        ensures failures { Counts result (failure_count self.old) (failure_count self.new) }
+    {
+        match self.calls.push(Call::Sync) {
+            Ok(()) => Ok(()),
+            Err(_) => Err(self.fail()),
+        }
+    }
+
+    fn hand_out(&mut self, item: Item) -> Result<(), Failed>
+        ensures life { KeepsOrNot result (Handed item (life_kept self.old)) (life_kept self.old) (life_kept self.new) }
+        ensures size { sector_count self.new ≡ sector_count self.old }
+        ensures failures { Counts result (failure_count self.old) (failure_count self.new) }
+    {
+        match self.calls.push(Call::Hand(item)) {
+            Ok(()) => Ok(()),
+            Err(_) => Err(self.fail()),
+        }
+    }
+}

@@ -1,0 +1,65 @@
+ghost use Rattle.std.specs.Prelude.{◌≡◌, ◌<◌, ℕ, OnOk};
+ghost use Rattle.ng_rig.specs.Life.{Life, reads};
+ghost use Rattle.ng_rig.specs.Calls.{Promises, Writes, Syncs, Hands, Counts};
+
+use ng_canon::Item;
+
+/// A call of a device failed.
+#[derive(Clone, Copy, Debug, PartialEq, Eq, Drop)]
+pub struct Failed;
+
+/// A device of sectors of 512 bytes, each written whole, that also hands out items, on one clock (own).
+///
+/// What a read gives, and what a stop of power may leave, is promised where the device is honest. The count of
+/// failures and the size are kept whatever the device does.
+pub trait Rig {
+    /// The writes, syncs and hand-outs so far.
+    ghost life: { Self → Life };
+
+    /// Where the device does what it promises of reads and stops.
+    ghost honest: { Self → Type 0 };
+
+    ghost sectors: { Self → ℕ };
+
+    /// How often a call has failed, modulo 2 ^ 64.
+    ghost failed: { Self → ℕ };
+
+    /// Its number of sectors, which no call changes.
+    fn size(&self) -> usize
+        ensures { result ≡ sectors self.now };
+
+    /// How often a call has failed; 0 follows 2 ^ 64 - 1.
+    fn failures(&self) -> u64
+        ensures { result ≡ failed self.now };
+
+    /// Reads a sector. Where it fails, `into` may hold any bytes.
+    fn read(&mut self, sector: usize, into: &mut [u8; 512]) -> Result<(), Failed>
+        requires { sector < sectors self.old }
+        ensures bytes { honest self.old → OnOk result (into.new ≡ reads (life self.old) sector) }
+        ensures life { Promises (honest self.old) (honest self.new) (life self.new ≡ life self.old) }
+        ensures size { sectors self.new ≡ sectors self.old }
+        ensures failures { Counts result (failed self.old) (failed self.new) };
+
+    /// Writes a sector. Where it fails, a read gives the content before or this one, the same at each read, and a
+    /// stop may leave either.
+    fn write(&mut self, sector: usize, bytes: &[u8; 512]) -> Result<(), Failed>
+        requires { sector < sectors self.old }
+        ensures life { Promises (honest self.old) (honest self.new)
+            (Writes result sector bytes.now (life self.old) (life self.new)) }
+        ensures size { sectors self.new ≡ sectors self.old }
+        ensures failures { Counts result (failed self.old) (failed self.new) };
+
+    /// Makes lasting what was written: from then on a stop leaves what a read gives. Where it fails, it promises
+    /// nothing.
+    fn sync(&mut self) -> Result<(), Failed>
+        ensures life { Promises (honest self.old) (honest self.new) (Syncs result (life self.old) (life self.new)) }
+        ensures size { sectors self.new ≡ sectors self.old }
+        ensures failures { Counts result (failed self.old) (failed self.new) };
+
+    /// Hands an item out. Where it fails, the item or nothing was handed out.
+    fn hand_out(&mut self, item: Item) -> Result<(), Failed>
+        ensures life { Promises (honest self.old) (honest self.new)
+            (Hands result item (life self.old) (life self.new)) }
+        ensures size { sectors self.new ≡ sectors self.old }
+        ensures failures { Counts result (failed self.old) (failed self.new) };
+}

@@ -1,0 +1,259 @@
+ghost use Rattle.std.specs.Prelude.{◌≡◌, ◌<◌, ◌+◌};
+ghost use Rattle.ng_rig.specs.MemoryRig.{sector_count};
+
+use crate::{FailRig, Failed, FuseRig, MemoryRig, Rig};
+use linked_list_allocator::LocalHeap;
+use ng_canon::{Item, Outputs, Pulse, Step};
+use std::alloc::{AllocError, Allocator};
+use std::test::Fail;
+
+mod worn;
+
+use worn::Worn;
+
+/// An item of each kind.
+fn three_items() -> [Item; 3] {
+    let pulse = Pulse {
+        x: Step::Forward,
+        y: Step::Still,
+        z: Step::Backward,
+        period_us: 50,
+    };
+    [
+        Item::Pulse(pulse),
+        Item::Dwell { us: 10 },
+        Item::Switch(Outputs::fresh()),
+    ]
+}
+
+/// Six writes to three sectors, a sync and three hand-outs.
+fn make_ten_calls<A: Allocator + Copy + Drop>(
+    rig: &mut MemoryRig<A>,
+    items: &[Item; 3],
+) -> Result<(), Failed>
+    requires { sector_count rig.old ≡ 3 }
+    ensures { sector_count rig.new ≡ 3 }
+{
+    rig.write(0, &[1; 512])?;
+    rig.write(1, &[2; 512])?;
+    rig.hand_out(items[0])?;
+    rig.write(0, &[3; 512])?;
+    rig.sync()?;
+    rig.write(1, &[4; 512])?;
+    rig.hand_out(items[1])?;
+    rig.write(2, &[5; 512])?;
+    rig.write(1, &[6; 512])?;
+    rig.hand_out(items[2])
+}
+
+/// What each of the three sectors holds in all its bytes after so many of these calls, by how many of its
+/// unsynced writes it keeps, and how many items are handed out.
+const LEFT: [([[u8; 3]; 3], usize); 11] = [
+    ([[0, 0, 0], [0, 0, 0], [0, 0, 0]], 0),
+    ([[0, 1, 1], [0, 0, 0], [0, 0, 0]], 0),
+    ([[0, 1, 1], [0, 2, 2], [0, 0, 0]], 0),
+    ([[0, 1, 1], [0, 2, 2], [0, 0, 0]], 1),
+    ([[0, 1, 3], [0, 2, 2], [0, 0, 0]], 1),
+    ([[3, 3, 3], [2, 2, 2], [0, 0, 0]], 1),
+    ([[3, 3, 3], [2, 4, 4], [0, 0, 0]], 1),
+    ([[3, 3, 3], [2, 4, 4], [0, 0, 0]], 2),
+    ([[3, 3, 3], [2, 4, 4], [0, 5, 5]], 2),
+    ([[3, 3, 3], [2, 4, 6], [0, 5, 5]], 2),
+    ([[3, 3, 3], [2, 4, 6], [0, 5, 5]], 3),
+];
+
+/// Whether a sector reads as 512 times this byte.
+fn holds<R: Rig>(rig: &mut R, sector: usize, byte: u8) -> bool
+    requires { sector < R.sectors rig.old }
+    ensures { R.sectors rig.new ≡ R.sectors rig.old }
+{
+    let mut bytes = [byte.wrapping_add(1); 512];
+    rig.read(sector, &mut bytes).is_ok() && bytes == [byte; 512]
+}
+
+/// Whether the device stopped so holds these bytes, has no calls and has handed out nothing.
+fn leaves<A: Allocator + Copy + Drop>(
+    rig: &MemoryRig<A>,
+    n: usize,
+    keep: &[usize],
+    want: [u8; 3],
+) -> Result<bool, AllocError>
+    requires { sector_count rig.now ≡ 3 }
+{
+    let mut stop = rig.stopped(n, keep)?;
+    let is_fresh = stop.calls() == 0 && stop.handed(1)?.is_empty() && stop.failures() == 0;
+    Ok(
+        is_fresh
+            && stop.size() == 3
+            && holds(&mut stop, 0, want[0])
+            && holds(&mut stop, 1, want[1])
+            && holds(&mut stop, 2, want[2]),
+    )
+}
+
+#[test]
+fn a_stop_after_each_call_leaves_each_choice(rt: HostRuntime) -> Result<(), Fail> {
+    let mut rig = MemoryRig::new(rt.alloc(), 3)?;
+    let items = three_items();
+    assert!(rt; make_ten_calls(&mut rig, &items).is_ok());
+    assert_eq!(rt; rig.calls(), 10);
+    for n in 0..11 {
+        let (left, handed) = LEFT[n];
+        for a in 0..3 {
+            for b in 0..3 {
+                for c in 0..3 {
+                    let want = [left[0][a], left[1][b], left[2][c]];
+                    assert!(rt; leaves(&rig, n, &[a, b, c], want)?, "{a} {b} {c} at {n}");
+                }
+            }
+        }
+        assert_eq!(rt;
+            rig.handed(n)?.as_slice(),
+            items.get(..handed).unwrap_or_default(),
+            "at {n}"
+        );
+    }
+    Ok(())
+}
+
+#[test]
+fn a_stop_past_the_ends(rt: HostRuntime) -> Result<(), Fail> {
+    let mut rig = MemoryRig::new(rt.alloc(), 3)?;
+    let items = three_items();
+    assert!(rt; make_ten_calls(&mut rig, &items).is_ok());
+    assert!(rt; leaves(&rig, 10, &[], [3, 2, 0])?);
+    assert!(rt; leaves(&rig, 10, &[9, 1], [3, 4, 0])?);
+    assert!(rt; leaves(&rig, 10, &[usize::MAX; 5], [3, 6, 5])?);
+    assert!(rt; leaves(&rig, 11, &[1, 1, 1], [3, 4, 5])?);
+    assert!(rt; leaves(&rig, usize::MAX, &[0, 2, 0], [3, 6, 0])?);
+    assert_eq!(rt; rig.handed(usize::MAX)?.as_slice(), items.as_slice());
+    Ok(())
+}
+
+/// Writes, syncs, hands out and reads: which of the four succeed, and whether the read gives what was written.
+fn four_calls<R: Rig>(rig: &mut R, byte: u8) -> ([bool; 4], bool)
+    requires { 0 < R.sectors rig.old }
+    ensures { R.sectors rig.new ≡ R.sectors rig.old }
+{
+    let mut bytes = [byte.wrapping_add(1); 512];
+    let is_written = rig.write(0, &[byte; 512]).is_ok();
+    let is_synced = rig.sync().is_ok();
+    let is_handed = rig.hand_out(Item::Dwell { us: 7 }).is_ok();
+    let is_read = rig.read(0, &mut bytes).is_ok();
+    (
+        [is_written, is_synced, is_handed, is_read],
+        bytes == [byte; 512],
+    )
+}
+
+#[test]
+fn the_three_devices_are_called_as_one(rt: HostRuntime) -> Result<(), Fail> {
+    let mut plain = MemoryRig::new(rt.alloc(), 1)?;
+    assert_eq!(rt; four_calls(&mut plain, 8), ([true; 4], true));
+    assert_eq!(rt; (plain.calls(), plain.failures()), (3, 0));
+    let mut fuse = FuseRig::new(plain, 9);
+    assert_eq!(rt; four_calls(&mut fuse, 9), ([true; 4], true));
+    assert_eq!(rt; (fuse.size(), fuse.failures()), (1, 0));
+    let mut once = FailRig::new(fuse, 4);
+    assert_eq!(rt; four_calls(&mut once, 10), ([true; 4], true));
+    assert_eq!(rt; (once.size(), once.failures()), (1, 0));
+    // the fuse has one call left, and the outer device fails the next before it
+    assert_eq!(rt;
+        four_calls(&mut once, 11),
+        ([false, true, false, false], false)
+    );
+    assert_eq!(rt; once.failures(), 3);
+    let inner = once.into_inner().into_inner();
+    assert_eq!(rt; (inner.calls(), inner.failures()), (10, 0));
+    Ok(())
+}
+
+#[test]
+fn a_fuse_passes_so_many_calls(rt: HostRuntime) -> Result<(), Fail> {
+    let table = [
+        (0, [false, false, false, false], 0, 4),
+        (1, [true, false, false, false], 1, 3),
+        (2, [true, true, false, false], 2, 2),
+        (3, [true, true, true, false], 3, 1),
+        (4, [true, true, true, true], 3, 0),
+    ];
+    for (passed, want, calls, failures) in table {
+        let mut fuse = FuseRig::new(MemoryRig::new(rt.alloc(), 1)?, passed);
+        assert_eq!(rt; four_calls(&mut fuse, 5).0, want, "{passed}");
+        assert_eq!(rt; fuse.failures(), failures, "{passed}");
+        assert_eq!(rt; four_calls(&mut fuse, 6).0, [false; 4], "{passed}");
+        assert_eq!(rt; fuse.failures(), failures + 4, "{passed}");
+        let mut inner = fuse.into_inner();
+        assert_eq!(rt; (inner.calls(), inner.failures()), (calls, 0), "{passed}");
+    }
+    Ok(())
+}
+
+#[test]
+fn one_call_fails_once(rt: HostRuntime) -> Result<(), Fail> {
+    let table = [
+        (0, [false, true, true, true], [true, true, true, true], 2),
+        (1, [true, false, true, true], [true, true, true, true], 2),
+        (2, [true, true, false, true], [true, true, true, true], 2),
+        (3, [true, true, true, false], [true, true, true, true], 3),
+        (4, [true, true, true, true], [false, true, true, true], 3),
+    ];
+    for (passed, want, then, calls) in table {
+        let mut once = FailRig::new(MemoryRig::new(rt.alloc(), 1)?, passed);
+        assert_eq!(rt; four_calls(&mut once, 5).0, want, "{passed}");
+        let mut inner = once.into_inner();
+        assert_eq!(rt; (inner.calls(), inner.failures()), (calls, 0), "{passed}");
+        let mut again = FailRig::new(MemoryRig::new(rt.alloc(), 1)?, passed);
+        assert_eq!(rt; four_calls(&mut again, 5).0, want, "{passed}");
+        assert_eq!(rt; four_calls(&mut again, 6).0, then, "{passed}");
+        assert_eq!(rt; again.failures(), 1, "{passed}");
+    }
+    Ok(())
+}
+
+#[test]
+fn want_of_memory_fails_with_no_effect(rt: HostRuntime) -> Result<(), Fail> {
+    let heap = LocalHeap::new(rt.alloc(), 5_000)?;
+    let mut rig = MemoryRig::new(&heap, 1)?;
+    assert_eq!(rt;
+        four_calls(&mut rig, 5),
+        ([false, false, false, true], false)
+    );
+    assert_eq!(rt; (rig.calls(), rig.failures()), (0, 3));
+    assert!(rt; holds(&mut rig, 0, 0));
+    assert!(rt; MemoryRig::new(&heap, 1).is_err());
+    assert!(rt; rig.stopped(0, &[]).is_err());
+    Ok(())
+}
+
+#[test]
+fn the_count_of_failures_goes_on_at_zero(rt: HostRuntime) {
+    let mut worn = Worn::new(u64::MAX - 1);
+    assert_eq!(rt; (worn.sync(), worn.failures()), (Err(Failed), u64::MAX));
+    assert_eq!(rt; (worn.sync(), worn.failures()), (Err(Failed), 0));
+    let mut fuse = FuseRig::new(Worn::new(u64::MAX), 1);
+    assert_eq!(rt; (fuse.sync(), fuse.failures()), (Err(Failed), 0));
+    assert_eq!(rt; (fuse.sync(), fuse.failures()), (Err(Failed), 1));
+    let mut once = FailRig::new(Worn::new(u64::MAX - 1), 0);
+    assert_eq!(rt; (once.sync(), once.failures()), (Err(Failed), u64::MAX));
+    assert_eq!(rt; (once.sync(), once.failures()), (Err(Failed), 0));
+    assert_eq!(rt; once.into_inner().failures(), u64::MAX);
+}
+
+#[test]
+fn as_many_sectors_as_a_full_journal(rt: HostRuntime) -> Result<(), Fail> {
+    let mut rig = MemoryRig::new(rt.alloc(), 5_806)?;
+    for _ in 0..3 {
+        for sector in 0..5_806 {
+            if sector < rig.size() {
+                assert!(rt; rig.write(sector, &[9; 512]).is_ok());
+            }
+        }
+        assert!(rt; rig.sync().is_ok());
+    }
+    assert_eq!(rt; (rig.calls(), rig.size()), (17_421, 5_806));
+    for n in [0, 9_000, 17_420, 17_421] {
+        assert_eq!(rt; rig.stopped(n, &[1; 5_806])?.size(), 5_806);
+    }
+    Ok(())
+}

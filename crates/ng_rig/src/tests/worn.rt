@@ -1,0 +1,52 @@
+ghost use Rattle.ng_rig.specs.Life.{Began};
+ghost use Rattle.std.specs.Prelude.{[]};
+
+use crate::{Failed, Rig};
+use ng_canon::Item;
+
+/// A device of one sector on which each call fails, and that promises nothing of what it holds.
+#[derive(Drop)]
+pub struct Worn {
+    failures: u64,
+}
+
+impl Worn {
+    pub fn new(failures: u64) -> Worn {
+        Worn { failures }
+    }
+}
+
+impl Rig for Worn {
+    ghost life = { λ _. Began (λ _. []) };
+
+    ghost honest = { λ _. ⊥ };
+
+    ghost sectors = { λ _. 1 };
+
+    ghost failed = { λ worn. worn.failures };
+
+    fn size(&self) -> usize {
+        1
+    }
+
+    fn failures(&self) -> u64 {
+        self.failures
+    }
+
+    fn read(&mut self, _sector: usize, _into: &mut [u8; 512]) -> Result<(), Failed> {
+        self.sync()
+    }
+
+    fn write(&mut self, _sector: usize, _bytes: &[u8; 512]) -> Result<(), Failed> {
+        self.sync()
+    }
+
+    fn sync(&mut self) -> Result<(), Failed> {
+        self.failures = self.failures.wrapping_add(1);
+        Err(Failed)
+    }
+
+    fn hand_out(&mut self, _item: Item) -> Result<(), Failed> {
+        self.sync()
+    }
+}

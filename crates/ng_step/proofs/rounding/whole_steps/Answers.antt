@@ -1,0 +1,14 @@
+use Rattle.std.proofs.Common.{arith, ap, ◌∙◌, ◌/◌}
+use Rattle.std.proofs.lemmas.Int.{ints}
+use Rattle.ng_step.proofs.RoundLemmas.{whole_below, whole_above, div_small, below_stored, above_stored}
+use Rattle.ng_step.proofs.rounding.whole_steps.Goals as goal
+
+pub returns-then-to-from-clause-value : goal.returns-then-to-from-clause-value
+returns-then-to-from-clause-value c = λ n is.
+    below_stored _ (div_small c.unsigned_abs.result c.args.step_nm c.requires.step (omega (arith, ints)))
+    ∙ whole_below _ n c.args.step_nm _ c.requires.step is (ap (λ x. x / c.args.step_nm) (omega (arith, ints))) (omega (arith, ints))
+
+pub returns-else-to-from-clause-value : goal.returns-else-to-from-clause-value
+returns-else-to-from-clause-value c = λ n is.
+    above_stored _ (div_small c.unsigned_abs.result c.args.step_nm c.requires.step (omega (arith, ints)))
+    ∙ whole_above _ n c.args.step_nm _ c.requires.step is (ap (λ x. x / c.args.step_nm) (omega (arith, ints))) (omega (arith, ints))
