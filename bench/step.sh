@@ -13,7 +13,11 @@ cp -r "$here/step" "$work/crates/step_bench"
 grep -E '^ng_(num|canon|step):' "$here/../crates.txt" > "$work/crates.txt"
 echo 'step_bench: ng_step ng_canon ng_num' >> "$work/crates.txt"
 echo 'the stepper:'
-(cd "$work/crates/step_bench" && rt run)
+if ! (cd "$work/crates/step_bench" && rt run) > "$work/log" 2>&1; then
+    cat "$work/log"
+    exit 1
+fi
+grep -E '^(line|circles) ' "$work/log"
 echo 'C:'
 cc=$(command -v clang || command -v gcc || command -v cc)
 "$cc" -O2 -o "$work/rule" "$here/step/rule.c"

@@ -136,10 +136,9 @@ fn operations_answer_what_exact_fractions_say(rt: HostRuntime) {
         (Modulo(-GREATEST, GREATEST), Is(0)),
         (Modulo(1, 0), Not(Fault::BadArithmetic)),
         (Modulo(0, 0), Not(Fault::BadArithmetic)),
-        // roots of 0, of 0.000001 and of the greatest number
         (Sqrt(0), Is(0)),
-        // between two millionths: cut, not rounded
         (Sqrt(1), Is(1_000)),
+        // between two millionths: cut, not rounded
         (Sqrt(2), Is(1_414)),
         (Sqrt(3), Is(1_732)),
         (Sqrt(2_000_000), Is(1_414_213)),

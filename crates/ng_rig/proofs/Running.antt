@@ -3,11 +3,8 @@ use Rattle.std.proofs.Common.{◌≡◌, inl, inr, ⊎_elim, ℕ, ◌==◌, if�
 use Rattle.std.proofs.lemmas.Bool.{cases_eq}
 use Rattle.std.proofs.lemmas.Bool.Decides.{nat_tests}
 use Rattle.ng_canon.specs.declared.item.Item.{Item}
-use Rattle.ng_rig.specs.Life.{Life, Began, Wrote, Perhaps, Synced, Handed, MayHold, reads, moment, IsStop, StopSince}
+use Rattle.ng_rig.specs.Life.{Image, Life, Began, Wrote, Perhaps, Synced, Handed, MayHold, reads, moment, IsStop, StopSince}
 use Rattle.ng_rig.specs.Onward.{Onward, IsSynced}
-
-abbrev Image : Type 0
-Image = ℕ → List ℕ
 
 -- a device as it reads is one of its stops
 pub may_hold-reads : (life : Life) (n : ℕ) → MayHold life n (reads life n)

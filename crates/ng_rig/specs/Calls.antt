@@ -1,4 +1,4 @@
--- What each call of a device leaves of its life.
+-- What each call of a device leaves of its life (own).
 use Rattle.std.specs.Prelude.{◌≡◌, ◌⊎◌, ℕ, ◌+◌, ◌%◌, ◌^◌, List, Result, Ok, Err}
 use Rattle.ng_canon.specs.declared.item.Item.{Item}
 use Rattle.ng_rig.specs.Life.{Life, Wrote, Perhaps, Synced, Handed}

@@ -1,4 +1,4 @@
--- A device that fails one call, once.
+-- A device that fails one call, once (own).
 use Rattle.std.specs.Prelude.{◌≡◌, ◌+◌, ◌-◌, ◌==◌, if◌then◌else◌, ℕ, Option, Some, None, Result, IsErr}
 use Rattle.ng_rig.specs.Calls.{Counts}
 use Rattle.ng_rig.specs.declared.fail.FailRig.{FailRig}

@@ -1,4 +1,4 @@
--- A device that passes some calls on, and then fails each one.
+-- A device that passes some calls on, and then fails each one (own).
 use Rattle.std.specs.Prelude.{◌≡◌, ◌<◌, ◌+◌, ℕ, Result, IsErr}
 use Rattle.ng_rig.specs.Calls.{Counts}
 use Rattle.ng_rig.specs.declared.fuse.FuseRig.{FuseRig}

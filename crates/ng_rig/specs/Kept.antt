@@ -1,7 +1,7 @@
--- The calls that a device in memory keeps, and its life by them.
+-- The calls that a device in memory keeps, and its life by them (own).
 use Rattle.std.specs.Prelude.{◌≡◌, ◌≢◌, ◌⊎◌, ◌<◌, ◌≤◌, ℕ, Bool, true, List, [], ◌∷◌, ◌++◌, length, take, drop, get_or, nat_lt}
 use Rattle.std.specs.List.{list_all}
-use Rattle.ng_rig.specs.Life.{Life, Began, Wrote, Synced, Handed}
+use Rattle.ng_rig.specs.Life.{Image, Life, Began, Wrote, Synced, Handed}
 use Rattle.ng_rig.specs.declared.call.Call.{Call}
 use Rattle.ng_rig.specs.declared.call.Call.TheVariants.{Write, Sync, Hand}
 
@@ -15,7 +15,7 @@ lived life [] = life
 lived life (call ∷ calls) = lived (after_call call life) calls
 
 -- what these sectors hold, and nothing past them
-abbrev pub contents : List (List ℕ) → ℕ → List ℕ
+abbrev pub contents : List (List ℕ) → Image
 contents sectors n = get_or sectors n []
 
 -- the life of a device of these sectors after these calls

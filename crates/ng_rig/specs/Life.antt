@@ -1,15 +1,15 @@
--- The life of a device, and the stops that it allows.
+-- The life of a device, and the stops that it allows (own).
 use Rattle.std.specs.Prelude.{◌≡◌, ◌⊎◌, ℕ, ◌+◌, ◌≤◌, ◌==◌, List, [], ◌∷◌, ◌++◌, if◌then◌else◌, nat_lt}
 use Rattle.ng_canon.specs.declared.item.Item.{Item}
 
--- what each sector holds
+-- what each sector holds; sectors past the size hold what they always held
 abbrev pub Image : Type 0
 Image = ℕ → List ℕ
 
 -- The writes, syncs and hand-outs of a device, the newest outermost.
 pub data Life : Type 0 where
   -- a device that holds this image, all of it synced, and has handed out nothing
-  Began : (ℕ → List ℕ) → Life
+  Began : Image → Life
   Wrote : ℕ → List ℕ → Life → Life
   -- a failed write that a read doesn't give, and a stop may leave
   Perhaps : ℕ → List ℕ → Life → Life
@@ -49,11 +49,11 @@ moment (Synced life) = moment life + 1
 moment (Handed item life) = moment life + 1
 
 -- what a stop may leave now: for each sector a free choice, and the items handed out so far
-abbrev pub IsStop : Life → (ℕ → List ℕ) → List Item → Type 0
+abbrev pub IsStop : Life → Image → List Item → Type 0
 IsStop life image handed = ((n : ℕ) → MayHold life n (image n)) × (handed ≡ items life)
 
 -- what a stop at some moment from t on might have left, within a call or between two
-abbrev pub StopSince : Life → ℕ → (ℕ → List ℕ) → List Item → Type 0
+abbrev pub StopSince : Life → ℕ → Image → List Item → Type 0
 StopSince (Began first) t image handed = IsStop (Began first) image handed
 StopSince (Wrote m bytes life) t image handed = IsStop (Wrote m bytes life) image handed ⊎ ((t ≤ moment life) × StopSince life t image handed)
 StopSince (Perhaps m bytes life) t image handed = IsStop (Perhaps m bytes life) image handed ⊎ ((t ≤ moment life) × StopSince life t image handed)

@@ -1,4 +1,4 @@
--- A device in memory as its callers see it.
+-- A device in memory as its callers see it (own).
 use Rattle.std.specs.Prelude.{ℕ, length}
 use Rattle.ng_rig.specs.Life.{Life}
 use Rattle.ng_rig.specs.Kept.{life_of}

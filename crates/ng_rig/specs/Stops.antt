@@ -1,6 +1,6 @@
 -- A stop by numbers: how many of its unsynced contents each sector keeps (own).
 use Rattle.std.specs.Prelude.{◌≡◌, ◌≤◌, ℕ, ◌+◌, ◌==◌, List, if◌then◌else◌, nat_lt, slice_index}
-use Rattle.ng_rig.specs.Life.{Life, Began, Wrote, Perhaps, Synced, Handed, reads, moment}
+use Rattle.ng_rig.specs.Life.{Image, Life, Began, Wrote, Perhaps, Synced, Handed, reads, moment}
 
 -- how many contents were written to a sector since the last sync
 abbrev pub unsynced : Life → ℕ → ℕ
@@ -19,11 +19,11 @@ kept (Synced life) n k = reads life n
 kept (Handed item life) n k = kept life n k
 
 -- what each sector holds by a list of such numbers, 0 past its end
-abbrev pub kept_image : Life → List ℕ → ℕ → List ℕ
+abbrev pub kept_image : Life → List ℕ → Image
 kept_image life keep n = kept life n (slice_index keep n)
 
 -- some list of numbers leaves this image, none of them above the number of calls
-pub record IsReached (life : Life) (image : ℕ → List ℕ) : Type 0 where
+pub record IsReached (life : Life) (image : Image) : Type 0 where
   pub keep : List ℕ
   pub is : kept_image life keep ≡ image
   pub small : (n : ℕ) → slice_index keep n ≤ moment life

@@ -25,7 +25,7 @@ pub struct MemoryRig<A: Allocator + Copy + Drop> {
 impl<A: Allocator + Copy + Drop> MemoryRig<A> {
     ghost use Rattle.std.specs.Prelude.{◌≡◌, ◌+◌, ◌%◌, ◌^◌, ℕ, List, IfOk, length, take, replicate};
     ghost use Rattle.ng_canon.specs.declared.item.Item.{Item};
-    ghost use Rattle.ng_rig.specs.Life.{Began, reads, items, moment, life_at, IsStop};
+    ghost use Rattle.ng_rig.specs.Life.{Image, Began, reads, items, moment, life_at, IsStop};
     ghost use Rattle.ng_rig.specs.Kept.{contents};
     ghost use Rattle.ng_rig.specs.Stops.{kept_image, IsReached};
     ghost use Rattle.ng_rig.specs.MemoryRig.{life_kept, sector_count, failure_count};
@@ -92,7 +92,7 @@ impl<A: Allocator + Copy + Drop> MemoryRig<A> {
             IsStop (life_at n (life_kept self.now)) (reads (life_kept rig)) (items (life_at n (life_kept self.now)))) }
 
         // and in every way that it allows
-        ensures every { (image : ℕ → List ℕ) (handed : List Item) →
+        ensures every { (image : Image) (handed : List Item) →
             IsStop (life_at n (life_kept self.now)) image handed → IsReached (life_at n (life_kept self.now)) image }
     {
         let image = stop_image(self.alloc, &self.first, self.before(n), keep)?;
