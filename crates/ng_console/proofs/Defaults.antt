@@ -6,7 +6,7 @@ use Rattle.ng_canon.specs.declared.geometry.Geometry.{Geometry}
 use Rattle.ng_block.specs.Dry.{Terms, Finishes, output_of}
 use Rattle.ng_block.specs.declared.ending.Ended.{Ended}
 use Rattle.ng_block.specs.declared.ending.DryFault.{DryFault}
-use Rattle.ng_console.specs.Status.{IsDefault, Reports, status_of}
+use Rattle.ng_console.specs.Status.{IsDryRun, status_of}
 
 abbrev terms_of : List ℤ → Geometry → Terms
 terms_of tools geometry = record { block_delete = false; tools = tools; geometry = geometry }
@@ -14,6 +14,6 @@ terms_of tools geometry = record { block_delete = false; tools = tools; geometry
 pub reports : (program old new : Option (List ℕ)) (tools : List ℤ) (geometry : Geometry) (ended : Result Ended DryFault) (status : ℕ)
     → tools ≡ pos 50_000_000 ∷ [] → IsStandard geometry → status ≡ status_of ended
     → IfSome program (λ p. Finishes old new (output_of (terms_of tools geometry) p) ended)
-    → IfSome program (λ p. (terms : Terms) × IsDefault terms × Reports old new (output_of terms p) status)
+    → IsDryRun program old new status
 reports None old new tools geometry ended status one standard is h = h
 reports (Some p) old new tools geometry ended status one standard is h = (terms_of tools geometry, (refl, one, standard), (ended, is, h))

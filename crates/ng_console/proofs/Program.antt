@@ -1,5 +1,5 @@
 -- Where clap finds no fault in a command line of `ngc`, it has met `dry`, with a value of PROGRAM.
-use Rattle.std.proofs.Common.{◌≡◌, ◌∙◌, ◌<◌, refl, sym, ap, subst, ℕ, Bool, true, false, List, [], ◌∷◌, length, Option, Some, None, is_some, codes, arith}
+use Rattle.std.proofs.Common.{◌≡◌, ◌∙◌, ◌<◌, refl, sym, ap, Bool, true, false, List, [], ◌∷◌, length, Option, Some, None, is_some, codes, arith}
 use Rattle.std.specs.Prelude.{◌&&◌, ◌||◌, not, slice_get, find, option_and_then, if◌then◌else◌}
 use Rattle.std.specs.Option.{option_map_or}
 use Rattle.std.specs.Prelude.{option_map, unwrap_or}
@@ -10,11 +10,11 @@ use Rattle.clap.specs.Facts.{explicit_source}
 use Rattle.clap.specs.Kinds.{Kinds, check_kinds, or_else}
 use Rattle.clap.specs.Simple.{Shape, argument_words, built, entered, label_of, matches_of, names_of, new_shape, rows_at, subcommand_of}
 use Rattle.clap.specs.Takes.{is_given}
-use Rattle.clap.specs.Walk.{Held, Names, Row, Rule, Text, answers_to, finished, first_of, nothing_held, rows_after, stop_after, walk}
+use Rattle.clap.specs.Walk.{Names, Row, Text, answers_to, first_of, nothing_held, rows_after, stop_after}
 use Rattle.ng_console.specs.Words.{Asks, HasFiles, ngc_app}
 use Rattle.ng_console.specs.declared.words.Job.{Job}
 use Rattle.ng_console.specs.declared.words.Job.TheVariants.{Dry}
-use Rattle.ng_console.proofs.Walked.{Full, program, help, rules, rows_full}
+use Rattle.ng_console.proofs.Walked.{Full, rules, rows_full}
 
 abbrev first_shape : List Shape → Shape
 first_shape [] = new_shape []

@@ -1,13 +1,13 @@
 -- A walk of `dry` over any words leaves no row without a value: nothing but words becomes a value of PROGRAM, and
 -- the help flag makes no row.
 use Rattle.std.proofs.Common.{ℕ, zero, suc, ◌<◌, ◌==◌, ◌≡◌, ◌++◌, Bool, true, false, List, [], ◌∷◌, length, Option, Some, None, drop, codes, refl, sym, ap, subst, ◌∙◌, arith}
-use Rattle.std.specs.Prelude.{fold, find, slice_get, encode_utf8, if◌then◌else◌}
+use Rattle.std.specs.Prelude.{fold, slice_get, encode_utf8, if◌then◌else◌}
 use Rattle.std.proofs.lemmas.List.{length-append}
 use Rattle.std.specs.Prelude.{◌&&◌, ◌||◌, ⊤}
 use Rattle.std.specs.Str.{bytes_eq, chars}
 use Rattle.clap.specs.Walk.{is_pending, takes_several}
 use Rattle.clap.specs.Lexer.{long_of, short_of}
-use Rattle.clap.specs.Walk.{Held, Outcome, Row, Rule, Step, Text, Waiting, Walk, after_flag, after_step, arg_by_id, arg_by_index, arg_by_long, arg_by_short, at_row, bundle_met, bundle_step, finished, long_met, long_or_other, more_values, nothing_held, option_word, plain_word, positional_held, pushed, reacted, rows_after, settled, settled_rows, short_met, short_or_plain, subcommand_met, subcommand_or_other, to_positional, used, used_by_id, walk, walk_from, walked, walked_from, with_default, with_values, without, word_met, has_row}
+use Rattle.clap.specs.Walk.{Held, Outcome, Row, Rule, Step, Text, Waiting, Walk, after_flag, after_step, arg_by_id, arg_by_index, arg_by_long, bundle_met, bundle_step, finished, long_met, long_or_other, more_values, nothing_held, option_word, plain_word, pushed, reacted, rows_after, settled, settled_rows, short_met, short_or_plain, subcommand_or_other, to_positional, used, used_by_id, walk, walk_from, walked, walked_from, with_default, with_values, without, word_met, has_row}
 use Rattle.clap.specs.Walk.{done, waits, plain, refused, idle, option, positional, next, trailing, subcommand, value}
 use Rattle.clap.specs.Simple.{filled, help_rule, with_index}
 use Rattle.clap.specs.declared.builder.value_parser.Reading.{Reading}

@@ -1,7 +1,6 @@
 //! The program: from its words to its exit status.
-ghost use Rattle.std.specs.Prelude.{◌≡◌, ◌≤◌, ◌∷◌, [], IfSome, map, pos};
-ghost use Rattle.ng_block.specs.Dry.{Terms, output_of};
-ghost use Rattle.ng_console.specs.Status.{IsDefault, Reports, status_of};
+ghost use Rattle.std.specs.Prelude.{◌≡◌, ◌⊎◌, ◌≤◌, ◌∷◌, [], IfErr, IfOk, map, pos};
+ghost use Rattle.ng_console.specs.Status.{IsDryRun, status_of};
 ghost use Rattle.ng_console.specs.Words.{Asks};
 
 use crate::words::{Job, words};
@@ -26,7 +25,8 @@ const BROKEN: u8 = 2;
 ///
 /// Words that are not text, and memory wanting for them, print nothing and give 2; for the rest see `ngc`.
 pub fn start<R: Env + Files + AllocGlobal, W: Write>(rt: &R, writer: &mut W) -> u8
-    ensures { result ≤ 2 }
+    ensures status { result ≤ 2 }
+    ensures run { (result ≡ 2) ⊎ ((file : R.File) × IsDryRun (R.File.remaining file) (W.contents writer.old) (W.contents writer.new) result) }
 {
     let Ok(given) = given_words(rt) else {
         return BROKEN;
@@ -54,6 +54,7 @@ fn given_words<R: Env + AllocGlobal>(rt: &R) -> io::Result<Vec<String>> {
 pub fn ngc<R: Files + AllocGlobal, W: Write>(rt: &R, given: &[&str], writer: &mut W) -> u8
     ensures status { result ≤ 2 }
     ensures refused { ((job : Job) → Asks (map (λ s. s.now) given.now) job → ⊥) → result ≡ 2 }
+    ensures run { (result ≡ 2) ⊎ ((file : R.File) × IsDryRun (R.File.remaining file) (W.contents writer.old) (W.contents writer.new) result) }
 {
     match words(rt.alloc(), given) {
         Ok(job) => carry_out(rt, job, writer),
@@ -67,13 +68,28 @@ pub fn ngc<R: Files + AllocGlobal, W: Write>(rt: &R, given: &[&str], writer: &mu
 
 /// Does a job, and gives the exit status.
 fn carry_out<R: Files + AllocGlobal, W: Write>(rt: &R, job: Job<'_>, writer: &mut W) -> u8
-    ensures { result ≤ 2 }
+    ensures status { result ≤ 2 }
+    ensures run { (result ≡ 2) ⊎ ((file : R.File) × IsDryRun (R.File.remaining file) (W.contents writer.old) (W.contents writer.new) result) }
 {
     match job {
-        Job::Dry { program } => match fs::open(rt, program) {
-            Ok(mut file) => run_dry(rt.alloc(), &mut file, writer),
-            Err(_) => BROKEN,
-        },
+        Job::Dry { program } => run_file(rt.alloc(), fs::open(rt, program), writer),
+    }
+}
+
+/// Runs the program of a file that was opened, as `run_dry` does. A file that could not be opened gives 2, and
+/// nothing is written.
+fn run_file<R: Read + Drop, W: Write, A: Allocator + Copy + Drop>(
+    alloc: A,
+    opened: io::Result<R>,
+    writer: &mut W,
+) -> u8
+    ensures opened { IfOk opened (λ file. IsDryRun (R.remaining file) (W.contents writer.old) (W.contents writer.new) result) }
+    ensures unopened { IfErr opened (λ _. (result ≡ 2) × (W.contents writer.new ≡ W.contents writer.old)) }
+    ensures range { result ≤ 2 }
+{
+    match opened {
+        Ok(mut file) => run_dry(alloc, &mut file, writer),
+        Err(_) => BROKEN,
     }
 }
 
@@ -84,8 +100,7 @@ pub fn run_dry<R: Read, W: Write, A: Allocator + Copy + Drop>(
     reader: &mut R,
     writer: &mut W,
 ) -> u8
-    ensures text { IfSome (R.remaining reader.old) (λ program. (terms : Terms) × IsDefault terms
-        × Reports (W.contents writer.old) (W.contents writer.new) (output_of terms program) result) }
+    ensures text { IsDryRun (R.remaining reader.old) (W.contents writer.old) (W.contents writer.new) result }
     ensures range { result ≤ 2 }
 {
     let ended = dry(
@@ -115,6 +130,6 @@ fn status(ended: &Result<Ended, DryFault>) -> u8
     match ended {
         Ok(Ended::Done) => DONE,
         Ok(Ended::Refused(_, _)) => REFUSED,
-        Err(_) => BROKEN,
+        Err(DryFault::Reader | DryFault::Writer | DryFault::Memory) => BROKEN,
     }
 }

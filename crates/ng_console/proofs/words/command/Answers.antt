@@ -1,10 +1,10 @@
-use Rattle.std.proofs.Common.{rules, ap, ap₂, refl, codes, ◌≡◌, ◌∙◌, true, false}
+use Rattle.std.proofs.Common.{ap, ap₂, codes, ◌≡◌, ◌∙◌, true, false}
 use Rattle.std.proofs.lemmas.Result.{IfOk-weaker}
-use Rattle.clap.specs.Words.{App, app_of, new_app, shape_of, with_subcommand}
+use Rattle.clap.specs.Words.{App, app_of, new_app, with_subcommand}
 use Rattle.clap.specs.Simple.{app_of_fields}
 use Rattle.clap.specs.declared.builder.command.Command.TheViews.{out-Command}
 use Rattle.clap.proofs.SimpleLemmas.{plain_fields}
-use Rattle.ng_console.specs.Words.{dry_app, ngc_app, only_by_subcommands}
+use Rattle.ng_console.specs.Words.{dry_app, only_by_subcommands}
 use Rattle.ng_console.proofs.words.command.Goals as goal
 
 pub returns : goal.returns

@@ -1,5 +1,5 @@
-use Rattle.std.proofs.Common.{rules, ap, refl, sym, codes, ◌≡◌, ◌∙◌, Some, is_some, option_map, true}
-use Rattle.clap.specs.Words.{first_of, first_value, found_of, rows_of}
+use Rattle.std.proofs.Common.{ap, sym, codes, ◌∙◌, option_map}
+use Rattle.clap.specs.Words.{found_of}
 use Rattle.clap.proofs.WalkLemmas.{first_value-rows}
 use Rattle.ng_console.proofs.words.dry_job.Goals as goal
 

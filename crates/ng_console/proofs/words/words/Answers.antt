@@ -1,5 +1,5 @@
-use Rattle.std.proofs.Common.{rules, ap, refl, subst, sym, codes, ◌≡◌, ◌∙◌, true, is_some, map, List, ℕ, [], Some, option_map, Bor}
-use Rattle.clap.specs.Words.{App, app_of, fault_of, is_simple, is_simple_and_free, subcommand_of, takes, found_of, rows_of, first_of, subcommand_rows_of}
+use Rattle.std.proofs.Common.{ap, subst, sym, codes, ◌≡◌, ◌∙◌, true, is_some, map, List, ℕ, [], Some, Bor}
+use Rattle.clap.specs.Words.{app_of, fault_of, is_simple, is_simple_and_free, subcommand_of, takes, found_of, rows_of, first_of, subcommand_rows_of}
 use Rattle.clap.proofs.TakesLemmas.{passed_up}
 use Rattle.ng_console.specs.Words.{ngc_app}
 use Rattle.ng_console.proofs.Program.{is_asked, is_plain, names_a_program, same_rows}
