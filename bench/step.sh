@@ -9,7 +9,8 @@ mkdir "$work/crates"
 for crate in ng_num ng_canon ng_step; do
     cp -r "$here/../crates/$crate" "$work/crates/"
 done
-cp -r "$here/step" "$work/crates/step_bench"
+mkdir -p "$work/crates/step_bench/src"
+cp "$here/step/pulses.rattle" "$work/crates/step_bench/src/main.rt"
 grep -E '^ng_(num|canon|step):' "$here/../crates.txt" > "$work/crates.txt"
 echo 'step_bench: ng_step ng_canon ng_num' >> "$work/crates.txt"
 echo 'the stepper:'
