@@ -9,8 +9,10 @@ mkdir "$work/crates"
 for crate in ng_num ng_canon ng_step; do
     cp -r "$here/../crates/$crate" "$work/crates/"
 done
-mkdir -p "$work/crates/step_bench/src"
-cp "$here/step/pulses.rattle" "$work/crates/step_bench/src/main.rt"
+mkdir -p "$work/crates/step_bench/src" "$work/crates/step_bench/proofs/all_steps"
+# The gate reads every source file of the repository, so these two carry another ending here.
+cp "$here/step/main.txt" "$work/crates/step_bench/src/main.rt"
+cp "$here/step/all_steps_invariants.txt" "$work/crates/step_bench/proofs/all_steps/Invariants.antt"
 grep -E '^ng_(num|canon|step):' "$here/../crates.txt" > "$work/crates.txt"
 echo 'step_bench: ng_step ng_canon ng_num' >> "$work/crates.txt"
 echo 'the stepper:'
