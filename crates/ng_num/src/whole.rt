@@ -1,6 +1,6 @@
 //! Whole numbers beside a number.
-ghost use Rattle.std.specs.Prelude.{◌≡◌, ◌≤◌, ℤ, neg_ℤ, unsigned_abs, IfSome, IfNone};
-ghost use Rattle.ng_num.specs.Range.{Answers, in_range};
+ghost use Rattle.std.specs.Prelude.{◌≡◌, ◌≤◌, ◌*◌, ℤ, pos, neg_ℤ, ◌*ℤ◌, unsigned_abs, IfSome, IfNone};
+ghost use Rattle.ng_num.specs.Range.{Answers, greatest, in_range};
 ghost use Rattle.ng_num.specs.Rounding.{near};
 ghost use Rattle.ng_num.specs.Whole.{IsClose, IsFix, IsFup, IsRound, fix, fup, round, whole_of};
 
@@ -37,23 +37,32 @@ impl Num {
         ensures value { result ≡ in_range (round self) }
         ensures nearest { Answers (IsRound self) result }
     {
-        Num::of_i64(self.nearest_whole() * ONE)
+        Num::of_i64(nearest_whole(self.count()) * ONE)
     }
 
     /// The whole number that the number counts as: the one within 0.0001 of it, exactly 0.0001 too (own).
+    #[inline]
     pub fn whole(self) -> Option<i64>
         ensures value { result ≡ whole_of self }
         ensures close { IfSome result (IsClose self) }
         ensures only { IfSome result (λ n. (other : ℤ) → IsClose self other → other ≡ n) }
         ensures none { IfNone result ((n : ℤ) → IsClose self n → ⊥) }
     {
-        let nearest = self.nearest_whole();
-        let rest = self.count() - nearest * ONE;
-        if rest.unsigned_abs() <= CLOSE {
-            Some(nearest)
-        } else {
-            None
-        }
+        close_whole(self.count())
+    }
+
+    /// The whole number of tenths that the number counts as: the one within 0.0001 of ten times the number, exactly
+    /// 0.0001 too (own). Ten times a number may be beyond the range of numbers; what is found is at most 100,000,000
+    /// in size.
+    #[inline]
+    pub fn whole_tenths(self) -> Option<i64>
+        ensures value { result ≡ whole_of (self *ℤ pos 10) }
+        ensures close { IfSome result (IsClose (self *ℤ pos 10)) }
+        ensures only { IfSome result (λ n. (other : ℤ) → IsClose (self *ℤ pos 10) other → other ≡ n) }
+        ensures none { IfNone result ((n : ℤ) → IsClose (self *ℤ pos 10) n → ⊥) }
+        ensures range { IfSome result (λ n. unsigned_abs n ≤ 100_000_000) }
+    {
+        close_whole(self.count() * 10)
     }
 
     /// The count of the greatest whole number not above the number.
@@ -64,19 +73,40 @@ impl Num {
         self.count() - self.count().rem_euclid(ONE)
     }
 
-    /// The whole number nearest to the number, halves away from zero.
-    fn nearest_whole(self) -> i64
-        ensures value { result ≡ near self 1_000_000 }
-        ensures range { unsigned_abs result ≤ 10_000_000 }
-    {
-        let size = nearest_size(self.size(), MILLION) as i64;
-        if self.count() < 0 { -size } else { size }
-    }
-
     /// The number of the same size and the other sign.
     fn minus(self) -> Num
         ensures { result ≡ neg_ℤ self }
     {
         Num::of_count(-self.count())
+    }
+}
+
+/// The whole number nearest to a count of millionths, halves away from zero.
+#[inline(always)]
+fn nearest_whole(count: i64) -> i64
+    requires { unsigned_abs count ≤ 10 * greatest }
+    ensures value { result ≡ near count 1_000_000 }
+    ensures range { unsigned_abs result ≤ 100_000_000 }
+{
+    let size = nearest_size(count.unsigned_abs(), MILLION) as i64;
+    if count < 0 { -size } else { size }
+}
+
+/// The whole number within 0.0001 of a count of millionths.
+#[inline]
+fn close_whole(count: i64) -> Option<i64>
+    requires { unsigned_abs count ≤ 10 * greatest }
+    ensures value { result ≡ whole_of count }
+    ensures close { IfSome result (IsClose count) }
+    ensures only { IfSome result (λ n. (other : ℤ) → IsClose count other → other ≡ n) }
+    ensures none { IfNone result ((n : ℤ) → IsClose count n → ⊥) }
+    ensures range { IfSome result (λ n. unsigned_abs n ≤ 100_000_000) }
+{
+    let nearest = nearest_whole(count);
+    let rest = count - nearest * ONE;
+    if rest.unsigned_abs() <= CLOSE {
+        Some(nearest)
+    } else {
+        None
     }
 }

@@ -1,2 +1,3 @@
 pub mod ClearLemmas
 pub mod ChangeLemmas
+pub mod AheadLemmas

@@ -69,6 +69,20 @@ impl<A: Allocator + Copy + Drop> Params<A> {
         }
     }
 
+    /// The value that a parameter will have once changes are made, in their order.
+    pub fn get_after(&self, index: Index, changes: &[Change]) -> Num
+        ensures { result ≡ at (with_changes self.now changes.now) index }
+    {
+        let number = index.number();
+        let mut value = self.values[number as usize - 1];
+        for change in changes {
+            if change.index.number() == number {
+                value = change.value;
+            }
+        }
+        value
+    }
+
     /// Makes all 0 but what outlives a program: the homes, the G92 offset, the number of the system in force and
     /// the origins (own).
     pub fn clear_passing(&mut self)

@@ -1,8 +1,10 @@
 //! The points among the parameters: homes, the stored G92 offset and origins, as lengths.
 ghost use Rattle.std.specs.Prelude.{◌≡◌, ◌≤◌};
+ghost use Rattle.ng_params.specs.Changes.{with_changes};
 ghost use Rattle.ng_params.specs.Numbers.{first_of_origin};
 ghost use Rattle.ng_params.specs.Points.{g92_stored, home, origin_of, point_at, second_home, with_g92, with_origin, with_point, with_system};
 
+use crate::change::Change;
 use crate::index::Index;
 use crate::params::Params;
 use crate::system::System;
@@ -90,6 +92,18 @@ impl<A: Allocator + Copy + Drop> Params<A> {
         ensures { result ≡ origin_of self.now system }
     {
         self.point_at(first_of_origin(system))
+    }
+
+    /// The origin that a system will have once changes are made, in their order.
+    pub fn origin_after(&self, system: System, changes: &[Change]) -> Point
+        ensures { result ≡ origin_of (with_changes self.now changes.now) system }
+    {
+        let first = first_of_origin(system);
+        Point {
+            x: length_of(self.get_after(Index::known(first), changes)),
+            y: length_of(self.get_after(Index::known(first + 1), changes)),
+            z: length_of(self.get_after(Index::known(first + 2), changes)),
+        }
     }
 
     /// Gives a system an origin (NISTIR 6556, 3.5.5: G10).
