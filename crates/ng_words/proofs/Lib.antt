@@ -1,5 +1,11 @@
 pub mod Round
 pub mod Numbers
-pub mod Words
+pub mod Walk
+pub mod ValueLaws
+pub mod PieceLaws
+pub mod Texts
+pub mod Places
 pub mod Lines
 pub mod ReadLaws
+pub mod Kept
+pub mod Adding

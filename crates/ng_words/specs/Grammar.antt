@@ -3,6 +3,10 @@ use Rattle.std.specs.Prelude.{ℕ, ◌+◌, ◌-◌, ◌*◌, ◌^◌, ◌<◌, 
 use Rattle.ng_num.specs.Rounding.{nearest}
 use Rattle.ng_num.specs.Range.{greatest}
 use Rattle.ng_words.specs.Plain.{plain}
+use Rattle.ng_words.specs.declared.tree.Operation.{Operation}
+use Rattle.ng_words.specs.declared.tree.Operation.TheVariants.{Power, Times, Over, Modulo, Plus, Minus, Or, Xor, And}
+use Rattle.ng_words.specs.declared.tree.Function.{Function}
+use Rattle.ng_words.specs.declared.tree.Function.TheVariants.{Abs, Fix, Fup, Round, Sqrt}
 use Rattle.ng_words.specs.declared.letter.Letter.{Letter}
 use Rattle.ng_words.specs.declared.letter.Letter.TheVariants.{A, B, C, D, F, G, H, I, J, K, L, M, P, Q, R, S, T, X, Y, Z}
 
@@ -45,57 +49,37 @@ count_of z = if nat_le (unsigned_abs z) greatest then Some z else None
 
 -- ---- values and chains (3.3.2.2 to 3.3.2.4)
 
--- what joins the values of a chain, the tightest first
-pub data Operation : Type 0 where
-  power : Operation
-  times : Operation
-  over : Operation
-  modulo : Operation
-  plus : Operation
-  minus : Operation
-  or : Operation
-  xor : Operation
-  and : Operation
-
--- its bytes
+-- an operation's bytes
 abbrev pub symbol : Operation → List ℕ
-symbol power = codes "**"
-symbol times = codes "*"
-symbol over = codes "/"
-symbol modulo = codes "MOD"
-symbol plus = codes "+"
-symbol minus = codes "-"
-symbol or = codes "OR"
-symbol xor = codes "XOR"
-symbol and = codes "AND"
+symbol Power = codes "**"
+symbol Times = codes "*"
+symbol Over = codes "/"
+symbol Modulo = codes "MOD"
+symbol Plus = codes "+"
+symbol Minus = codes "-"
+symbol Or = codes "OR"
+symbol Xor = codes "XOR"
+symbol And = codes "AND"
 
 -- how loosely it binds
 abbrev pub level : Operation → ℕ
-level power = 1
-level times = 2
-level over = 2
-level modulo = 2
-level plus = 3
-level minus = 3
-level or = 3
-level xor = 3
-level and = 3
+level Power = 1
+level Times = 2
+level Over = 2
+level Modulo = 2
+level Plus = 3
+level Minus = 3
+level Or = 3
+level Xor = 3
+level And = 3
 
--- the functions; the others of the manual are left out (own)
-pub data Function : Type 0 where
-  abs : Function
-  fix : Function
-  fup : Function
-  round : Function
-  sqrt : Function
-
--- its name's bytes
+-- a function's name; the others of the manual are left out (own)
 abbrev pub name : Function → List ℕ
-name abs = codes "ABS"
-name fix = codes "FIX"
-name fup = codes "FUP"
-name round = codes "ROUND"
-name sqrt = codes "SQRT"
+name Abs = codes "ABS"
+name Fix = codes "FIX"
+name Fup = codes "FUP"
+name Round = codes "ROUND"
+name Sqrt = codes "SQRT"
 
 -- how a value is built: a number (nothing where it is out of range), a parameter's value, a chain in brackets,
 -- a function of a chain, two parts of a chain

@@ -1,5 +1,12 @@
 pub mod Plain
 pub mod Grammar
 pub mod Scan
-pub mod Lines
+pub mod Values
+pub mod Pieces
 pub mod Reading
+pub mod Kept
+pub mod Lines
+pub mod Items
+pub mod Kinds
+pub mod Comments
+pub mod Walks

@@ -28,3 +28,8 @@ IsOutside (b ∷ bs) = b ≢ 40
 abbrev pub AtPlain : List ℕ → Type 0
 AtPlain [] = Unit {0}
 AtPlain (b ∷ bs) = is_blank b ≡ false
+
+-- no comment begins in a text
+abbrev pub HasNoComment : List ℕ → Type 0
+HasNoComment [] = Unit {0}
+HasNoComment (b ∷ bs) = (b ≢ 40) × HasNoComment bs

@@ -1,10 +1,9 @@
 -- What stands at the front of a list of bytes, and what is left: functions that the readers compute.
 use Rattle.std.specs.Prelude.{ℕ, ◌+◌, ◌-◌, ◌*◌, ◌/◌, List, [], ◌∷◌, length, Bool, true, false, ◌||◌, ◌&&◌, ◌==◌, ℤ, pos, neg_ℤ, Option, Some, None, if◌then◌else◌, nat_lt, min}
-use Rattle.std.specs.Option.{option_map, option_and_then}
+use Rattle.std.specs.Option.{option_map}
 use Rattle.ng_words.specs.Grammar.{is_digit, count_of, code}
 use Rattle.ng_words.specs.declared.letter.Letter.{Letter}
 use Rattle.ng_words.specs.declared.letter.Letter.TheVariants.{A, B, C, D, F, G, H, I, J, K, L, M, P, Q, R, S, T, X, Y, Z}
-use Rattle.ng_words.specs.declared.line.Word.{Word}
 
 abbrev pub front_digits : List ℕ → List ℕ
 front_digits [] = []
@@ -68,11 +67,6 @@ letter_among b (l ∷ ls) = if b == code l then Some l else letter_among b ls
 -- the letter that a byte is
 abbrev pub letter_of : ℕ → Option Letter
 letter_of b = letter_among b letters
-
--- the word with a plain number at the front, and what follows
-abbrev pub word_at : List ℕ → Option (Word × List ℕ)
-word_at [] = None
-word_at (b ∷ bs) = option_and_then (λ letter. option_map (λ v. (record { letter = letter; value = v.0 }, v.1)) (number_at bs)) (letter_of b)
 
 -- whether a slash comes first, and what follows it
 abbrev pub slash_at : List ℕ → Bool × List ℕ

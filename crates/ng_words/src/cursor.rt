@@ -1,7 +1,10 @@
-ghost use Rattle.std.specs.Prelude.{◌≡◌, ◌≢◌, [], ◌∷◌, Some, None, MatchOption, IsTrue, ◌↔◌, drop, false};
-ghost use Rattle.ng_words.specs.Plain.{plain, is_blank, capital, StartsWithByte, IsOutside, AtPlain};
+ghost use Rattle.std.specs.Prelude.{◌≡◌, ◌≢◌, [], ◌∷◌, Some, None, MatchOption, MatchBool, IsTrue, ◌↔◌, drop, true, false};
+ghost use Rattle.ng_words.specs.Plain.{plain, is_blank, capital, StartsWithByte, IsOutside, AtPlain, HasNoComment};
 ghost use Rattle.ng_words.specs.Grammar.{is_digit};
 ghost use Rattle.ng_words.specs.Scan.{front_digits, after_digits};
+ghost use Rattle.ng_words.specs.Values.{behind};
+ghost use Rattle.ng_words.specs.Pieces.{comment_at};
+ghost use Rattle.ng_words.specs.Walks.{ClosesAt};
 
 use std::marker::Model;
 
@@ -23,14 +26,14 @@ impl<'a> Model for Cursor<'a> {
 }
 
 #[inline]
-fn is_blank(byte: u8) -> bool
+pub(crate) fn is_blank(byte: u8) -> bool
     ensures { result ≡ is_blank byte }
 {
     byte == b' ' || byte == b'\t'
 }
 
 #[inline]
-fn capital(byte: u8) -> u8
+pub(crate) fn capital(byte: u8) -> u8
     ensures { result ≡ capital byte }
 {
     if b'a' <= byte && byte <= b'z' {
@@ -61,6 +64,22 @@ fn skip_blanks(bytes: &[u8]) -> &[u8]
         rest = others;
     }
     rest
+}
+
+/// How many bytes stand before the closing parenthesis of a comment.
+#[inline]
+fn comment_length(bytes: &[u8]) -> Option<usize>
+    ensures { MatchOption result (comment_at (plain true bytes.now) ≡ None) (λ n. ClosesAt bytes.now n) }
+{
+    for (i, byte) in bytes.iter().enumerate() {
+        if *byte == b')' {
+            return Some(i);
+        }
+        if *byte == b'(' {
+            return None;
+        }
+    }
+    None
 }
 
 impl<'a> Cursor<'a> {
@@ -113,12 +132,42 @@ impl<'a> Cursor<'a> {
         ensures { MatchOption result ((front_digits self.old ≡ []) × (after_digits self.old ≡ self.old) × (self.new ≡ self.old))
             (λ b. (self.old ≡ b ∷ self.new) × IsTrue (is_digit b)) }
     {
-        match self.peek() {
-            Some(b) if is_digit(b) => {
-                self.advance();
-                Some(b)
+        match self.rest.split_first() {
+            Some((first, others)) if is_digit(*first) => {
+                let digit = *first;
+                self.rest = skip_blanks(others);
+                Some(digit)
             }
             _ => None,
         }
+    }
+
+    /// Steps over a text, where it comes next; answers whether it does.
+    pub(crate) fn skip(&mut self, text: &[u8]) -> bool
+        requires { HasNoComment text.now }
+        ensures { MatchBool result (behind text.now self.old ≡ Some self.new) ((behind text.now self.old ≡ None) × (self.new ≡ self.old)) }
+    {
+        let mut ahead = Cursor { rest: self.rest };
+        for expected in text {
+            if ahead.peek() != Some(*expected) {
+                return false;
+            }
+            ahead.advance();
+        }
+        self.rest = ahead.rest;
+        true
+    }
+
+    /// Takes the comment whose opening parenthesis comes next: its bytes. After none the cursor stays.
+    pub(crate) fn comment(&mut self) -> Option<&'a [u8]>
+        requires { StartsWithByte self.old 40 }
+        ensures { MatchOption result (comment_at (drop 1 self.old) ≡ None) (λ text. comment_at (drop 1 self.old) ≡ Some (text.now, self.new)) }
+    {
+        let (_, bytes) = self.rest.split_first()?;
+        let n = comment_length(bytes)?;
+        let (text, _) = bytes.split_at(n);
+        let (_, others) = bytes.split_at(n + 1);
+        self.rest = skip_blanks(others);
+        Some(text)
     }
 }

@@ -1,20 +1,28 @@
 //! Lines of a program: the grammar of a line, and its words.
 //!
 //! A line is read in one pass into places that its caller keeps, so that reading takes no memory. What is read
-//! is exactly what the grammar of `specs/Grammar.antt` says, and nothing else is read; the grammar is that of the
-//! whole language, of which today's reader takes lines of words with plain numbers, `IsBuilt` of
-//! `specs/Lines.antt`, and refuses the rest. A number's value is rounded by `ng_num`'s rule. What words mean is
-//! left to the crates above.
+//! is exactly what the grammar of `specs/Grammar.antt` says, that of the whole language, and nothing else is read.
+//! A value is kept as the list of its tree's nodes, each behind its parts. A number's value is rounded by
+//! `ng_num`'s rule. What words mean is left to the crates above.
 #![tactic(auto)]
 
+mod comment;
 mod cursor;
+mod item;
 mod letter;
 mod line;
 mod number;
+mod pieces;
+mod reading;
 mod start;
 #[cfg(test)]
 mod tests;
+mod tree;
+mod value;
 
+pub use comment::message;
 pub use letter::Letter;
-pub use line::{Line, WORDS, Word, read_line};
-pub use start::is_deletable;
+pub use line::{Line, PIECES, read_line};
+pub use pieces::{Piece, Pieces};
+pub use start::{Kind, is_deletable, kind_of};
+pub use tree::{Function, NODES, Node, Operation, Tree};

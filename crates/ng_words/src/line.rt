@@ -1,125 +1,158 @@
-ghost use Rattle.std.specs.Prelude.{◌≡◌, false, ◌+◌, ◌*◌, ◌≤◌, ◌<◌, ◌↔◌, ◌⊎◌, ◌++◌, [], length, Some, None, Ok, Err, MatchOption, MatchResult, MatchBool, OnOk, OnErr, IfOk, IfErr, IsErrOf};
-ghost use Rattle.ng_words.specs.Scan.{word_at};
+ghost use Rattle.std.specs.Prelude.{◌≡◌, ◌<◌, ◌≤◌, ◌↔◌, ◌⊎◌, [], false, length, None, Ok, Err, MatchResult, MatchOption, OnOk, OnErr, IfOk, IfErr, IfSome, IsErrOf};
 ghost use Rattle.ng_words.specs.Grammar.{Written, IsLine};
-ghost use Rattle.ng_words.specs.Lines.{reading_of, written_of, IsBuilt};
-ghost use Rattle.ng_words.specs.Reading.{words_at, read};
+ghost use Rattle.ng_words.specs.Reading.{read};
+ghost use Rattle.ng_words.specs.Kept.{pieces_by, written_by};
+ghost use Rattle.ng_words.specs.Items.{last_size};
+ghost use Rattle.ng_words.specs.Lines.{last_comment};
 
 use crate::cursor::Cursor;
-use crate::letter::{Letter, letter_of};
-use crate::number::number;
+use crate::item::Item;
+use crate::pieces::Pieces;
+use crate::reading::read_pieces;
 use crate::start::{block_number, slash};
+use crate::tree::{NODES, Node};
+use crate::value::Stack;
 use arrayvec::ArrayVec;
-use ng_num::{Fault, Num};
+use ng_num::Fault;
+use std::marker::Model;
 
-/// The most words that a line has: each has two bytes at least, and a line at most 256.
-pub const WORDS: usize = 128;
+/// The most pieces that a line has: each has two bytes at least, and a line at most 256.
+pub const PIECES: usize = 128;
 
 /// The most bytes that a line has.
-const BYTES: usize = 256;
+pub(crate) const BYTES: usize = 256;
 
-/// A word of a line (NISTIR 6556, 3.3.2): a letter and a number.
+/// A line that was read (NISTIR 6556, 3.3): whether a slash comes first, its block number, its pieces.
 ///
-/// The value is a count of millionths, or none where the number written is out of the range of numbers: such a
-/// word reads, and whoever takes its value refuses it (own).
-#[derive(Clone, Copy, Debug, PartialEq, Eq)]
-pub struct Word {
-    pub letter: Letter,
-    pub value: Option<Num>,
-}
-
-impl Default for Word {
-    fn default() -> Self {
-        Word {
-            letter: Letter::A,
-            value: None,
-        }
-    }
-}
-
-/// A line that was read (NISTIR 6556, 3.3).
-#[derive(Debug, Drop)]
+/// It keeps them in places of its own, a fixed number of them, which serve any number of lines, one after the other.
+#[derive(Drop)]
 pub struct Line {
-    /// Whether it begins with the slash of block delete.
-    pub deletable: bool,
-    /// Its block number, at most 99,999, where it has one.
-    pub number: Option<u32>,
-    /// Its words, in order.
-    pub words: ArrayVec<Word, WORDS>,
+    deletable: bool,
+    number: Option<u32>,
+    items: ArrayVec<Item, PIECES>,
+    /// The nodes of all values, in order.
+    nodes: ArrayVec<Node, NODES>,
+    /// The bytes of all comments, in order.
+    bytes: ArrayVec<u8, BYTES>,
+    /// What waits while a value is read; nothing between lines.
+    stack: Stack,
+}
+
+impl Model for Line {
+    ghost use Rattle.ng_words.specs.Kept.{LinePlaces, IsKept};
+
+    ghost Value = { LinePlaces };
+
+    ghost view = { λ l. record { deletable = l.deletable; number = l.number; places = record { items = l.items.items; nodes = l.nodes.items; bytes = l.bytes.items } } };
+
+    ghost invariant = { λ l. IsKept (record { items = l.items.items; nodes = l.nodes.items; bytes = l.bytes.items }) };
 }
 
 impl Line {
-    /// A line with nothing on it. Its places serve any number of lines, one after the other (own).
+    ghost use Rattle.ng_words.specs.Lines.{blank};
+
+    /// A line with nothing on it.
     pub fn new() -> Line
-        ensures deletable { result.deletable ≡ false }
-        ensures number { result.number ≡ None }
-        ensures words { result.words.items ≡ [] }
+        ensures { written_by result ≡ blank }
     {
         Line {
             deletable: false,
             number: None,
-            words: ArrayVec::new(),
+            items: ArrayVec::new(),
+            nodes: ArrayVec::new(),
+            bytes: ArrayVec::new(),
+            stack: ArrayVec::new(),
         }
     }
 
     /// Reads a line, without its end, into the places of this one.
     ///
-    /// E2 where the text has over 256 bytes, else E1 where it isn't in the grammar, or not in the part of it
-    /// that is read today (words with plain numbers). After an error this line may hold anything. Source:
-    /// NISTIR 6556, 3.3; the faults are own.
+    /// E2 where the text has over 256 bytes, else E1 where it isn't in the grammar. After an error nothing is on
+    /// this line. Source: NISTIR 6556, 3.3; the faults are own.
     pub fn read(&mut self, text: &[u8]) -> Result<(), Fault>
-        ensures value { MatchResult result (λ _. read text.now ≡ Ok (reading_of self.new)) (λ e. read text.now ≡ Err e) }
-        ensures reads { OnOk result (IsLine text.now (written_of (reading_of self.new))) }
-        ensures only { OnOk result ((line : Written) → IsLine text.now line → line ≡ written_of (reading_of self.new)) }
-        ensures none { OnErr result ((line : Written) → IsLine text.now line → IsBuilt line → ⊥) }
+        ensures value { MatchResult result (λ _. read text.now ≡ Ok (written_by self.new)) (λ e. read text.now ≡ Err e) }
+        ensures reads { OnOk result (IsLine text.now (written_by self.new)) }
+        ensures only { OnOk result ((line : Written) → IsLine text.now line → line ≡ written_by self.new) }
+        ensures none { OnErr result ((line : Written) → IsLine text.now line → ⊥) }
         ensures too_long { IsErrOf result Fault.LineTooLong ↔ (256 < length text.now) }
         ensures errors { IfErr result (λ e. (e ≡ Fault.LineTooLong) ⊎ (e ≡ Fault.Unreadable)) }
+        ensures cleared { OnErr result (written_by self.new ≡ blank) }
     {
+        self.deletable = false;
+        self.number = None;
+        self.items.clear();
+        self.nodes.clear();
+        self.bytes.clear();
         if text.len() > BYTES {
             return Err(Fault::LineTooLong);
         }
         let mut cursor = Cursor::new(text);
-        self.words.clear();
-        self.deletable = slash(&mut cursor);
-        match block_number(&mut cursor) {
-            Some(number) => self.number = number,
+        let deletable = slash(&mut cursor);
+        let number = match block_number(&mut cursor) {
+            Some(number) => number,
             None => return Err(Fault::Unreadable),
+        };
+        if !read_pieces(
+            &mut cursor,
+            &mut self.items,
+            &mut self.nodes,
+            &mut self.bytes,
+            &mut self.stack,
+        ) {
+            return Err(Fault::Unreadable);
         }
-        if self.read_words(&mut cursor) {
-            Ok(())
-        } else {
-            Err(Fault::Unreadable)
+        self.deletable = deletable;
+        self.number = number;
+        Ok(())
+    }
+
+    /// Whether it begins with the slash of block delete.
+    pub fn is_deletable(&self) -> bool
+        ensures { result ≡ self.now.deletable }
+    {
+        self.deletable
+    }
+
+    /// Its block number, at most 99,999, where it has one.
+    pub fn number(&self) -> Option<u32>
+        ensures { result ≡ self.now.number }
+    {
+        self.number
+    }
+
+    /// Its pieces, from the first on.
+    pub fn pieces(&self) -> Pieces<'_>
+        ensures places { result ≡ self.now.places }
+        ensures few { length (pieces_by result) ≤ 128 }
+    {
+        Pieces {
+            items: self.items.as_slice(),
+            nodes: self.nodes.as_slice(),
+            bytes: self.bytes.as_slice(),
         }
     }
 
-    /// Takes all words, up to the line's end; answers whether what was left is made of words.
-    fn read_words(&mut self, cursor: &mut Cursor<'_>) -> bool
-        requires empty { self.old.words.items ≡ [] }
-        requires short { length cursor.old ≤ 256 }
-        ensures words { MatchBool result (words_at (length cursor.old) cursor.old ≡ Some self.new.words.items)
-            (words_at (length cursor.old) cursor.old ≡ None) }
-        ensures deletable { self.new.deletable ≡ self.old.deletable }
-        ensures number { self.new.number ≡ self.old.number }
+    /// The bytes between the parentheses of its last comment, which alone counts (NISTIR 6556, 3.3.4).
+    pub fn last_comment(&self) -> Option<&[u8]>
+        ensures few { IfSome result (λ text. length text.now ≤ 256) }
+        ensures text { MatchOption result (last_comment (pieces_by self.now.places) ≡ None) (λ text. last_comment (pieces_by self.now.places) ≡ Some text.now) }
     {
-        while !cursor.is_empty() {
-            match take_word(cursor) {
-                Some(Word { letter, value }) => self.words.push(Word { letter, value }),
-                None => return false,
-            }
+        match last_length(self.items.as_slice()) {
+            Some(n) => Some(&self.bytes.as_slice()[self.bytes.len() - n as usize..]),
+            None => None,
         }
-        true
     }
 }
 
-/// Reads a line, without its end: its words, where it has some in the grammar.
+/// Reads a line, without its end: what is on it, where it is in the grammar.
 ///
-/// E2 where the text has over 256 bytes, else E1 where it isn't in the grammar, or not in the part of it that
-/// is read today (words with plain numbers). Each call fills a new line; `Line::read` spares that. Source:
-/// NISTIR 6556, 3.3; the faults are own.
+/// E2 where the text has over 256 bytes, else E1 where it isn't in the grammar. Each call fills a new line;
+/// `Line::read` spares that. Source: NISTIR 6556, 3.3; the faults are own.
 pub fn read_line(text: &[u8]) -> Result<Line, Fault>
-    ensures value { MatchResult result (λ line. read text.now ≡ Ok (reading_of line)) (λ e. read text.now ≡ Err e) }
-    ensures reads { IfOk result (λ line. IsLine text.now (written_of (reading_of line))) }
-    ensures only { IfOk result (λ line. (other : Written) → IsLine text.now other → other ≡ written_of (reading_of line)) }
-    ensures none { OnErr result ((line : Written) → IsLine text.now line → IsBuilt line → ⊥) }
+    ensures value { MatchResult result (λ line. read text.now ≡ Ok (written_by line)) (λ e. read text.now ≡ Err e) }
+    ensures reads { IfOk result (λ line. IsLine text.now (written_by line)) }
+    ensures only { IfOk result (λ line. (other : Written) → IsLine text.now other → other ≡ written_by line) }
+    ensures none { OnErr result ((line : Written) → IsLine text.now line → ⊥) }
     ensures too_long { IsErrOf result Fault.LineTooLong ↔ (256 < length text.now) }
     ensures errors { IfErr result (λ e. (e ≡ Fault.LineTooLong) ⊎ (e ≡ Fault.Unreadable)) }
 {
@@ -130,13 +163,15 @@ pub fn read_line(text: &[u8]) -> Result<Line, Fault>
     }
 }
 
-/// Takes the word that comes next.
-#[inline]
-fn take_word(cursor: &mut Cursor<'_>) -> Option<Word>
-    ensures { MatchOption result (word_at cursor.old ≡ None) (λ w. word_at cursor.old ≡ Some (w, cursor.new)) }
+/// How many bytes the last comment among some items has.
+fn last_length(items: &[Item]) -> Option<u16>
+    ensures { result ≡ last_size items.now }
 {
-    let letter = letter_of(cursor.peek()?)?;
-    cursor.advance();
-    let value = number(cursor)?;
-    Some(Word { letter, value })
+    let mut last = None;
+    for item in items {
+        if let Item::Comment(n) = item {
+            last = Some(*n);
+        }
+    }
+    last
 }

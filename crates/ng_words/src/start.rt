@@ -1,5 +1,6 @@
 ghost use Rattle.std.specs.Prelude.{false, ◌≡◌, Some, None, MatchOption};
 ghost use Rattle.ng_words.specs.Plain.{plain};
+ghost use Rattle.ng_words.specs.Kinds.{kind_of};
 ghost use Rattle.ng_words.specs.Scan.{front_digits, after_digits, slash_at, numbered, block_number_at};
 
 use crate::cursor::Cursor;
@@ -27,6 +28,39 @@ pub fn is_deletable(text: &[u8]) -> bool
     ensures { result ≡ (slash_at (plain false text.now)).0 }
 {
     slash(&mut Cursor::new(text))
+}
+
+/// What kind of line a text is, as far as the bounds of a program go.
+#[derive(Clone, Copy, Debug, PartialEq, Eq)]
+pub enum Kind {
+    /// Nothing stands on it but blanks.
+    Blank,
+    /// A percent sign alone, which begins and ends a program.
+    Percent,
+    /// Anything else.
+    Other,
+}
+
+/// What kind of line a text is: blank, a percent sign alone, or another.
+///
+/// Percent signs on lines of their own bound a program (NISTIR 6556, 3.3); that blanks and tabs beside the sign,
+/// and on a blank line, don't count is own.
+pub fn kind_of(text: &[u8]) -> Kind
+    ensures { result ≡ kind_of text.now }
+{
+    let mut cursor = Cursor::new(text);
+    match cursor.peek() {
+        None => Kind::Blank,
+        Some(b'%') => {
+            cursor.advance();
+            if cursor.is_empty() {
+                Kind::Percent
+            } else {
+                Kind::Other
+            }
+        }
+        Some(_) => Kind::Other,
+    }
 }
 
 /// Takes one to five digits.

@@ -1,0 +1,52 @@
+-- What comes first is taken from the places, and what is left is kept.
+use Rattle.std.proofs.Common.{ℕ, ◌≤◌, List, length, take, drop, ap, sym, subst, ◌∙◌, arith, length-drop}
+use Rattle.ng_words.specs.Kept.{IsTree, IsKept}
+use Rattle.ng_words.specs.declared.tree.Node.{Node}
+use Rattle.ng_words.proofs.Kept.{kept_word, kept_setting, kept_comment}
+use Rattle.ng_words.proofs.pieces.Pieces.next.Goals as goal
+
+pub split_tree-value-requires-clause-within : goal.split_tree-value-requires-clause-within
+split_tree-value-requires-clause-within c = (kept_word _ _ _ _ _ c.self.invariant.0 c.in_ok-item.ensures.cases.0 c.in-Word.is).within
+
+pub split_tree-value-requires-clause-tree : goal.split_tree-value-requires-clause-tree
+split_tree-value-requires-clause-tree c = (kept_word _ _ _ _ _ c.self.invariant.0 c.in_ok-item.ensures.cases.0 c.in-Word.is).tree
+
+pub invariant_of-self : goal.invariant_of-self
+invariant_of-self c =
+    let first = kept_word _ _ _ _ _ c.self.invariant.0 c.in_ok-item.ensures.cases.0 c.in-Word.is in
+    let rest = c.split_tree-value.ensures.rest in (
+      subst (λ (nodes : List Node). IsKept (record { items = c.in_ok-item.others.now; nodes = nodes; bytes = c.self.inside.bytes.now })) (sym rest) first.kept,
+      omega (arith, c.self.invariant.1, ap length rest, length-drop c.in-Word.n c.self.inside.nodes.now),
+    )
+
+pub split_tree-index-requires-clause-within : goal.split_tree-index-requires-clause-within
+split_tree-index-requires-clause-within c = (kept_setting _ _ _ _ _ c.self.invariant.0 c.in_ok-item.ensures.cases.0 c.in-Setting.is).index_within
+
+pub split_tree-index-requires-clause-tree : goal.split_tree-index-requires-clause-tree
+split_tree-index-requires-clause-tree c = (kept_setting _ _ _ _ _ c.self.invariant.0 c.in_ok-item.ensures.cases.0 c.in-Setting.is).index
+
+pub split_tree-value-requires-in-Setting-clause-within : goal.split_tree-value-requires-in-Setting-clause-within
+split_tree-value-requires-in-Setting-clause-within c =
+    subst (λ (nodes : List Node). c.in-Setting.n ≤ length nodes) (sym c.split_tree-index.ensures.rest) (kept_setting _ _ _ _ _ c.self.invariant.0 c.in_ok-item.ensures.cases.0 c.in-Setting.is).value_within
+
+pub split_tree-value-requires-in-Setting-clause-tree : goal.split_tree-value-requires-in-Setting-clause-tree
+split_tree-value-requires-in-Setting-clause-tree c =
+    subst (λ (nodes : List Node). IsTree (take c.in-Setting.n nodes)) (sym c.split_tree-index.ensures.rest) (kept_setting _ _ _ _ _ c.self.invariant.0 c.in_ok-item.ensures.cases.0 c.in-Setting.is).value
+
+pub invariant_of-self-in-Setting : goal.invariant_of-self-in-Setting
+invariant_of-self-in-Setting c =
+    let first = kept_setting _ _ _ _ _ c.self.invariant.0 c.in_ok-item.ensures.cases.0 c.in-Setting.is in
+    let rest = c.split_tree-value-in-Setting.ensures.rest ∙ ap (drop c.in-Setting.n) c.split_tree-index.ensures.rest in (
+      subst (λ (nodes : List Node). IsKept (record { items = c.in_ok-item.others.now; nodes = nodes; bytes = c.self.inside.bytes.now })) (sym rest) first.kept,
+      omega (arith, c.self.invariant.1, ap length rest, length-drop c.in-Setting.n (drop c.in-Setting.i c.self.inside.nodes.now), length-drop c.in-Setting.i c.self.inside.nodes.now),
+    )
+
+pub split_at-requires : goal.split_at-requires
+split_at-requires c = (kept_comment _ _ _ _ c.self.invariant.0 c.in_ok-item.ensures.cases.0 c.in-Comment.is).within
+
+pub invariant_of-self-in-Comment : goal.invariant_of-self-in-Comment
+invariant_of-self-in-Comment c = (
+  subst (λ (bytes : List ℕ). IsKept (record { items = c.in_ok-item.others.now; nodes = c.self.inside.nodes.now; bytes = bytes })) (sym c.split_at.ensures.back)
+      (kept_comment _ _ _ _ c.self.invariant.0 c.in_ok-item.ensures.cases.0 c.in-Comment.is).kept,
+  c.self.invariant.1,
+)

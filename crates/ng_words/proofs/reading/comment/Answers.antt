@@ -1,0 +1,14 @@
+use Rattle.std.proofs.Common.{arith, length, ◌+◌, ◌≡◌}
+use Rattle.ng_words.proofs.Adding.{comment_size}
+use Rattle.ng_words.proofs.reading.comment.Goals as goal
+
+pub unwrap-requires : goal.unwrap-requires
+unwrap-requires c =
+    let size = comment_size _ _ _ c.requires.begins c.in-Some.ensures in c.try_extend_from_slice.ensures.variant.1 (omega (arith, c.requires.room))
+
+pub returns-in-Some-clause-room : goal.returns-in-Some-clause-room
+returns-in-Some-clause-room c =
+    let size : length c.in-Some.text.now + length c.comment.new.self + 2 ≡ length c.args.cursor.now = comment_size _ _ _ c.requires.begins c.in-Some.ensures in
+    let longer : length c.try_extend_from_slice.new.self.items ≡ length c.args.bytes.now.items + length c.in-Some.text.now =
+    (rw c.unwrap.ensures at c.try_extend_from_slice.ensures.len) in
+    λ t. omega arith

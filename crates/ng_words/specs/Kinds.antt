@@ -1,0 +1,14 @@
+-- Which lines are blank, and which are a percent sign alone (NISTIR 6556, 3.3).
+use Rattle.std.specs.Prelude.{ℕ, List, [], ◌∷◌, false, ◌==◌, if◌then◌else◌}
+use Rattle.ng_words.specs.Plain.{plain}
+use Rattle.ng_words.specs.declared.start.Kind.{Kind}
+use Rattle.ng_words.specs.declared.start.Kind.TheVariants.{Blank, Percent, Other}
+
+-- of the bytes that count
+abbrev pub kind : List ℕ → Kind
+kind [] = Blank
+kind (b ∷ []) = if b == 37 then Percent else Other
+kind (b ∷ c ∷ bs) = Other
+
+abbrev pub kind_of : List ℕ → Kind
+kind_of text = kind (plain false text)

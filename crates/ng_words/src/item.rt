@@ -1,0 +1,19 @@
+//! The items of a line: what it is made of, one behind the other.
+use crate::letter::Letter;
+
+/// What stands for a piece of a line; its nodes or bytes stand behind those of the pieces before it.
+#[derive(Clone, Copy, Debug, PartialEq, Eq)]
+pub(crate) enum Item {
+    /// A word: its letter, and how many nodes its value has.
+    Word(Letter, u16),
+    /// A setting: how many nodes its index has, and how many its value.
+    Setting(u16, u16),
+    /// A comment: how many bytes it has.
+    Comment(u16),
+}
+
+impl Default for Item {
+    fn default() -> Self {
+        Item::Comment(0)
+    }
+}

@@ -1,0 +1,174 @@
+//! Pieces, one after the other, into the places that keep them.
+ghost use Rattle.std.specs.Prelude.{◌≡◌, ◌+◌, ◌*◌, ◌<◌, ◌≤◌, [], ◌∷◌, ◌++◌, length, drop, IsTrue, None, MatchBool, OnSome};
+ghost use Rattle.ng_words.specs.Plain.{StartsWithByte};
+ghost use Rattle.ng_words.specs.Values.{value_at};
+ghost use Rattle.ng_words.specs.Pieces.{comment_at};
+ghost use Rattle.ng_words.specs.Walks.{places_of, AddsWord, setting_at, AddsSetting, AddsComment, TakesPiece, TakesPieces};
+
+use crate::cursor::Cursor;
+use crate::item::Item;
+use crate::letter::{Letter, letter_of};
+use crate::line::{BYTES, PIECES};
+use crate::value::{Nodes, Stack, value};
+use arrayvec::ArrayVec;
+
+/// The items of a line.
+pub(crate) type Items = ArrayVec<Item, PIECES>;
+
+/// The bytes of a line's comments.
+pub(crate) type Bytes = ArrayVec<u8, BYTES>;
+
+/// Adds an item. (The arm of words stands apart for the prover's sake.)
+#[inline]
+fn push_item(items: &mut Items, item: Item)
+    requires { length items.old.items < 128 }
+    ensures { items.new.items ≡ items.old.items ++ item ∷ [] }
+{
+    match item {
+        Item::Word(letter, n) => items.push(Item::Word(letter, n)),
+        other => items.push(other),
+    }
+}
+
+/// Takes a word's value, its letter aside.
+#[inline]
+fn word(
+    letter: Letter,
+    cursor: &mut Cursor<'_>,
+    items: &mut Items,
+    nodes: &mut Nodes,
+    stack: &mut Stack,
+) -> bool
+    requires few { length items.old.items < 128 }
+    requires room { length nodes.old.items + length cursor.old ≤ 256 }
+    ensures word { MatchBool result (AddsWord letter cursor.old cursor.new items.old.items items.new.items nodes.old.items nodes.new.items) (value_at cursor.old ≡ None) }
+    ensures room { IsTrue result → length nodes.new.items + length cursor.new ≤ length nodes.old.items + length cursor.old }
+{
+    match value(cursor, stack, nodes) {
+        Some(n) => {
+            items.push(Item::Word(letter, n));
+            true
+        }
+        None => false,
+    }
+}
+
+/// Takes a setting's index, its equals sign and its value, the parameter's sign aside.
+fn setting(cursor: &mut Cursor<'_>, items: &mut Items, nodes: &mut Nodes, stack: &mut Stack) -> bool
+    requires few { length items.old.items < 128 }
+    requires room { length nodes.old.items + length cursor.old ≤ 256 }
+    ensures setting { MatchBool result (AddsSetting cursor.old cursor.new items.old.items items.new.items nodes.old.items nodes.new.items) (setting_at cursor.old ≡ None) }
+    ensures room { IsTrue result → length nodes.new.items + length cursor.new ≤ length nodes.old.items + length cursor.old }
+{
+    let index = match value(cursor, stack, nodes) {
+        Some(index) => index,
+        None => return false,
+    };
+    if !cursor.skip(b"=") {
+        return false;
+    }
+    match value(cursor, stack, nodes) {
+        Some(n) => {
+            push_item(items, Item::Setting(index, n));
+            true
+        }
+        None => false,
+    }
+}
+
+/// Takes a comment, whose opening parenthesis comes next.
+fn comment(cursor: &mut Cursor<'_>, items: &mut Items, bytes: &mut Bytes) -> bool
+    requires begins { StartsWithByte cursor.old 40 }
+    requires few { length items.old.items < 128 }
+    requires room { length bytes.old.items + length cursor.old ≤ 256 }
+    ensures comment { MatchBool result (AddsComment cursor.old cursor.new items.old.items items.new.items bytes.old.items bytes.new.items) (comment_at (drop 1 cursor.old) ≡ None) }
+    ensures room { IsTrue result → length bytes.new.items + length cursor.new ≤ length bytes.old.items + length cursor.old }
+{
+    match cursor.comment() {
+        Some(text) => {
+            bytes.try_extend_from_slice(text).unwrap();
+            push_item(items, Item::Comment(text.len() as u16));
+            true
+        }
+        None => false,
+    }
+}
+
+/// Takes the piece that comes next: a comment, a setting or a word.
+fn piece(
+    cursor: &mut Cursor<'_>,
+    items: &mut Items,
+    nodes: &mut Nodes,
+    bytes: &mut Bytes,
+    stack: &mut Stack,
+) -> bool
+    requires few { length items.old.items < 128 }
+    requires nodes_fit { length nodes.old.items + length cursor.old ≤ 256 }
+    requires bytes_fit { length bytes.old.items + length cursor.old ≤ 256 }
+    ensures piece { TakesPiece cursor.old result cursor.new (places_of items.old.items nodes.old.items bytes.old.items) (places_of items.new.items nodes.new.items bytes.new.items) }
+    ensures nodes_fit { IsTrue result → length nodes.new.items + length cursor.new ≤ 256 }
+    ensures bytes_fit { IsTrue result → length bytes.new.items + length cursor.new ≤ 256 }
+{
+    match cursor.peek() {
+        Some(b'(') => comment(cursor, items, bytes),
+        Some(b'#') => {
+            cursor.advance();
+            setting(cursor, items, nodes, stack)
+        }
+        Some(byte) => match letter_of(byte) {
+            Some(letter) => {
+                cursor.advance();
+                word(letter, cursor, items, nodes, stack)
+            }
+            None => false,
+        },
+        None => false,
+    }
+}
+
+/// Takes all pieces, up to the line's end; answers whether what was left is made of pieces.
+fn take_pieces(
+    cursor: &mut Cursor<'_>,
+    items: &mut Items,
+    nodes: &mut Nodes,
+    bytes: &mut Bytes,
+    stack: &mut Stack,
+) -> bool
+    requires no_items { items.old.items ≡ [] }
+    requires no_nodes { nodes.old.items ≡ [] }
+    requires no_bytes { bytes.old.items ≡ [] }
+    requires short { length cursor.old ≤ 256 }
+    ensures { TakesPieces cursor.old result (places_of items.new.items nodes.new.items bytes.new.items) }
+{
+    while !cursor.is_empty() {
+        if !piece(cursor, items, nodes, bytes, stack) {
+            return false;
+        }
+    }
+    true
+}
+
+/// Takes all pieces, up to the line's end, into places that are empty; answers whether what was left is made of
+/// pieces. Where it isn't, the places are empty again.
+pub(crate) fn read_pieces(
+    cursor: &mut Cursor<'_>,
+    items: &mut Items,
+    nodes: &mut Nodes,
+    bytes: &mut Bytes,
+    stack: &mut Stack,
+) -> bool
+    requires no_items { items.old.items ≡ [] }
+    requires no_nodes { nodes.old.items ≡ [] }
+    requires no_bytes { bytes.old.items ≡ [] }
+    requires short { length cursor.old ≤ 256 }
+    ensures pieces { TakesPieces cursor.old result (places_of items.new.items nodes.new.items bytes.new.items) }
+    ensures cleared { MatchBool result (Unit {0}) ((items.new.items ≡ []) × (nodes.new.items ≡ []) × (bytes.new.items ≡ [])) }
+{
+    if take_pieces(cursor, items, nodes, bytes, stack) {
+        return true;
+    }
+    items.clear();
+    nodes.clear();
+    bytes.clear();
+    false
+}
