@@ -1,0 +1,4 @@
+pub mod Value
+pub mod Settle
+pub mod Walk
+pub mod Settings

@@ -1,0 +1,56 @@
+-- What a line gives: the values of its words and its settings, in their order.
+use Rattle.std.specs.Prelude.{ℕ, ℤ, List, [], ◌∷◌, ◌++◌, Result, Ok}
+use Rattle.ng_num.specs.declared.fault.Fault.{Fault}
+use Rattle.ng_params.specs.declared.change.Change.{Change}
+use Rattle.ng_words.specs.Grammar.{Tree, Piece, word, setting, comment}
+use Rattle.ng_expr.specs.Value.{and_then, named, value}
+use Rattle.ng_expr.specs.declared.word.Word.{Word}
+use Rattle.ng_expr.specs.declared.values.Values.{Values}
+
+-- words with their values, and the parameters' new values
+pub record Settled : Type 0 where
+  pub words : List Word
+  pub settings : List Change
+
+-- nothing yet
+abbrev pub nothing : Settled
+nothing = record { words = []; settings = [] }
+
+-- one, and then the other
+abbrev pub followed : Settled → Settled → Settled
+followed a b = record { words = a.words ++ b.words; settings = a.settings ++ b.settings }
+
+-- what is there, and then what an answer gives
+abbrev pub behind : Settled → Result Settled Fault → Result Settled Fault
+behind a answer = and_then answer (λ b. Ok (followed a b))
+
+-- a word alone, a setting alone
+abbrev pub one_word : Word → Settled
+one_word w = record { words = w ∷ []; settings = [] }
+
+abbrev pub one_setting : Change → Settled
+one_setting c = record { words = []; settings = c ∷ [] }
+
+-- the parameter that a tree's value names
+abbrev pub index : List ℤ → Tree → Result ℕ Fault
+index table t = and_then (value t table) named
+
+-- a setting: its index, which has to be a parameter's, and then its value (NISTIR 6556, 3.3.3; the order own)
+abbrev pub change : List ℤ → Tree → Tree → Result Change Fault
+change table i v = and_then (index table i) (λ p. and_then (value v table) (λ z. Ok (record { index = p; value = z })))
+
+-- what a piece gives (NISTIR 6556, 3.3.2, 3.3.3): a comment nothing
+abbrev pub given : List ℤ → Piece → Result Settled Fault
+given table (word l t) = and_then (value t table) (λ z. Ok (one_word (record { letter = l; value = z })))
+given table (setting i v) = and_then (change table i v) (λ c. Ok (one_setting c))
+given table (comment text) = Ok nothing
+
+-- what the pieces of a line give, each from the table as it was before the line (NISTIR 6556, 3.3.3); the first without
+-- a value decides the fault
+abbrev pub settled : List Piece → List ℤ → Result Settled Fault
+settled [] table = Ok nothing
+settled (p ∷ pieces) table = and_then (given table p) (λ first. behind first (settled pieces table))
+
+-- what was read into places
+abbrev pub settled_of : Values → Settled
+settled_of v = record { words = v.words.items; settings = v.settings.items }

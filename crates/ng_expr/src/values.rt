@@ -1,0 +1,146 @@
+ghost use Rattle.std.specs.Prelude.{◌≡◌, ◌<◌, ◌≤◌, ◌+◌, length, Ok, Err, MatchResult, OnErr};
+ghost use Rattle.ng_words.specs.Grammar.{setting, word};
+ghost use Rattle.ng_words.specs.Kept.{pieces_by, tree_by};
+ghost use Rattle.ng_words.specs.Lines.{piece_of};
+ghost use Rattle.ng_expr.specs.Settle.{settled, settled_of};
+
+use crate::setting::change_on;
+use crate::stack::Stack;
+use crate::walk::value_on;
+use crate::word::Word;
+use arrayvec::ArrayVec;
+use ng_num::Fault;
+use ng_params::{Change, Params};
+use ng_words::{Letter, Line, PIECES, Piece, Tree};
+use std::alloc::Allocator;
+
+/// The values of a line, in its order. Its places serve any number of lines, one after the other.
+#[derive(Drop)]
+pub struct Values {
+    /// The words.
+    pub words: ArrayVec<Word, PIECES>,
+    /// The parameters' new values; of two for one parameter the last counts.
+    pub settings: ArrayVec<Change, PIECES>,
+    stack: Stack,
+}
+
+impl Values {
+    ghost use Rattle.ng_expr.specs.Settle.{behind, given, nothing};
+
+    /// No values yet.
+    pub fn new() -> Values
+        ensures { settled_of result ≡ nothing }
+    {
+        Values {
+            words: ArrayVec::new(),
+            settings: ArrayVec::new(),
+            stack: Stack::new(),
+        }
+    }
+
+    /// Adds a word.
+    #[inline]
+    fn add_word<A: Allocator + Copy + Drop>(
+        &mut self,
+        params: &Params<A>,
+        letter: Letter,
+        tree: &Tree<'_>,
+    ) -> Result<(), Fault>
+        requires { length self.old.words.items < 128 }
+        ensures found { MatchResult result (λ _. behind (settled_of self.old) (given params.now (word letter (tree_by tree.now))) ≡ Ok (settled_of self.new)) (λ e. given params.now (word letter (tree_by tree.now)) ≡ Err e) }
+        ensures few { length self.new.words.items + length self.new.settings.items ≤ length self.old.words.items + length self.old.settings.items + 1 }
+    {
+        match value_on(&mut self.stack, params, tree) {
+            Ok(value) => {
+                self.words.push(Word { letter, value });
+                Ok(())
+            }
+            Err(fault) => Err(fault),
+        }
+    }
+
+    /// Adds a setting.
+    fn add_setting<A: Allocator + Copy + Drop>(
+        &mut self,
+        params: &Params<A>,
+        index: &Tree<'_>,
+        value: &Tree<'_>,
+    ) -> Result<(), Fault>
+        requires { length self.old.settings.items < 128 }
+        ensures found { MatchResult result (λ _. behind (settled_of self.old) (given params.now (setting (tree_by index.now) (tree_by value.now))) ≡ Ok (settled_of self.new)) (λ e. given params.now (setting (tree_by index.now) (tree_by value.now)) ≡ Err e) }
+        ensures few { length self.new.words.items + length self.new.settings.items ≤ length self.old.words.items + length self.old.settings.items + 1 }
+    {
+        match change_on(&mut self.stack, params, index, value) {
+            Ok(change) => {
+                self.settings.push(change);
+                Ok(())
+            }
+            Err(fault) => Err(fault),
+        }
+    }
+
+    /// Adds what a piece gives.
+    #[inline]
+    fn add<A: Allocator + Copy + Drop>(
+        &mut self,
+        params: &Params<A>,
+        piece: &Piece<'_>,
+    ) -> Result<(), Fault>
+        requires { length self.old.words.items + length self.old.settings.items < 128 }
+        ensures found { MatchResult result (λ _. behind (settled_of self.old) (given params.now (piece_of piece.now)) ≡ Ok (settled_of self.new)) (λ e. given params.now (piece_of piece.now) ≡ Err e) }
+        ensures few { length self.new.words.items + length self.new.settings.items ≤ length self.old.words.items + length self.old.settings.items + 1 }
+    {
+        match piece {
+            Piece::Word(letter, value) => self.add_word(params, *letter, value),
+            Piece::Setting(index, value) => self.add_setting(params, index, value),
+            Piece::Comment(_) => Ok(()),
+        }
+    }
+
+    /// Forgets all values.
+    #[inline]
+    fn clear(&mut self)
+        ensures { settled_of self.new ≡ nothing }
+    {
+        self.words.clear();
+        self.settings.clear();
+    }
+
+    /// Finds the values of a line, all from the table as it is, in the places kept. E3, E4 or E5 of the first piece
+    /// that has no value; after an error there are no values.
+    pub fn evaluate_into<A: Allocator + Copy + Drop>(
+        &mut self,
+        line: &Line,
+        params: &Params<A>,
+    ) -> Result<(), Fault>
+        ensures values { MatchResult result (λ _. settled (pieces_by line.now.places) params.now ≡ Ok (settled_of self.new)) (λ e. settled (pieces_by line.now.places) params.now ≡ Err e) }
+        ensures cleared { OnErr result (settled_of self.new ≡ nothing) }
+    {
+        self.clear();
+        let mut pieces = line.pieces();
+        while let Some(piece) = pieces.next() {
+            match self.add(params, &piece) {
+                Ok(()) => {}
+                Err(fault) => {
+                    self.clear();
+                    return Err(fault);
+                }
+            }
+        }
+        Ok(())
+    }
+}
+
+/// The values of a line; its faults are those of `Values::evaluate_into`.
+pub fn evaluate<A: Allocator + Copy + Drop>(
+    line: &Line,
+    params: &Params<A>,
+) -> Result<Values, Fault>
+    ensures { MatchResult result (λ v. settled (pieces_by line.now.places) params.now ≡ Ok (settled_of v)) (λ e. settled (pieces_by line.now.places) params.now ≡ Err e) }
+{
+    let mut values = Values::new();
+    match values.evaluate_into(line, params) {
+        Ok(()) => Ok(values),
+        Err(fault) => Err(fault),
+    }
+}

@@ -1,0 +1,18 @@
+use ng_num::Num;
+use ng_words::Letter;
+
+/// A word of a line: its letter and its value. The default is `A0`.
+#[derive(Clone, Copy, Debug, PartialEq, Eq)]
+pub struct Word {
+    pub letter: Letter,
+    pub value: Num,
+}
+
+impl Default for Word {
+    fn default() -> Self {
+        Word {
+            letter: Letter::A,
+            value: Num::zero(),
+        }
+    }
+}
