@@ -18,7 +18,7 @@ Breaks-took a b f p kept n (Ok None) h w = record {
   text = take n p.text;
   appends = w;
   rest = λ more.
-      let o = outcome p.terms p.setup p.number (lines (kept ++ more)) in
+      let o = outcome p.terms p.frame p.setup p.number (lines (kept ++ more)) in
       (drop n p.text ++ o.text, ap (λ (x : Output). x.text) (h more) ∙ parted_text n p.text o.text);
 }
 Breaks-took a b f p kept n (Ok (Some end)) h w = record {

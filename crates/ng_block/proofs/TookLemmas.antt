@@ -3,11 +3,11 @@ use Rattle.std.proofs.Common.{◌≡◌, ℕ, ◌+◌, ◌<◌, List, [], ◌∷
 use Rattle.std.specs.Str.Lines.{lines, strip_carriage_return}
 use Rattle.ng_num.specs.declared.fault.Fault.{Fault}
 use Rattle.ng_num.specs.declared.fault.Fault.TheVariants.{LineTooLong}
-use Rattle.ng_block.specs.Dry.{Output, onto, outcome, after_line, refused, refusal_text}
+use Rattle.ng_block.specs.Dry.{Output, onto, outcome, after_line, frame_after, refused, refusal_text}
 use Rattle.ng_block.specs.Parts.{Progress, due, rest_of, with_text, Took, HasNoNewline}
 use Rattle.ng_block.specs.declared.ending.Ended.{Ended}
 use Rattle.ng_block.specs.declared.ending.Ended.TheVariants as ended
-use Rattle.ng_block.proofs.LineLemmas.{lines-newline, lines-long, line_done-long}
+use Rattle.ng_block.proofs.LineLemmas.{lines-newline, lines-long, done_in-long}
 
 -- a part that begins elsewhere
 pub Took-from : {X E : Type 0} (f before g : X → Output) (text : List ℕ) (r : Result (Option Ended) E) → ((more : X) → before more ≡ f more) → Took f g text r → Took before g text r
@@ -55,7 +55,7 @@ Took-line p q kept line left stripped r none is nothing h =
 pub due-long : (p : Progress) (front more : List ℕ) → HasNoNewline front → 257 < length front → due p (lines (front ++ more)) ≡ onto p.text (refused p.number LineTooLong)
 due-long p front more none long =
     let found = lines-long front more none long in
-    ap (due p) found.2 ∙ ap (λ r. onto p.text (after_line p.number r (λ after. outcome p.terms after (p.number + 1) found.1))) (line_done-long p.terms p.setup found.0 found.3)
+    ap (due p) found.2 ∙ ap (λ r. onto p.text (after_line p.number r (λ after. outcome p.terms (frame_after p.frame found.0) after (p.number + 1) found.1))) (done_in-long p.terms p.frame p.setup found.0 found.3)
 
 pub rest_of-long : (p : Progress) (kept bytes more : List ℕ) → HasNoNewline (kept ++ bytes) → 257 < length (kept ++ bytes) → rest_of p kept (bytes ++ more) ≡ onto p.text (refused p.number LineTooLong)
 rest_of-long p kept bytes more none long = ap (λ l. due p (lines l)) (sym (append_assoc kept bytes more)) ∙ due-long p (kept ++ bytes) more none long

@@ -1,5 +1,5 @@
 -- The state after a block, one equation for each field (NISTIR 6556, 3.5, 3.6, 3.8; the program's end 3.6.1).
-use Rattle.std.specs.Prelude.{pos, List, [], ◌∷◌, false, ◌||◌, unwrap_or, if◌then◌else◌}
+use Rattle.std.specs.Prelude.{pos, List, [], ◌∷◌, ◌++◌, false, ◌||◌, unwrap_or, if◌then◌else◌}
 use Rattle.std.specs.Option.{is_some}
 use Rattle.ng_num.specs.Points.{origin as nowhere}
 use Rattle.ng_num.specs.declared.point.Point.{Point}
@@ -58,6 +58,6 @@ machine_after a goal first m = record {
   place_known = m.place_known;
 }
 
--- the program's end puts system 1 in force
-abbrev pub changes_of : Asked → List Change
-changes_of a = if is_some a.end then record { index = system_in_force; value = pos 1_000_000 } ∷ [] else []
+-- the settings of the line; then the program's end puts system 1 in force
+abbrev pub changes_of : Asked → List Change → List Change
+changes_of a settings = settings ++ (if is_some a.end then record { index = system_in_force; value = pos 1_000_000 } ∷ [] else [])

@@ -4,7 +4,7 @@ use Rattle.std.specs.Option.{is_some}
 use Rattle.ng_num.specs.declared.unit.Unit.TheVariants.{Inches, Millimetres}
 use Rattle.ng_words.specs.declared.letter.Letter.{Letter}
 use Rattle.ng_words.specs.declared.letter.Letter.TheVariants.{A, B, C, D, F, G, H, I, J, K, L, M, P, Q, R, S, T, X, Y, Z}
-use Rattle.ng_words.specs.declared.line.Word.{Word}
+use Rattle.ng_expr.specs.declared.word.Word.{Word}
 use Rattle.ng_block.specs.Codes.{g_word, m_word}
 use Rattle.ng_block.specs.declared.codes.GCode.{GCode}
 use Rattle.ng_block.specs.declared.codes.GCode.TheVariants.{G0, G1, G20, G21, G90, G91}
@@ -20,7 +20,7 @@ abbrev pub no_values : Values
 no_values = record { a = None; b = None; c = None; d = None; f = None; h = None; i = None; j = None; k = None; l = None; p = None; q = None; r = None; s = None; t = None; x = None; y = None; z = None }
 
 abbrev pub nothing : Asked
-nothing = record { values = no_values; out_of_range = false; repeated = false; unknown = false; left_out = false; twice = false; motion = None; unit = None; distance = None; end = None }
+nothing = record { values = no_values; repeated = false; unknown = false; left_out = false; twice = false; motion = None; unit = None; distance = None; end = None }
 
 -- a G word asks for its code's mode; a second one of a group is kept as such
 unfoldable pub with_g : Asked → Option GCode → Asked
@@ -63,13 +63,8 @@ with_value a X v = record a { values = record a.values { x = Some v }; repeated 
 with_value a Y v = record a { values = record a.values { y = Some v }; repeated = a.repeated || is_some a.values.y }
 with_value a Z v = record a { values = record a.values { z = Some v }; repeated = a.repeated || is_some a.values.z }
 
--- a word whose value is beyond the range of numbers asks for nothing else
-abbrev pub with_read : Asked → Letter → Option ℤ → Asked
-with_read a letter None = record a { out_of_range = true }
-with_read a letter (Some v) = with_value a letter v
-
 abbrev pub with_word : Asked → Word → Asked
-with_word a w = with_read a w.letter w.value
+with_word a w = with_value a w.letter w.value
 
 -- all words, in their order
 abbrev pub asked_of : List Word → Asked

@@ -3,7 +3,7 @@
 use Rattle.std.specs.Prelude.{ℤ, pos, Bool, true, false, not, ◌||◌, ◌&&◌, int_lt, Option, Some, None, List, [], ◌∷◌, if◌then◌else◌}
 use Rattle.std.specs.Option.{is_some}
 use Rattle.ng_num.specs.declared.fault.Fault.{Fault}
-use Rattle.ng_num.specs.declared.fault.Fault.TheVariants.{OutOfRange, RepeatedLetter, UnknownCode, LeftOutCode, GroupTwice, AxisUnused, NoAxis, UnusedWord, Negative, NoFeed, OutsideTravel}
+use Rattle.ng_num.specs.declared.fault.Fault.TheVariants.{RepeatedLetter, UnknownCode, LeftOutCode, GroupTwice, AxisUnused, NoAxis, UnusedWord, Negative, NoFeed, OutsideTravel}
 use Rattle.ng_canon.specs.declared.geometry.Geometry.{Geometry}
 use Rattle.ng_block.specs.declared.modes.Modes.{Modes}
 use Rattle.ng_block.specs.declared.modes.Motion.{Motion}
@@ -64,8 +64,7 @@ is_negative (Some v) = int_lt v (pos 0)
 -- what the words alone decide
 abbrev pub block_faults : Asked → Modes → List (Bool × Fault)
 block_faults a m =
-    (a.out_of_range, OutOfRange)
-    ∷ (a.repeated, RepeatedLetter)
+    (a.repeated, RepeatedLetter)
     ∷ (a.unknown, UnknownCode)
     ∷ (asks_left_out a m, LeftOutCode)
     ∷ (a.twice, GroupTwice)

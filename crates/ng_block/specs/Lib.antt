@@ -5,6 +5,7 @@ pub mod Asked
 pub mod Blocks
 pub mod Goals
 pub mod Faults
+pub mod Remarks
 pub mod Steps
 pub mod Order
 pub mod After

@@ -4,12 +4,15 @@ use Rattle.std.specs.Str.Lines.{lines}
 use Rattle.std.specs.Io.KnownBytes.{Appends}
 use Rattle.ng_block.specs.Setup.{Setup, fresh}
 use Rattle.ng_block.specs.Dry.{Terms, Output, onto, outcome}
+use Rattle.ng_block.specs.declared.frame.Frame.{Frame}
+use Rattle.ng_block.specs.declared.frame.Frame.TheVariants.{Undecided}
 use Rattle.ng_block.specs.declared.ending.Ended.{Ended}
 use Rattle.ng_block.specs.declared.ending.DryFault.{DryFault}
 
--- a run between two lines: its terms, the state, the number of the next line, and the text not yet written
+-- a run between two lines: its terms, the frame, the state, the number of the next line, and the text not yet written
 pub record Progress : Type 0 where
   pub terms : Terms
+  pub frame : Frame
   pub setup : Setup
   pub number : ℕ
   pub text : List ℕ
@@ -24,11 +27,11 @@ written p = record p { text = [] }
 
 -- a run before the first line
 abbrev pub begun : Terms → Progress
-begun terms = record { terms = terms; setup = fresh; number = 1; text = [] }
+begun terms = record { terms = terms; frame = Undecided; setup = fresh; number = 1; text = [] }
 
 -- what a run has still to write where these lines follow
 abbrev pub due : Progress → List (List ℕ) → Output
-due p ls = onto p.text (outcome p.terms p.setup p.number ls)
+due p ls = onto p.text (outcome p.terms p.frame p.setup p.number ls)
 
 -- the same of a run that holds the beginning of a line, where these bytes follow
 abbrev pub rest_of : Progress → List ℕ → List ℕ → Output

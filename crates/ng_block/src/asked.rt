@@ -5,8 +5,9 @@ ghost use Rattle.ng_block.specs.Asked.{nothing, no_values, with_word, with_value
 
 use crate::codes::{GCode, MCode, g_word, m_word};
 use crate::modes::{Distance, Motion};
+use ng_expr::Word;
 use ng_num::{Num, Unit};
-use ng_words::{Letter, Word};
+use ng_words::Letter;
 
 /// The values of a line's words other than G and M, by letter (NISTIR 6556, table 3).
 #[derive(Clone, Copy, Debug, PartialEq, Eq)]
@@ -44,8 +45,6 @@ pub enum End {
 #[derive(Clone, Copy, Debug, PartialEq, Eq)]
 pub struct Asked {
     pub values: Values,
-    /// A value is beyond the range of numbers.
-    pub out_of_range: bool,
     /// A letter other than G and M stands twice.
     pub repeated: bool,
     /// A G or M word is no code of the language.
@@ -105,7 +104,6 @@ impl Asked {
     {
         Asked {
             values: Values::none(),
-            out_of_range: false,
             repeated: false,
             unknown: false,
             left_out: false,
@@ -180,10 +178,7 @@ impl Asked {
     fn take(&mut self, word: &Word)
         ensures { self.new ≡ with_word self.old word.now }
     {
-        match word.value {
-            None => self.out_of_range = true,
-            Some(value) => self.take_value(word.letter, value),
-        }
+        self.take_value(word.letter, word.value);
     }
 }
 

@@ -1,8 +1,13 @@
 //! What a line does in a state.
-ghost use Rattle.std.specs.Prelude.{◌≡◌, MatchResult, Ok, Err};
+ghost use Rattle.std.specs.Prelude.{◌≡◌, ◌≤◌, length, MatchResult, Ok, Err, IfSome};
 ghost use Rattle.ng_params.specs.Points.{origin_of};
 ghost use Rattle.ng_block.specs.After.{modes_after, outputs_after, offsets_after, kept_after, machine_after, changes_of};
-ghost use Rattle.ng_block.specs.Effects.{executed, acted, done_by, stop_of};
+ghost use Rattle.ng_block.specs.Effects.{executed, carried, acted, done_by, stop_of};
+ghost use Rattle.ng_block.specs.Remarks.{remark_of, said_by};
+ghost use Rattle.ng_params.specs.Changes.{with_changes};
+ghost use Rattle.ng_words.specs.Kept.{pieces_by};
+ghost use Rattle.ng_expr.specs.Settle.{settled_of};
+ghost use Rattle.std.specs.Option.{option_map};
 
 use crate::asked::{Asked, asked_of};
 use crate::faults::{block_fault, motion_fault};
@@ -10,17 +15,19 @@ use crate::goal::{Goal, goal_of};
 use crate::machine::{KeptWords, Machine, Offsets};
 use crate::modes::{Distance, FeedMode, Modes, Motion};
 use crate::order::{Commands, Segments, commands_of, segments_of};
+use crate::remark::Remark;
 use crate::state::State;
 use crate::tools::Tools;
 use arrayvec::ArrayVec;
 use ng_canon::{Geometry, Outputs, Plane, Spindle};
+use ng_expr::Values;
 use ng_num::{Fault, Num, Point};
-use ng_params::{Change, Index, System};
-use ng_words::{Word, read_line};
+use ng_params::{Change, Params, System};
+use ng_words::{Line, read_line};
 use std::alloc::Allocator;
 
-/// The most parameters that a line changes.
-pub const CHANGES: usize = 72;
+/// The most changes of parameters that a line makes: a setting for each of its pieces, and those of its words.
+pub const CHANGES: usize = 136;
 
 /// The parameters that a line changes, in order.
 pub type Changes = ArrayVec<Change, CHANGES>;
@@ -43,6 +50,8 @@ pub struct Effect {
     pub machine: Machine,
     /// The parameters that it sets, taken in order.
     pub changes: Changes,
+    /// What it says before all else.
+    pub remark: Remark,
     pub segments: Segments,
     pub commands: Commands,
     pub stop: Stop,
@@ -133,11 +142,15 @@ fn machine_after(asked: &Asked, goal: &Goal, first: Point, machine: &Machine) ->
     }
 }
 
-/// Lists the parameters that a block changes.
-fn changes_of(asked: &Asked, changes: &mut Changes)
-    ensures { changes.new.items ≡ changes_of asked.now }
+/// Lists the changes of parameters that a block makes.
+fn changes_of(asked: &Asked, settings: &[Change], changes: &mut Changes)
+    requires { length settings.now ≤ 128 }
+    ensures { changes.new.items ≡ changes_of asked.now settings.now }
 {
     changes.clear();
+    for setting in settings {
+        changes.push(*setting);
+    }
     if asked.end.is_some() {
         changes.push(System::first().selection());
     }
@@ -154,13 +167,14 @@ fn stop_of(asked: &Asked) -> Stop
 }
 
 impl Effect {
-    ghost use Rattle.std.specs.Prelude.{[]};
+    ghost use Rattle.std.specs.Prelude.{[], None};
     ghost use Rattle.ng_block.specs.declared.effect.Stop.TheVariants.{GoesOn};
 
     /// No effect on a machine.
     pub fn none(machine: Machine) -> Effect
         ensures machine { result.machine ≡ machine }
         ensures changes { result.changes.items ≡ [] }
+        ensures remark { said_by result.remark ≡ None }
         ensures segments { result.segments.items ≡ [] }
         ensures commands { result.commands.items ≡ [] }
         ensures stop { result.stop ≡ GoesOn }
@@ -168,6 +182,7 @@ impl Effect {
         Effect {
             machine,
             changes: Changes::new(),
+            remark: Remark::none(),
             segments: Segments::new(),
             commands: Commands::new(),
             stop: Stop::GoesOn,
@@ -175,18 +190,30 @@ impl Effect {
     }
 }
 
-/// What the words of a line do in a state, put into the places of an effect; or the first fault that refuses
+/// The origin of system 1 in the table that settings leave.
+fn first_origin<A: Allocator + Copy + Drop>(params: &Params<A>, settings: &[Change]) -> Point
+    ensures { result ≡ origin_of (with_changes params.now settings.now) 1 }
+{
+    match settings {
+        [] => params.origin(System::first()),
+        _ => params.origin_after(System::first(), settings),
+    }
+}
+
+/// What the values of a line do in a state, put into the places of an effect; or the first fault that refuses
 /// them. After a fault the effect may hold anything.
 #[tactic(auto, unfolding(crate::specs::Effects::acted))]
-pub fn act<A: Allocator + Copy + Drop>(
+fn act<A: Allocator + Copy + Drop>(
     state: &State<A>,
-    words: &[Word],
+    comment: Option<&[u8]>,
+    values: &Values,
     geometry: &Geometry,
     effect: &mut Effect,
 ) -> Result<(), Fault>
-    ensures { MatchResult result (λ _. acted state.now words.now geometry.now ≡ Ok (done_by state.now effect.new)) (λ f. acted state.now words.now geometry.now ≡ Err f) }
+    requires short { IfSome comment (λ text. length text.now ≤ 256) }
+    ensures { MatchResult result (λ _. acted state.now (remark_of (option_map (λ text. text.now) comment.entry)) (settled_of values.now) geometry.now ≡ Ok (done_by state.now effect.new)) (λ f. acted state.now (remark_of (option_map (λ text. text.now) comment.entry)) (settled_of values.now) geometry.now ≡ Err f) }
 {
-    let asked = asked_of(words);
+    let asked = asked_of(values.words.as_slice());
     if let Some(fault) = block_fault(&asked, &state.machine.modes) {
         return Err(fault);
     }
@@ -194,9 +221,11 @@ pub fn act<A: Allocator + Copy + Drop>(
     if let Some(fault) = motion_fault(&goal, geometry) {
         return Err(fault);
     }
-    let first = state.params.origin(System::first());
+    let settings = values.settings.as_slice();
+    let first = first_origin(&state.params, settings);
     effect.machine = machine_after(&asked, &goal, first, &state.machine);
-    changes_of(&asked, &mut effect.changes);
+    changes_of(&asked, settings, &mut effect.changes);
+    effect.remark.take(comment);
     segments_of(
         &asked,
         &goal,
@@ -207,6 +236,24 @@ pub fn act<A: Allocator + Copy + Drop>(
     commands_of(&asked, &goal, &effect.machine, &mut effect.commands);
     effect.stop = stop_of(&asked);
     Ok(())
+}
+
+/// What the pieces of a line do in a state, found in the places of values and put into those of an effect; or the
+/// first fault that refuses them. After a fault both may hold anything.
+#[tactic(auto, unfolding(crate::specs::Effects::carried))]
+pub fn carry<A: Allocator + Copy + Drop>(
+    state: &State<A>,
+    line: &Line,
+    geometry: &Geometry,
+    values: &mut Values,
+    effect: &mut Effect,
+) -> Result<(), Fault>
+    ensures { MatchResult result (λ _. carried state.now (pieces_by line.now.places) geometry.now ≡ Ok (done_by state.now effect.new)) (λ f. carried state.now (pieces_by line.now.places) geometry.now ≡ Err f) }
+{
+    match values.evaluate_into(line, &state.params) {
+        Ok(()) => act(state, line.last_comment(), values, geometry, effect),
+        Err(fault) => Err(fault),
+    }
 }
 
 /// What a line does in a state, or the first fault that refuses it, in the order of docs/LANGUAGE.md; the state
@@ -223,6 +270,6 @@ pub fn execute<A: Allocator + Copy + Drop>(
     let _ = tools;
     let line = read_line(text)?;
     let mut effect = Effect::none(state.machine);
-    act(state, line.words.as_slice(), geometry, &mut effect)?;
+    carry(state, &line, geometry, &mut Values::new(), &mut effect)?;
     Ok(effect)
 }

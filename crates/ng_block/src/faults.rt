@@ -94,9 +94,6 @@ fn asks_left_out(asked: &Asked, modes: &Modes) -> bool
 pub fn block_fault(asked: &Asked, modes: &Modes) -> Option<Fault>
     ensures { result ≡ first_of (block_faults asked.now modes.now) }
 {
-    if asked.out_of_range {
-        return Some(Fault::OutOfRange);
-    }
     if asked.repeated {
         return Some(Fault::RepeatedLetter);
     }

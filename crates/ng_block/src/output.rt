@@ -5,9 +5,12 @@ ghost use Rattle.std.specs.Io.KnownBytes.{Appends};
 ghost use Rattle.ng_canon.specs.Text.{StaysWithin};
 ghost use Rattle.ng_block.specs.Dry.{commands_text, refusal_text};
 ghost use Rattle.ng_block.specs.Parts.{Writes};
+ghost use Rattle.ng_block.specs.Remarks.{remark_text, said_by};
 
+use crate::effect::Effect;
 use crate::ending::DryFault;
-use ng_canon::{Canon, Command, print};
+use crate::remark::{Manner, Remark};
+use ng_canon::{Canon, Command, print, print_command};
 use ng_num::{Fault, print_whole};
 use std::alloc::{AllocError, Allocator};
 use std::io::Write;
@@ -27,7 +30,6 @@ pub fn write_out<W: Write>(writer: &mut W, bytes: &[u8]) -> Result<(), DryFault>
     Ok(())
 }
 
-#[tactic(auto, unfolding(ng_canon::specs::Text::canon_text))]
 fn push_commands<A: Allocator + Copy + Drop>(
     text: &mut Vec<u8, A>,
     commands: &[Command],
@@ -36,7 +38,7 @@ fn push_commands<A: Allocator + Copy + Drop>(
     ensures err { OnErr result (StaysWithin text.old.items text.new.items) }
 {
     for command in commands {
-        print(text, &Canon::Command(*command))?;
+        print_command(text, command)?;
     }
     Ok(())
 }
@@ -68,16 +70,43 @@ fn push_line<A: Allocator + Copy + Drop>(
     text.extend_from_slice(b"\n")
 }
 
-/// Appends the canonical text of commands. A refused growth leaves the text as it was.
-pub fn print_commands<A: Allocator + Copy + Drop>(
+#[tactic(auto, unfolding(ng_canon::specs::Text::canon_text))]
+fn push_remark<A: Allocator + Copy + Drop>(
     text: &mut Vec<u8, A>,
-    commands: &[Command],
+    remark: &Remark,
 ) -> Result<(), AllocError>
-    ensures ok { OnOk result (text.new.items ≡ text.old.items ++ commands_text commands.now) }
+    ensures ok { OnOk result (text.new.items ≡ text.old.items ++ remark_text (said_by remark.now)) }
+    ensures err { OnErr result (StaysWithin text.old.items text.new.items) }
+{
+    let words = remark.words.as_slice();
+    match remark.manner {
+        None => Ok(()),
+        Some(Manner::Comment) => print(text, &Canon::Comment(words)),
+        Some(Manner::Message) => print(text, &Canon::Message(words)),
+    }
+}
+
+fn push_effect<A: Allocator + Copy + Drop>(
+    text: &mut Vec<u8, A>,
+    effect: &Effect,
+) -> Result<(), AllocError>
+    ensures ok { OnOk result (text.new.items ≡ text.old.items ++ (remark_text (said_by effect.now.remark) ++ commands_text effect.now.commands.items)) }
+    ensures err { OnErr result (StaysWithin text.old.items text.new.items) }
+{
+    push_remark(text, &effect.remark)?;
+    push_commands(text, effect.commands.as_slice())
+}
+
+/// Appends the canonical text of what a line does. A refused growth leaves the text as it was.
+pub fn print_effect<A: Allocator + Copy + Drop>(
+    text: &mut Vec<u8, A>,
+    effect: &Effect,
+) -> Result<(), AllocError>
+    ensures ok { OnOk result (text.new.items ≡ text.old.items ++ (remark_text (said_by effect.now.remark) ++ commands_text effect.now.commands.items)) }
     ensures err { OnErr result (text.new.items ≡ text.old.items) }
 {
     let before = text.len();
-    match push_commands(text, commands) {
+    match push_effect(text, effect) {
         Ok(()) => Ok(()),
         Err(refused) => {
             text.truncate(before);

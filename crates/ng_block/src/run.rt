@@ -1,16 +1,18 @@
 //! A dry run between two lines.
 ghost use Rattle.std.specs.Prelude.{◌≡◌, ◌+◌, ◌<◌, ◌≤◌, ◌^◌, ◌∷◌, ◌++◌, [], Ok, Err, IfOk, OnOk, OnErr, Some, IfErr, MatchResult};
-ghost use Rattle.ng_block.specs.Dry.{is_deletable, deleted, line_done, is_end, commands_text, refusal_text};
+ghost use Rattle.ng_block.specs.Dry.{is_deletable, idle, deleted, line_done, done_in, is_end, commands_text, refusal_text};
 ghost use Rattle.ng_block.specs.Effects.{done_by, executed};
 ghost use Rattle.ng_block.specs.Parts.{due, Took, with_text, begun, written, Writes, Closes};
 
-use crate::effect::{Effect, Stop, act};
+use crate::effect::{Effect, Stop, carry};
 use crate::ending::{DryFault, Ended};
+use crate::frame::Frame;
 use crate::machine::Machine;
-use crate::output::{print_commands, print_refusal, write_out};
+use crate::output::{print_effect, print_refusal, write_out};
 use crate::state::State;
 use crate::tools::Tools;
 use ng_canon::Geometry;
+use ng_expr::Values;
 use ng_num::Fault;
 use ng_words::{Line, is_deletable};
 use std::alloc::{AllocError, Allocator};
@@ -39,11 +41,14 @@ impl<'a> Model for Terms<'a> {
 #[derive(Drop)]
 pub struct Run<'a, A: Allocator> {
     terms: Terms<'a>,
+    frame: Frame,
     state: State<A>,
     number: u64,
     text: Vec<u8, A>,
     /// The places that each line is read into.
     line: Line,
+    /// The places that each line's values are put into.
+    values: Values,
     /// The places that each line's effect is put into.
     effect: Effect,
 }
@@ -53,7 +58,19 @@ impl<'a, A: Allocator> Model for Run<'a, A> {
 
     ghost Value = { Progress };
 
-    ghost view = { λ r. record { terms = r.terms; setup = r.state; number = r.number; text = r.text.items } };
+    ghost view = { λ r. record { terms = r.terms; frame = r.frame; setup = r.state; number = r.number; text = r.text.items } };
+}
+
+/// A line without an effect.
+fn leave<A: Allocator + Copy + Drop>(state: &State<A>, stop: Stop, effect: &mut Effect)
+    ensures { done_by state.now effect.new ≡ idle state.now stop }
+{
+    effect.machine = state.machine;
+    effect.changes.clear();
+    effect.remark.clear();
+    effect.segments.clear();
+    effect.commands.clear();
+    effect.stop = stop;
 }
 
 /// A deleted line does nothing; its length alone is looked at.
@@ -67,22 +84,19 @@ fn delete<A: Allocator + Copy + Drop>(
     if text.len() > 256 {
         return Err(Fault::LineTooLong);
     }
-    effect.machine = state.machine;
-    effect.changes.clear();
-    effect.segments.clear();
-    effect.commands.clear();
-    effect.stop = Stop::GoesOn;
+    leave(state, Stop::GoesOn, effect);
     Ok(())
 }
 
-/// What a line of the program does, read into the places of a line and put into those of an effect. After a
-/// fault both may hold anything.
+/// What a line of the program does that is no percent line, read into the places of a line, its values found in
+/// theirs, and put into those of an effect. After a fault they may hold anything.
 #[tactic(auto, unfolding(crate::specs::Effects::executed))]
 fn line_done<A: Allocator + Copy + Drop>(
     terms: &Terms<'_>,
     state: &State<A>,
     text: &[u8],
     line: &mut Line,
+    values: &mut Values,
     effect: &mut Effect,
 ) -> Result<(), Fault>
     ensures { MatchResult result (λ _. line_done terms.now state.now text.now ≡ Ok (done_by state.now effect.new)) (λ f. line_done terms.now state.now text.now ≡ Err f) }
@@ -91,8 +105,29 @@ fn line_done<A: Allocator + Copy + Drop>(
         return delete(state, text, effect);
     }
     match line.read(text) {
-        Ok(()) => act(state, line.words.as_slice(), terms.geometry, effect),
+        Ok(()) => carry(state, line, terms.geometry, values, effect),
         Err(fault) => Err(fault),
+    }
+}
+
+/// What a line of the program does in its frame, likewise.
+fn done_in<A: Allocator + Copy + Drop>(
+    terms: &Terms<'_>,
+    frame: Frame,
+    state: &State<A>,
+    text: &[u8],
+    line: &mut Line,
+    values: &mut Values,
+    effect: &mut Effect,
+) -> Result<(), Fault>
+    ensures { MatchResult result (λ _. done_in terms.now frame state.now text.now ≡ Ok (done_by state.now effect.new)) (λ f. done_in terms.now frame state.now text.now ≡ Err f) }
+{
+    match frame.percent_at(text) {
+        Some(stop) => {
+            leave(state, stop, effect);
+            Ok(())
+        }
+        None => line_done(terms, state, text, line, values, effect),
     }
 }
 
@@ -103,10 +138,12 @@ impl<'a, A: Allocator + Copy + Drop> Run<'a, A> {
     {
         Ok(Run {
             terms,
+            frame: Frame::Undecided,
             state: State::fresh(alloc)?,
             number: 1,
             text: Vec::new(alloc),
             line: Line::new(),
+            values: Values::new(),
             effect: Effect::none(Machine::fresh()),
         })
     }
@@ -140,19 +177,22 @@ impl<'a, A: Allocator + Copy + Drop> Run<'a, A> {
         ensures took { Took (λ more. due self.old (line.now ∷ more)) (λ more. due self.new more) self.new.text result }
         ensures number { self.new.number ≤ self.old.number + 1 }
     {
-        if let Err(fault) = line_done(
+        if let Err(fault) = done_in(
             &self.terms,
+            self.frame,
             &self.state,
             line,
             &mut self.line,
+            &mut self.values,
             &mut self.effect,
         ) {
             return self.refuse(fault);
         }
-        if let Err(refused) = print_commands(&mut self.text, self.effect.commands.as_slice()) {
+        if let Err(refused) = print_effect(&mut self.text, &self.effect) {
             return Err(refused);
         }
         self.state.apply(&self.effect);
+        self.frame = self.frame.after(line);
         match self.effect.stop {
             Stop::Ends => Ok(Some(Ended::Done)),
             Stop::GoesOn | Stop::Stops | Stop::StopsIfWanted => {
@@ -167,8 +207,9 @@ impl<'a, A: Allocator + Copy + Drop> Run<'a, A> {
         ensures { Closes (due self.old []) self.new.text result }
     {
         let number = self.number;
-        match self.refuse(Fault::NoProgramEnd) {
-            Ok(_) => Ok(Ended::Refused(number, Fault::NoProgramEnd)),
+        let fault = self.frame.missing_end();
+        match self.refuse(fault) {
+            Ok(_) => Ok(Ended::Refused(number, fault)),
             Err(refused) => Err(refused),
         }
     }

@@ -22,7 +22,7 @@ pub use item::{Item, Pulse, Step};
 pub use outputs::{Outputs, Spindle};
 pub use pace::{InverseTime, Pace, Rate};
 pub use plane::{Plane, Turn};
-pub use printing::print;
+pub use printing::{print, print_command};
 pub use segment::{Arc, Line, Segment};
 
 #[cfg(test)]

@@ -177,12 +177,12 @@ fn push_words<A: Allocator + Copy + Drop>(
 #[tactic(auto, unfolding(crate::specs::Text::command_text))]
 fn push_command<A: Allocator + Copy + Drop>(
     text: &mut Vec<u8, A>,
-    command: Command,
+    command: &Command,
 ) -> Result<(), AllocError>
-    ensures ok { OnOk result (text.new.items ≡ text.old.items ++ command_text command) }
+    ensures ok { OnOk result (text.new.items ≡ text.old.items ++ command_text command.now) }
     ensures err { OnErr result (StaysWithin text.old.items text.new.items) }
 {
-    match command {
+    match *command {
         Command::FeedRate(rate) => push_offset(text, b"SET_FEED_RATE(", rate),
         Command::InverseTime(number) => push_number(text, b"INVERSE_TIME(", number),
         Command::SpindleSpeed(speed) => push_number(text, b"SET_SPINDLE_SPEED(", speed),
@@ -224,7 +224,7 @@ fn push_canon<A: Allocator + Copy + Drop>(
     match canon {
         Canon::Comment(words) => push_words(text, b"COMMENT(", words),
         Canon::Message(words) => push_words(text, b"MESSAGE(", words),
-        Canon::Command(command) => push_command(text, *command),
+        Canon::Command(command) => push_command(text, command),
     }
 }
 
@@ -239,6 +239,25 @@ pub fn print<A: Allocator + Copy + Drop>(
 {
     let before = text.len();
     match push_canon(text, canon) {
+        Ok(()) => Ok(()),
+        Err(refused) => {
+            text.truncate(before);
+            Err(refused)
+        }
+    }
+}
+
+/// Appends the canonical text of a command whose arguments are numbers, as `print` does, without a copy of it. A
+/// refused growth leaves the text as it was.
+pub fn print_command<A: Allocator + Copy + Drop>(
+    text: &mut Vec<u8, A>,
+    command: &Command,
+) -> Result<(), AllocError>
+    ensures ok { OnOk result (text.new.items ≡ text.old.items ++ command_text command.now) }
+    ensures err { OnErr result (text.new.items ≡ text.old.items) }
+{
+    let before = text.len();
+    match push_command(text, command) {
         Ok(()) => Ok(()),
         Err(refused) => {
             text.truncate(before);
