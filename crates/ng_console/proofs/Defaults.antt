@@ -1,5 +1,5 @@
 -- A run with the default tools and geometry is a run with the default settings.
-use Rattle.std.specs.Prelude.{ℕ, ◌≡◌, List, [], ◌∷◌, ℤ, pos, false, Option, Some, None, Result, IfSome}
+use Rattle.std.specs.Prelude.{ℕ, ◌≡◌, Bool, List, [], ◌∷◌, ℤ, pos, Option, Some, None, Result, IfSome}
 use Rattle.std.proofs.Common.{refl}
 use Rattle.ng_canon.specs.Inside.{IsStandard}
 use Rattle.ng_canon.specs.declared.geometry.Geometry.{Geometry}
@@ -8,12 +8,12 @@ use Rattle.ng_block.specs.declared.ending.Ended.{Ended}
 use Rattle.ng_block.specs.declared.ending.DryFault.{DryFault}
 use Rattle.ng_console.specs.Status.{IsDryRun, status_of}
 
-abbrev terms_of : List ℤ → Geometry → Terms
-terms_of tools geometry = record { block_delete = false; tools = tools; geometry = geometry }
+abbrev terms_of : Bool → List ℤ → Geometry → Terms
+terms_of block_delete tools geometry = record { block_delete = block_delete; tools = tools; geometry = geometry }
 
-pub reports : (program old new : Option (List ℕ)) (tools : List ℤ) (geometry : Geometry) (ended : Result Ended DryFault) (status : ℕ)
+pub reports : (block_delete : Bool) (program old new : Option (List ℕ)) (tools : List ℤ) (geometry : Geometry) (ended : Result Ended DryFault) (status : ℕ)
     → tools ≡ pos 50_000_000 ∷ [] → IsStandard geometry → status ≡ status_of ended
-    → IfSome program (λ p. Finishes old new (output_of (terms_of tools geometry) p) ended)
-    → IsDryRun program old new status
-reports None old new tools geometry ended status one standard is h = h
-reports (Some p) old new tools geometry ended status one standard is h = (terms_of tools geometry, (refl, one, standard), (ended, is, h))
+    → IfSome program (λ p. Finishes old new (output_of (terms_of block_delete tools geometry) p) ended)
+    → IsDryRun block_delete program old new status
+reports block_delete None old new tools geometry ended status one standard is h = h
+reports block_delete (Some p) old new tools geometry ended status one standard is h = (terms_of block_delete tools geometry, (refl, one, standard), (ended, is, h))

@@ -1,3 +1,4 @@
 mod Walked
 mod Program
 mod Defaults
+mod Jobs

@@ -1,5 +1,5 @@
--- Where clap finds no fault in a command line of `ngc`, it has met `dry`, with a value of PROGRAM.
-use Rattle.std.proofs.Common.{◌≡◌, ◌∙◌, ◌<◌, refl, sym, ap, Bool, true, false, List, [], ◌∷◌, length, Option, Some, None, is_some, codes, arith}
+-- Where clap finds no fault in a command line of `ngc`, it has met `dry`, with a value of PROGRAM and the flag on or off.
+use Rattle.std.proofs.Common.{◌≡◌, ◌∙◌, ◌<◌, refl, sym, ap, subst, Bool, true, false, List, [], ◌∷◌, length, Option, Some, None, is_some, codes, arith}
 use Rattle.std.specs.Prelude.{◌&&◌, ◌||◌, not, slice_get, find, option_and_then, if◌then◌else◌}
 use Rattle.std.specs.Option.{option_map_or}
 use Rattle.std.specs.Prelude.{option_map, unwrap_or}
@@ -8,13 +8,14 @@ use Rattle.std.specs.Str.{bytes_eq}
 use Rattle.clap.specs.Faults.{check_fault, entered_fault, fault_of, is_simple_and_free, level_fault}
 use Rattle.clap.specs.Facts.{explicit_source}
 use Rattle.clap.specs.Kinds.{Kinds, check_kinds, or_else}
-use Rattle.clap.specs.Simple.{Shape, argument_words, built, entered, label_of, matches_of, names_of, new_shape, rows_at, subcommand_of}
+use Rattle.clap.specs.Simple.{App, HasMatchesOf, Shape, argument_words, built, entered, label_of, matches_of, names_of, new_shape, is_simple, rows_at, subcommand_of, subcommand_rows_of}
 use Rattle.clap.specs.Takes.{is_given}
 use Rattle.clap.specs.Walk.{Names, Row, Text, answers_to, first_of, nothing_held, rows_after, stop_after}
-use Rattle.ng_console.specs.Words.{Asks, HasFiles, ngc_app}
+use Rattle.clap.specs.declared.parser.matches.ArgMatches.{ArgMatches}
+use Rattle.ng_console.specs.Words.{Asks, HasFiles, HasFlag, HasFlags, ngc_app}
 use Rattle.ng_console.specs.declared.words.Job.{Job}
 use Rattle.ng_console.specs.declared.words.Job.TheVariants.{Dry}
-use Rattle.ng_console.proofs.Walked.{Full, rules, rows_full}
+use Rattle.ng_console.proofs.Walked.{Full, flag, rules, rows_full, rows_say}
 
 abbrev first_shape : List Shape → Shape
 first_shape [] = new_shape []
@@ -25,7 +26,7 @@ abbrev dry_shape : Shape
 dry_shape = first_shape (built ngc_app).subs
 
 -- the command is one whose faults clap defines
-pub is_plain : is_simple_and_free ngc_app ≡ true
+is_plain : is_simple_and_free ngc_app ≡ true
 is_plain = refl
 
 neither : (a b : Kinds) → or_else a b ≡ [] → (a ≡ []) × (b ≡ [])
@@ -68,7 +69,7 @@ first_given id (r ∷ rs) full given = go (bytes_eq r.id id) given (first_given 
     go : (b : Bool) → option_map_or (λ (x : Row). explicit_source x.source) (if b then Some r else find (λ (x : Row). bytes_eq x.id id) rs) false ≡ true
         → (is_given id rs ≡ true → is_some (first_of id rs) ≡ true)
         → is_some (option_and_then (λ (x : Row). slice_get x.values 0) (if b then Some r else find (λ (x : Row). bytes_eq x.id id) rs)) ≡ true
-    go true g rest = some_value r.values full.0
+    go true g rest = some_value r.values full.0.0
     go false g rest = rest g
 
 -- `dry` without a fault has PROGRAM
@@ -78,15 +79,15 @@ dry_right words h =
     let rows = rows_after rules [] words in
     let checked : check_fault dry_shape rows false ≡ [] = (level_right dry_shape [] words false [] h).1 in
     let wanted = (nothing_wanted dry_shape rows false checked).1 in
-    first_given (codes "PROGRAM") rows (rows_full words) (go (is_given (codes "PROGRAM") rows) (is_given (codes "help") rows) wanted)
+    first_given (codes "PROGRAM") rows (rows_full words) (go (is_given (codes "PROGRAM") rows) (is_given flag rows) (is_given (codes "help") rows) wanted)
   where
-    go : (b d : Bool) → ((true && not b) || ((false && not d) || false)) ≡ false → b ≡ true
-    go true d e = refl
-    go false d e = cc
+    go : (b f d : Bool) → ((true && not b) || ((false && not f) || ((false && not d) || false))) ≡ false → b ≡ true
+    go true f d e = refl
+    go false f d e = cc
 
--- where clap's definition finds no fault, the words name `dry` and its program
-pub names_a_program : (words : List Text) → fault_of ngc_app words ≡ []
-    → (rows : List Row) × (subcommand_of ngc_app words ≡ Some (codes "dry", rows)) × (is_some (first_of (codes "PROGRAM") rows) ≡ true)
+-- where clap's definition finds no fault, the words name `dry` and its program, and the flag is on or off
+names_a_program : (words : List Text) → fault_of ngc_app words ≡ []
+    → (rows : List Row) × (subcommand_of ngc_app words ≡ Some (codes "dry", rows)) × (is_some (first_of (codes "PROGRAM") rows) ≡ true) × HasFlag flag rows
 names_a_program words h =
     let app = built ngc_app in
     let rest = argument_words ngc_app words in
@@ -94,25 +95,38 @@ names_a_program words h =
   where
     met : (b : Bool) (p : Text × List Text) (top : List Row) → option_map_or (λ s. level_fault s [] nothing_held p.1 false []) (if b then Some dry_shape else None) [] ≡ []
         → check_fault (built ngc_app).top top (is_some (option_map (λ s. rows_at s p.1) (if b then Some dry_shape else None))) ≡ []
-        → (rows : List Row) × (option_map (λ s. rows_at s p.1) (if b then Some dry_shape else None) ≡ Some (codes "dry", rows)) × (is_some (first_of (codes "PROGRAM") rows) ≡ true)
-    met true p top below checked = (rows_after dry_shape.rules [] p.1, refl, dry_right p.1 below)
+        → (rows : List Row) × (option_map (λ s. rows_at s p.1) (if b then Some dry_shape else None) ≡ Some (codes "dry", rows)) × (is_some (first_of (codes "PROGRAM") rows) ≡ true) × HasFlag flag rows
+    met true p top below checked = (rows_after dry_shape.rules [] p.1, refl, dry_right p.1 below, rows_say p.1)
     met false p top below checked =
         let no : true ≡ false = (nothing_wanted (built ngc_app).top top false checked).0 in
         cc
 
     go : (stop : Option (Text × List Text))
         → (entered_fault (built ngc_app) stop ≡ []) × (check_fault (built ngc_app).top (matches_of ngc_app words) (is_some (entered (built ngc_app) stop)) ≡ [])
-        → (rows : List Row) × (entered (built ngc_app) stop ≡ Some (codes "dry", rows)) × (is_some (first_of (codes "PROGRAM") rows) ≡ true)
+        → (rows : List Row) × (entered (built ngc_app) stop ≡ Some (codes "dry", rows)) × (is_some (first_of (codes "PROGRAM") rows) ≡ true) × HasFlag flag rows
     go None right =
         let no : true ≡ false = (nothing_wanted (built ngc_app).top (matches_of ngc_app words) false right.1).0 in
         cc
     go (Some p) right = met (answers_to p.0 (label_of dry_shape)) p (matches_of ngc_app words) right.0 right.1
 
--- the matches that were found are those that the words name
-pub same_rows : (met : Option (Text × List Row)) (rows found : List Row) → met ≡ Some (codes "dry", rows)
+same_rows : (met : Option (Text × List Row)) (rows found : List Row) → met ≡ Some (codes "dry", rows)
     → option_map (λ p. p.1) met ≡ Some found → rows ≡ found
 same_rows met rows found is has = ap (λ o. unwrap_or o rows) (sym (ap (option_map (λ p. p.1)) is) ∙ has)
 
-pub is_asked : (words : List Text) (job : Job) (rows found : List Row) → subcommand_of ngc_app words ≡ Some (codes "dry", rows) → rows ≡ found
-    → HasFiles found job → Asks words job
-is_asked words (Dry file) rows found named same files = (found, named ∙ ap (λ r. Some (codes "dry", r)) same, files)
+-- where clap found no fault, the matches below are those of `dry` that the words name, with a program and the flag on or off
+pub found_of_dry : (words : List Text) (app : App) (matches : ArgMatches) (found : List Row) → app ≡ ngc_app
+    → (is_simple_and_free app ≡ true → fault_of app words ≡ []) → HasMatchesOf app words matches → option_map (λ p. p.1) (subcommand_rows_of matches) ≡ Some found
+    → (subcommand_of ngc_app words ≡ Some (codes "dry", found)) × (is_some (first_of (codes "PROGRAM") found) ≡ true) × HasFlag flag found
+found_of_dry words app matches found is_ngc kinds has below =
+    let no_fault : fault_of ngc_app words ≡ [] = ap (λ a. fault_of a words) (sym is_ngc) ∙ kinds (ap is_simple_and_free is_ngc ∙ is_plain) in
+    let named = names_a_program words no_fault in
+    let met_is : subcommand_rows_of matches ≡ Some (codes "dry", named.0) = (has (ap is_simple is_ngc)).1 ∙ (ap (λ a. subcommand_of a words) is_ngc ∙ named.1) in
+    let same : named.0 ≡ found = same_rows (subcommand_rows_of matches) named.0 found met_is below in (
+      named.1 ∙ ap (λ r. Some (codes "dry", r)) same,
+      subst (λ r. is_some (first_of (codes "PROGRAM") r) ≡ true) same named.2,
+      subst (HasFlag flag) same named.3,
+    )
+
+pub is_asked : (words : List Text) (job : Job) (found : List Row) → subcommand_of ngc_app words ≡ Some (codes "dry", found)
+    → HasFiles found job → HasFlags found job → Asks words job
+is_asked words (Dry file block_delete) found named files flags = (found, named, files, flags)

@@ -1,41 +1,79 @@
--- A walk of `dry` over any words leaves no row without a value: nothing but words becomes a value of PROGRAM, and
--- the help flag makes no row.
+-- A walk of `dry` over any words leaves no row without a value, and none of the flag that says neither on nor off:
+-- nothing but words becomes a value of PROGRAM, block delete takes no word, and the help flag makes no row.
 use Rattle.std.proofs.Common.{ℕ, zero, suc, ◌<◌, ◌==◌, ◌≡◌, ◌++◌, Bool, true, false, List, [], ◌∷◌, length, Option, Some, None, drop, codes, refl, sym, ap, subst, ◌∙◌, arith}
-use Rattle.std.specs.Prelude.{fold, slice_get, encode_utf8, if◌then◌else◌}
+use Rattle.std.specs.Prelude.{fold, option_and_then, option_map, find, slice_get, encode_utf8, if◌then◌else◌}
 use Rattle.std.proofs.lemmas.List.{length-append}
 use Rattle.std.specs.Prelude.{◌&&◌, ◌||◌, ⊤}
 use Rattle.std.specs.Str.{bytes_eq, chars}
 use Rattle.clap.specs.Walk.{is_pending, takes_several}
 use Rattle.clap.specs.Lexer.{long_of, short_of}
-use Rattle.clap.specs.Walk.{Held, Outcome, Row, Rule, Step, Text, Waiting, Walk, after_flag, after_step, arg_by_id, arg_by_index, arg_by_long, bundle_met, bundle_step, finished, long_met, long_or_other, more_values, nothing_held, option_word, plain_word, pushed, reacted, rows_after, settled, settled_rows, short_met, short_or_plain, subcommand_or_other, to_positional, used, used_by_id, walk, walk_from, walked, walked_from, with_default, with_values, without, word_met, has_row}
+use Rattle.clap.specs.Walk.{Held, Outcome, Row, Rule, Step, Text, Waiting, Walk, after_flag, after_step, arg_by_id, arg_by_long, bundle_met, bundle_step, finished, long_met, long_or_other, more_values, nothing_held, plain_word, pushed, reacted, reading_by, rows_after, settled, settled_rows, short_met, started, short_or_plain, subcommand_or_other, to_positional, row_text, stronger, used, used_by_id, walk, walk_from, walked, walked_from, with_default, with_values, without, word_met, has_row}
 use Rattle.clap.specs.Walk.{done, waits, plain, refused, idle, option, positional, next, trailing, subcommand, value}
 use Rattle.clap.specs.Simple.{filled, help_rule, with_index}
 use Rattle.clap.specs.declared.builder.value_parser.Reading.{Reading}
-use Rattle.clap.specs.declared.parser.matches.ValueSource.TheVariants.{CommandLine}
-use Rattle.ng_console.specs.Words.{program_rule}
+use Rattle.clap.specs.Values.{bool_text, read_as}
+use Rattle.clap.specs.declared.parser.matches.ValueSource.{ValueSource}
+use Rattle.clap.specs.declared.parser.matches.ValueSource.TheVariants.{CommandLine, DefaultValue}
+use Rattle.ng_console.specs.Words.{HasFlag, block_delete_rule, program_rule}
 
--- PROGRAM and the help flag, as clap builds them
+-- PROGRAM, block delete and the help flag, as clap builds them
 abbrev pub program : Rule
 program = with_index 1 (filled program_rule)
+
+abbrev pub block_delete : Rule
+block_delete = with_index 2 (filled block_delete_rule)
 
 abbrev pub help : Rule
 help = with_index 2 (filled help_rule)
 
 abbrev pub rules : List Rule
-rules = program ∷ help ∷ []
+rules = program ∷ block_delete ∷ help ∷ []
 
--- each row has a value
+abbrev pub flag : Text
+flag = codes "block-delete"
+
+-- the row says on or off
+abbrev pub Says : Row → Type 0
+Says r = (is_on : Bool) × (row_text r ≡ Some (bool_text is_on))
+
+-- the row has a value, which says on or off where it is the flag's
+abbrev pub Right : Row → Type 0
+Right r = (0 < length r.values) × (bytes_eq r.id flag ≡ true → Says r)
+
 abbrev pub Full : List Row → Type 0
 Full [] = ⊤
-Full (r ∷ rs) = (0 < length r.values) × Full rs
+Full (r ∷ rs) = Right r × Full rs
 
--- what waits has a value
+-- what waits is PROGRAM, and has a value
 abbrev pub Waits : Option (Text × List Text) → Type 0
 Waits None = ⊤
-Waits (Some p) = 0 < length p.1
+Waits (Some p) = (0 < length p.1) × (bytes_eq program.id p.0 ≡ true)
 
 abbrev pub Good : Held → Type 0
 Good h = Full h.rows × Waits h.pending
+
+-- no option of `dry` takes words, so that none waits for one
+abbrev pub Settles : Outcome → Type 0
+Settles (waits id) = ⊥
+Settles _ = ⊤
+
+abbrev pub Steady : Waiting → Type 0
+Steady (option id) = ⊥
+Steady _ = ⊤
+
+abbrev pub Steps : Step → Type 0
+Steps (next waiting) = Steady waiting
+Steps _ = ⊤
+
+-- a flag word, and a word, leave things good
+abbrev pub FlagGood : Held × Outcome → Type 0
+FlagGood f = Good f.0 × Settles f.1
+
+abbrev pub WordGood : Held × Step → Type 0
+WordGood m = Good m.0 × Steps m.1
+
+abbrev pub WalkGood : Walk → Type 0
+WalkGood w = Good w.held × Steady w.waiting
 
 without_full : (id : Text) (rows : List Row) → Full rows → Full (without id rows)
 without_full id [] h = tt
@@ -45,29 +83,55 @@ without_full id (r ∷ rs) h = go (bytes_eq r.id id) (without_full id rs h.1)
     go true rest = h.1
     go false rest = (h.0, rest)
 
-set_full : (id : Text) (how : Reading) (values : List Text) (rows : List Row) → 0 < length values → Full rows
-    → Full (with_values id how CommandLine values rows)
-set_full id how values [] some h = (some, tt)
-set_full id how values (r ∷ rs) some h = go (bytes_eq r.id id) (set_full id how values rs some h.1)
+-- further values leave the first as it is
+same_first : (how : Reading) (before more : List Text) → 0 < length before
+    → option_map (read_as how) (slice_get (before ++ more) 0) ≡ option_map (read_as how) (slice_get before 0)
+same_first how [] more some = absurd (omega arith)
+same_first how (v ∷ vs) more some = refl
+
+-- the row of a first use
+abbrev first_row : Text → Reading → ValueSource → List Text → Row
+first_row id how source values = record { id = id; values = values; count = None; source = Some source; reading = how }
+
+more_right : (r : Row) (source : ValueSource) (values : List Text) → Right r
+    → Right (record r { values = r.values ++ values; source = Some (stronger r.source source) })
+more_right r source values right =
+    let many : 0 < length (r.values ++ values) = rw (length-append r.values values) (omega arith) in
+    (many, λ same. let says = right.1 same in (says.0, same_first r.reading r.values values right.0 ∙ says.1))
+
+set_full : (id : Text) (how : Reading) (source : ValueSource) (values : List Text) (rows : List Row) → Right (first_row id how source values) → Full rows
+    → Full (with_values id how source values rows)
+set_full id how source values [] right h = (right, tt)
+set_full id how source values (r ∷ rs) right h = go (bytes_eq r.id id) (set_full id how source values rs right h.1)
   where
-    go : (b : Bool) → Full (with_values id how CommandLine values rs) → Full (if b then more_values CommandLine values r ++ rs else r ∷ with_values id how CommandLine values rs)
-    go true rest =
-        let many : 0 < length (r.values ++ values) = rw (length-append r.values values) (omega arith) in
-        (many, h.1)
+    go : (b : Bool) → Full (with_values id how source values rs) → Full (if b then more_values source values r ++ rs else r ∷ with_values id how source values rs)
+    go true rest = (more_right r source values h.0, h.1)
     go false rest = (h.0, rest)
+
+not_flag : bytes_eq program.id flag ≡ false
+not_flag = refl
 
 used_full : (values : List Text) (rows : List Row) → 0 < length values → Full rows → Full (used program values rows)
 used_full [] rows some h = absurd (omega arith)
-used_full (v ∷ vs) rows some h = set_full program.id _ (v ∷ vs) (without program.id rows) some (without_full program.id rows h)
-
-by_id_full : (id : Text) (values : List Text) (rows : List Row) → 0 < length values → Full rows
-    → Full (used_by_id (arg_by_id rules id) values rows)
-by_id_full id values rows some h = go (bytes_eq program.id id) (bytes_eq help.id id)
+used_full (v ∷ vs) rows some h =
+    let right : Right (first_row program.id (reading_by program) CommandLine (v ∷ vs)) = (some, λ same. absurd_flag same) in
+    set_full program.id (reading_by program) CommandLine (v ∷ vs) (without program.id rows) right (without_full program.id rows h)
   where
-    go : (b d : Bool) → Full (used_by_id (if b then Some program else if d then Some help else None) values rows)
-    go true d = used_full values rows some h
-    go false true = h
-    go false false = h
+    absurd_flag : {X : Type 0} → false ≡ true → X
+    absurd_flag e = cc
+
+-- a use of the flag turns it on
+flag_used_full : (rows : List Row) → Full rows → Full (used block_delete [] rows)
+flag_used_full rows h = set_full flag (reading_by block_delete) CommandLine (codes "true" ∷ []) (without flag rows) (omega arith, λ same. (true, refl)) (without_full flag rows h)
+
+by_id_full : (id : Text) (values : List Text) (rows : List Row) → (0 < length values) × (bytes_eq program.id id ≡ true) → Full rows
+    → Full (used_by_id (arg_by_id rules id) values rows)
+by_id_full id values rows ready h = go (bytes_eq program.id id) ready.1
+  where
+    go : (b : Bool) → b ≡ true
+        → Full (used_by_id (if b then Some program else if bytes_eq flag id then Some block_delete else if bytes_eq help.id id then Some help else None) values rows)
+    go true e = used_full values rows ready.0 h
+    go false e = cc
 
 settled_full : (h : Held) → Good h → Full (settled rules h).rows
 settled_full h good = go h.pending good.1
@@ -82,110 +146,121 @@ settled_good h good = (settled_full h good, tt)
 reacted_good : (h : Held) → Good h → Good (reacted rules help [] h)
 reacted_good h good = (settled_full h good, tt)
 
-pushed_good : (id word : Text) (h : Held) → Full h.rows → Good (pushed id word h)
-pushed_good id word h full = (full, rw (length-append _ (word ∷ [])) (omega arith))
+flag_reacted_good : (h : Held) → Good h → Good (reacted rules block_delete [] h)
+flag_reacted_good h good = (flag_used_full (settled rules h).rows (settled_full h good), tt)
+
+pushed_good : (word : Text) (h : Held) → Good h → Good (pushed program.id word h)
+pushed_good word h good = (good.0, go h.pending good.1)
+  where
+    go : (p : Option (Text × List Text)) → Waits p → Waits (Some ((started program.id p).0, (started program.id p).1 ++ word ∷ []))
+    go None w = (omega arith, refl)
+    go (Some p) w = (rw (length-append p.1 (word ∷ [])) (omega arith), w.1)
 
 -- ---- the flags of a word
 
-short_good : (found : Bool) (rest : Text) (h : Held) (others : Held → Held × Outcome) → ((g : Held) → Good g → Good (others g).0) → Good h
-    → Good (short_met rules (if found then Some help else None) rest h others).0
+short_good : (found : Bool) (rest : Text) (h : Held) (others : Held → Held × Outcome) → ((g : Held) → Good g → FlagGood (others g)) → Good h
+    → FlagGood (short_met rules (if found then Some help else None) rest h others)
 short_good true rest h others each good = each (reacted rules help [] h) (reacted_good h good)
-short_good false rest h others each good = good
+short_good false rest h others each good = (good, tt)
 
 flags_good : (c : Option ℕ) (flags : Text) (skip : ℕ) (so_far : Outcome) (h : Held) (rest : Text → ℕ → Outcome → Held → Held × Outcome)
-    → ((f : Text) (n : ℕ) (o : Outcome) (g : Held) → Good g → Good (rest f n o g).0) → Good h → Good (bundle_step rules c flags skip so_far h rest).0
-flags_good None flags skip so_far h rest each good = good
-flags_good (Some x) flags zero so_far h rest each good =
+    → ((f : Text) (n : ℕ) (o : Outcome) (g : Held) → Settles o → Good g → FlagGood (rest f n o g)) → Settles so_far → Good h
+    → FlagGood (bundle_step rules c flags skip so_far h rest)
+flags_good None flags skip so_far h rest each settles good = (good, settles)
+flags_good (Some x) flags zero so_far h rest each settles good =
     let after = drop (length (encode_utf8 x)) flags in
-    short_good (104 == x || false) after h (rest after 0 done) (each after 0 done) good
-flags_good (Some x) flags (suc n) so_far h rest each good = each (drop (length (encode_utf8 x)) flags) n so_far h good
+    short_good (104 == x || false) after h (rest after 0 done) (λ g. each after 0 done g tt) good
+flags_good (Some x) flags (suc n) so_far h rest each settles good = each (drop (length (encode_utf8 x)) flags) n so_far h settles good
 
-bundle_good : (k : ℕ) (flags : Text) (skip : ℕ) (so_far : Outcome) (h : Held) → Good h → Good (bundle_met rules k flags skip so_far h).0
+bundle_good : (k : ℕ) (flags : Text) (skip : ℕ) (so_far : Outcome) (h : Held) → Settles so_far → Good h → FlagGood (bundle_met rules k flags skip so_far h)
 unfolding bundle_met
-bundle_good zero flags skip so_far h good = good
-bundle_good (suc k) flags skip so_far h good = flags_good (slice_get (chars flags) 0) flags skip so_far h (bundle_met rules k) (bundle_good k) good
+bundle_good zero flags skip so_far h settles good = (good, settles)
+bundle_good (suc k) flags skip so_far h settles good = flags_good (slice_get (chars flags) 0) flags skip so_far h (bundle_met rules k) (bundle_good k) settles good
 
-long_good : (name : Text) (v : Option Text) (h : Held) → Good h → Good (long_met rules (arg_by_long rules name) v h).0
-long_good name v h good = go (bytes_eq (codes "help") name || false) v
+long_good : (name : Text) (v : Option Text) (h : Held) → Good h → FlagGood (long_met rules (arg_by_long rules name) v h)
+long_good name v h good = go (bytes_eq flag name || false) (bytes_eq (codes "help") name || false) v
   where
-    go : (b : Bool) (w : Option Text) → Good (long_met rules (if b then Some help else None) w h).0
-    go true (Some t) = good
-    go true None = reacted_good h good
-    go false w = good
+    go : (b d : Bool) (w : Option Text) → FlagGood (long_met rules (if b then Some block_delete else if d then Some help else None) w h)
+    go true d (Some t) = (good, tt)
+    go true d None = (flag_reacted_good h good, tt)
+    go false true (Some t) = (good, tt)
+    go false true None = (reacted_good h good, tt)
+    go false false w = (good, tt)
 
 -- ---- a word
 
-option_good : (found : Option Rule) (id word : Text) (h : Held) → Good h → Good (option_word found id word h).0
-option_good None id word h good = good
-option_good (Some a) id word h good = pushed_good id word h good.0
+plain_good : (waiting : Waiting) (word : Text) (h : Held) → Steady waiting → Good h → WordGood (plain_word rules waiting word h)
+plain_good idle word h steady good = (good, tt)
+plain_good (option id) word h steady good = absurd steady
+plain_good positional word h steady good = (good, tt)
 
-plain_good : (waiting : Waiting) (word : Text) (h : Held) → Good h → Good (plain_word rules waiting word h).0
-plain_good idle word h good = good
-plain_good (option id) word h good = option_good (arg_by_id rules id) id word h good
-plain_good positional word h good = good
+flag_good : (waiting : Waiting) (word : Text) (h : Held) (met : Outcome) → Steady waiting → Settles met → Good h → WordGood (after_flag rules waiting word h met)
+flag_good waiting word h done steady settles good = (good, tt)
+flag_good waiting word h (waits id) steady settles good = absurd settles
+flag_good waiting word h plain steady settles good = plain_good waiting word h steady good
+flag_good waiting word h refused steady settles good = plain_good waiting word h steady good
 
-flag_good : (waiting : Waiting) (word : Text) (h : Held) (met : Outcome) → Good h → Good (after_flag rules waiting word h met).0
-flag_good waiting word h done good = good
-flag_good waiting word h (waits id) good = good
-flag_good waiting word h plain good = plain_good waiting word h good
-flag_good waiting word h refused good = plain_good waiting word h good
+short_word_good : (flags : Option Text) (waiting : Waiting) (word : Text) (h : Held) → Steady waiting → Good h → WordGood (short_or_plain rules waiting word flags h)
+short_word_good None waiting word h steady good = plain_good waiting word h steady good
+short_word_good (Some flags) waiting word h steady good =
+    let met = bundle_good (length flags) flags h.skip plain (record h { skip = 0 }) tt good in
+    flag_good waiting word _ _ steady met.1 met.0
 
-short_word_good : (flags : Option Text) (waiting : Waiting) (word : Text) (h : Held) → Good h → Good (short_or_plain rules waiting word flags h).0
-short_word_good None waiting word h good = plain_good waiting word h good
-short_word_good (Some flags) waiting word h good =
-    flag_good waiting word _ _ (bundle_good (length flags) flags h.skip plain (record h { skip = 0 }) good)
+long_word_good : (p : Option (Text × Option Text)) (waiting : Waiting) (word : Text) (h : Held) → Steady waiting → Good h → WordGood (long_or_other rules waiting word p h)
+long_word_good None waiting word h steady good = short_word_good (short_of word) waiting word h steady good
+long_word_good (Some p) waiting word h steady good =
+    let met = long_good p.0 p.1 h good in
+    flag_good waiting word _ _ steady met.1 met.0
 
-long_word_good : (p : Option (Text × Option Text)) (waiting : Waiting) (word : Text) (h : Held) → Good h → Good (long_or_other rules waiting word p h).0
-long_word_good None waiting word h good = short_word_good (short_of word) waiting word h good
-long_word_good (Some p) waiting word h good = flag_good waiting word _ _ (long_good p.0 p.1 h good)
-
-other_good : (waiting : Waiting) (position : ℕ) (word : Text) (h : Held) → Good h
-    → Good (subcommand_or_other rules None waiting position word h).0
-other_good waiting position word h good = go (bytes_eq word (45 ∷ 45 ∷ []))
+other_good : (waiting : Waiting) (position : ℕ) (word : Text) (h : Held) → Steady waiting → Good h
+    → WordGood (subcommand_or_other rules None waiting position word h)
+other_good waiting position word h steady good = go (bytes_eq word (45 ∷ 45 ∷ []))
   where
-    go : (b : Bool) → Good (if b then (h, trailing position) else long_or_other rules waiting word (long_of word) h).0
-    go true = good
-    go false = long_word_good (long_of word) waiting word h good
+    go : (b : Bool) → WordGood (if b then (h, trailing position) else long_or_other rules waiting word (long_of word) h)
+    go true = (good, tt)
+    go false = long_word_good (long_of word) waiting word h steady good
 
-word_good : (is_trailing : Bool) (waiting : Waiting) (position : ℕ) (word : Text) (h : Held) → Good h
-    → Good (word_met rules [] is_trailing waiting position word h).0
-word_good true waiting position word h good = good
-word_good false idle position word h good = other_good idle position word h good
-word_good false (option id) position word h good = other_good (option id) position word h good
-word_good false positional position word h good = other_good positional position word h good
+word_good : (is_trailing : Bool) (waiting : Waiting) (position : ℕ) (word : Text) (h : Held) → Steady waiting → Good h
+    → WordGood (word_met rules [] is_trailing waiting position word h)
+word_good true waiting position word h steady good = (good, tt)
+word_good false idle position word h steady good = other_good idle position word h steady good
+word_good false (option id) position word h steady good = absurd steady
+word_good false positional position word h steady good = other_good positional position word h steady good
 
 -- ---- the walk
 
-place_good : (found : Option Rule) (word : Text) (w : Walk) (h : Held) → Good h → Good (to_positional rules found word w h).held
-place_good None word w h good = good
-place_good (Some a) word w h good = go (is_more a h)
+place_good : (is_first : Bool) (word : Text) (w : Walk) (h : Held) → Steady w.waiting → Good h
+    → WalkGood (to_positional rules (if is_first then Some program else None) word w h)
+place_good false word w h steady good = (good, steady)
+place_good true word w h steady good = (go (is_pending program h.pending && takes_several program), tt)
   where
-    is_more : Rule → Held → Bool
-    is_more a h = is_pending a h.pending && takes_several a
+    go : (b : Bool) → Good (pushed program.id word (if b then h else settled rules h))
+    go true = pushed_good word h good
+    go false = pushed_good word (settled rules h) (settled_good h good)
 
-    go : (b : Bool) → Good (pushed a.id word (if b then h else settled rules h))
-    go true = pushed_good a.id word h good.0
-    go false = pushed_good a.id word (settled rules h) (settled_full h good)
+step_good : (word : Text) (w : Walk) (h : Held) (step : Step) → Steady w.waiting → Steps step → Good h → WalkGood (after_step rules word w h step)
+step_good word w h (next waiting) steady steps good = (good, steps)
+step_good word w h (trailing position) steady steps good = (good, steady)
+step_good word w h (subcommand name) steady steps good = (good, steady)
+step_good word w h value steady steps good = place_good (1 == w.position) word w h steady good
 
-step_good : (word : Text) (w : Walk) (h : Held) (step : Step) → Good h → Good (after_step rules word w h step).held
-step_good word w h (next waiting) good = good
-step_good word w h (trailing position) good = good
-step_good word w h (subcommand name) good = good
-step_good word w h value good = place_good (arg_by_index rules w.position) word w h good
-
-walked_good : (w : Walk) (word : Text) → Good w.held → Good (walked rules [] w word).held
+walked_good : (w : Walk) (word : Text) → WalkGood w → WalkGood (walked rules [] w word)
 unfolding walked
 walked_good w word good = go w.stopped
   where
-    go : (stop : Option (Text × List Text)) → Good (walked_from rules [] stop w word).held
-    go None = step_good word w _ _ (word_good w.is_trailing w.waiting w.position word w.held good)
+    go : (stop : Option (Text × List Text)) → WalkGood (walked_from rules [] stop w word)
+    go None =
+        let met = word_good w.is_trailing w.waiting w.position word w.held good.1 good.0 in
+        step_good word w _ _ good.1 met.1 met.0
     go (Some p) = good
 
-walk_good : (words : List Text) (w : Walk) → Good w.held → Good (fold (walked rules []) w words).held
+walk_good : (words : List Text) (w : Walk) → WalkGood w → WalkGood (fold (walked rules []) w words)
 walk_good [] w good = good
 walk_good (word ∷ rest) w good = walk_good rest (walked rules [] w word) (walked_good w word good)
 
--- neither argument has a default
+-- ---- defaults
+
+-- PROGRAM and the help flag have none
 program_default : (rows : List Row) → with_default rows program ≡ rows
 program_default rows = go (has_row program.id rows)
   where
@@ -200,11 +275,55 @@ help_default rows = go (has_row help.id rows)
     go true = refl
     go false = refl
 
-finished_is : (h : Held) → finished rules h ≡ (settled rules h).rows
-finished_is h = ap (λ r. with_default r help) (program_default (settled rules h).rows) ∙ help_default (settled rules h).rows
+finished_is : (h : Held) → finished rules h ≡ with_default (settled rules h).rows block_delete
+finished_is h =
+    ap (λ r. with_default (with_default r block_delete) help) (program_default (settled rules h).rows)
+    ∙ help_default (with_default (settled rules h).rows block_delete)
+
+-- block delete is off where no word turned it on
+off_full : (rows : List Row) → Full rows → Full (with_default rows block_delete)
+off_full rows h = go (has_row flag rows)
+  where
+    go : (b : Bool) → Full (if b then rows else with_values flag (reading_by block_delete) DefaultValue (codes "false" ∷ []) rows)
+    go true = h
+    go false = set_full flag (reading_by block_delete) DefaultValue (codes "false" ∷ []) rows (omega arith, λ same. (false, refl)) h
+
+has_set : (how : Reading) (source : ValueSource) (values : List Text) (rows : List Row) → has_row flag (with_values flag how source values rows) ≡ true
+has_set how source values [] = refl
+has_set how source values (r ∷ rs) = go (bytes_eq r.id flag) refl (has_set how source values rs)
+  where
+    go : (b : Bool) → bytes_eq r.id flag ≡ b → has_row flag (with_values flag how source values rs) ≡ true
+        → has_row flag (if b then more_values source values r ++ rs else r ∷ with_values flag how source values rs) ≡ true
+    go true e rest = rw e refl
+    go false e rest = rw (e, rest) refl
+
+-- the flag has a row behind the defaults
+has_flag_row : (rows : List Row) → has_row flag (with_default rows block_delete) ≡ true
+has_flag_row rows = go (has_row flag rows) refl
+  where
+    go : (b : Bool) → has_row flag rows ≡ b → has_row flag (if b then rows else with_values flag (reading_by block_delete) DefaultValue (codes "false" ∷ []) rows) ≡ true
+    go true e = e
+    go false e = has_set (reading_by block_delete) DefaultValue (codes "false" ∷ []) rows
+
+-- the flag's row says on or off
+flag_said : (rows : List Row) → Full rows → has_row flag rows ≡ true → HasFlag flag rows
+flag_said [] full has = cc
+flag_said (r ∷ rs) full has = go (bytes_eq r.id flag) has full.0.1 (flag_said rs full.1)
+  where
+    go : (b : Bool) → (b || has_row flag rs) ≡ true → (b ≡ true → Says r) → (has_row flag rs ≡ true → HasFlag flag rs)
+        → (is_on : Bool) × (option_and_then row_text (if b then Some r else find (λ (x : Row). bytes_eq x.id flag) rs) ≡ Some (bool_text is_on))
+    go true has own rest = own refl
+    go false has own rest = rest has
+
+ended_full : (words : List Text) → Full (settled rules (walk rules [] nothing_held words).held).rows
+ended_full words = settled_full (walk rules [] nothing_held words).held (walk_good words (walk_from nothing_held) ((tt, tt), tt)).0
 
 -- after any words each row has a value
 pub rows_full : (words : List Text) → Full (rows_after rules [] words)
-rows_full words =
-    let end = (walk rules [] nothing_held words).held in
-    subst Full (sym (finished_is end)) (settled_full end (walk_good words (walk_from nothing_held) (tt, tt)))
+rows_full words = subst Full (sym (finished_is (walk rules [] nothing_held words).held)) (off_full _ (ended_full words))
+
+-- after any words the flag says on or off
+pub rows_say : (words : List Text) → HasFlag flag (rows_after rules [] words)
+rows_say words =
+    let rows = (settled rules (walk rules [] nothing_held words).held).rows in
+    subst (HasFlag flag) (sym (finished_is (walk rules [] nothing_held words).held)) (flag_said (with_default rows block_delete) (off_full rows (ended_full words)) (has_flag_row rows))

@@ -1,7 +1,8 @@
 -- The command line of `ngc` (own), in the words by which clap defines what a command makes of its words.
-use Rattle.std.specs.Prelude.{◌≡◌, List, Some, true, codes}
-use Rattle.clap.specs.Words.{App, Row, Rule, Text, first_of, new_app, new_rule, subcommand_of, with_rule, with_subcommand}
-use Rattle.clap.specs.declared.builder.ArgAction.TheVariants.{Set}
+use Rattle.std.specs.Prelude.{◌≡◌, Bool, List, Some, true, codes}
+use Rattle.clap.specs.Words.{App, Row, Rule, Text, first_of, new_app, new_rule, one_of, subcommand_of, with_rule, with_subcommand}
+use Rattle.clap.specs.declared.builder.ArgAction.TheVariants.{Set, SetTrue}
+use Rattle.clap.specs.Values.{bool_text}
 use Rattle.ng_console.specs.declared.words.Job.{Job}
 use Rattle.ng_console.specs.declared.words.Job.TheVariants.{Dry}
 
@@ -9,26 +10,42 @@ use Rattle.ng_console.specs.declared.words.Job.TheVariants.{Dry}
 abbrev pub program_rule : Rule
 program_rule = record (new_rule (codes "PROGRAM")) { action = Some Set; required = true }
 
--- dry PROGRAM
+-- --block-delete, a flag that is off where it isn't given
+abbrev pub block_delete_rule : Rule
+block_delete_rule = record (new_rule (codes "block-delete")) { long = Some (codes "block-delete"); action = Some SetTrue }
+
+-- dry PROGRAM [--block-delete]
 abbrev pub dry_app : App
-dry_app = with_rule (new_app (codes "dry")) program_rule
+dry_app = with_rule (with_rule (new_app (codes "dry")) program_rule) block_delete_rule
 
 -- a command line names one of the subcommands; help comes by --help alone
 abbrev pub only_by_subcommands : App → App
 only_by_subcommands app = record app { top = record app.top { subcommand_required = true; arg_required_else_help = true; disable_help_subcommand = true } }
 
--- ngc dry PROGRAM
+-- ngc dry PROGRAM [--block-delete]
 abbrev pub ngc_app : App
 ngc_app = with_subcommand (only_by_subcommands (new_app (codes "ngc"))) dry_app.top
 
 -- the name of the job's subcommand
 abbrev pub subcommand_name : Job → Text
-subcommand_name (Dry program) = codes "dry"
+subcommand_name (Dry program block_delete) = codes "dry"
 
 -- the job's files are those that the subcommand's matches name
 abbrev pub HasFiles : List Row → Job → Type 0
-HasFiles rows (Dry program) = first_of (codes "PROGRAM") rows ≡ Some program.now
+HasFiles rows (Dry program block_delete) = first_of (codes "PROGRAM") rows ≡ Some program.now
 
--- the job is what clap's definition makes of the words: the subcommand that they name, and its files
+-- the matches say of the flag that it is on, or off
+abbrev pub SaysFlag : Text → List Row → Bool → Type 0
+SaysFlag flag rows is_on = one_of flag rows ≡ Some (bool_text is_on)
+
+-- the matches say of the flag whether it is on
+abbrev pub HasFlag : Text → List Row → Type 0
+HasFlag flag rows = (is_on : Bool) × SaysFlag flag rows is_on
+
+-- the job's switches are the flags of the subcommand's matches
+abbrev pub HasFlags : List Row → Job → Type 0
+HasFlags rows (Dry program block_delete) = SaysFlag (codes "block-delete") rows block_delete
+
+-- the job is what clap's definition makes of the words: the subcommand that they name, its files and its flags
 abbrev pub Asks : List Text → Job → Type 0
-Asks words job = (rows : List Row) × (subcommand_of ngc_app words ≡ Some (subcommand_name job, rows)) × HasFiles rows job
+Asks words job = (rows : List Row) × (subcommand_of ngc_app words ≡ Some (subcommand_name job, rows)) × HasFiles rows job × HasFlags rows job

@@ -1,6 +1,6 @@
 //! The program: from its words to its exit status.
-ghost use Rattle.std.specs.Prelude.{◌≡◌, ◌⊎◌, ◌≤◌, ◌∷◌, [], IfErr, IfOk, map, pos};
-ghost use Rattle.ng_console.specs.Status.{IsDryRun, status_of};
+ghost use Rattle.std.specs.Prelude.{ℕ, ◌≡◌, ◌⊎◌, ◌≤◌, ◌∷◌, List, [], IfErr, IfOk, map, pos};
+ghost use Rattle.ng_console.specs.Status.{Does, IsDryRun, status_of};
 ghost use Rattle.ng_console.specs.Words.{Asks};
 
 use crate::words::{Job, words};
@@ -26,7 +26,7 @@ const BROKEN: u8 = 2;
 /// Words that are not text, and memory wanting for them, print nothing and give 2; for the rest see `ngc`.
 pub fn start<R: Env + Files + AllocGlobal, W: Write>(rt: &R, writer: &mut W) -> u8
     ensures status { result ≤ 2 }
-    ensures run { (result ≡ 2) ⊎ ((file : R.File) × IsDryRun (R.File.remaining file) (W.contents writer.old) (W.contents writer.new) result) }
+    ensures run { (result ≡ 2) ⊎ ((texts : List (List ℕ)) × ((job : Job) × Asks texts job × ((file : R.File) × Does job (R.File.remaining file) (W.contents writer.old) (W.contents writer.new) result))) }
 {
     let Ok(given) = given_words(rt) else {
         return BROKEN;
@@ -54,7 +54,7 @@ fn given_words<R: Env + AllocGlobal>(rt: &R) -> io::Result<Vec<String>> {
 pub fn ngc<R: Files + AllocGlobal, W: Write>(rt: &R, given: &[&str], writer: &mut W) -> u8
     ensures status { result ≤ 2 }
     ensures refused { ((job : Job) → Asks (map (λ s. s.now) given.now) job → ⊥) → result ≡ 2 }
-    ensures run { (result ≡ 2) ⊎ ((file : R.File) × IsDryRun (R.File.remaining file) (W.contents writer.old) (W.contents writer.new) result) }
+    ensures run { (result ≡ 2) ⊎ ((job : Job) × Asks (map (λ s. s.now) given.now) job × ((file : R.File) × Does job (R.File.remaining file) (W.contents writer.old) (W.contents writer.new) result)) }
 {
     match words(rt.alloc(), given) {
         Ok(job) => carry_out(rt, job, writer),
@@ -69,10 +69,13 @@ pub fn ngc<R: Files + AllocGlobal, W: Write>(rt: &R, given: &[&str], writer: &mu
 /// Does a job, and gives the exit status.
 fn carry_out<R: Files + AllocGlobal, W: Write>(rt: &R, job: Job<'_>, writer: &mut W) -> u8
     ensures status { result ≤ 2 }
-    ensures run { (result ≡ 2) ⊎ ((file : R.File) × IsDryRun (R.File.remaining file) (W.contents writer.old) (W.contents writer.new) result) }
+    ensures run { (result ≡ 2) ⊎ ((file : R.File) × Does job.entry (R.File.remaining file) (W.contents writer.old) (W.contents writer.new) result) }
 {
     match job {
-        Job::Dry { program } => run_file(rt.alloc(), fs::open(rt, program), writer),
+        Job::Dry {
+            program,
+            block_delete,
+        } => run_file(rt.alloc(), fs::open(rt, program), writer, block_delete),
     }
 }
 
@@ -82,32 +85,35 @@ fn run_file<R: Read + Drop, W: Write, A: Allocator + Copy + Drop>(
     alloc: A,
     opened: io::Result<R>,
     writer: &mut W,
+    block_delete: bool,
 ) -> u8
-    ensures opened { IfOk opened (λ file. IsDryRun (R.remaining file) (W.contents writer.old) (W.contents writer.new) result) }
+    ensures opened { IfOk opened (λ file. IsDryRun block_delete (R.remaining file) (W.contents writer.old) (W.contents writer.new) result) }
     ensures unopened { IfErr opened (λ _. (result ≡ 2) × (W.contents writer.new ≡ W.contents writer.old)) }
     ensures range { result ≤ 2 }
 {
     match opened {
-        Ok(mut file) => run_dry(alloc, &mut file, writer),
+        Ok(mut file) => run_dry(alloc, &mut file, writer, block_delete),
         Err(_) => BROKEN,
     }
 }
 
-/// Runs a program with the default settings and without a machine, writes its canonical text, and gives the exit
-/// status: 0 at the program's end, 1 where it is refused, 2 where the reader or the writer fails or memory is wanting.
+/// Runs a program with the default tools and geometry and without a machine, writes its canonical text, and gives the
+/// exit status: 0 at the program's end, 1 where it is refused, 2 where the reader or the writer fails or memory is
+/// wanting. Lines that begin with a slash are deleted where `block_delete` is set.
 pub fn run_dry<R: Read, W: Write, A: Allocator + Copy + Drop>(
     alloc: A,
     reader: &mut R,
     writer: &mut W,
+    block_delete: bool,
 ) -> u8
-    ensures text { IsDryRun (R.remaining reader.old) (W.contents writer.old) (W.contents writer.new) result }
+    ensures text { IsDryRun block_delete (R.remaining reader.old) (W.contents writer.old) (W.contents writer.new) result }
     ensures range { result ≤ 2 }
 {
     let ended = dry(
         alloc,
         reader,
         writer,
-        false,
+        block_delete,
         &standard_tools(),
         &Geometry::standard(),
     );

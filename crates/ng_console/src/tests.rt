@@ -1,5 +1,7 @@
 //! Whole programs, from bytes to text. What they write is worked out by hand from the language, in millimetres.
+mod bad_input;
 mod blocks;
+mod grammar;
 mod memory;
 mod program;
 mod rows;

@@ -1,7 +1,7 @@
 //! The words of the command line, read with clap.
 ghost use Rattle.std.specs.Prelude.{◌≡◌, IfOk, IfErr, true, is_some, map, codes};
 ghost use Rattle.clap.specs.Words.{app_of, first_of, found_of, kind_of, rows_of, takes};
-ghost use Rattle.ng_console.specs.Words.{Asks, HasFiles, dry_app, ngc_app};
+ghost use Rattle.ng_console.specs.Words.{Asks, HasFiles, HasFlag, HasFlags, dry_app, ngc_app};
 
 use clap::error::ErrorKind;
 use clap::{Arg, ArgAction, ArgMatches, Command, Error};
@@ -10,10 +10,12 @@ use std::alloc::{AllocError, Global};
 /// What a command line asks for.
 #[derive(Clone, Copy, Debug, PartialEq, Eq)]
 pub enum Job<'a> {
-    /// `ngc dry PROGRAM`: a dry run of a program with the default settings.
+    /// `ngc dry PROGRAM [--block-delete]`: a dry run of a program with the default tools and geometry.
     Dry {
         /// The path of the program's file.
         program: &'a str,
+        /// Whether the lines that begin with a slash are deleted.
+        block_delete: bool,
     },
 }
 
@@ -34,11 +36,17 @@ pub fn words<'a>(alloc: Global, words: &'a [&'a str]) -> Result<Job<'a>, Error>
 
 /// The job of the matches of `dry`.
 fn dry_job<'a>(matches: &ArgMatches<'a>) -> Job<'a>
-    requires { is_some (first_of (codes "PROGRAM") (rows_of (found_of matches.now))) ≡ true }
-    ensures { HasFiles (rows_of (found_of matches.now)) result }
+    requires program { is_some (first_of (codes "PROGRAM") (rows_of (found_of matches.now))) ≡ true }
+    requires flag { HasFlag (codes "block-delete") (rows_of (found_of matches.now)) }
+    ensures files { HasFiles (rows_of (found_of matches.now)) result }
+    ensures flags { HasFlags (rows_of (found_of matches.now)) result }
 {
+    let block_delete = matches.get_flag("block-delete");
     match matches.get_str("PROGRAM") {
-        Some(program) => Job::Dry { program },
+        Some(program) => Job::Dry {
+            program,
+            block_delete,
+        },
         None => unreachable!(),
     }
 }
@@ -63,7 +71,12 @@ fn dry_command<'a>(alloc: Global) -> Result<Command<'a>, AllocError>
         .help("The file of the program: lines of RS274/NGC that end with M2 or M30")
         .action(ArgAction::Set)
         .required(true);
+    let block_delete = Arg::new(alloc, "block-delete")
+        .long("block-delete")
+        .help("Leave out the lines that begin with a slash")
+        .action(ArgAction::SetTrue);
     Command::new(alloc, "dry")
         .about("Run a program without a machine and print its canonical text")
-        .arg(program)
+        .arg(program)?
+        .arg(block_delete)
 }

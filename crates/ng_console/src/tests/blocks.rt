@@ -1,7 +1,7 @@
 //! What single lines do in a state, field by field. The values are worked out by hand from the language.
 use ng_block::{Motion, State, Stop, Tools, execute};
 use ng_canon::{Command, Geometry};
-use ng_num::Unit;
+use ng_num::{Len, Unit};
 use std::test::Fail;
 
 #[test]
@@ -43,5 +43,24 @@ fn a_program_end_selects_the_first_system(rt: HostRuntime) -> Result<(), Fail> {
     assert_eq!(rt; state.machine.modes.motion, Motion::Feed);
     let copy = state.copy()?;
     assert_eq!(rt; copy.machine, state.machine);
+    Ok(())
+}
+
+#[test]
+fn a_tool_table_counts_its_slots_up_to_64(rt: HostRuntime) -> Result<(), Fail> {
+    let tool_length = Len::of_nm(50_000_000).unwrap();
+    let mut tools = Tools::new();
+    assert_eq!(rt; tools.slots(), 0);
+    tools.push(tool_length);
+    assert_eq!(rt; tools.slots(), 1);
+    // a slot of no length counts too
+    tools.push(Len::default());
+    assert_eq!(rt; tools.slots(), 2);
+    for _ in 0..100 {
+        if tools.slots() < 64 {
+            tools.push(tool_length);
+        }
+    }
+    assert_eq!(rt; tools.slots(), 64);
     Ok(())
 }
