@@ -1,5 +1,6 @@
 #!/bin/sh
-# Lines per second and peak memory of `ngc dry` on programs of G0 and G1 moves as a CAM system writes them.
+# Lines per second and peak memory of `ngc dry` on programs of G0 and G1 moves: with plain numbers as a CAM system writes
+# them, and with an expression in each line.
 #
 # usage, at the top of the repository: bench/dry.sh [LINES..]      (200000 and 2000000 where none is given)
 #
@@ -15,16 +16,18 @@ cd "$(dirname "$0")/.."
 work=$(mktemp -d)
 trap 'rm -rf "$work"' EXIT
 
-# A program of $1 lines: a header, then passes of short cuts, each begun by a traverse and a plunge, then M2.
+# A program of $1 lines: a header, then passes of short cuts, each begun by a traverse and a plunge, then M2. With $2
+# "expressions", the X of each cut is an expression over a number and a parameter.
 write_program() {
-    awk -v lines="$1" -v seed=7 '
+    awk -v lines="$1" -v kind="$2" -v seed=7 '
     function below(n) { state = (state * 16807) % 2147483647; return state % n }
     BEGIN {
         state = seed
         print "G21 G90"
+        if (kind == "expressions") print "#100=2.5"
         print "G0 Z5."
         x = 0; y = 0; left = 0
-        for (n = 3; n < lines; n++) {
+        for (n = kind == "expressions" ? 4 : 3; n < lines; n++) {
             if (left == 0) {
                 step = step + 1
                 if (step == 1) { print "G0 Z5."; continue }
@@ -39,16 +42,18 @@ write_program() {
                 continue
             }
             x += below(2001) - 1000; y += below(2001) - 1000
-            printf "X%.3f Y%.3f\n", x / 1000, y / 1000
+            if (kind == "expressions") printf "X[%.3f+#100*0.5] Y%.3f\n", x / 1000, y / 1000
+            else printf "X%.3f Y%.3f\n", x / 1000, y / 1000
             left--
         }
         print "M2"
     }'
 }
 
+for kind in numbers expressions; do
 for lines in "$@"; do
-    write_program "$lines" >"$work/program.ngc"
-    python3 - "$lines" "$work" <<'PY'
+    write_program "$lines" "$kind" >"$work/program.ngc"
+    python3 - "$lines" "$work" "$kind" <<'PY'
 import os, statistics, subprocess, sys, time
 lines, work = int(sys.argv[1]), sys.argv[2]
 program = os.path.join(work, "program.ngc")
@@ -76,7 +81,7 @@ def peak():
         time.sleep(0.002)
     return most
 
-print(f"{lines} lines, {os.path.getsize(program)} bytes, load {os.getloadavg()[0]:.2f} on {os.cpu_count()} processors")
+print(f"{lines} lines with {sys.argv[3]}, {os.path.getsize(program)} bytes, load {os.getloadavg()[0]:.2f} on {os.cpu_count()} processors")
 for name, path in [("/dev/null", os.devnull), ("a file", os.path.join(work, "text"))]:
     runs = []
     for _ in range(3):
@@ -87,4 +92,5 @@ for name, path in [("/dev/null", os.devnull), ("a file", os.path.join(work, "tex
         print(f"  to {name}, a second {clock}: best {lines / best:,.0f} lines ({best:.3f} s), median {lines / median:,.0f} ({median:.3f} s)")
 print(f"  peak resident memory {peak()} KiB")
 PY
+done
 done
