@@ -1,8 +1,7 @@
 -- The canonical text of commands (own, after NISTIR 6556, 4.3): one a line, arguments joined by a comma and a blank.
 use Rattle.std.specs.Prelude.{◌≡◌, ℕ, List, ◌++◌, codes}
 use Rattle.std.specs.Fmt.{decimal}
-use Rattle.ng_num.specs.Text.{number_text}
-use Rattle.ng_num.specs.declared.point.Point.{Point}
+use Rattle.ng_num.specs.Text.{number_text, point_text}
 use Rattle.ng_num.specs.declared.unit.Unit.{Unit as LengthUnit}
 use Rattle.ng_num.specs.declared.unit.Unit.TheVariants.{Inches, Millimetres}
 use Rattle.ng_canon.specs.declared.plane.Plane.{Plane}
@@ -14,10 +13,6 @@ use Rattle.ng_canon.specs.declared.command.Command.{Command}
 use Rattle.ng_canon.specs.declared.command.Command.TheVariants.{FeedRate, InverseTime, SpindleSpeed, SelectTool, ChangeTool, StartSpindleClockwise, StartSpindleCounterclockwise, StopSpindle, MistOn, MistOff, FloodOn, FloodOff, Dwell, SelectPlane, LengthUnits, ToolLength, OriginOffsets, Traverse, Feed, ArcFeed, ProgramStop, OptionalStop, PalletShuttle, ProgramEnd}
 use Rattle.ng_canon.specs.declared.command.Canon.{Canon}
 use Rattle.ng_canon.specs.declared.command.Canon.TheVariants.{Comment, Message, Command as Numeric}
-
--- three coordinates
-abbrev pub point_text : Point → List ℕ
-point_text p = number_text p.x ++ codes ", " ++ number_text p.y ++ codes ", " ++ number_text p.z
 
 abbrev pub plane_text : Plane → List ℕ
 plane_text Xy = codes "XY"

@@ -1,26 +1,13 @@
 //! The canonical text of commands. A refused growth leaves the text as it was.
 ghost use Rattle.std.specs.Prelude.{◌≡◌, ◌++◌, OnOk, OnErr, codes};
 ghost use Rattle.std.specs.Fmt.{decimal};
-ghost use Rattle.ng_num.specs.Text.{number_text};
-ghost use Rattle.ng_canon.specs.Text.{canon_text, command_text, plane_text, point_text, round_text, turn_text, unit_text, StaysWithin};
+ghost use Rattle.ng_num.specs.Text.{number_text, point_text};
+ghost use Rattle.ng_canon.specs.Text.{canon_text, command_text, plane_text, round_text, turn_text, unit_text, StaysWithin};
 
 use crate::command::{ArcFeed, Canon, Command};
 use crate::plane::{Plane, Turn};
-use ng_num::{Len, Num, Point, Unit, print_length, print_number, print_whole};
+use ng_num::{Len, Num, Point, Unit, print_length, print_number, print_point, print_whole};
 use std::alloc::{AllocError, Allocator};
-
-/// Appends a length and what stands behind it.
-fn push_length<A: Allocator + Copy + Drop>(
-    text: &mut Vec<u8, A>,
-    length: Len,
-    after: &[u8],
-) -> Result<(), AllocError>
-    ensures ok { OnOk result (text.new.items ≡ text.old.items ++ (number_text length ++ after.now)) }
-    ensures err { OnErr result (StaysWithin text.old.items text.new.items) }
-{
-    print_length(text, length)?;
-    text.extend_from_slice(after)
-}
 
 /// Appends a command with a number.
 fn push_number<A: Allocator + Copy + Drop>(
@@ -32,22 +19,7 @@ fn push_number<A: Allocator + Copy + Drop>(
     ensures err { OnErr result (StaysWithin text.old.items text.new.items) }
 {
     text.extend_from_slice(name)?;
-    print_number(text, number)?;
-    text.extend_from_slice(b")\n")
-}
-
-/// Appends three coordinates and what stands behind them.
-fn push_coordinates<A: Allocator + Copy + Drop>(
-    text: &mut Vec<u8, A>,
-    point: Point,
-    after: &[u8],
-) -> Result<(), AllocError>
-    ensures ok { OnOk result (text.new.items ≡ text.old.items ++ (point_text point ++ after.now)) }
-    ensures err { OnErr result (StaysWithin text.old.items text.new.items) }
-{
-    push_length(text, point.x, b", ")?;
-    push_length(text, point.y, b", ")?;
-    push_length(text, point.z, after)
+    print_number(text, number, *b")\n")
 }
 
 /// Appends a command with a point.
@@ -60,7 +32,7 @@ fn push_point<A: Allocator + Copy + Drop>(
     ensures err { OnErr result (StaysWithin text.old.items text.new.items) }
 {
     text.extend_from_slice(name)?;
-    push_coordinates(text, point, b")\n")
+    print_point(text, point, *b")\n")
 }
 
 /// Appends a command with a length.
@@ -73,7 +45,7 @@ fn push_offset<A: Allocator + Copy + Drop>(
     ensures err { OnErr result (StaysWithin text.old.items text.new.items) }
 {
     text.extend_from_slice(name)?;
-    push_length(text, offset, b")\n")
+    print_length(text, offset, *b")\n")
 }
 
 /// Appends a command with a slot.
@@ -141,8 +113,8 @@ fn push_round<A: Allocator + Copy + Drop>(
     ensures ok { OnOk result (text.new.items ≡ text.old.items ++ (round_text arc ++ codes ")\n")) }
     ensures err { OnErr result (StaysWithin text.old.items text.new.items) }
 {
-    push_length(text, arc.centre_a, b", ")?;
-    push_length(text, arc.centre_b, b", ")?;
+    print_length(text, arc.centre_a, *b", ")?;
+    print_length(text, arc.centre_b, *b", ")?;
     push_turn(text, arc.turn)
 }
 
@@ -155,7 +127,7 @@ fn push_arc<A: Allocator + Copy + Drop>(
     ensures err { OnErr result (StaysWithin text.old.items text.new.items) }
 {
     text.extend_from_slice(b"ARC_FEED(")?;
-    push_coordinates(text, arc.end, b", ")?;
+    print_point(text, arc.end, *b", ")?;
     push_round(text, arc)
 }
 

@@ -5,3 +5,4 @@ pub mod WholeNumbers
 pub mod Roots
 pub mod Powers
 pub mod Lengths
+pub mod Texts

@@ -1,6 +1,7 @@
 -- The canonical text of numbers (own): an optional minus, the whole part, a point and six decimals.
-use Rattle.std.specs.Prelude.{ℕ, ◌+◌, ◌/◌, ◌%◌, List, [], ◌∷◌, ◌++◌, ℤ, pos, negsuc, unsigned_abs}
+use Rattle.std.specs.Prelude.{ℕ, ◌+◌, ◌/◌, ◌%◌, List, [], ◌∷◌, ◌++◌, ℤ, pos, negsuc, unsigned_abs, codes}
 use Rattle.std.specs.Fmt.{decimal}
+use Rattle.ng_num.specs.declared.point.Point.{Point}
 
 -- the digit of n worth unit
 abbrev pub digit_at : ℕ → ℕ → ℕ
@@ -17,3 +18,7 @@ minus (negsuc n) = 45 ∷ []
 -- a count of millionths as a number
 unfoldable pub number_text : ℤ → List ℕ
 number_text z = minus z ++ (decimal (unsigned_abs z / 1_000_000) ++ (46 ∷ six_digits (unsigned_abs z)))
+
+-- the three coordinates of a point in millimetres, joined by a comma and a blank
+abbrev pub point_text : Point → List ℕ
+point_text p = number_text p.x ++ codes ", " ++ number_text p.y ++ codes ", " ++ number_text p.z

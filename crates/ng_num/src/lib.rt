@@ -24,5 +24,5 @@ pub use fault::Fault;
 pub use len::{Len, nm_of};
 pub use num::Num;
 pub use point::Point;
-pub use print::{print_length, print_number, print_whole};
+pub use print::{print_length, print_number, print_point, print_whole};
 pub use unit::Unit;

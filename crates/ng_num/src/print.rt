@@ -1,117 +1,171 @@
-//! The canonical text of numbers. Each is made on the stack and appended at once, so a refused growth leaves the
-//! text as it was.
-ghost use Rattle.std.specs.Prelude.{◌≡◌, ◌++◌, ◌∷◌, ◌<◌, ◌≤◌, ◌^◌, ◌/◌, ◌%◌, drop, length, OnOk, OnErr, unsigned_abs};
+//! The canonical text of numbers. Each is made on the stack, with what stands right behind it, and appended at once,
+//! so a refused growth leaves the text as it was.
+ghost use Rattle.std.specs.Prelude.{◌≡◌, ◌+◌, ◌++◌, ◌∷◌, ◌<◌, ◌≤◌, ◌^◌, ◌/◌, ◌%◌, drop, length, OnOk, OnErr, unsigned_abs};
 ghost use Rattle.std.specs.Fmt.{decimal};
-ghost use Rattle.ng_num.specs.Text.{digit_at, minus, number_text, six_digits};
+ghost use Rattle.ng_num.specs.Text.{minus, number_text, point_text, six_digits};
 ghost use Rattle.ng_num.specs.Range.{IsCount, greatest};
 
 use crate::len::Len;
 use crate::num::Num;
+use crate::point::Point;
 use itoa::write_digits;
 use std::alloc::{AllocError, Allocator};
 
-/// The room for a number's whole part, with a minus before it.
-const WHOLE: usize = 8;
+/// The room for a number and the two bytes behind it.
+const NUMBER: usize = 17;
 
-/// The room for a number.
-const NUMBER: usize = 15;
+/// The room for three of them.
+const POINT: usize = 51;
 
-/// The digit of a number that is worth a unit.
+/// Puts a byte into its place.
 #[inline(always)]
-fn digit(unit: u32, n: u32) -> u8
-    requires { 0 < unit }
-    ensures { result ≡ digit_at unit n }
+fn put(byte: u8, buffer: &mut [u8], at: usize)
+    requires { at < length buffer.old }
+    ensures { drop at buffer.new ≡ byte ∷ drop (at + 1) buffer.old }
 {
-    b'0' + (n / unit % 10) as u8
+    buffer[at] = byte;
 }
 
-/// Eight places before a point and six decimals.
+/// Puts what stands behind a number into its places.
 #[inline(always)]
-fn decimals(size: u64) -> [u8; NUMBER]
-    ensures { drop 8 result ≡ 46 ∷ six_digits size }
+fn put_after(after: [u8; 2], buffer: &mut [u8], at: usize)
+    requires { at + 2 ≤ length buffer.old }
+    ensures { drop at buffer.new ≡ after ++ drop (at + 2) buffer.old }
+{
+    put(after[1], buffer, at + 1);
+    put(after[0], buffer, at);
+}
+
+/// Puts the two digits of a number below 100 into their places.
+#[inline(always)]
+fn put_pair(pair: u32, buffer: &mut [u8], at: usize)
+    requires small { pair < 100 }
+    requires room { at + 2 ≤ length buffer.old }
+    ensures { drop at buffer.new ≡ (48 + pair / 10) ∷ (48 + pair % 10) ∷ drop (at + 2) buffer.old }
+{
+    put(b'0' + (pair % 10) as u8, buffer, at + 1);
+    put(b'0' + (pair / 10) as u8, buffer, at);
+}
+
+/// Writes the point and the six decimals of a size in millionths, which end at `end`; answers where the point stands.
+#[inline(always)]
+fn write_decimals(size: u64, buffer: &mut [u8], end: usize) -> usize
+    requires { (7 ≤ end) × (end ≤ length buffer.old) }
+    ensures start { result + 7 ≡ end }
+    ensures written { drop result buffer.new ≡ 46 ∷ (six_digits size ++ drop end buffer.old) }
 {
     let n = (size % 1_000_000) as u32;
-    [
-        b'0',
-        b'0',
-        b'0',
-        b'0',
-        b'0',
-        b'0',
-        b'0',
-        b'0',
-        b'.',
-        digit(100_000, n),
-        digit(10_000, n),
-        digit(1_000, n),
-        digit(100, n),
-        digit(10, n),
-        digit(1, n),
-    ]
+    put_pair(n % 100, buffer, end - 2);
+    put_pair(n / 100 % 100, buffer, end - 4);
+    put_pair(n / 10_000, buffer, end - 6);
+    put(b'.', buffer, end - 7);
+    end - 7
 }
 
-/// Writes a size in millionths at the buffer's end, and answers where its text begins.
+/// Writes a size's whole part, which ends at `end`; answers where it begins.
 #[inline(always)]
-fn write_size(size: u64, buffer: &mut [u8; NUMBER]) -> usize
+fn write_whole_part(size: u64, buffer: &mut [u8], end: usize) -> usize
     requires range { size ≤ greatest }
-    requires decimals { drop 8 buffer.old ≡ 46 ∷ six_digits size }
-    ensures within { (1 ≤ result) × (result ≤ 8) }
-    ensures written { drop result buffer.new ≡ decimal (size / 1_000_000) ++ 46 ∷ six_digits size }
+    requires room { (8 ≤ end) × (end ≤ length buffer.old) }
+    ensures within { (result < end) × (end ≤ result + 7) }
+    ensures written { drop result buffer.new ≡ decimal (size / 1_000_000) ++ drop end buffer.old }
 {
-    write_digits(size / 1_000_000, buffer, WHOLE)
+    write_digits(size / 1_000_000, buffer, end)
 }
 
-/// Puts a minus before a text that begins at start, and answers where the text of the count begins. The minus is
+/// Puts a minus before a text that begins at `start`, and answers where the text of the count begins. The minus is
 /// always written, so that no branch hangs on the sign.
 #[inline(always)]
-fn write_minus(count: i64, buffer: &mut [u8; NUMBER], start: usize) -> usize
-    requires { (1 ≤ start) × (start ≤ 8) }
-    ensures within { result ≤ 8 }
+fn write_minus(count: i64, buffer: &mut [u8], start: usize) -> usize
+    requires { (1 ≤ start) × (start ≤ length buffer.old) }
+    ensures within { (result ≤ start) × (start ≤ result + 1) }
     ensures written { drop result buffer.new ≡ minus count ++ drop start buffer.old }
 {
     buffer[start - 1] = b'-';
     if count < 0 { start - 1 } else { start }
 }
 
-/// Appends the text of a count of millionths.
-#[tactic(auto, unfolding(crate::specs::Text::number_text))]
+/// Writes the text of a count of millionths and the two bytes behind it, which end at `end`; answers where it begins.
+#[inline(always)]
+fn write_count(count: i64, after: [u8; 2], buffer: &mut [u8], end: usize) -> usize
+    requires range { IsCount count }
+    requires room { (17 ≤ end) × (end ≤ length buffer.old) }
+    ensures within { (result ≤ end) × (end ≤ result + 17) }
+    ensures text { drop result buffer.new ≡ number_text count ++ (after ++ drop end buffer.old) }
+{
+    put_after(after, buffer, end - 2);
+    let size = count.unsigned_abs();
+    let point = write_decimals(size, buffer, end - 2);
+    let whole = write_whole_part(size, buffer, point);
+    write_minus(count, buffer, whole)
+}
+
+/// Appends the text of a count of millionths and the two bytes behind it.
 fn print_count<A: Allocator + Copy + Drop>(
     text: &mut Vec<u8, A>,
     count: i64,
+    after: [u8; 2],
 ) -> Result<(), AllocError>
     requires { IsCount count }
-    ensures ok { OnOk result (text.new.items ≡ text.old.items ++ number_text count) }
+    ensures ok { OnOk result (text.new.items ≡ text.old.items ++ (number_text count ++ after)) }
     ensures err { OnErr result (text.new.items ≡ text.old.items) }
 {
-    let size = count.unsigned_abs();
-    let mut buffer = decimals(size);
-    let whole = write_size(size, &mut buffer);
-    let start = write_minus(count, &mut buffer, whole);
+    let mut buffer = [b'0'; NUMBER];
+    let start = write_count(count, after, &mut buffer, NUMBER);
     text.extend_from_slice(&buffer[start..])
 }
 
-/// Appends a number: a minus where it is below 0, its whole part without leading zeros, a point and six
-/// decimals (own). A refused growth leaves the text as it was.
+/// Appends a number and the two bytes behind it: a minus where it is below 0, its whole part without leading zeros, a
+/// point and six decimals (own). A refused growth leaves the text as it was.
 pub fn print_number<A: Allocator + Copy + Drop>(
     text: &mut Vec<u8, A>,
     number: Num,
+    after: [u8; 2],
 ) -> Result<(), AllocError>
-    ensures ok { OnOk result (text.new.items ≡ text.old.items ++ number_text number) }
+    ensures ok { OnOk result (text.new.items ≡ text.old.items ++ (number_text number ++ after)) }
     ensures err { OnErr result (text.new.items ≡ text.old.items) }
 {
-    print_count(text, number.count())
+    print_count(text, number.count(), after)
 }
 
-/// Appends a length in millimetres, as `print_number` does a number (own). A refused growth leaves the text as
-/// it was.
+/// Appends a length in millimetres and the two bytes behind it, as `print_number` does a number (own). A refused
+/// growth leaves the text as it was.
 pub fn print_length<A: Allocator + Copy + Drop>(
     text: &mut Vec<u8, A>,
     length: Len,
+    after: [u8; 2],
 ) -> Result<(), AllocError>
-    ensures ok { OnOk result (text.new.items ≡ text.old.items ++ number_text length) }
+    ensures ok { OnOk result (text.new.items ≡ text.old.items ++ (number_text length ++ after)) }
     ensures err { OnErr result (text.new.items ≡ text.old.items) }
 {
-    print_count(text, length.nm())
+    print_count(text, length.nm(), after)
+}
+
+/// Writes the three coordinates of a point in millimetres, with a comma and a blank between them, and the two bytes
+/// behind them at a buffer's end; answers where they begin.
+#[inline(always)]
+fn write_point(point: Point, after: [u8; 2], buffer: &mut [u8; POINT]) -> usize
+    ensures within { result ≤ 51 }
+    ensures text { drop result buffer.new ≡ point_text point ++ after }
+{
+    let z = write_count(point.z.nm(), after, buffer, POINT);
+    let y = write_count(point.y.nm(), *b", ", buffer, z);
+    write_count(point.x.nm(), *b", ", buffer, y)
+}
+
+/// Appends the three coordinates of a point in millimetres, each as `print_length` does a length, with a comma and a
+/// blank between them, and the two bytes behind them (own). A refused growth leaves the text as it was.
+pub fn print_point<A: Allocator + Copy + Drop>(
+    text: &mut Vec<u8, A>,
+    point: Point,
+    after: [u8; 2],
+) -> Result<(), AllocError>
+    ensures ok { OnOk result (text.new.items ≡ text.old.items ++ (point_text point ++ after)) }
+    ensures err { OnErr result (text.new.items ≡ text.old.items) }
+{
+    let mut buffer = [b'0'; POINT];
+    let start = write_point(point, after, &mut buffer);
+    text.extend_from_slice(&buffer[start..])
 }
 
 /// Appends a whole number without leading zeros (own). A refused growth leaves the text as it was.

@@ -21,14 +21,16 @@ fn numbers_print_their_whole_part_and_six_decimals(rt: HostRuntime) -> Result<()
         let Ok(number) = Num::of(count as i128) else {
             panic!(rt; "out of range: {count}");
         };
-        print_number(&mut text, number)?;
-        assert_eq!(rt; &text[1..], want.as_bytes(), "at {count}");
+        print_number(&mut text, number, *b", ")?;
+        assert_eq!(rt; &text[1..text.len() - 2], want.as_bytes(), "at {count}");
+        assert_eq!(rt; &text[text.len() - 2..], b", ".as_slice(), "at {count}");
         let Ok(length) = Len::of_nm(count as i128) else {
             panic!(rt; "out of range: {count}");
         };
         text.clear();
-        print_length(&mut text, length)?;
-        assert_eq!(rt; text.as_slice(), want.as_bytes(), "at {count}");
+        print_length(&mut text, length, *b")\n")?;
+        assert_eq!(rt; &text[..text.len() - 2], want.as_bytes(), "at {count}");
+        assert_eq!(rt; &text[text.len() - 2..], b")\n".as_slice(), "at {count}");
     }
     Ok(())
 }
@@ -56,7 +58,7 @@ fn printed(alloc: Global, size: usize) -> Result<Vec<u8>, Fail> {
     let mut text = Vec::new(&heap);
     let least = Num::of(-9_999_999_999_999).unwrap_or_default();
     for _ in 0..9 {
-        if print_number(&mut text, least).is_err() {
+        if print_number(&mut text, least, *b", ").is_err() {
             break;
         }
     }
@@ -66,18 +68,46 @@ fn printed(alloc: Global, size: usize) -> Result<Vec<u8>, Fail> {
 #[test]
 fn a_refused_growth_leaves_the_text(rt: HostRuntime) -> Result<(), Fail> {
     let mut most = 0;
-    for size in 0..50usize {
+    for size in 0..55usize {
         let text = printed(rt.alloc(), 16 * size)?;
-        for number in text.chunks(15) {
+        for number in text.chunks(17) {
             assert_eq!(rt;
                 number,
-                b"-9999999.999999".as_slice(),
+                b"-9999999.999999, ".as_slice(),
                 "over a heap of {size} blocks"
             );
         }
         assert!(rt; text.len() >= most, "over a heap of {size} blocks");
         most = text.len();
     }
-    assert_eq!(rt; most, 135);
+    assert_eq!(rt; most, 153);
+    Ok(())
+}
+
+#[test]
+fn points_print_their_coordinates_in_order(rt: HostRuntime) -> Result<(), Fail> {
+    let cases: [([i64; 3], &str); 3] = [
+        ([0, 0, 0], "0.000000, 0.000000, 0.000000)\n"),
+        (
+            [1_500_000, -20, 300_000_000],
+            "1.500000, -0.000020, 300.000000)\n",
+        ),
+        (
+            [-9_999_999_999_999, -9_999_999_999_999, -9_999_999_999_999],
+            "-9999999.999999, -9999999.999999, -9999999.999999)\n",
+        ),
+    ];
+    for ([x, y, z], want) in cases {
+        let (Ok(x), Ok(y), Ok(z)) = (
+            Len::of_nm(x as i128),
+            Len::of_nm(y as i128),
+            Len::of_nm(z as i128),
+        ) else {
+            panic!(rt; "out of range: {want}");
+        };
+        let mut text = Vec::from_slice(rt.alloc(), b"F(")?;
+        print_point(&mut text, Point { x, y, z }, *b")\n")?;
+        assert_eq!(rt; &text[2..], want.as_bytes());
+    }
     Ok(())
 }

@@ -1,9 +1,11 @@
-use Rattle.std.proofs.Common.{rules, arith, ◌/◌}
+use Rattle.std.proofs.Common.{arith, ◌/◌}
 use Rattle.std.proofs.lemmas.Fmt.{length-decimal-le, decimal_nonempty}
-use Rattle.ng_num.proofs.print.write_size.Goals as goal
+use Rattle.ng_num.proofs.print.write_whole_part.Goals as goal
 
 pub write_digits-requires : goal.write_digits-requires
-write_digits-requires c = search (rules, length-decimal-le 7)
+write_digits-requires c =
+    let short = length-decimal-le 7 (c.args.size / 1_000_000) (omega arith) (omega arith) (omega arith) in
+    (omega arith, c.requires.room.1)
 
 pub returns-clause-within : goal.returns-clause-within
 returns-clause-within c =
