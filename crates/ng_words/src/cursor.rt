@@ -1,11 +1,10 @@
-ghost use Rattle.std.specs.Prelude.{◌≡◌, ◌≢◌, [], ◌∷◌, Some, None, MatchOption, MatchBool, IsTrue, ◌↔◌, drop, true, false};
+ghost use Rattle.std.specs.Prelude.{◌≡◌, ◌≢◌, ◌<◌, [], ◌∷◌, Some, None, MatchOption, MatchBool, IsTrue, ◌↔◌, drop, true, false};
 ghost use Rattle.ng_words.specs.Plain.{plain, is_blank, capital, StartsWithByte, IsOutside, AtPlain, HasNoComment};
-ghost use Rattle.ng_words.specs.Grammar.{is_digit};
-ghost use Rattle.ng_words.specs.Scan.{front_digits, after_digits};
 ghost use Rattle.ng_words.specs.Values.{behind};
 ghost use Rattle.ng_words.specs.Pieces.{comment_at};
 ghost use Rattle.ng_words.specs.Walks.{ClosesAt};
 
+use crate::digits::Digits;
 use std::marker::Model;
 
 /// The bytes of a line that are left, seen as those that count. It stands outside comments, and no blank is next.
@@ -43,16 +42,9 @@ pub(crate) fn capital(byte: u8) -> u8
     }
 }
 
-#[inline]
-fn is_digit(byte: u8) -> bool
-    ensures { result ≡ is_digit byte }
-{
-    b'0' <= byte && byte <= b'9'
-}
-
-/// The bytes from the first that counts on.
-#[inline]
-fn skip_blanks(bytes: &[u8]) -> &[u8]
+/// The bytes from the first that counts on, where some blanks come first.
+#[cold]
+fn skip_run(bytes: &[u8]) -> &[u8]
     ensures same { plain false result.now ≡ plain false bytes.now }
     ensures at { AtPlain result.now }
 {
@@ -64,6 +56,18 @@ fn skip_blanks(bytes: &[u8]) -> &[u8]
         rest = others;
     }
     rest
+}
+
+/// The bytes from the first that counts on. Most bytes lie above the blank, which one comparison tells.
+#[inline]
+pub(crate) fn skip_blanks(bytes: &[u8]) -> &[u8]
+    ensures same { plain false result.now ≡ plain false bytes.now }
+    ensures at { AtPlain result.now }
+{
+    match bytes.first() {
+        Some(first) if *first <= b' ' => skip_run(bytes),
+        _ => bytes,
+    }
 }
 
 /// How many bytes stand before the closing parenthesis of a comment.
@@ -114,6 +118,29 @@ impl<'a> Cursor<'a> {
         }
     }
 
+    /// The next byte that counts, as it stands.
+    #[inline]
+    pub(crate) fn first(&self) -> Option<u8>
+        ensures { MatchOption result (self.now ≡ []) (λ b. StartsWithByte self.now (capital b)) }
+    {
+        match self.rest.first() {
+            None => None,
+            Some(first) => Some(*first),
+        }
+    }
+
+    /// Whether a mark that is no letter comes next.
+    #[inline]
+    pub(crate) fn is_at(&self, mark: u8) -> bool
+        requires { mark < 65 }
+        ensures { MatchBool result (StartsWithByte self.now mark) (StartsWithByte self.now mark → ⊥) }
+    {
+        match self.rest.first() {
+            None => false,
+            Some(first) => *first == mark,
+        }
+    }
+
     /// Steps over the next byte that counts.
     #[inline]
     pub(crate) fn advance(&mut self)
@@ -126,20 +153,20 @@ impl<'a> Cursor<'a> {
         }
     }
 
-    /// Takes the next byte that counts, where it is a digit.
+    /// The digits that come next.
     #[inline]
-    pub(crate) fn digit(&mut self) -> Option<u8>
-        ensures { MatchOption result ((front_digits self.old ≡ []) × (after_digits self.old ≡ self.old) × (self.new ≡ self.old))
-            (λ b. (self.old ≡ b ∷ self.new) × IsTrue (is_digit b)) }
+    pub(crate) fn digits(&self) -> Digits<'a>
+        ensures { result ≡ self.now }
     {
-        match self.rest.split_first() {
-            Some((first, others)) if is_digit(*first) => {
-                let digit = *first;
-                self.rest = skip_blanks(others);
-                Some(digit)
-            }
-            _ => None,
-        }
+        Digits { rest: self.rest }
+    }
+
+    /// Goes on behind digits that were read.
+    #[inline]
+    pub(crate) fn go_on(&mut self, digits: &Digits<'a>)
+        ensures { self.new ≡ digits.now }
+    {
+        self.rest = skip_blanks(digits.rest);
     }
 
     /// Steps over a text, where it comes next; answers whether it does.

@@ -8,6 +8,7 @@
 
 mod comment;
 mod cursor;
+mod digits;
 mod item;
 mod letter;
 mod line;

@@ -9,7 +9,7 @@ use crate::cursor::Cursor;
 use crate::item::Item;
 use crate::pieces::Pieces;
 use crate::reading::read_pieces;
-use crate::start::{block_number, slash};
+use crate::start::{Head, block_number, slash};
 use crate::tree::{NODES, Node};
 use crate::value::Stack;
 use arrayvec::ArrayVec;
@@ -27,8 +27,7 @@ pub(crate) const BYTES: usize = 256;
 /// It keeps them in places of its own, a fixed number of them, which serve any number of lines, one after the other.
 #[derive(Drop)]
 pub struct Line {
-    deletable: bool,
-    number: Option<u32>,
+    head: Head,
     items: ArrayVec<Item, PIECES>,
     /// The nodes of all values, in order.
     nodes: ArrayVec<Node, NODES>,
@@ -43,7 +42,7 @@ impl Model for Line {
 
     ghost Value = { LinePlaces };
 
-    ghost view = { λ l. record { deletable = l.deletable; number = l.number; places = record { items = l.items.items; nodes = l.nodes.items; bytes = l.bytes.items } } };
+    ghost view = { λ l. record { deletable = l.head.deletable; number = l.head.number; places = record { items = l.items.items; nodes = l.nodes.items; bytes = l.bytes.items } } };
 
     ghost invariant = { λ l. IsKept (record { items = l.items.items; nodes = l.nodes.items; bytes = l.bytes.items }) };
 }
@@ -56,8 +55,7 @@ impl Line {
         ensures { written_by result ≡ blank }
     {
         Line {
-            deletable: false,
-            number: None,
+            head: Head::none(),
             items: ArrayVec::new(),
             nodes: ArrayVec::new(),
             bytes: ArrayVec::new(),
@@ -78,8 +76,7 @@ impl Line {
         ensures errors { IfErr result (λ e. (e ≡ Fault.LineTooLong) ⊎ (e ≡ Fault.Unreadable)) }
         ensures cleared { OnErr result (written_by self.new ≡ blank) }
     {
-        self.deletable = false;
-        self.number = None;
+        self.head = Head::none();
         self.items.clear();
         self.nodes.clear();
         self.bytes.clear();
@@ -101,8 +98,7 @@ impl Line {
         ) {
             return Err(Fault::Unreadable);
         }
-        self.deletable = deletable;
-        self.number = number;
+        self.head = Head { deletable, number };
         Ok(())
     }
 
@@ -110,14 +106,14 @@ impl Line {
     pub fn is_deletable(&self) -> bool
         ensures { result ≡ self.now.deletable }
     {
-        self.deletable
+        self.head.deletable
     }
 
     /// Its block number, at most 99,999, where it has one.
     pub fn number(&self) -> Option<u32>
         ensures { result ≡ self.now.number }
     {
-        self.number
+        self.head.number
     }
 
     /// Its pieces, from the first on.

@@ -29,10 +29,12 @@ fn whole(cursor: &mut Cursor<'_>) -> (u32, bool)
 {
     let mut whole: u32 = 0;
     let mut none = true;
-    while let Some(digit) = cursor.digit() {
+    let mut digits = cursor.digits();
+    while let Some(digit) = digits.next() {
         whole = with_digit(whole, digit);
         none = false;
     }
+    cursor.go_on(&digits);
     (whole, none)
 }
 
@@ -47,11 +49,13 @@ fn fraction(cursor: &mut Cursor<'_>) -> (u32, bool)
     let mut sum: u32 = 0;
     let mut unit: u32 = 1_000_000;
     let mut none = true;
-    while let Some(digit) = cursor.digit() {
+    let mut digits = cursor.digits();
+    while let Some(digit) = digits.next() {
         none = false;
         sum += (digit - b'0') as u32 * unit;
         unit /= 10;
     }
+    cursor.go_on(&digits);
     (sum, none)
 }
 
@@ -62,7 +66,7 @@ fn unsigned(cursor: &mut Cursor<'_>) -> Option<u64>
     ensures value { MatchOption result (unsigned_at cursor.old ≡ None) (λ n. unsigned_at cursor.old ≡ Some (n, cursor.new)) }
 {
     let (whole_part, no_whole) = whole(cursor);
-    if cursor.peek() != Some(b'.') {
+    if !cursor.is_at(b'.') {
         return if no_whole {
             None
         } else {
@@ -82,17 +86,14 @@ fn unsigned(cursor: &mut Cursor<'_>) -> Option<u64>
 fn minus(cursor: &mut Cursor<'_>) -> bool
     ensures { (result, cursor.new) ≡ sign_at cursor.old }
 {
-    match cursor.peek() {
-        Some(b'+') => {
-            cursor.advance();
-            false
-        }
-        Some(b'-') => {
-            cursor.advance();
-            true
-        }
-        _ => false,
+    if cursor.is_at(b'-') {
+        cursor.advance();
+        return true;
     }
+    if cursor.is_at(b'+') {
+        cursor.advance();
+    }
+    false
 }
 
 /// Takes a number: its count of millionths, or nothing within where that is out of range.

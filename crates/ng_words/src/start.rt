@@ -9,6 +9,26 @@ use crate::number::with_digit;
 /// The most digits of a block number.
 const DIGITS: u32 = 5;
 
+/// What a line begins with: whether a slash, and its block number, where it has one.
+#[derive(Clone, Copy, Debug, PartialEq, Eq)]
+pub(crate) struct Head {
+    pub(crate) deletable: bool,
+    pub(crate) number: Option<u32>,
+}
+
+impl Head {
+    /// Neither a slash nor a block number.
+    pub(crate) fn none() -> Head
+        ensures deletable { result.deletable ≡ false }
+        ensures number { result.number ≡ None }
+    {
+        Head {
+            deletable: false,
+            number: None,
+        }
+    }
+}
+
 /// Takes the slash, where one comes next.
 #[inline]
 pub(crate) fn slash(cursor: &mut Cursor<'_>) -> bool
@@ -70,13 +90,15 @@ fn block_digits(cursor: &mut Cursor<'_>) -> Option<u32>
 {
     let mut number: u32 = 0;
     let mut count: u32 = 0;
-    while let Some(digit) = cursor.digit() {
+    let mut digits = cursor.digits();
+    while let Some(digit) = digits.next() {
         if count == DIGITS {
             return None;
         }
         number = with_digit(number, digit);
         count += 1;
     }
+    cursor.go_on(&digits);
     if count == 0 { None } else { Some(number) }
 }
 

@@ -309,7 +309,7 @@ fn walk(cursor: &mut Cursor<'_>, stack: &mut Stack, nodes: &mut Nodes) -> Option
 fn begins_number(cursor: &Cursor<'_>) -> bool
     ensures { IsTrue result → BeginsNumber cursor.now }
 {
-    match cursor.peek() {
+    match cursor.first() {
         Some(b) => (b'0' <= b && b <= b'9') || b == b'.' || b == b'-' || b == b'+',
         None => false,
     }

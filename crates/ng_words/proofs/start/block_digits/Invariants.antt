@@ -4,11 +4,11 @@ use Rattle.ng_words.proofs.start.block_digits.Given as goal
 
 abbrev pub invariant-loop-digit : goal.invariant-loop-digit
 invariant-loop-digit l =
-    (after_digits l.cursor ≡ after_digits l.fn.cursor)
-    × (whole_after l.number (front_digits l.cursor) ≡ whole_after 0 (front_digits l.fn.cursor))
+    (after_digits l.digits ≡ after_digits l.fn.cursor)
+    × (whole_after l.number (front_digits l.digits) ≡ whole_after 0 (front_digits l.fn.cursor))
     × (l.number ≤ 10000000)
     × (l.count ≤ 5)
-    × (l.count + length (front_digits l.cursor) ≡ length (front_digits l.fn.cursor))
+    × (l.count + length (front_digits l.digits) ≡ length (front_digits l.fn.cursor))
 
 abbrev pub decreases-loop-digit : goal.decreases-loop-digit
-decreases-loop-digit l = length l.cursor
+decreases-loop-digit l = length l.digits

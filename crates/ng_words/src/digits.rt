@@ -1,0 +1,66 @@
+//! The digits that come next on a line, one after the other.
+ghost use Rattle.std.specs.Prelude.{◌≡◌, [], ◌∷◌, false, Some, None, MatchOption, IsTrue};
+ghost use Rattle.ng_words.specs.Plain.{plain, AtPlain};
+ghost use Rattle.ng_words.specs.Grammar.{is_digit};
+ghost use Rattle.ng_words.specs.Scan.{front_digits, after_digits};
+
+use crate::cursor::skip_blanks;
+use std::marker::Model;
+
+/// The bytes of a line that are left while digits are read, seen as those that count. Unlike a cursor's they may begin
+/// with blanks.
+#[derive(Drop)]
+pub(crate) struct Digits<'a> {
+    pub(crate) rest: &'a [u8],
+}
+
+impl<'a> Model for Digits<'a> {
+    ghost use Rattle.std.specs.Prelude.{List, ℕ, false};
+    ghost use Rattle.ng_words.specs.Plain.{plain};
+
+    ghost Value = { List ℕ };
+
+    ghost view = { λ d. plain false d.rest.now };
+}
+
+#[inline]
+fn is_digit(byte: u8) -> bool
+    ensures { result ≡ is_digit byte }
+{
+    b'0' <= byte && byte <= b'9'
+}
+
+/// The first byte, where it is a digit, and those behind it.
+#[inline]
+fn first_digit(bytes: &[u8]) -> Option<(u8, &[u8])>
+    ensures { MatchOption result (AtPlain bytes.now → (front_digits (plain false bytes.now) ≡ []) × (after_digits (plain false bytes.now) ≡ plain false bytes.now))
+        (λ x. (plain false bytes.now ≡ x.0 ∷ plain false x.1.now) × IsTrue (is_digit x.0)) }
+{
+    match bytes.split_first() {
+        Some((first, others)) if is_digit(*first) => Some((*first, others)),
+        _ => None,
+    }
+}
+
+impl<'a> Digits<'a> {
+    /// The next digit; none where another byte comes first, or no byte is left. Blanks are rare, so they are looked for
+    /// where no digit comes.
+    #[inline]
+    pub(crate) fn next(&mut self) -> Option<u8>
+        ensures { MatchOption result ((front_digits self.old ≡ []) × (after_digits self.old ≡ self.old) × (self.new ≡ self.old))
+            (λ b. (self.old ≡ b ∷ self.new) × IsTrue (is_digit b)) }
+    {
+        if let Some((digit, others)) = first_digit(self.rest) {
+            self.rest = others;
+            return Some(digit);
+        }
+        self.rest = skip_blanks(self.rest);
+        match first_digit(self.rest) {
+            Some((digit, others)) => {
+                self.rest = others;
+                Some(digit)
+            }
+            None => None,
+        }
+    }
+}
