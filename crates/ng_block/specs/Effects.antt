@@ -11,6 +11,7 @@ use Rattle.ng_canon.specs.declared.geometry.Geometry.{Geometry}
 use Rattle.ng_words.specs.Reading.{read}
 use Rattle.ng_words.specs.Grammar.{Piece}
 use Rattle.ng_words.specs.Lines.{last_comment}
+use Rattle.ng_expr.specs.Value.{and_then}
 use Rattle.ng_expr.specs.Settle.{Settled, settled}
 use Rattle.ng_block.specs.declared.asked.Asked.{Asked}
 use Rattle.ng_block.specs.declared.machine.Machine.{Machine}
@@ -21,7 +22,6 @@ use Rattle.ng_block.specs.declared.effect.Stop.TheVariants.{GoesOn, Ends}
 use Rattle.ng_block.specs.Setup.{Setup, changed}
 use Rattle.ng_block.specs.Remarks.{Said, remark_of, said_by}
 use Rattle.ng_block.specs.Asked.{asked_of}
-use Rattle.ng_block.specs.Blocks.{and_then}
 use Rattle.ng_block.specs.Goals.{goal_of}
 use Rattle.ng_block.specs.Faults.{first_of, block_faults, motion_faults}
 use Rattle.ng_block.specs.After.{machine_after, changes_of}

@@ -1,7 +1,7 @@
 //! What a line does in a state.
 ghost use Rattle.std.specs.Prelude.{◌≡◌, ◌≤◌, length, MatchResult, Ok, Err, IfSome};
 ghost use Rattle.ng_params.specs.Points.{origin_of};
-ghost use Rattle.ng_block.specs.After.{modes_after, outputs_after, offsets_after, kept_after, machine_after, changes_of};
+ghost use Rattle.ng_block.specs.After.{modes_after, outputs_after, offsets_after, machine_after, changes_of};
 ghost use Rattle.ng_block.specs.Effects.{executed, carried, acted, done_by, stop_of};
 ghost use Rattle.ng_block.specs.Remarks.{remark_of, said_by};
 ghost use Rattle.ng_params.specs.Changes.{with_changes};
@@ -103,12 +103,28 @@ fn outputs_after(asked: &Asked, outputs: Outputs) -> Outputs
     }
 }
 
-fn offsets_after(asked: &Asked, first: Point, offsets: Offsets) -> Offsets
-    ensures { result ≡ offsets_after asked.now first offsets }
+/// The origin of system 1 in the table that settings leave.
+fn first_origin<A: Allocator + Copy + Drop>(params: &Params<A>, settings: &[Change]) -> Point
+    ensures { result ≡ origin_of (with_changes params.now settings.now) 1 }
+{
+    match settings {
+        [] => params.origin(System::first()),
+        _ => params.origin_after(System::first(), settings),
+    }
+}
+
+/// The offsets after a block, in the table that the line's settings leave.
+fn offsets_after<A: Allocator + Copy + Drop>(
+    asked: &Asked,
+    params: &Params<A>,
+    settings: &[Change],
+    offsets: Offsets,
+) -> Offsets
+    ensures { result ≡ offsets_after asked.now (origin_of (with_changes params.now settings.now) 1) offsets }
 {
     if asked.end.is_some() {
         Offsets {
-            origin: first,
+            origin: first_origin(params, settings),
             g92: Point::origin(),
             tool_length: offsets.tool_length,
         }
@@ -117,28 +133,27 @@ fn offsets_after(asked: &Asked, first: Point, offsets: Offsets) -> Offsets
     }
 }
 
-fn kept_after(asked: &Asked, kept: KeptWords) -> KeptWords
-    ensures { result ≡ kept_after asked.now kept }
+/// Puts the machine after a block into its place; the line's settings have changed the table before. Most lines leave
+/// most of the machine as it is, so it is copied as a whole first.
+fn put_machine_after<A: Allocator + Copy + Drop>(
+    asked: &Asked,
+    goal: &Goal,
+    state: &State<A>,
+    settings: &[Change],
+    after: &mut Machine,
+)
+    ensures { after.new ≡ machine_after asked.now goal.now (origin_of (with_changes state.now.params settings.now) 1) state.now.machine }
 {
+    *after = state.machine;
+    after.modes = modes_after(asked, &state.machine.modes);
+    after.feed_per_min = goal.feed_per_min;
+    after.point = goal.point;
     if asked.motion.is_some() || asked.end.is_some() {
-        KeptWords::none()
-    } else {
-        kept
+        after.kept = KeptWords::none();
     }
-}
-
-/// The machine after a block.
-fn machine_after(asked: &Asked, goal: &Goal, first: Point, machine: &Machine) -> Machine
-    ensures { result ≡ machine_after asked.now goal.now first machine.now }
-{
-    Machine {
-        modes: modes_after(asked, &machine.modes),
-        feed_per_min: goal.feed_per_min,
-        outputs: outputs_after(asked, machine.outputs),
-        offsets: offsets_after(asked, first, machine.offsets),
-        kept: kept_after(asked, machine.kept),
-        point: goal.point,
-        place_known: machine.place_known,
+    if asked.end.is_some() {
+        after.outputs = outputs_after(asked, state.machine.outputs);
+        after.offsets = offsets_after(asked, &state.params, settings, state.machine.offsets);
     }
 }
 
@@ -190,16 +205,6 @@ impl Effect {
     }
 }
 
-/// The origin of system 1 in the table that settings leave.
-fn first_origin<A: Allocator + Copy + Drop>(params: &Params<A>, settings: &[Change]) -> Point
-    ensures { result ≡ origin_of (with_changes params.now settings.now) 1 }
-{
-    match settings {
-        [] => params.origin(System::first()),
-        _ => params.origin_after(System::first(), settings),
-    }
-}
-
 /// What the values of a line do in a state, put into the places of an effect; or the first fault that refuses
 /// them. After a fault the effect may hold anything.
 #[tactic(auto, unfolding(crate::specs::Effects::acted))]
@@ -222,8 +227,7 @@ fn act<A: Allocator + Copy + Drop>(
         return Err(fault);
     }
     let settings = values.settings.as_slice();
-    let first = first_origin(&state.params, settings);
-    effect.machine = machine_after(&asked, &goal, first, &state.machine);
+    put_machine_after(&asked, &goal, state, settings, &mut effect.machine);
     changes_of(&asked, settings, &mut effect.changes);
     effect.remark.take(comment);
     segments_of(
