@@ -2,7 +2,7 @@
 //! remark, feed mode, feed, spindle speed, tool, tool change, spindle, coolant, overrides, dwell, plane, units,
 //! cutter radius, tool length, coordinate system, path mode, distance mode, retract mode, axis data, motion, stop.
 //! The steps whose codes aren't built yet print nothing and stand nowhere below.
-ghost use Rattle.std.specs.Prelude.{◌≡◌, ◌++◌, ◌≤◌, ◌+◌, length};
+ghost use Rattle.std.specs.Prelude.{◌≡◌, ◌++◌, ◌∷◌, [], ◌≤◌, ◌+◌, length};
 ghost use Rattle.ng_block.specs.Order.{pace_of, feed_commands, unit_commands, motion_commands, end_commands, commands_of, straight, path_segments, end_switch, switch_segments, segments_of};
 
 use crate::asked::{Asked, End};
@@ -24,6 +24,21 @@ pub type Commands = ArrayVec<Command, COMMANDS>;
 
 /// The segments of a block, in their order.
 pub type Segments = ArrayVec<Segment, SEGMENTS>;
+
+/// Makes an item all that a list holds. Where the list held one item it is overwritten: emptying the list would write
+/// its place twice, and nearly every line prints and moves one thing.
+#[inline]
+fn hold_alone<T: Copy + Default + Drop, const N: usize>(list: &mut ArrayVec<T, N>, item: T)
+    requires { 1 ≤ N }
+    ensures { list.new.items ≡ item ∷ [] }
+{
+    if list.len() == 1 {
+        list.as_mut_slice()[0] = item;
+        return;
+    }
+    list.clear();
+    list.push(item);
+}
 
 /// How fast a straight move goes; none where there is none, or no feed above 0.
 fn pace_of(motion: Option<Motion>, feed_per_min: Len) -> Option<Pace>
@@ -87,10 +102,25 @@ fn print_end(end: Option<End>, origin: Point, commands: &mut Commands)
     commands.push(Command::ProgramEnd);
 }
 
+/// Lists the command of a motion alone.
+fn print_motion_alone(motion: Option<Motion>, end: Point, commands: &mut Commands)
+    ensures { commands.new.items ≡ motion_commands motion end }
+{
+    match motion {
+        Some(Motion::Traverse) => hold_alone(commands, Command::Traverse(end)),
+        Some(Motion::Feed) => hold_alone(commands, Command::Feed(end)),
+        _ => commands.clear(),
+    }
+}
+
 /// Lists the commands of a block.
 pub fn commands_of(asked: &Asked, goal: &Goal, after: &Machine, commands: &mut Commands)
     ensures { commands.new.items ≡ commands_of asked.now goal.now after.now }
 {
+    if asked.values.f.is_none() && asked.unit.is_none() && asked.end.is_none() {
+        print_motion_alone(goal.motion, goal.point, commands);
+        return;
+    }
     commands.clear();
     print_feed(asked.values.f, goal.feed_per_min, commands);
     print_unit(asked.unit, commands);
@@ -129,6 +159,10 @@ fn end_switch(end: Option<End>, after: &Machine) -> Option<Outputs>
 fn list(path: Option<Path>, switch: Option<Outputs>, segments: &mut Segments)
     ensures { segments.new.items ≡ path_segments path ++ switch_segments switch }
 {
+    if let (Some(Path::Straight(line)), None) = (path, switch) {
+        hold_alone(segments, Segment::Line(line));
+        return;
+    }
     segments.clear();
     match path {
         Some(Path::Straight(line)) => segments.push(Segment::Line(line)),

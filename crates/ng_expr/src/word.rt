@@ -1,7 +1,7 @@
 use ng_num::Num;
 use ng_words::Letter;
 
-/// A word of a line: its letter and its value. The default is `A0`.
+/// A word of a line: its letter and its value. The default is `Z0`: it fills places.
 #[derive(Clone, Copy, Debug, PartialEq, Eq)]
 pub struct Word {
     pub letter: Letter,
@@ -11,7 +11,7 @@ pub struct Word {
 impl Default for Word {
     fn default() -> Self {
         Word {
-            letter: Letter::A,
+            letter: Letter::Z,
             value: Num::zero(),
         }
     }

@@ -1,8 +1,8 @@
 -- What the reader's parts owe: how the places of a walk stand in the code, and what each step says.
-use Rattle.std.specs.Prelude.{ℕ, ◌+◌, ◌-◌, ◌<◌, ◌≡◌, List, [], ◌∷◌, ◌++◌, length, take, drop, Bool, true, false, Option, Some, None, slice_get, nat_le, if◌then◌else◌, IsTrue, ◌⊎◌}
+use Rattle.std.specs.Prelude.{ℕ, ◌+◌, ◌-◌, ◌<◌, ◌≤◌, ◌≡◌, List, [], ◌∷◌, ◌++◌, length, take, drop, Bool, true, false, Option, Some, None, slice_get, nat_le, if◌then◌else◌}
 use Rattle.std.specs.Option.{option_and_then}
 use Rattle.ng_words.specs.Plain.{plain}
-use Rattle.ng_words.specs.Grammar.{Tree, level, is_digit, Piece, word, setting, comment}
+use Rattle.ng_words.specs.Grammar.{Tree, level, Piece, word, setting, comment}
 use Rattle.ng_words.specs.Values.{Waiting, index, brackets, function, left, openings, entry_at, Place, before, after, settled, gathered, closed, step_at, value_at}
 use Rattle.ng_words.specs.Pieces.{comment_at, set_at, piece_at, pieces_at}
 use Rattle.ng_words.specs.Kept.{postfix, item_of, nodes_of, bytes_of, Places, Keeps}
@@ -129,10 +129,10 @@ Closes stack nodes false stack_then nodes_then =
 Closes stack nodes true stack_then nodes_then =
     (t : Tree) (ws : List Waiting) (base : List Node) → HoldsAfter t ws base stack nodes → (p : Place) × (closed t ws ≡ Some p) × Stands p base true stack_then nodes_then
 
--- a digit, a point or a sign comes first: only a number begins so
+-- a byte from the plus to the nine comes first: of all values only a number begins so
 abbrev pub BeginsNumber : List ℕ → Type 0
 BeginsNumber [] = ⊥
-BeginsNumber (b ∷ bs) = IsTrue (is_digit b) ⊎ ((b ≡ 46) ⊎ ((b ≡ 45) ⊎ (b ≡ 43)))
+BeginsNumber (b ∷ bs) = (43 ≤ b) × (b ≤ 57)
 
 -- ---- the pieces
 

@@ -304,13 +304,14 @@ fn walk(cursor: &mut Cursor<'_>, stack: &mut Stack, nodes: &mut Nodes) -> Option
     Some((nodes.len() - start) as u16)
 }
 
-/// Whether a number comes next, and nothing that opens a value.
+/// Whether a byte comes next that of all values only a number begins with. (What else lies between the plus and the nine
+/// begins none.)
 #[inline]
 fn begins_number(cursor: &Cursor<'_>) -> bool
     ensures { IsTrue result → BeginsNumber cursor.now }
 {
     match cursor.first() {
-        Some(b) => (b'0' <= b && b <= b'9') || b == b'.' || b == b'-' || b == b'+',
+        Some(b) => b'+' <= b && b <= b'9',
         None => false,
     }
 }
