@@ -2,14 +2,26 @@
 # Lines per second and peak memory of `ngc dry` on programs of G0 and G1 moves: with plain numbers as a CAM system writes
 # them, and with an expression in each line.
 #
-# usage, at the top of the repository: bench/dry.sh [LINES..]      (200000 and 2000000 where none is given)
+# usage, at the top of the repository: bench/dry.sh [--beside NGC] [--rounds N] [LINES..]
+#
+#   --beside NGC   also runs another executable of ngc, in turns with this one, so that both figures stand side by side
+#                  (but on a program that it refuses)
+#   --rounds N     how often each is run on each program (3 where it isn't given)
+#   LINES..        the programs' lengths (200000 and 2000000 where none is given)
 #
 # It proves and builds ng_console by rt where that is needed, writes each program itself from a fixed seed, and runs
-# the executable on it three times with its output to /dev/null and three times to a file. It shows the time of the
-# whole process on the clock, and the processor time that the system counted for it (wait4), which other work on the
-# machine disturbs less. Memory is the greatest resident size (VmHWM of /proc/PID/status, read until the process ends,
-# in a run of its own).
+# the executable on it with its output to /dev/null and to a file. It shows the time of the whole process on the clock,
+# and the processor time that the system counted for it (wait4), which other work on the machine disturbs less. Memory
+# is the greatest resident size (VmHWM of /proc/PID/status, read until the process ends, in a run of its own).
 set -eu
+beside= rounds=3
+while [ $# -gt 0 ]; do
+    case $1 in
+        --beside) beside=$(realpath "$2"); shift 2 ;;
+        --rounds) rounds=$2; shift 2 ;;
+        *) break ;;
+    esac
+done
 cd "$(dirname "$0")/.."
 [ $# -gt 0 ] || set -- 200000 2000000
 (cd crates/ng_console && rt run -- dry ../../examples/first.ngc >/dev/null 2>&1)
@@ -53,23 +65,26 @@ write_program() {
 for kind in numbers expressions; do
 for lines in "$@"; do
     write_program "$lines" "$kind" >"$work/program.ngc"
-    python3 - "$lines" "$work" "$kind" <<'PY'
+    python3 - "$lines" "$work" "$kind" "$rounds" "$beside" <<'PY'
 import os, statistics, subprocess, sys, time
-lines, work = int(sys.argv[1]), sys.argv[2]
+lines, work, kind, rounds = int(sys.argv[1]), sys.argv[2], sys.argv[3], int(sys.argv[4])
 program = os.path.join(work, "program.ngc")
-command = ["crates/ng_console/out/ng_console", "dry", program]
+programs = [("ngc", "crates/ng_console/out/ng_console")]
+for path in sys.argv[5:]:
+    if path and subprocess.run([path, "dry", program], stdout=subprocess.DEVNULL).returncode == 0:
+        programs.append((path, path))
 
-def run(text):
+def run(ngc, text):
     start = time.monotonic()
-    child = subprocess.Popen(command, stdout=text)
+    child = subprocess.Popen([ngc, "dry", program], stdout=text)
     _, status, usage = os.wait4(child.pid, 0)
     child.returncode = status
     if status != 0:
-        sys.exit(f"ngc ended with {status}")
+        sys.exit(f"{ngc} ended with {status}")
     return time.monotonic() - start, usage.ru_utime + usage.ru_stime
 
-def peak():
-    child = subprocess.Popen(command, stdout=subprocess.DEVNULL)
+def peak(ngc):
+    child = subprocess.Popen([ngc, "dry", program], stdout=subprocess.DEVNULL)
     most = 0
     while child.poll() is None:
         try:
@@ -81,16 +96,19 @@ def peak():
         time.sleep(0.002)
     return most
 
-print(f"{lines} lines with {sys.argv[3]}, {os.path.getsize(program)} bytes, load {os.getloadavg()[0]:.2f} on {os.cpu_count()} processors")
-for name, path in [("/dev/null", os.devnull), ("a file", os.path.join(work, "text"))]:
-    runs = []
-    for _ in range(3):
-        with open(path, "wb") as text:
-            runs.append(run(text))
-    for clock, times in [("on the clock", [r[0] for r in runs]), ("of processor", [r[1] for r in runs])]:
-        best, median = min(times), statistics.median(times)
-        print(f"  to {name}, a second {clock}: best {lines / best:,.0f} lines ({best:.3f} s), median {lines / median:,.0f} ({median:.3f} s)")
-print(f"  peak resident memory {peak()} KiB")
+print(f"{lines} lines with {kind}, {os.path.getsize(program)} bytes, load {os.getloadavg()[0]:.2f} on {os.cpu_count()} processors")
+for target, path in [("/dev/null", os.devnull), ("a file", os.path.join(work, "text"))]:
+    runs = {name: [] for name, _ in programs}
+    for _ in range(rounds):
+        for name, ngc in programs:
+            with open(path, "wb") as text:
+                runs[name].append(run(ngc, text))
+    for name, _ in programs:
+        for clock, times in [("on the clock", [r[0] for r in runs[name]]), ("of processor", [r[1] for r in runs[name]])]:
+            best, median = min(times), statistics.median(times)
+            print(f"  {name} to {target}, a second {clock}: best {lines / best:,.0f} lines ({best:.3f} s), median {lines / median:,.0f} ({median:.3f} s)")
+for name, ngc in programs:
+    print(f"  {name}: peak resident memory {peak(ngc)} KiB")
 PY
 done
 done
