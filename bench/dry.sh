@@ -9,7 +9,7 @@
 #   --rounds N     how often each is run on each program (3 where it isn't given)
 #   LINES..        the programs' lengths (200000 and 2000000 where none is given)
 #
-# It proves and builds ng_console by rt where that is needed, writes each program itself from a fixed seed, and runs
+# It proves and builds ngc by rt where that is needed, writes each program itself from a fixed seed, and runs
 # the executable on it with its output to /dev/null and to a file. It shows the time of the whole process on the clock,
 # and the processor time that the system counted for it (wait4), which other work on the machine disturbs less. Memory
 # is the greatest resident size (VmHWM of /proc/PID/status, read until the process ends, in a run of its own).
@@ -24,7 +24,7 @@ while [ $# -gt 0 ]; do
 done
 cd "$(dirname "$0")/.."
 [ $# -gt 0 ] || set -- 200000 2000000
-(cd crates/ng_console && rt run -- dry ../../examples/first.ngc >/dev/null 2>&1)
+(cd crates/ngc && rt run -- dry ../../examples/first.ngc >/dev/null 2>&1)
 work=$(mktemp -d)
 trap 'rm -rf "$work"' EXIT
 
@@ -69,7 +69,7 @@ for lines in "$@"; do
 import os, statistics, subprocess, sys, time
 lines, work, kind, rounds = int(sys.argv[1]), sys.argv[2], sys.argv[3], int(sys.argv[4])
 program = os.path.join(work, "program.ngc")
-programs = [("ngc", "crates/ng_console/out/ng_console")]
+programs = [("ngc", "crates/ngc/out/ngc")]
 for path in sys.argv[5:]:
     if path and subprocess.run([path, "dry", program], stdout=subprocess.DEVNULL).returncode == 0:
         programs.append((path, path))

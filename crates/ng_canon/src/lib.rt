@@ -24,6 +24,3 @@ pub use pace::{InverseTime, Pace, Rate};
 pub use plane::{Plane, Turn};
 pub use printing::{print, print_command};
 pub use segment::{Arc, Line, Segment};
-
-#[cfg(test)]
-mod tests;

@@ -1,8 +1,8 @@
 -- What a job is, and what is done for it.
 use Rattle.std.specs.Prelude.{ℕ, ◌≡◌, ◌⊎◌, Bool, Result, Ok, Err, IfOk, IfErr}
 use Rattle.std.proofs.Common.{List, Bor, refl, inl, inr}
-use Rattle.ng_console.specs.declared.words.Job.{Job}
-use Rattle.ng_console.specs.declared.words.Job.TheVariants.{Dry}
+use Rattle.ng_console.specs.declared.command_line.Job.{Job}
+use Rattle.ng_console.specs.declared.command_line.Job.TheVariants.{Dry}
 
 pub is_dry : (job : Job) → (program : Bor (List ℕ)) × (block_delete : Bool) × (job ≡ Dry program block_delete)
 is_dry (Dry program block_delete) = (program, block_delete, refl)

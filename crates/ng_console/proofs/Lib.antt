@@ -1,4 +1,5 @@
 mod Walked
-mod Program
+mod Entered
+mod DryWords
 mod Defaults
 mod Jobs

@@ -5,8 +5,8 @@ use Rattle.ng_block.specs.Dry.{Terms, Output, Finishes, output_of}
 use Rattle.ng_block.specs.declared.ending.Ended.{Ended}
 use Rattle.ng_block.specs.declared.ending.Ended.TheVariants.{Done, Refused}
 use Rattle.ng_block.specs.declared.ending.DryFault.{DryFault}
-use Rattle.ng_console.specs.declared.words.Job.{Job}
-use Rattle.ng_console.specs.declared.words.Job.TheVariants.{Dry}
+use Rattle.ng_console.specs.declared.command_line.Job.{Job}
+use Rattle.ng_console.specs.declared.command_line.Job.TheVariants.{Dry}
 
 abbrev pub status_of : Result Ended DryFault → ℕ
 status_of (Ok Done) = 0

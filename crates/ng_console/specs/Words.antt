@@ -3,8 +3,8 @@ use Rattle.std.specs.Prelude.{◌≡◌, Bool, List, Some, true, codes}
 use Rattle.clap.specs.Words.{App, Row, Rule, Text, first_of, new_app, new_rule, one_of, subcommand_of, with_rule, with_subcommand}
 use Rattle.clap.specs.declared.builder.ArgAction.TheVariants.{Set, SetTrue}
 use Rattle.clap.specs.Values.{bool_text}
-use Rattle.ng_console.specs.declared.words.Job.{Job}
-use Rattle.ng_console.specs.declared.words.Job.TheVariants.{Dry}
+use Rattle.ng_console.specs.declared.command_line.Job.{Job}
+use Rattle.ng_console.specs.declared.command_line.Job.TheVariants.{Dry}
 
 -- PROGRAM, a file that has to be named
 abbrev pub program_rule : Rule
@@ -18,9 +18,9 @@ block_delete_rule = record (new_rule (codes "block-delete")) { long = Some (code
 abbrev pub dry_app : App
 dry_app = with_rule (with_rule (new_app (codes "dry")) program_rule) block_delete_rule
 
--- a command line names one of the subcommands; help comes by --help alone
+-- a command line names one of the subcommands; --version and help, asked for in either way, are answered
 abbrev pub only_by_subcommands : App → App
-only_by_subcommands app = record app { top = record app.top { subcommand_required = true; arg_required_else_help = true; disable_help_subcommand = true } }
+only_by_subcommands app = record app { top = record app.top { has_version = true; subcommand_required = true; arg_required_else_help = true } }
 
 -- ngc dry PROGRAM [--block-delete]
 abbrev pub ngc_app : App

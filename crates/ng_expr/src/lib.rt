@@ -18,6 +18,3 @@ mod word;
 pub use values::{Values, evaluate};
 pub use walk::{named, value};
 pub use word::Word;
-
-#[cfg(test)]
-mod tests;

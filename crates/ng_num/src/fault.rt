@@ -219,6 +219,3 @@ impl<T: Drop> From<AllocFailed<T>> for Fault {
         Fault::OutOfMemory
     }
 }
-
-#[cfg(test)]
-mod tests;

@@ -15,8 +15,6 @@ mod power;
 mod print;
 mod root;
 mod rounding;
-#[cfg(test)]
-mod tests;
 mod unit;
 mod whole;
 

@@ -180,6 +180,3 @@ pub fn print_whole<A: Allocator + Copy + Drop>(
     let start = write_digits(n, &mut buffer, 20);
     text.extend_from_slice(&buffer[start..])
 }
-
-#[cfg(test)]
-mod tests;

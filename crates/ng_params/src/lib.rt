@@ -18,6 +18,3 @@ pub use change::Change;
 pub use index::Index;
 pub use params::Params;
 pub use system::System;
-
-#[cfg(test)]
-mod tests;

@@ -16,8 +16,6 @@ mod number;
 mod pieces;
 mod reading;
 mod start;
-#[cfg(test)]
-mod tests;
 mod tree;
 mod value;
 

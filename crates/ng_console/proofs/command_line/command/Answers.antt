@@ -1,0 +1,25 @@
+use Rattle.std.proofs.Common.{ap, ap₂, codes, ◌≡◌, ◌∙◌, true, false}
+use Rattle.std.proofs.lemmas.Result.{IfOk-weaker}
+use Rattle.clap.specs.Words.{App, app_of, new_app, with_subcommand}
+use Rattle.clap.specs.Simple.{app_of_fields}
+use Rattle.clap.specs.declared.builder.command.Command.TheViews.{out-Command}
+use Rattle.clap.proofs.SimpleLemmas.{plain_fields}
+use Rattle.ng_console.specs.Words.{dry_app, only_by_subcommands}
+use Rattle.ng_console.proofs.command_line.command.Goals as goal
+
+-- a command with a version has a flag for it
+abbrev versioned : App → App
+versioned app = record app { top = record app.top { has_version = true } }
+
+pub returns : goal.returns
+returns c =
+    let ngc_is : app_of c.arg_required_else_help.result ≡ only_by_subcommands (new_app (codes "ngc")) =
+    ap app_of_fields c.arg_required_else_help.ensures
+    ∙ (ap (λ f. app_of_fields (record f { arg_required_else_help = true })) c.subcommand_required.ensures
+    ∙ (ap (λ f. app_of_fields (record f { subcommand_required = true; arg_required_else_help = true })) c.after_help.ensures
+    ∙ (ap (λ f. app_of_fields (record f { subcommand_required = true; arg_required_else_help = true })) c.version.ensures
+    ∙ (ap (λ f. versioned (app_of_fields (record f { subcommand_required = true; arg_required_else_help = true }))) c.about.ensures
+    ∙ ap only_by_subcommands c.new.ensures.app)))) in
+    let dry_is : app_of c.in_ok-dry_command.field-0 ≡ dry_app = c.in_ok-dry_command.ensures in
+    let local : (out-Command c.in_ok-dry_command.field-0).has_globals ≡ false = (plain_fields c.in_ok-dry_command.field-0 (ap (λ (a : App). a.top.is_plain) dry_is)).globals in
+    IfOk-weaker c.subcommand.result _ _ (λ r h. h.shape local ∙ ap₂ with_subcommand ngc_is (ap (λ (a : App). a.top) dry_is)) c.subcommand.ensures

@@ -1,0 +1,31 @@
+use Rattle.std.proofs.Common.{ap, sym, codes, Bool, true, false, ◌≡◌, ◌∙◌, option_map}
+use Rattle.clap.specs.Words.{found_of, rows_of}
+use Rattle.clap.proofs.WalkLemmas.{first_value-rows, one_text-rows}
+use Rattle.ng_console.specs.Words.{SaysFlag}
+use Rattle.ng_console.proofs.command_line.dry_job.Goals as goal
+
+pub unreachable-requires : goal.unreachable-requires
+unreachable-requires c =
+    let program = codes "PROGRAM" in
+    let found = found_of c.args.matches.now in
+    let none = ap (option_map (λ s. s.now)) (sym c.in-None.is) ∙ (c.get_str.ensures ∙ first_value-rows found program) in
+    let bad = rw (← none) at c.requires.program in
+    cc
+
+pub returns-clause-files : goal.returns-clause-files
+returns-clause-files c =
+    let program = codes "PROGRAM" in
+    let found = found_of c.args.matches.now in
+    sym (first_value-rows found program) ∙ (sym c.get_str.ensures ∙ ap (option_map (λ s. s.now)) c.in-Some.is)
+
+pub returns-clause-flags : goal.returns-clause-flags
+returns-clause-flags c = go c.requires.flag.0 c.requires.flag.1
+  where
+    go : (is_on : Bool) → SaysFlag (codes "block-delete") (rows_of (found_of c.args.matches.now)) is_on
+        → SaysFlag (codes "block-delete") (rows_of (found_of c.args.matches.now)) c.get_flag-block_delete.result
+    go true says =
+        let on : c.get_flag-block_delete.result ≡ true = c.get_flag-block_delete.ensures.value (one_text-rows (found_of c.args.matches.now) (codes "block-delete") ∙ says) in
+        rw on says
+    go false says =
+        let off : c.get_flag-block_delete.result ≡ false = c.get_flag-block_delete.ensures.other (one_text-rows (found_of c.args.matches.now) (codes "block-delete") ∙ says) in
+        rw off says

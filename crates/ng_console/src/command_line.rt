@@ -1,0 +1,91 @@
+//! The words of the command line, read with clap.
+ghost use Rattle.std.specs.Prelude.{◌≡◌, IfOk, IfErr, true, is_some, map, codes};
+ghost use Rattle.clap.specs.Words.{app_of, first_of, found_of, kind_of, rows_of, takes};
+ghost use Rattle.ng_console.specs.Words.{Asks, HasFiles, HasFlag, HasFlags, dry_app, ngc_app};
+
+use clap::error::ErrorKind;
+use clap::{Arg, ArgAction, ArgMatches, Command, Error};
+use std::alloc::{AllocError, Global};
+
+/// The version that `ngc --version` prints.
+const VERSION: &str = "0.1.0";
+
+/// What stands below each help text: how a run ends.
+const ENDINGS: &str =
+    "Exit status:\n  0  the program ran to its end\n  1  a line was refused; the last line printed says which one and why\n  2  the words are wrong, or ask for help or the version; or a file can't be\n     read, the output can't be written, or memory is wanting\n\nA file that can't be read prints nothing.";
+
+/// What a command line asks for.
+#[derive(Clone, Copy, Debug, PartialEq, Eq)]
+pub enum Job<'a> {
+    /// `ngc dry PROGRAM [--block-delete]`: a dry run of a program with the default tools and geometry.
+    Dry {
+        /// The path of the program's file.
+        program: &'a str,
+        /// Whether the lines that begin with a slash are deleted.
+        block_delete: bool,
+    },
+}
+
+/// What a line of words asks for. The first word is the program's own name, as the system gives it.
+///
+/// An error's text says what is wrong with the words, or is the help that they ask for. Where the words are a
+/// command line of `ngc`, the only error is `ErrorKind::OutOfMemory`. Source: own.
+pub fn words<'a>(alloc: Global, words: &'a [&'a str]) -> Result<Job<'a>, Error>
+    ensures job { IfOk result (Asks (map (λ s. s.now) words.entry.now)) }
+    ensures taken { IfErr result (λ e. takes ngc_app (map (λ s. s.now) words.entry.now) ≡ true → kind_of e ≡ ErrorKind.OutOfMemory) }
+{
+    let matches = command(alloc)?.try_get_matches_from(words)?;
+    match matches.subcommand_matches("dry") {
+        Some(dry) => Ok(dry_job(dry)),
+        None => unreachable!(),
+    }
+}
+
+/// The job of the matches of `dry`.
+fn dry_job<'a>(matches: &ArgMatches<'a>) -> Job<'a>
+    requires program { is_some (first_of (codes "PROGRAM") (rows_of (found_of matches.now))) ≡ true }
+    requires flag { HasFlag (codes "block-delete") (rows_of (found_of matches.now)) }
+    ensures files { HasFiles (rows_of (found_of matches.now)) result }
+    ensures flags { HasFlags (rows_of (found_of matches.now)) result }
+{
+    let block_delete = matches.get_flag("block-delete");
+    match matches.get_str("PROGRAM") {
+        Some(program) => Job::Dry {
+            program,
+            block_delete,
+        },
+        None => unreachable!(),
+    }
+}
+
+/// The command `ngc`, with its subcommands.
+fn command<'a>(alloc: Global) -> Result<Command<'a>, AllocError>
+    ensures { IfOk result (λ command. app_of command ≡ ngc_app) }
+{
+    Command::new(alloc, "ngc")
+        .about("A controller for three-axis milling machines")
+        .version(VERSION)
+        .after_help(ENDINGS)
+        .subcommand_required(true)
+        .arg_required_else_help(true)
+        .subcommand(dry_command(alloc)?)
+}
+
+/// The subcommand `dry`.
+fn dry_command<'a>(alloc: Global) -> Result<Command<'a>, AllocError>
+    ensures { IfOk result (λ command. app_of command ≡ dry_app) }
+{
+    let program = Arg::new(alloc, "PROGRAM")
+        .help("The file of the program: lines of RS274/NGC that end with M2 or M30")
+        .action(ArgAction::Set)
+        .required(true);
+    let block_delete = Arg::new(alloc, "block-delete")
+        .long("block-delete")
+        .help("Leave out the lines that begin with a slash")
+        .action(ArgAction::SetTrue);
+    Command::new(alloc, "dry")
+        .about("Run a program without a machine and print its canonical text")
+        .after_help(ENDINGS)
+        .arg(program)?
+        .arg(block_delete)
+}

@@ -1,0 +1,233 @@
+use linked_list_allocator::LocalHeap;
+use ng_canon::{ArcFeed, Axis, Canon, Command, Geometry, Plane, Rate, Turn, print};
+use ng_num::{Len, Num, Point, Unit};
+use std::alloc::Allocator;
+use std::test::Fail;
+
+/// A length of whole nanometres, 0 where it is out of range.
+fn nm(count: i64) -> Len {
+    Len::of_nm(count as i128).unwrap_or_default()
+}
+
+/// A number of millionths, 0 where it is out of range.
+fn millionths(count: i64) -> Num {
+    Num::of(count as i128).unwrap_or_default()
+}
+
+/// A point of whole nanometres.
+fn point(x: i64, y: i64, z: i64) -> Point {
+    Point {
+        x: nm(x),
+        y: nm(y),
+        z: nm(z),
+    }
+}
+
+/// Whether a command prints as this text behind another one.
+fn prints<A: Allocator + Copy + Drop>(alloc: A, canon: &Canon<'_>, want: &str) -> bool {
+    let mut text = Vec::new(alloc);
+    if text.extend_from_slice(b"N1\n").is_err() || print(&mut text, canon).is_err() {
+        return false;
+    }
+    text.as_slice().strip_prefix(b"N1\n") == Some(want.as_bytes())
+}
+
+#[test]
+fn plain_commands(rt: HostRuntime) {
+    let table = [
+        (
+            Command::StartSpindleClockwise,
+            "START_SPINDLE_CLOCKWISE()\n",
+        ),
+        (
+            Command::StartSpindleCounterclockwise,
+            "START_SPINDLE_COUNTERCLOCKWISE()\n",
+        ),
+        (Command::StopSpindle, "STOP_SPINDLE_TURNING()\n"),
+        (Command::MistOn, "MIST_ON()\n"),
+        (Command::MistOff, "MIST_OFF()\n"),
+        (Command::FloodOn, "FLOOD_ON()\n"),
+        (Command::FloodOff, "FLOOD_OFF()\n"),
+        (Command::SelectPlane(Plane::Xy), "SELECT_PLANE(XY)\n"),
+        (Command::SelectPlane(Plane::Xz), "SELECT_PLANE(XZ)\n"),
+        (Command::SelectPlane(Plane::Yz), "SELECT_PLANE(YZ)\n"),
+        (
+            Command::LengthUnits(Unit::Inches),
+            "USE_LENGTH_UNITS(INCHES)\n",
+        ),
+        (
+            Command::LengthUnits(Unit::Millimetres),
+            "USE_LENGTH_UNITS(MM)\n",
+        ),
+        (Command::ProgramStop, "PROGRAM_STOP()\n"),
+        (Command::OptionalStop, "OPTIONAL_PROGRAM_STOP()\n"),
+        (Command::PalletShuttle, "PALLET_SHUTTLE()\n"),
+        (Command::ProgramEnd, "PROGRAM_END()\n"),
+        (Command::SelectTool(0), "SELECT_TOOL(0)\n"),
+        (Command::ChangeTool(64), "CHANGE_TOOL(64)\n"),
+    ];
+    for (command, want) in table {
+        assert!(rt;
+            prints(rt.alloc(), &Canon::Command(command), want),
+            "{want}"
+        );
+    }
+}
+
+#[test]
+fn commands_with_numbers(rt: HostRuntime) {
+    let arc = |turn: Turn| ArcFeed {
+        end: point(20_002_000, 0, -1),
+        centre_a: nm(10_000_000),
+        centre_b: nm(-9_999_999_999_999),
+        turn,
+    };
+    let table = [
+        (
+            Command::FeedRate(nm(100_000_000)),
+            "SET_FEED_RATE(100.000000)\n",
+        ),
+        (
+            Command::InverseTime(millionths(500_000)),
+            "INVERSE_TIME(0.500000)\n",
+        ),
+        (
+            Command::SpindleSpeed(millionths(1_200_500_000)),
+            "SET_SPINDLE_SPEED(1200.500000)\n",
+        ),
+        (Command::Dwell(millionths(1)), "DWELL(0.000001)\n"),
+        (
+            Command::ToolLength(nm(50_000_000)),
+            "USE_TOOL_LENGTH_OFFSET(50.000000)\n",
+        ),
+        (
+            Command::OriginOffsets(point(-3_000_000, 0, 0)),
+            "SET_ORIGIN_OFFSETS(-3.000000, 0.000000, 0.000000)\n",
+        ),
+        (
+            Command::Traverse(point(123_400, 7_000_000, 0)),
+            "STRAIGHT_TRAVERSE(0.123400, 7.000000, 0.000000)\n",
+        ),
+        (
+            Command::Feed(point(1, -25, 999_999_999)),
+            "STRAIGHT_FEED(0.000001, -0.000025, 999.999999)\n",
+        ),
+        (
+            Command::ArcFeed(arc(Turn::Clockwise)),
+            "ARC_FEED(20.002000, 0.000000, -0.000001, 10.000000, -9999999.999999, CW)\n",
+        ),
+        (
+            Command::ArcFeed(arc(Turn::Counterclockwise)),
+            "ARC_FEED(20.002000, 0.000000, -0.000001, 10.000000, -9999999.999999, CCW)\n",
+        ),
+    ];
+    for (command, want) in table {
+        assert!(rt;
+            prints(rt.alloc(), &Canon::Command(command), want),
+            "{want}"
+        );
+    }
+}
+
+#[test]
+fn words_of_comments(rt: HostRuntime) {
+    assert!(rt; prints(rt.alloc(), &Canon::Comment(b""), "COMMENT()\n"));
+    assert!(rt;
+        prints(
+            rt.alloc(),
+            &Canon::Comment(b" Two  words; %"),
+            "COMMENT( Two  words; %)\n"
+        )
+    );
+    assert!(rt;
+        prints(
+            rt.alloc(),
+            &Canon::Message(b" look here "),
+            "MESSAGE( look here )\n"
+        )
+    );
+}
+
+/// Whether a command of 63 bytes was printed behind three bytes, and the text is as it then must be.
+fn grows<A: Allocator + Copy + Drop>(alloc: A, canon: &Canon<'_>) -> (bool, bool) {
+    let mut text = Vec::new(alloc);
+    if text.extend_from_slice(b"N1\n").is_err() {
+        return (false, true);
+    }
+    let printed = print(&mut text, canon).is_ok();
+    let length = if printed { 66 } else { 3 };
+    (
+        printed,
+        text.len() == length && text.as_slice().starts_with(b"N1\n"),
+    )
+}
+
+#[test]
+fn refused_growth_leaves_the_text(rt: HostRuntime) -> Result<(), Fail> {
+    let arc = Canon::Command(Command::ArcFeed(ArcFeed {
+        end: point(1, 2, 3),
+        centre_a: nm(4),
+        centre_b: nm(5),
+        turn: Turn::Clockwise,
+    }));
+    let mut refused = 0u32;
+    let mut printed = 0u32;
+    for room in 1..40usize {
+        let heap = LocalHeap::new(rt.alloc(), 16 * room)?;
+        let (whole, right) = grows(&heap, &arc);
+        assert!(rt; right, "{room}");
+        if whole {
+            printed = 1;
+        } else {
+            refused = 1;
+        }
+    }
+    assert_eq!(rt; (refused, printed), (1, 1));
+    Ok(())
+}
+
+#[test]
+fn limits_of_an_axis(rt: HostRuntime) {
+    let far = 10_000_000_000;
+    for (step, low, high, want) in [
+        (10, 0, 0, true),
+        (1_000_000, -far, far, true),
+        (9, 0, 0, false),
+        (1_000_001, 0, 0, false),
+        (10, 1, 1, false),
+        (10, -1, -1, false),
+        (10, -far - 1, 0, false),
+        (10, 0, far + 1, false),
+    ] {
+        let axis = Axis::new(step, nm(low), nm(high));
+        assert_eq!(rt; axis.is_some(), want, "{step} {low} {high}");
+    }
+}
+
+#[test]
+fn limits_of_a_machine(rt: HostRuntime) {
+    let standard = Geometry::standard();
+    for (traverse, period, want) in [
+        (1, 1, true),
+        (100_000_000_000, 1_000_000, true),
+        (100_000_000_001, 1, false),
+        (1, 0, false),
+        (1, 1_000_001, false),
+    ] {
+        let machine = match Rate::of(nm(traverse)) {
+            Some(rate) => Geometry::new(standard.x, standard.y, standard.z, rate, period),
+            None => None,
+        };
+        assert_eq!(rt; machine.is_some(), want, "{traverse} {period}");
+    }
+    let metre = 1_000_000_000;
+    for (x, y, z, want) in [
+        (metre, -metre, 0, true),
+        (metre + 1, 0, 0, false),
+        (0, -metre - 1, 0, false),
+        (0, 0, metre + 1, false),
+    ] {
+        assert_eq!(rt; standard.contains(point(x, y, z)), want, "{x} {y} {z}");
+    }
+    assert!(rt; standard.x.contains(nm(metre)) && !standard.z.contains(nm(-metre - 1)));
+}

@@ -1,0 +1,23 @@
+//! Tests of all crates through their public calls; no program stands on this crate.
+//!
+//! Expected values are worked out by hand or by other means from the language, never taken from what the crates
+//! answer. They stand in one crate because a crate with tests is proved twice. Tests that need private parts of a
+//! crate stand in that crate.
+#![tactic(auto)]
+
+#[cfg(test)]
+mod commands;
+#[cfg(test)]
+mod faults;
+#[cfg(test)]
+mod lines;
+#[cfg(test)]
+mod numbers;
+#[cfg(test)]
+mod parameters;
+#[cfg(test)]
+mod printing;
+#[cfg(test)]
+mod programs;
+#[cfg(test)]
+mod values;

@@ -1,0 +1,547 @@
+use ng_num::Fault;
+use ng_words::{
+    Function, Kind, Letter, Line, Node, Operation, PIECES, Piece, Pieces, Tree, is_deletable,
+    kind_of, read_line,
+};
+use std::test::Fail;
+
+/// Lines with one word, and its count of millionths where that is in range.
+const NUMBERS: [(&[u8], Option<i64>); 23] = [
+    (b"X0", Some(0)),
+    (b"X.5", Some(500_000)),
+    (b"X5.", Some(5_000_000)),
+    (b"X-.5", Some(-500_000)),
+    (b"X+5", Some(5_000_000)),
+    (b"X-0", Some(0)),
+    (b"X0012.50", Some(12_500_000)),
+    (b"X1.234567", Some(1_234_567)),
+    (b"X1.2345674", Some(1_234_567)),
+    (b"X1.2345675", Some(1_234_568)),
+    (b"X-1.2345675", Some(-1_234_568)),
+    (b"X-1.23456749999", Some(-1_234_567)),
+    (b"X0.9999995", Some(1_000_000)),
+    (b"X0.0000005", Some(1)),
+    (b"X0.0000004", Some(0)),
+    (b"X9999999.999999", Some(9_999_999_999_999)),
+    (b"X9999999.9999994", Some(9_999_999_999_999)),
+    (b"X9999999.9999995", None),
+    (b"X-9999999.9999994", Some(-9_999_999_999_999)),
+    (b"X-9999999.9999995", None),
+    (b"X10000000", None),
+    (b"X99999999999999999999999999999999999999999", None),
+    (
+        b"X00000000000000000000000000000000000000001",
+        Some(1_000_000),
+    ),
+];
+
+/// A line's bytes, whether it is deletable, its block number, and its words with their millionths.
+type Row = (&'static [u8], bool, Option<u32>, &'static [(Letter, i64)]);
+
+const LINES: [Row; 14] = [
+    (
+        b"g0x +0. 12 34y 7",
+        false,
+        None,
+        &[(Letter::G, 0), (Letter::X, 123_400), (Letter::Y, 7_000_000)],
+    ),
+    (b"", false, None, &[]),
+    (b" \t ", false, None, &[]),
+    (b"N99999 G1", false, Some(99_999), &[(Letter::G, 1_000_000)]),
+    (b"N00009", false, Some(9), &[]),
+    (b"n 1 2\t3x1", false, Some(123), &[(Letter::X, 1_000_000)]),
+    (b"/G0", true, None, &[(Letter::G, 0)]),
+    (b" / N7 x1", true, Some(7), &[(Letter::X, 1_000_000)]),
+    (b"/", true, None, &[]),
+    (
+        b"x2X1",
+        false,
+        None,
+        &[(Letter::X, 2_000_000), (Letter::X, 1_000_000)],
+    ),
+    (
+        b"A1B2C3D4F5",
+        false,
+        None,
+        &[
+            (Letter::A, 1_000_000),
+            (Letter::B, 2_000_000),
+            (Letter::C, 3_000_000),
+            (Letter::D, 4_000_000),
+            (Letter::F, 5_000_000),
+        ],
+    ),
+    (
+        b"G1H2I3J4K5",
+        false,
+        None,
+        &[
+            (Letter::G, 1_000_000),
+            (Letter::H, 2_000_000),
+            (Letter::I, 3_000_000),
+            (Letter::J, 4_000_000),
+            (Letter::K, 5_000_000),
+        ],
+    ),
+    (
+        b"L1M2P3Q4R5",
+        false,
+        None,
+        &[
+            (Letter::L, 1_000_000),
+            (Letter::M, 2_000_000),
+            (Letter::P, 3_000_000),
+            (Letter::Q, 4_000_000),
+            (Letter::R, 5_000_000),
+        ],
+    ),
+    (
+        b"s1t2x3y4z5",
+        false,
+        None,
+        &[
+            (Letter::S, 1_000_000),
+            (Letter::T, 2_000_000),
+            (Letter::X, 3_000_000),
+            (Letter::Y, 4_000_000),
+            (Letter::Z, 5_000_000),
+        ],
+    ),
+];
+
+/// Lines with one word X, and the codes of its value's nodes, made by hand (see `code`).
+const VALUES: [(&[u8], &[u8]); 34] = [
+    (b"X[1+2]", b"12+]"),
+    (b"X[1+2*3]", b"123*+]"),
+    (b"X[1*2+3]", b"12*3+]"),
+    (b"X[9-3-2]", b"93-2-]"),
+    (b"X[8/4*2]", b"84/2*]"),
+    (b"X[8*4/2]", b"84*2/]"),
+    (b"X[2**3**2]", b"23^2^]"),
+    (b"X[2*3**2]", b"232^*]"),
+    (b"X[2**3*2]", b"23^2*]"),
+    (b"X[1+2**3*4-5]", b"123^4*+5-]"),
+    (b"X[7 mod 3*2]", b"73m2*]"),
+    (b"X[1 or 0 xor 1 and 0]", b"10o1x0&]"),
+    (b"X[1+2 or 3*4]", b"12+34*o]"),
+    (b"X[1 and 2+3]", b"12&3+]"),
+    (b"X[1-+2]", b"12-]"),
+    (b"X[[1]]", b"1]]"),
+    (b"X[[1+2]*3]", b"12+]3*]"),
+    (b"X[1*[2+3]]", b"123+]*]"),
+    (b"X#5", b"5#"),
+    (b"X##5", b"5##"),
+    (b"X#[1+2]", b"12+]#"),
+    (b"X[#1+2]", b"1#2+]"),
+    (b"X[1+#2*##3]", b"12#3##*+]"),
+    (b"X#abs[1]", b"1a#"),
+    (b"Xabs[1]", b"1a"),
+    (b"x a b s [ 2 ]", b"2a"),
+    (b"XFIX[1]", b"1f"),
+    (b"XFUP[1]", b"1u"),
+    (b"XROUND[1+2]", b"12+r"),
+    (b"XSQRT[4]", b"4s"),
+    (b"X[sqrt[4]-abs[1]]", b"4s1a-]"),
+    (b"XABS[FIX[#1]]", b"1#fa"),
+    (b"X[10000000]", b"?]"),
+    (b"X [ 1 \t+ 2 * * 3 ]", b"123^+]"),
+];
+
+/// Lines with one setting, and the codes of its index's and its value's nodes.
+const SETTINGS: [(&[u8], &[u8], &[u8]); 6] = [
+    (b"#1=2", b"1", b"2"),
+    (b" # 1 = + 2", b"1", b"2"),
+    (b"#[1+2]=#3", b"12+]", b"3#"),
+    (b"##1=[2*3]", b"1#", b"23*]"),
+    (b"#abs[1]=fup[2]", b"1a", b"2u"),
+    (b"#5=##6", b"5", b"6##"),
+];
+
+/// Lines of comments alone, and their bytes.
+const COMMENTS: [(&[u8], &[&[u8]]); 6] = [
+    (b"(a)", &[b"a"]),
+    (b"()", &[b""]),
+    (b" ( a B\t) ", &[b" a B\t"]),
+    (b"(msg, N1 X#[)", &[b"msg, N1 X#["]),
+    (b"(a)(b) (c)", &[b"a", b"b", b"c"]),
+    (b"/N5(%)", &[b"%"]),
+];
+
+/// Lines that aren't in the grammar.
+const UNREADABLE: [&[u8]; 73] = [
+    b"N",
+    b"N G1",
+    b"N000009",
+    b"N1.5",
+    b"N-1",
+    b"N1 N2",
+    b"G1 N1",
+    b"X",
+    b"G0 X+",
+    b"G0 X.",
+    b"X-",
+    b"X1.2.3",
+    b"X--1",
+    b"X+-1",
+    b"1",
+    b"G0/",
+    b"//G0",
+    b"N1/G0",
+    b"O1",
+    b"E1",
+    b"U1",
+    b"V1",
+    b"W1",
+    b"(",
+    b")",
+    b"%",
+    b"\x80",
+    b"G0\xC1",
+    b"G0\r",
+    b"G0\n",
+    b"X\x000",
+    b"G0;",
+    b"(a",
+    b"a)",
+    b"((a))",
+    b"(a(b)c)",
+    b"(a))",
+    b"G0(a",
+    b"N(a)1",
+    b"X(a)1",
+    b"#1",
+    b"#",
+    b"#=1",
+    b"#1=",
+    b"1=2",
+    b"#1==2",
+    b"#1=2=3",
+    b"#1(a)=2",
+    b"X#",
+    b"X##",
+    b"X[",
+    b"X]",
+    b"X[]",
+    b"X[1",
+    b"X1]",
+    b"X[1]]",
+    b"X[[1]",
+    b"X[1+]",
+    b"X[*1]",
+    b"X[1***2]",
+    b"X[1[2]]",
+    b"X1+2",
+    b"X#1+2",
+    b"X[1][2]",
+    b"X abs 1",
+    b"X abs[1",
+    b"X abs[]",
+    b"X sin[1]",
+    b"X ab[1]",
+    b"X[1 mo 2]",
+    b"X[1)",
+    b"X[1#2]",
+    b"X[#]",
+];
+
+/// A node's code: a number's digit, and a mark for anything else.
+fn code(node: &Node) -> u8 {
+    match node {
+        Node::Number(None) => b'?',
+        Node::Number(Some(count)) => digit(count.count()),
+        Node::Parameter => b'#',
+        Node::Brackets => b']',
+        Node::Applied(function) => function_code(*function),
+        Node::Joined(operation) => operation_code(*operation),
+    }
+}
+
+/// The digit that a count of millionths is.
+fn digit(count: i64) -> u8 {
+    for d in 0u8..10 {
+        if count == d as i64 * 1_000_000 {
+            return b'0' + d;
+        }
+    }
+    b'!'
+}
+
+fn function_code(function: Function) -> u8 {
+    match function {
+        Function::Abs => b'a',
+        Function::Fix => b'f',
+        Function::Fup => b'u',
+        Function::Round => b'r',
+        Function::Sqrt => b's',
+    }
+}
+
+fn operation_code(operation: Operation) -> u8 {
+    match operation {
+        Operation::Power => b'^',
+        Operation::Times => b'*',
+        Operation::Over => b'/',
+        Operation::Modulo => b'm',
+        Operation::Plus => b'+',
+        Operation::Minus => b'-',
+        Operation::Or => b'o',
+        Operation::Xor => b'x',
+        Operation::And => b'&',
+    }
+}
+
+/// Whether a tree has just the nodes of these codes.
+fn has_codes(tree: &Tree<'_>, codes: &[u8]) -> bool {
+    let nodes = tree.nodes();
+    if nodes.len() != codes.len() {
+        return false;
+    }
+    for (node, expected) in nodes.iter().zip(codes) {
+        if code(node) != *expected {
+            return false;
+        }
+    }
+    true
+}
+
+/// Whether a tree is a number alone, of this count of millionths.
+fn is_number(tree: &Tree<'_>, millionths: Option<i64>) -> bool {
+    match tree.nodes() {
+        [Node::Number(value)] => value.map(|v| v.count()) == millionths,
+        _ => false,
+    }
+}
+
+/// Whether the next piece is this word, with a number.
+fn is_word(pieces: &mut Pieces<'_>, letter: Letter, millionths: Option<i64>) -> bool {
+    match pieces.next() {
+        Some(piece) => match piece {
+            Piece::Word(l, tree) => l == letter && is_number(&tree, millionths),
+            _ => false,
+        },
+        None => false,
+    }
+}
+
+/// Whether the next piece is a word X with these codes.
+fn is_value(pieces: &mut Pieces<'_>, codes: &[u8]) -> bool {
+    match pieces.next() {
+        Some(piece) => match piece {
+            Piece::Word(l, tree) => l == Letter::X && has_codes(&tree, codes),
+            _ => false,
+        },
+        None => false,
+    }
+}
+
+/// Whether the next piece is a setting with these codes.
+fn is_setting(pieces: &mut Pieces<'_>, index: &[u8], value: &[u8]) -> bool {
+    match pieces.next() {
+        Some(piece) => match piece {
+            Piece::Setting(i, v) => has_codes(&i, index) && has_codes(&v, value),
+            _ => false,
+        },
+        None => false,
+    }
+}
+
+/// Whether the next piece is a comment with these bytes.
+fn is_comment(pieces: &mut Pieces<'_>, text: &[u8]) -> bool {
+    match pieces.next() {
+        Some(piece) => match piece {
+            Piece::Comment(bytes) => bytes == text,
+            _ => false,
+        },
+        None => false,
+    }
+}
+
+/// Whether no piece is left.
+fn is_end(pieces: &mut Pieces<'_>) -> bool {
+    match pieces.next() {
+        Some(_) => false,
+        None => true,
+    }
+}
+
+/// Whether a line has just these words.
+fn has_words(line: &Line, words: &[(Letter, i64)]) -> bool {
+    let mut pieces = line.pieces();
+    for (letter, millionths) in words {
+        if !is_word(&mut pieces, *letter, Some(*millionths)) {
+            return false;
+        }
+    }
+    is_end(&mut pieces)
+}
+
+/// Whether a line has just these comments.
+fn has_comments(line: &Line, comments: &[&[u8]]) -> bool {
+    let mut pieces = line.pieces();
+    for text in comments {
+        if !is_comment(&mut pieces, text) {
+            return false;
+        }
+    }
+    is_end(&mut pieces)
+}
+
+/// How many pieces a line has.
+fn count(line: &Line) -> usize {
+    let mut pieces = line.pieces();
+    for n in 0..=PIECES {
+        if is_end(&mut pieces) {
+            return n;
+        }
+    }
+    PIECES + 1
+}
+
+#[test]
+fn rounds_numbers(rt: HostRuntime) -> Result<(), Fail> {
+    let mut line = Line::new();
+    for (i, (text, millionths)) in NUMBERS.iter().enumerate() {
+        assert!(rt; line.read(text).is_ok(), "number {i}");
+        let mut pieces = line.pieces();
+        assert!(rt; is_word(&mut pieces, Letter::X, *millionths), "number {i}");
+        assert!(rt; is_end(&mut pieces), "number {i}");
+    }
+    Ok(())
+}
+
+#[test]
+fn reads_lines(rt: HostRuntime) -> Result<(), Fail> {
+    let mut line = Line::new();
+    for (i, (text, deletable, number, words)) in LINES.iter().enumerate() {
+        assert!(rt; line.read(text).is_ok(), "line {i}");
+        assert_eq!(rt; line.is_deletable(), *deletable, "line {i}");
+        assert_eq!(rt; is_deletable(text), *deletable, "line {i}");
+        assert_eq!(rt; line.number(), *number, "line {i}");
+        assert!(rt; has_words(&line, words), "line {i}");
+    }
+    Ok(())
+}
+
+#[test]
+fn reads_values(rt: HostRuntime) -> Result<(), Fail> {
+    let mut line = Line::new();
+    for (i, (text, codes)) in VALUES.iter().enumerate() {
+        assert!(rt; line.read(text).is_ok(), "value {i}");
+        let mut pieces = line.pieces();
+        assert!(rt; is_value(&mut pieces, codes), "value {i}");
+        assert!(rt; is_end(&mut pieces), "value {i}");
+    }
+    Ok(())
+}
+
+#[test]
+fn reads_settings(rt: HostRuntime) -> Result<(), Fail> {
+    let mut line = Line::new();
+    for (i, (text, index, value)) in SETTINGS.iter().enumerate() {
+        assert!(rt; line.read(text).is_ok(), "setting {i}");
+        let mut pieces = line.pieces();
+        assert!(rt; is_setting(&mut pieces, index, value), "setting {i}");
+        assert!(rt; is_end(&mut pieces), "setting {i}");
+    }
+    Ok(())
+}
+
+#[test]
+fn keeps_the_bytes_of_comments(rt: HostRuntime) -> Result<(), Fail> {
+    let mut line = Line::new();
+    for (i, (text, comments)) in COMMENTS.iter().enumerate() {
+        assert!(rt; line.read(text).is_ok(), "comment {i}");
+        assert!(rt; has_comments(&line, comments), "comment {i}");
+    }
+    assert_eq!(rt; line.read(b"(a)G1(b c)X#2"), Ok(()));
+    assert!(rt; line.last_comment() == Some(b"b c"));
+    assert_eq!(rt; line.read(b"G1"), Ok(()));
+    assert!(rt; line.last_comment().is_none());
+    Ok(())
+}
+
+#[test]
+fn reads_pieces_in_order(rt: HostRuntime) -> Result<(), Fail> {
+    let mut line = Line::new();
+    assert_eq!(rt; line.read(b"/n12 g1(in)#3=[4+5]x[6*#7] (out) y-8"), Ok(()));
+    assert!(rt; line.is_deletable());
+    assert_eq!(rt; line.number(), Some(12));
+    let mut pieces = line.pieces();
+    assert!(rt; is_word(&mut pieces, Letter::G, Some(1_000_000)));
+    assert!(rt; is_comment(&mut pieces, b"in"));
+    assert!(rt; is_setting(&mut pieces, b"3", b"45+]"));
+    assert!(rt; is_value(&mut pieces, b"67#*]"));
+    assert!(rt; is_comment(&mut pieces, b"out"));
+    assert!(rt; is_word(&mut pieces, Letter::Y, Some(-8_000_000)));
+    assert!(rt; is_end(&mut pieces));
+    Ok(())
+}
+
+#[test]
+fn refuses_what_is_no_line(rt: HostRuntime) -> Result<(), Fail> {
+    let mut line = Line::new();
+    for (i, text) in UNREADABLE.iter().enumerate() {
+        assert_eq!(rt; line.read(text), Err(Fault::Unreadable), "line {i}");
+        assert_eq!(rt; count(&line), 0, "line {i}");
+    }
+    Ok(())
+}
+
+#[test]
+fn refuses_from_257_bytes_on(rt: HostRuntime) -> Result<(), Fail> {
+    let blanks = [b' '; 257];
+    let mut line = Line::new();
+    assert_eq!(rt; line.read(&blanks[..256]), Ok(()));
+    assert_eq!(rt; line.read(&blanks), Err(Fault::LineTooLong));
+    assert_eq!(rt; line.read(&[b'%'; 257]), Err(Fault::LineTooLong));
+    assert!(rt; matches!(read_line(&blanks), Err(Fault::LineTooLong)));
+    Ok(())
+}
+
+#[test]
+fn holds_as_many_words_as_a_line_has(rt: HostRuntime) -> Result<(), Fail> {
+    let mut text = [b'0'; 256];
+    for i in 0..PIECES {
+        text[2 * i] = b'Z';
+    }
+    match read_line(&text) {
+        Ok(line) => assert_eq!(rt; count(&line), PIECES),
+        Err(_) => assert!(rt; false),
+    }
+    Ok(())
+}
+
+#[test]
+fn nests_as_deep_as_a_line_goes(rt: HostRuntime) -> Result<(), Fail> {
+    let mut text = [b'#'; 256];
+    text[0] = b'X';
+    text[255] = b'1';
+    let mut line = Line::new();
+    assert_eq!(rt; line.read(&text), Ok(()));
+    assert_eq!(rt; count(&line), 1);
+    for i in 1..128 {
+        text[i] = b'[';
+    }
+    text[128] = b'1';
+    for i in 129..256 {
+        text[i] = b']';
+    }
+    assert_eq!(rt; line.read(&text), Ok(()));
+    assert_eq!(rt; count(&line), 1);
+    text[255] = b' ';
+    assert_eq!(rt; line.read(&text), Err(Fault::Unreadable));
+    Ok(())
+}
+
+#[test]
+fn tells_percent_lines(rt: HostRuntime) -> Result<(), Fail> {
+    assert_eq!(rt; kind_of(b""), Kind::Blank);
+    assert_eq!(rt; kind_of(b" \t "), Kind::Blank);
+    assert_eq!(rt; kind_of(b"%"), Kind::Percent);
+    assert_eq!(rt; kind_of(b"\t% "), Kind::Percent);
+    assert_eq!(rt; kind_of(b"%%"), Kind::Other);
+    assert_eq!(rt; kind_of(b"%X1"), Kind::Other);
+    assert_eq!(rt; kind_of(b"X1%"), Kind::Other);
+    assert_eq!(rt; kind_of(b"(%)"), Kind::Other);
+    Ok(())
+}

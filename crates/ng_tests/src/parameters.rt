@@ -1,0 +1,158 @@
+use linked_list_allocator::LocalHeap;
+use ng_num::{Len, Num, Point};
+use ng_params::{Change, Index, Params, System};
+use std::alloc::{AllocError, Allocator, Global};
+use std::test::Fail;
+
+/// A parameter's count of millionths, 0 for a number that names none.
+fn count<A: Allocator + Copy + Drop>(params: &Params<A>, number: i64) -> i64 {
+    match Index::of(number) {
+        Some(index) => params.get(index).count(),
+        None => 0,
+    }
+}
+
+/// Gives a parameter a count of millionths, where both are in range.
+fn put<A: Allocator + Copy + Drop>(params: &mut Params<A>, number: i64, count: i64) {
+    if let (Some(index), Ok(value)) = (Index::of(number), Num::of(count as i128)) {
+        params.set(index, value);
+    }
+}
+
+#[test]
+fn numbers_in_range(rt: HostRuntime) {
+    for (number, want) in [
+        (i64::MIN, 0),
+        (-1, 0),
+        (0, 0),
+        (1, 1),
+        (5399, 5399),
+        (5400, 0),
+    ] {
+        let found = Index::of(number).map_or(0, |index| index.number());
+        assert_eq!(rt; found, want, "parameter {number}");
+    }
+    for (number, want) in [(-1, 0), (0, 0), (1, 1), (9, 9), (10, 0), (257, 0)] {
+        let found = System::of(number).map_or(0, |system| system.number());
+        assert_eq!(rt; found, want, "system {number}");
+    }
+    assert_eq!(rt; System::first().number(), 1);
+}
+
+#[test]
+fn what_outlives_a_program(rt: HostRuntime) -> Result<(), Fail> {
+    let mut params = Params::new(rt.alloc())?;
+    assert_eq!(rt;
+        (
+            count(&params, 1),
+            count(&params, 5220),
+            count(&params, 5399)
+        ),
+        (0, 1_000_000, 0)
+    );
+    for number in 1..=5399 {
+        put(&mut params, number, number);
+    }
+    params.clear_passing();
+    let mut left = 0u32;
+    for number in 1..=5399 {
+        if count(&params, number) == number && left < 5399 {
+            left += 1;
+        }
+    }
+    assert_eq!(rt; left, 37);
+    for kept in [
+        5161, 5163, 5181, 5183, 5211, 5213, 5220, 5221, 5223, 5241, 5243, 5381, 5383,
+    ] {
+        assert_eq!(rt; count(&params, kept), kept);
+    }
+    for gone in [
+        1, 5160, 5164, 5180, 5184, 5210, 5214, 5219, 5224, 5240, 5244, 5380, 5384, 5399,
+    ] {
+        assert_eq!(rt; count(&params, gone), 0, "parameter {gone}");
+    }
+    Ok(())
+}
+
+/// A point of whole nanometres, 0 where one is out of range.
+fn point(x: i64, y: i64, z: i64) -> Point {
+    let nm = |count: i64| Len::of_nm(count as i128).unwrap_or_default();
+    Point {
+        x: nm(x),
+        y: nm(y),
+        z: nm(z),
+    }
+}
+
+#[test]
+fn points_lie_at_their_numbers(rt: HostRuntime) -> Result<(), Fail> {
+    let mut params = Params::new(rt.alloc())?;
+    let nine = System::of(9).unwrap_or_default();
+    params.set_origin(nine, point(-1, 2, 3));
+    params.set_g92(point(4, 5, 6));
+    params.set_system(nine);
+    put(&mut params, 5161, 7);
+    put(&mut params, 5183, 8);
+    for (number, want) in [
+        (5381, -1),
+        (5382, 2),
+        (5383, 3),
+        (5213, 6),
+        (5220, 9_000_000),
+        (5221, 0),
+    ] {
+        assert_eq!(rt; count(&params, number), want, "parameter {number}");
+    }
+    assert_eq!(rt; params.origin(nine), point(-1, 2, 3));
+    assert_eq!(rt; params.origin(System::first()), Point::origin());
+    assert_eq!(rt; params.g92_stored(), point(4, 5, 6));
+    assert_eq!(rt; params.home(), point(7, 0, 0));
+    assert_eq!(rt; params.second_home(), point(0, 0, 8));
+    Ok(())
+}
+
+/// Whether a table was made, copied, changed, compared and brought up to date, all in one heap.
+fn lives<A: Allocator + Copy + Drop>(alloc: A) -> Result<bool, AllocError> {
+    let old = Params::new(alloc)?;
+    let mut new = old.copy()?;
+    put(&mut new, 5399, 3);
+    put(&mut new, 1, -3);
+    put(&mut new, 5220, 0);
+    let changes = new.changes_from(&old)?;
+    let mut again = old.copy()?;
+    again.apply(changes.as_slice());
+    again.apply(&[
+        Change::default(),
+        Change {
+            index: Index::default(),
+            value: Num::zero(),
+        },
+    ]);
+    let numbers = changes
+        .iter()
+        .map(|change| change.index.number() as u32)
+        .eq([1, 5220, 5399]);
+    Ok(numbers && count(&again, 5399) == 3 && count(&again, 5220) == 0 && count(&again, 1) == 0)
+}
+
+#[test]
+fn each_growth_may_be_refused(rt: HostRuntime) -> Result<(), Fail> {
+    let alloc: Global = rt.alloc();
+    assert!(rt; lives(alloc)?);
+    let mut refused = 0;
+    let mut lived = 0;
+    for size in [
+        1_000, 44_000, 60_000, 87_000, 90_000, 120_000, 131_000, 140_000,
+    ] {
+        let heap = LocalHeap::new(alloc, size)?;
+        match lives(&heap) {
+            Ok(whole) => {
+                assert!(rt; whole);
+                lived = 1;
+            }
+            Err(_) => refused = 1,
+        }
+    }
+    assert_eq!(rt; (refused, lived), (1, 1));
+    Ok(())
+}

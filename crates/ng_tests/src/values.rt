@@ -1,0 +1,119 @@
+use linked_list_allocator::LocalHeap;
+use ng_expr::{Values, evaluate};
+use ng_num::Fault;
+use ng_params::{Index, Params};
+use ng_words::{Letter, Line};
+use std::alloc::Allocator;
+use std::test::Fail;
+
+/// A parameter's count of millionths, 0 for a number that names none.
+fn count<A: Allocator + Copy + Drop>(params: &Params<A>, number: i64) -> i64 {
+    match Index::of(number) {
+        Some(index) => params.get(index).count(),
+        None => 0,
+    }
+}
+
+/// The count of millionths of the last word of a line in a table, or its fault.
+fn last_word<A: Allocator + Copy + Drop>(
+    line: &mut Line,
+    params: &Params<A>,
+    text: &[u8],
+) -> Result<i64, Fault> {
+    line.read(text)?;
+    let values = evaluate(line, params)?;
+    match values.words.as_slice().last() {
+        Some(word) => Ok(word.value.count()),
+        None => Err(Fault::Unreadable),
+    }
+}
+
+#[test]
+fn values_of_chains(rt: HostRuntime) -> Result<(), Fail> {
+    let params = Params::new(rt.alloc())?;
+    let mut line = Line::new();
+    let cases: [(&[u8], i64); 16] = [
+        (b"X-1.5", -1_500_000),
+        (b"X[1/3*3]", 999_999),
+        (b"X[2.0/3*1.5-5.5/11.0]", 500_001),
+        (b"X[1+2**3*2]", 17_000_000),
+        (b"X[2**3**2]", 64_000_000),
+        (b"X[10-4-3]", 3_000_000),
+        (b"X[5MOD3**2]", 5_000_000),
+        (b"X[-7MOD3]", 2_000_000),
+        (b"XFIX[-2.8]", -3_000_000),
+        (b"XFUP[-2.8]", -2_000_000),
+        (b"XROUND[-2.5]", -3_000_000),
+        (b"XABS[1-4]", 3_000_000),
+        (b"XSQRT[2]", 1_414_213),
+        (b"X[-1AND0.5]", 1_000_000),
+        (b"X[2XOR-3]", 0),
+        (b"X[0OR[1XOR0]]", 1_000_000),
+    ];
+    for (text, want) in cases {
+        assert_eq!(rt; last_word(&mut line, &params, text), Ok(want), "{text:?}");
+    }
+    Ok(())
+}
+
+#[test]
+fn values_of_parameters(rt: HostRuntime) -> Result<(), Fail> {
+    let heap = LocalHeap::new(rt.alloc(), 65_536)?;
+    let mut params = Params::new(&heap)?;
+    let mut line = Line::new();
+    let mut values = Values::new();
+    line.read(b"#3=15 #4=#3 #5399=-0.5")?;
+    values.evaluate_into(&line, &params)?;
+    params.apply(values.settings.as_slice());
+    assert_eq!(rt;
+        (count(&params, 3), count(&params, 4), count(&params, 5399)),
+        (15_000_000, 0, -500_000)
+    );
+    // The word has the old value, and the last setting counts.
+    line.read(b"#3=6 X#3 (a comment) #3=[#3+1] Y##[1+2]")?;
+    let ended = values.evaluate_into(&line, &params);
+    assert_eq!(rt; ended, Ok(()));
+    assert_eq!(rt; values.words.len(), 2);
+    assert_eq!(rt; values.words.as_slice()[0].letter, Letter::X);
+    assert_eq!(rt; values.words.as_slice()[0].value.count(), 15_000_000);
+    params.apply(values.settings.as_slice());
+    assert_eq!(rt; count(&params, 3), 16_000_000);
+    // After a fault there are no values.
+    line.read(b"#7=1 X1 Y#0")?;
+    let ended = values.evaluate_into(&line, &params);
+    assert_eq!(rt; ended, Err(Fault::BadIndex));
+    assert_eq!(rt; (values.words.len(), values.settings.len()), (0, 0));
+    // An index within 0.0001 of a whole number names its parameter.
+    assert_eq!(rt; last_word(&mut line, &params, b"X#3.0001"), Ok(16_000_000));
+    assert_eq!(rt;
+        last_word(&mut line, &params, b"X#3.0002"),
+        Err(Fault::BadIndex)
+    );
+    Ok(())
+}
+
+#[test]
+fn faults(rt: HostRuntime) -> Result<(), Fail> {
+    let params = Params::new(rt.alloc())?;
+    let mut line = Line::new();
+    let cases: [(&[u8], Fault); 14] = [
+        (b"X10000000", Fault::OutOfRange),
+        (b"X[9999999*2]", Fault::OutOfRange),
+        (b"X[0AND[1/0]]", Fault::BadArithmetic),
+        (b"X[1OR[1/0]]", Fault::BadArithmetic),
+        (b"X[1MOD0]", Fault::BadArithmetic),
+        (b"XSQRT[-1]", Fault::BadArithmetic),
+        (b"X[10**7*#0]", Fault::OutOfRange),
+        (b"X[#0*10**7]", Fault::BadIndex),
+        (b"X#5400", Fault::BadIndex),
+        (b"X#-1", Fault::BadIndex),
+        (b"#0=[1/0]", Fault::BadIndex),
+        (b"#10000000=1", Fault::OutOfRange),
+        (b"#1=[1/0] X#0", Fault::BadArithmetic),
+        (b"X#0 #1=[1/0]", Fault::BadIndex),
+    ];
+    for (text, want) in cases {
+        assert_eq!(rt; last_word(&mut line, &params, text), Err(want), "{text:?}");
+    }
+    Ok(())
+}
