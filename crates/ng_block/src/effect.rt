@@ -1,29 +1,31 @@
-//! What a line does in a state.
-ghost use Rattle.std.specs.Prelude.{◌≡◌, ◌≤◌, length, MatchResult, Ok, Err, IfSome};
-ghost use Rattle.ng_params.specs.Points.{origin_of};
-ghost use Rattle.ng_block.specs.After.{modes_after, outputs_after, offsets_after, machine_after, changes_of};
-ghost use Rattle.ng_block.specs.Effects.{executed, carried, acted, done_by, stop_of};
-ghost use Rattle.ng_block.specs.Remarks.{remark_of, said_by};
-ghost use Rattle.ng_params.specs.Changes.{with_changes};
-ghost use Rattle.ng_words.specs.Kept.{pieces_by};
-ghost use Rattle.ng_expr.specs.Settle.{settled_of};
+//! What a block leaves behind: the machine, the parameters that it changes, how the program goes on, and the plan of its
+//! commands and segments.
+ghost use Rattle.std.specs.Prelude.{◌≡◌, ◌≤◌, [], length, IfSome};
 ghost use Rattle.std.specs.Option.{option_map};
+ghost use Rattle.ng_params.specs.Points.{origin_of};
+ghost use Rattle.ng_params.specs.Changes.{with_changes};
+ghost use Rattle.ng_block.specs.After.{modes_after, offsets_after, machine_after, changes_of};
+ghost use Rattle.ng_block.specs.Effects.{stop_of, plan_of, done_by, outputs_before, segments_by, commands_by, in_state};
+ghost use Rattle.ng_block.specs.Order.{commands_of, segments_of, outputs_behind};
+ghost use Rattle.ng_block.specs.Steps.{order};
+ghost use Rattle.ng_block.specs.Plans.{kept};
+ghost use Rattle.ng_block.specs.Remarks.{remark_of};
+ghost use Rattle.ng_block.specs.Dry.{idle};
+ghost use Rattle.ng_block.specs.declared.effect.Stop.TheVariants.{GoesOn};
 
-use crate::asked::{Asked, asked_of};
-use crate::faults::{block_fault, motion_fault};
-use crate::goal::{Goal, goal_of};
+use crate::asked::Asked;
+use crate::goal::Goal;
 use crate::machine::{KeptWords, Machine, Offsets};
 use crate::modes::{Distance, FeedMode, Modes, Motion};
-use crate::order::{Commands, Segments, commands_of, segments_of};
+use crate::path::{Path, path_of};
+use crate::plan::Plan;
 use crate::remark::Remark;
 use crate::state::State;
-use crate::tools::Tools;
+use crate::switches::outputs_after;
 use arrayvec::ArrayVec;
-use ng_canon::{Geometry, Outputs, Plane, Spindle};
-use ng_expr::Values;
-use ng_num::{Fault, Num, Point};
+use ng_canon::Plane;
+use ng_num::Point;
 use ng_params::{Change, Params, System};
-use ng_words::{Line, read_line};
 use std::alloc::Allocator;
 
 /// The most changes of parameters that a line makes: a setting for each of its pieces, and those of its words.
@@ -44,17 +46,14 @@ pub enum Stop {
     Ends,
 }
 
-/// What a line does: all that it changes, and what it prints and moves, in order.
+/// What a line does: all that it changes, and, by `commands` and `segments`, what it prints and moves, in order.
 #[derive(Debug, Drop)]
 pub struct Effect {
     pub machine: Machine,
     /// The parameters that it sets, taken in order.
     pub changes: Changes,
-    /// What it says before all else.
-    pub remark: Remark,
-    pub segments: Segments,
-    pub commands: Commands,
     pub stop: Stop,
+    pub(crate) plan: Plan,
 }
 
 fn modes_after(asked: &Asked, modes: &Modes) -> Modes
@@ -85,21 +84,6 @@ fn modes_after(asked: &Asked, modes: &Modes) -> Modes
             path: modes.path,
             overrides: modes.overrides,
         }
-    }
-}
-
-fn outputs_after(asked: &Asked, outputs: Outputs) -> Outputs
-    ensures { result ≡ outputs_after asked.now outputs }
-{
-    if asked.end.is_some() {
-        Outputs {
-            spindle: Spindle::Stopped,
-            mist: false,
-            flood: false,
-            ..outputs
-        }
-    } else {
-        outputs
     }
 }
 
@@ -151,8 +135,10 @@ fn put_machine_after<A: Allocator + Copy + Drop>(
     if asked.motion.is_some() || asked.end.is_some() {
         after.kept = KeptWords::none();
     }
-    if asked.end.is_some() {
+    if !asked.is_plain() {
         after.outputs = outputs_after(asked, state.machine.outputs);
+    }
+    if asked.end.is_some() {
         after.offsets = offsets_after(asked, &state.params, settings, state.machine.offsets);
     }
 }
@@ -182,98 +168,76 @@ fn stop_of(asked: &Asked) -> Stop
 }
 
 impl Effect {
-    ghost use Rattle.std.specs.Prelude.{[], None};
-    ghost use Rattle.ng_block.specs.declared.effect.Stop.TheVariants.{GoesOn};
-
     /// No effect on a machine.
     pub fn none(machine: Machine) -> Effect
         ensures machine { result.machine ≡ machine }
         ensures changes { result.changes.items ≡ [] }
-        ensures remark { said_by result.remark ≡ None }
-        ensures segments { result.segments.items ≡ [] }
-        ensures commands { result.commands.items ≡ [] }
+        ensures before { outputs_before result ≡ machine.outputs }
+        ensures segments { segments_by result ≡ [] }
+        ensures commands { commands_by result ≡ [] }
         ensures stop { result.stop ≡ GoesOn }
     {
         Effect {
             machine,
             changes: Changes::new(),
-            remark: Remark::none(),
-            segments: Segments::new(),
-            commands: Commands::new(),
             stop: Stop::GoesOn,
+            plan: Plan {
+                remark: Remark::none(),
+                path: Path::Still,
+                is_plain: true,
+                asked: Asked::nothing(),
+                before: machine.outputs,
+            },
         }
     }
-}
 
-/// What the values of a line do in a state, put into the places of an effect; or the first fault that refuses
-/// them. After a fault the effect may hold anything.
-#[tactic(auto, unfolding(crate::specs::Effects::acted))]
-fn act<A: Allocator + Copy + Drop>(
-    state: &State<A>,
-    comment: Option<&[u8]>,
-    values: &Values,
-    geometry: &Geometry,
-    effect: &mut Effect,
-) -> Result<(), Fault>
-    requires short { IfSome comment (λ text. length text.now ≤ 256) }
-    ensures { MatchResult result (λ _. acted state.now (remark_of (option_map (λ text. text.now) comment.entry)) (settled_of values.now) geometry.now ≡ Ok (done_by state.now effect.new)) (λ f. acted state.now (remark_of (option_map (λ text. text.now) comment.entry)) (settled_of values.now) geometry.now ≡ Err f) }
-{
-    let asked = asked_of(values.words.as_slice());
-    if let Some(fault) = block_fault(&asked, &state.machine.modes) {
-        return Err(fault);
+    /// Becomes that of a line which does nothing in a state.
+    pub(crate) fn leave<A: Allocator + Copy + Drop>(&mut self, state: &State<A>, stop: Stop)
+        ensures { in_state state.now self.new ≡ idle state.now stop }
+    {
+        self.machine = state.machine;
+        self.changes.clear();
+        self.stop = stop;
+        self.plan.remark.clear();
+        self.plan.path = Path::Still;
+        self.plan.is_plain = true;
     }
-    let goal = goal_of(&asked, &state.machine)?;
-    if let Some(fault) = motion_fault(&goal, geometry) {
-        return Err(fault);
-    }
-    let settings = values.settings.as_slice();
-    put_machine_after(&asked, &goal, state, settings, &mut effect.machine);
-    changes_of(&asked, settings, &mut effect.changes);
-    effect.remark.take(comment);
-    segments_of(
-        &asked,
-        &goal,
-        &state.machine,
-        &effect.machine,
-        &mut effect.segments,
-    );
-    commands_of(&asked, &goal, &effect.machine, &mut effect.commands);
-    effect.stop = stop_of(&asked);
-    Ok(())
-}
 
-/// What the pieces of a line do in a state, found in the places of values and put into those of an effect; or the
-/// first fault that refuses them. After a fault both may hold anything.
-#[tactic(auto, unfolding(crate::specs::Effects::carried))]
-pub fn carry<A: Allocator + Copy + Drop>(
-    state: &State<A>,
-    line: &Line,
-    geometry: &Geometry,
-    values: &mut Values,
-    effect: &mut Effect,
-) -> Result<(), Fault>
-    ensures { MatchResult result (λ _. carried state.now (pieces_by line.now.places) geometry.now ≡ Ok (done_by state.now effect.new)) (λ f. carried state.now (pieces_by line.now.places) geometry.now ≡ Err f) }
-{
-    match values.evaluate_into(line, &state.params) {
-        Ok(()) => act(state, line.last_comment(), values, geometry, effect),
-        Err(fault) => Err(fault),
+    /// Keeps the plan of a block whose remark is kept.
+    fn keep_plan(&mut self, asked: &Asked, goal: &Goal, before: &Machine)
+        requires { self.old.machine.outputs ≡ outputs_behind asked.now before.now.outputs order }
+        ensures machine { self.new.machine ≡ self.old.machine }
+        ensures changes { self.new.changes ≡ self.old.changes }
+        ensures stop { self.new.stop ≡ self.old.stop }
+        ensures before { outputs_before self.new ≡ before.now.outputs }
+        ensures segments { segments_by self.new ≡ segments_of (kept self.old asked.now goal.now before.now) }
+        ensures commands { commands_by self.new ≡ commands_of (kept self.old asked.now goal.now before.now) }
+    {
+        self.plan.path = path_of(goal, before.point);
+        self.plan.is_plain = asked.is_plain();
+        if !self.plan.is_plain {
+            self.plan.asked = *asked;
+            self.plan.before = before.outputs;
+        }
     }
-}
 
-/// What a line does in a state, or the first fault that refuses it, in the order of docs/LANGUAGE.md; the state
-/// stays as it is. Source: NISTIR 6556, 3.8, and own.
-#[tactic(auto, unfolding(crate::specs::Effects::executed))]
-pub fn execute<A: Allocator + Copy + Drop>(
-    state: &State<A>,
-    text: &[u8],
-    tools: &Tools,
-    geometry: &Geometry,
-) -> Result<Effect, Fault>
-    ensures { MatchResult result (λ e. executed state.now tools.now geometry.now text.now ≡ Ok (done_by state.now e)) (λ f. executed state.now tools.now geometry.now text.now ≡ Err f) }
-{
-    let _ = tools;
-    let line = read_line(text)?;
-    let mut effect = Effect::none(state.machine);
-    carry(state, &line, geometry, &mut Values::new(), &mut effect)?;
-    Ok(effect)
+    /// Becomes that of a lawful block in a state; the line's settings have changed the table before.
+    pub(crate) fn take_block<A: Allocator + Copy + Drop>(
+        &mut self,
+        state: &State<A>,
+        asked: &Asked,
+        goal: &Goal,
+        settings: &[Change],
+        comment: Option<&[u8]>,
+    )
+        requires settings { length settings.now ≤ 128 }
+        requires short { IfSome comment (λ text. length text.now ≤ 256) }
+        ensures { in_state state.now self.new ≡ done_by (plan_of asked.now goal.now (remark_of (option_map (λ text. text.now) comment.entry)) settings.now state.now) settings.now state.now }
+    {
+        put_machine_after(asked, goal, state, settings, &mut self.machine);
+        changes_of(asked, settings, &mut self.changes);
+        self.stop = stop_of(asked);
+        self.plan.remark.take(comment);
+        self.keep_plan(asked, goal, &state.machine);
+    }
 }
