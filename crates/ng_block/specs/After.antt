@@ -17,7 +17,7 @@ use Rattle.ng_block.specs.declared.asked.Asked.{Asked}
 use Rattle.ng_block.specs.declared.goal.Goal.{Goal}
 use Rattle.ng_block.specs.Blocks.{motion_after}
 use Rattle.ng_block.specs.Fresh.{no_words}
-use Rattle.ng_block.specs.Order.{outputs_behind}
+use Rattle.ng_block.specs.Order.{tasks_of, outputs_behind}
 use Rattle.ng_block.specs.Steps.{order}
 
 -- the program's end sets G1, G17, G90, G94, G54, M48; unit, retract and path mode stay
@@ -47,7 +47,7 @@ abbrev pub machine_after : Asked → Goal → Point → Machine → Machine
 machine_after a goal first m = record {
   modes = modes_after a m.modes;
   feed_per_min = goal.feed_per_min;
-  outputs = outputs_behind a m.outputs order;
+  outputs = outputs_behind (tasks_of a goal) m.outputs order;
   offsets = offsets_after a first m.offsets;
   kept = kept_after a m.kept;
   point = goal.point;

@@ -1,5 +1,5 @@
 -- What the words of a line ask for: values by letter, codes by modal group (NISTIR 6556, 3.3 and 3.4).
-use Rattle.std.specs.Prelude.{ℤ, List, Bool, not, true, false, ◌||◌, Option, Some, None, fold}
+use Rattle.std.specs.Prelude.{ℤ, List, true, false, ◌||◌, Option, Some, None, fold}
 use Rattle.std.specs.Option.{is_some}
 use Rattle.ng_num.specs.declared.unit.Unit.TheVariants.{Inches, Millimetres}
 use Rattle.ng_words.specs.declared.letter.Letter.{Letter}
@@ -69,7 +69,3 @@ with_word a w = with_value a w.letter w.value
 -- all words, in their order
 abbrev pub asked_of : List Word → Asked
 asked_of words = fold with_word nothing words
-
--- nothing is asked for but a move
-abbrev pub is_plain : Asked → Bool
-is_plain a = not (is_some a.values.f || (is_some a.unit || is_some a.end))

@@ -1,5 +1,5 @@
 -- What a line does in a state (NISTIR 6556, 3.8).
-use Rattle.std.specs.Prelude.{ℕ, ℤ, List, Option, Some, None, Result, Ok, Err, if◌then◌else◌, flat_map}
+use Rattle.std.specs.Prelude.{ℕ, ℤ, List, Option, Some, None, Result, Ok, Err, if◌then◌else◌}
 use Rattle.std.specs.Option.{is_some}
 use Rattle.ng_num.specs.declared.fault.Fault.{Fault}
 use Rattle.ng_params.specs.Points.{origin_of}
@@ -16,19 +16,18 @@ use Rattle.ng_expr.specs.Value.{and_then}
 use Rattle.ng_expr.specs.Settle.{Settled, settled}
 use Rattle.ng_block.specs.declared.asked.Asked.{Asked}
 use Rattle.ng_block.specs.declared.goal.Goal.{Goal}
+use Rattle.ng_block.specs.declared.machine.Machine.{Machine}
 use Rattle.ng_block.specs.declared.effect.Effect.{Effect}
 use Rattle.ng_block.specs.declared.effect.Stop.{Stop}
 use Rattle.ng_block.specs.declared.effect.Stop.TheVariants.{GoesOn, Ends}
-use Rattle.ng_block.specs.declared.steps.Step.{Step}
 use Rattle.ng_block.specs.Setup.{Setup, changed}
-use Rattle.ng_block.specs.Steps.{order, moving}
 use Rattle.ng_block.specs.Remarks.{remark_of, said_by}
 use Rattle.ng_block.specs.Asked.{asked_of}
 use Rattle.ng_block.specs.Goals.{goal_of}
 use Rattle.ng_block.specs.Faults.{first_of, block_faults, motion_faults}
 use Rattle.ng_block.specs.After.{machine_after, changes_of}
 use Rattle.ng_block.specs.Paths.{path_of}
-use Rattle.ng_block.specs.Order.{Plan, commands_at, commands_of, segments_through, segments_of}
+use Rattle.ng_block.specs.Order.{Plan, tasks_of, commands_of, segments_of}
 
 -- what a line has done: the new state, the outputs that it began with, its segments and commands in their order, and how the program goes on
 pub record Done : Type 0 where
@@ -38,26 +37,19 @@ pub record Done : Type 0 where
   pub commands : List Canonical
   pub stop : Stop
 
--- ---- what is kept of a line: a block that only moves keeps no words, and begins with the outputs that it ends with
-
-abbrev pub outputs_before : Effect → Outputs
-outputs_before e = if e.plan.is_plain then e.machine.outputs else e.plan.before
-
+-- what is kept of a line
 abbrev pub plan_by : Effect → Plan
-plan_by e = record { asked = e.plan.asked; path = e.plan.path; remark = said_by e.plan.remark; before = outputs_before e; after = e.machine }
-
-abbrev pub steps_by : Effect → List Step
-steps_by e = if e.plan.is_plain then moving else order
+plan_by e = record { remark = said_by e.plan.remark; tasks = e.plan.tasks; path = e.plan.path; origin = e.machine.offsets.origin; before = e.plan.before }
 
 abbrev pub commands_by : Effect → List Canonical
-commands_by e = flat_map (commands_at (plan_by e)) (steps_by e)
+commands_by e = commands_of (plan_by e)
 
 abbrev pub segments_by : Effect → List Segment
-segments_by e = segments_through (plan_by e) (outputs_before e) (steps_by e)
+segments_by e = segments_of (plan_by e)
 
 -- an effect, in the state that it was found in
 abbrev pub in_state : Setup → Effect → Done
-in_state s e = record { setup = changed s e.machine e.changes.items; before = outputs_before e; segments = segments_by e; commands = commands_by e; stop = e.stop }
+in_state s e = record { setup = changed s e.machine e.changes.items; before = e.plan.before; segments = segments_by e; commands = commands_by e; stop = e.stop }
 
 -- ---- what a line does
 
@@ -69,24 +61,17 @@ lawful (Some fault) answer = Err fault
 abbrev pub stop_of : Asked → Stop
 stop_of a = if is_some a.end then Ends else GoesOn
 
--- the settings of the line act first, so the program's end takes system 1's origin from the table that they leave
-abbrev pub plan_of : Asked → Goal → List Canonical → List Change → Setup → Plan
-plan_of a goal remark settings s = record {
-  asked = a;
-  path = path_of goal s.machine.point;
-  remark = remark;
-  before = s.machine.outputs;
-  after = machine_after a goal (origin_of (with_changes s.params settings) 1) s.machine;
-}
+abbrev pub plan_of : Asked → Goal → List Canonical → Machine → Machine → Plan
+plan_of a goal remark m after = record { remark = remark; tasks = tasks_of a goal; path = path_of goal m.point; origin = after.offsets.origin; before = m.outputs }
 
-abbrev pub done_by : Plan → List Change → Setup → Done
-done_by p settings s = record {
-  setup = changed s p.after (changes_of p.asked settings);
-  before = p.before;
-  segments = segments_of p;
-  commands = commands_of p;
-  stop = stop_of p.asked;
-}
+abbrev pub done_by : Plan → Machine → List Change → Stop → Setup → Done
+done_by p after changes stop s = record { setup = changed s after changes; before = p.before; segments = segments_of p; commands = commands_of p; stop = stop }
+
+-- what a lawful block does; the settings of the line act first, so the program's end takes system 1's origin from the table that they leave
+abbrev pub block_done : Asked → Goal → List Canonical → List Change → Setup → Done
+block_done a goal remark settings s =
+    let after = machine_after a goal (origin_of (with_changes s.params settings) 1) s.machine in
+    done_by (plan_of a goal remark s.machine after) after (changes_of a settings) (stop_of a) s
 
 -- what the values of a line do: the faults of the words first, then those of computed lengths, then those of the move
 unfoldable pub executed_values : Setup → List Canonical → Settled → Geometry → Result Done Fault
@@ -94,7 +79,7 @@ executed_values s remark values geometry =
     let a = asked_of values.words in
     lawful (first_of (block_faults a s.machine.modes))
     (and_then (goal_of a s.machine) (λ goal.
-    lawful (first_of (motion_faults goal geometry)) (Ok (done_by (plan_of a goal remark values.settings s) values.settings s))))
+    lawful (first_of (motion_faults goal geometry)) (Ok (block_done a goal remark values.settings s))))
 
 -- what the pieces of a line do: the faults of their values come first
 unfoldable pub executed_pieces : Setup → List Piece → Geometry → Result Done Fault

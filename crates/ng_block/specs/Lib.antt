@@ -12,7 +12,6 @@ pub mod Steps
 pub mod Order
 pub mod After
 pub mod Effects
-pub mod Plans
 pub mod Commands
 pub mod Segments
 pub mod Dry

@@ -8,7 +8,3 @@ order =
     Remark ∷ FeedMode ∷ Feed ∷ SpindleSpeed ∷ SelectTool ∷ ChangeTool ∷ Spindle ∷ Coolant ∷ Overrides ∷ Dwell
     ∷ Plane ∷ Units ∷ CutterRadius ∷ ToolLength ∷ CoordinateSystem ∷ PathMode ∷ DistanceMode ∷ RetractMode
     ∷ AxisData ∷ Motion ∷ Stop ∷ []
-
--- all that a block which only moves does
-abbrev pub moving : List Step
-moving = Remark ∷ Motion ∷ []

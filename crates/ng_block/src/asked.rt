@@ -1,7 +1,7 @@
 //! What the words of a line ask for: values by letter, codes by modal group.
 ghost use Rattle.std.specs.Prelude.{◌≡◌, Some, None, ◌||◌};
 ghost use Rattle.std.specs.Option.{is_some};
-ghost use Rattle.ng_block.specs.Asked.{nothing, no_values, with_word, with_value, with_g, with_m, asked_of, is_plain};
+ghost use Rattle.ng_block.specs.Asked.{nothing, no_values, with_word, with_value, with_g, with_m, asked_of};
 
 use crate::codes::{GCode, MCode, g_word, m_word};
 use crate::modes::{Distance, Motion};
@@ -113,13 +113,6 @@ impl Asked {
             distance: None,
             end: None,
         }
-    }
-
-    /// Whether nothing is asked for but a move: no word that another step prints or switches by.
-    pub fn is_plain(&self) -> bool
-        ensures { result ≡ is_plain self.now }
-    {
-        !(self.values.f.is_some() || self.unit.is_some() || self.end.is_some())
     }
 
     #[tactic(auto, unfolding(crate::specs::Asked::with_g))]

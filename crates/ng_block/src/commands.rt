@@ -2,16 +2,16 @@
 ghost use Rattle.std.specs.Prelude.{◌≡◌, ◌∷◌, [], map, MatchOption, IfSome};
 ghost use Rattle.ng_canon.specs.Text.{canonical, numeric};
 ghost use Rattle.ng_block.specs.Commands.{begun_commands, rest_commands};
-ghost use Rattle.ng_block.specs.Effects.{plan_by, steps_by, commands_by};
+ghost use Rattle.ng_block.specs.Effects.{plan_by, commands_by};
 ghost use Rattle.ng_block.specs.Order.{commands_at, numeric_at, feed_commands, unit_commands, end_commands};
 
 use crate::asked::End;
 use crate::effect::Effect;
 use crate::path::{Moves, Path, command_of, pace_command};
-use crate::steps::{MOVING, ORDER, Step};
+use crate::steps::{ORDER, Step};
 use arrayvec::ArrayVec;
 use ng_canon::{Canon, Command, Plane};
-use ng_num::{Len, Num, Point, Unit};
+use ng_num::{Len, Point, Unit};
 use std::marker::Model;
 
 /// The most commands of a step but the motion.
@@ -19,11 +19,11 @@ const WAITING: usize = 8;
 
 type Waiting = ArrayVec<Command, WAITING>;
 
-fn put_feed(word: Option<Num>, feed_per_min: Len, commands: &mut Waiting)
+fn put_feed(feed_per_min: Option<Len>, commands: &mut Waiting)
     requires { commands.old.items ≡ [] }
-    ensures { commands.new.items ≡ feed_commands word feed_per_min }
+    ensures { commands.new.items ≡ feed_commands feed_per_min }
 {
-    if word.is_some() {
+    if let Some(feed_per_min) = feed_per_min {
         commands.push(Command::FeedRate(feed_per_min));
     }
 }
@@ -83,13 +83,6 @@ impl<'a> Model for Commands<'a> {
 }
 
 impl Effect {
-    /// The steps that its block may have something in.
-    pub(crate) fn steps(&self) -> &'static [Step]
-        ensures { result.now ≡ steps_by self.now }
-    {
-        if self.plan.is_plain { &MOVING } else { &ORDER }
-    }
-
     /// Its commands, in their order.
     pub fn commands(&self) -> Commands<'_>
         ensures { result ≡ commands_by self.now }
@@ -100,7 +93,7 @@ impl Effect {
                 waiting: ArrayVec::new(),
                 taken: 0,
                 moves: Moves::none(),
-                steps: self.steps(),
+                steps: &ORDER,
             },
         }
     }
@@ -110,7 +103,7 @@ impl Effect {
     pub(crate) fn only_command(&self) -> Option<Command>
         ensures { IfSome result (λ command. commands_by self.now ≡ numeric command ∷ []) }
     {
-        if !self.plan.is_plain || self.plan.remark.manner.is_some() {
+        if !self.plan.tasks.is_empty() || self.plan.remark.manner.is_some() {
             return None;
         }
         match self.plan.path {
@@ -148,15 +141,11 @@ impl<'a> Rest<'a> {
         self.waiting.clear();
         self.taken = 0;
         match step {
-            Step::Feed => put_feed(
-                self.effect.plan.asked.values.f,
-                self.effect.machine.feed_per_min,
-                &mut self.waiting,
-            ),
-            Step::Units => put_unit(self.effect.plan.asked.unit, &mut self.waiting),
+            Step::Feed => put_feed(self.effect.plan.tasks.feed, &mut self.waiting),
+            Step::Units => put_unit(self.effect.plan.tasks.unit, &mut self.waiting),
             Step::Motion => self.moves = Moves::of(&self.effect.plan.path),
             Step::Stop => put_end(
-                self.effect.plan.asked.end,
+                self.effect.plan.tasks.end,
                 self.effect.machine.offsets.origin,
                 &mut self.waiting,
             ),

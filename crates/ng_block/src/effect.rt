@@ -5,10 +5,7 @@ ghost use Rattle.std.specs.Option.{option_map};
 ghost use Rattle.ng_params.specs.Points.{origin_of};
 ghost use Rattle.ng_params.specs.Changes.{with_changes};
 ghost use Rattle.ng_block.specs.After.{modes_after, offsets_after, machine_after, changes_of};
-ghost use Rattle.ng_block.specs.Effects.{stop_of, plan_of, done_by, outputs_before, segments_by, commands_by, in_state};
-ghost use Rattle.ng_block.specs.Order.{commands_of, segments_of, outputs_behind};
-ghost use Rattle.ng_block.specs.Steps.{order};
-ghost use Rattle.ng_block.specs.Plans.{kept};
+ghost use Rattle.ng_block.specs.Effects.{stop_of, block_done, segments_by, commands_by, in_state};
 ghost use Rattle.ng_block.specs.Remarks.{remark_of};
 ghost use Rattle.ng_block.specs.Dry.{idle};
 ghost use Rattle.ng_block.specs.declared.effect.Stop.TheVariants.{GoesOn};
@@ -18,7 +15,7 @@ use crate::goal::Goal;
 use crate::machine::{KeptWords, Machine, Offsets};
 use crate::modes::{Distance, FeedMode, Modes, Motion};
 use crate::path::{Path, path_of};
-use crate::plan::Plan;
+use crate::plan::{Plan, Tasks};
 use crate::remark::Remark;
 use crate::state::State;
 use crate::switches::outputs_after;
@@ -135,10 +132,8 @@ fn put_machine_after<A: Allocator + Copy + Drop>(
     if asked.motion.is_some() || asked.end.is_some() {
         after.kept = KeptWords::none();
     }
-    if !asked.is_plain() {
-        after.outputs = outputs_after(asked, state.machine.outputs);
-    }
     if asked.end.is_some() {
+        after.outputs = outputs_after(&Tasks::of(asked, goal), state.machine.outputs);
         after.offsets = offsets_after(asked, &state.params, settings, state.machine.offsets);
     }
 }
@@ -172,7 +167,7 @@ impl Effect {
     pub fn none(machine: Machine) -> Effect
         ensures machine { result.machine ≡ machine }
         ensures changes { result.changes.items ≡ [] }
-        ensures before { outputs_before result ≡ machine.outputs }
+        ensures before { result.plan.before ≡ machine.outputs }
         ensures segments { segments_by result ≡ [] }
         ensures commands { commands_by result ≡ [] }
         ensures stop { result.stop ≡ GoesOn }
@@ -183,9 +178,8 @@ impl Effect {
             stop: Stop::GoesOn,
             plan: Plan {
                 remark: Remark::none(),
+                tasks: Tasks::none(),
                 path: Path::Still,
-                is_plain: true,
-                asked: Asked::nothing(),
                 before: machine.outputs,
             },
         }
@@ -199,26 +193,9 @@ impl Effect {
         self.changes.clear();
         self.stop = stop;
         self.plan.remark.clear();
+        self.plan.tasks = Tasks::none();
         self.plan.path = Path::Still;
-        self.plan.is_plain = true;
-    }
-
-    /// Keeps the plan of a block whose remark is kept.
-    fn keep_plan(&mut self, asked: &Asked, goal: &Goal, before: &Machine)
-        requires { self.old.machine.outputs ≡ outputs_behind asked.now before.now.outputs order }
-        ensures machine { self.new.machine ≡ self.old.machine }
-        ensures changes { self.new.changes ≡ self.old.changes }
-        ensures stop { self.new.stop ≡ self.old.stop }
-        ensures before { outputs_before self.new ≡ before.now.outputs }
-        ensures segments { segments_by self.new ≡ segments_of (kept self.old asked.now goal.now before.now) }
-        ensures commands { commands_by self.new ≡ commands_of (kept self.old asked.now goal.now before.now) }
-    {
-        self.plan.path = path_of(goal, before.point);
-        self.plan.is_plain = asked.is_plain();
-        if !self.plan.is_plain {
-            self.plan.asked = *asked;
-            self.plan.before = before.outputs;
-        }
+        self.plan.before = state.machine.outputs;
     }
 
     /// Becomes that of a lawful block in a state; the line's settings have changed the table before.
@@ -232,12 +209,14 @@ impl Effect {
     )
         requires settings { length settings.now ≤ 128 }
         requires short { IfSome comment (λ text. length text.now ≤ 256) }
-        ensures { in_state state.now self.new ≡ done_by (plan_of asked.now goal.now (remark_of (option_map (λ text. text.now) comment.entry)) settings.now state.now) settings.now state.now }
+        ensures { in_state state.now self.new ≡ block_done asked.now goal.now (remark_of (option_map (λ text. text.now) comment.entry)) settings.now state.now }
     {
         put_machine_after(asked, goal, state, settings, &mut self.machine);
         changes_of(asked, settings, &mut self.changes);
         self.stop = stop_of(asked);
         self.plan.remark.take(comment);
-        self.keep_plan(asked, goal, &state.machine);
+        self.plan.tasks = Tasks::of(asked, goal);
+        self.plan.path = path_of(goal, state.machine.point);
+        self.plan.before = state.machine.outputs;
     }
 }

@@ -46,5 +46,5 @@ pub use output::put;
 pub use places::{Places, execute};
 pub use segments::Segments;
 pub use state::State;
-pub use steps::{MOVING, ORDER, Step};
+pub use steps::{ORDER, Step};
 pub use tools::{SLOTS, Tools};

@@ -1,12 +1,12 @@
 //! A block's segments, one at a time, and the outputs before each.
 ghost use Rattle.std.specs.Prelude.{◌≡◌, ◌∷◌, [], MatchOption};
-ghost use Rattle.ng_block.specs.Effects.{plan_by, outputs_before, segments_by};
+ghost use Rattle.ng_block.specs.Effects.{plan_by, segments_by};
 ghost use Rattle.ng_block.specs.Order.{outputs_through, segments_at};
 ghost use Rattle.ng_block.specs.Segments.{ahead_of, rest_segments, outputs_with};
 
 use crate::effect::Effect;
 use crate::path::Moves;
-use crate::steps::Step;
+use crate::steps::{ORDER, Step};
 use crate::switches::{outputs_through, switch_at};
 use ng_canon::{Outputs, Segment};
 use std::marker::Model;
@@ -40,23 +40,12 @@ impl<'a> Model for Segments<'a> {
 }
 
 impl Effect {
-    /// The outputs before its block.
-    fn outputs_before(&self) -> Outputs
-        ensures { result ≡ outputs_before self.now }
-    {
-        if self.plan.is_plain {
-            self.machine.outputs
-        } else {
-            self.plan.before
-        }
-    }
-
     /// Its segments, in their order.
     pub fn segments(&self) -> Segments<'_>
         ensures segments { result.segments ≡ segments_by self.now }
-        ensures outputs { result.outputs ≡ outputs_before self.now }
+        ensures outputs { result.outputs ≡ self.now.plan.before }
     {
-        let before = self.outputs_before();
+        let before = self.plan.before;
         let behind = before;
         Segments {
             rest: Rest {
@@ -64,7 +53,7 @@ impl Effect {
                 now: before,
                 behind,
                 moves: Moves::none(),
-                steps: self.steps(),
+                steps: &ORDER,
             },
         }
     }
@@ -89,16 +78,16 @@ impl<'a> Rest<'a> {
         ensures effect { self.new.effect ≡ self.old.effect }
         ensures steps { self.new.steps ≡ self.old.steps }
         ensures now { self.new.now ≡ self.old.now }
-        ensures behind { self.new.behind ≡ outputs_through (plan_by self.old.effect.now).asked self.old.behind step }
+        ensures behind { self.new.behind ≡ outputs_through self.old.effect.now.plan.tasks self.old.behind step }
         ensures next { MatchOption result ((segments_at (plan_by self.old.effect.now) self.new.behind step ≡ []) × (self.new.moves ≡ [])) (λ segment. segments_at (plan_by self.old.effect.now) self.new.behind step ≡ segment ∷ self.new.moves) }
     {
-        self.behind = outputs_through(&self.effect.plan.asked, self.behind, step);
+        self.behind = outputs_through(&self.effect.plan.tasks, self.behind, step);
         match step {
             Step::Motion => {
                 self.moves = Moves::of(&self.effect.plan.path);
                 self.moves.next()
             }
-            _ => switch_at(&self.effect.plan.asked, self.behind, step),
+            _ => switch_at(&self.effect.plan.tasks, self.behind, step),
         }
     }
 

@@ -52,6 +52,3 @@ pub const ORDER: [Step; 21] = [
     Step::Motion,
     Step::Stop,
 ];
-
-/// The steps of a block that only moves.
-pub const MOVING: [Step; 2] = [Step::Remark, Step::Motion];
