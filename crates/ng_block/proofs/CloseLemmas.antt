@@ -1,16 +1,16 @@
 -- The end of a program, and the whole of a run.
 use Rattle.std.proofs.Common.{◌≡◌, ◌≢◌, ℕ, List, [], ◌∷◌, ◌++◌, length, take, Bool, false, ◌==◌, Option, None, Some, Result, Ok, Err, IfSome, refl, sym, ap, ◌∙◌, subst, append_assoc, append-nil}
+use Rattle.std.specs.Str.Lines.{lines}
 use Rattle.std.specs.Io.KnownBytes.{Appends, Consumes, IsAtEnd}
-use Rattle.ng_block.specs.Dry.{Terms, Output, onto, Finishes, output_of}
-use Rattle.ng_block.specs.Parts.{Progress, begun, due, rest_of, HasNoNewline, Closes, Goes, Ends, Breaks}
+use Rattle.ng_block.specs.Dry.{Terms, Output, onto, outcome, Finishes, output_of}
+use Rattle.ng_block.specs.Parts.{Progress, begun, due, rest_of, HasNoNewline, Goes, Ends, Breaks, Wrote}
 use Rattle.ng_block.specs.declared.ending.Ended.{Ended}
 use Rattle.ng_block.specs.declared.ending.DryFault.{DryFault}
 use Rattle.ng_block.proofs.LineLemmas.{lines-alone}
-use Rattle.ng_block.proofs.Streams.{Appends-nil, Appends-trans}
+use Rattle.ng_block.proofs.Streams.{Appends-nil, Appends-trans, Consumes-nil}
 
-pub Closes-from : {E : Type 0} (o before : Output) (text : List ℕ) (r : Result Ended E) → before ≡ o → Closes o text r → Closes before text r
-Closes-from o before text (Ok end) e h = e ∙ h
-Closes-from o before text (Err fault) e h = (h.0, ap (λ (x : Output). x.text) e ∙ h.1)
+pub Finishes-from : (a b : Option (List ℕ)) (o before : Output) (r : Result Ended DryFault) → before ≡ o → Finishes a b o r → Finishes a b before r
+Finishes-from a b o before r e h = subst (λ x. Finishes a b x r) (sym e) h
 
 pub not_empty : (xs : List ℕ) (t : Bool) → t ≡ (length xs == 0) → t ≡ false → xs ≢ []
 not_empty [] t e f h = cc
@@ -69,12 +69,17 @@ run_goes w0 w1 w2 before bytes out g h p q = record {
       ∙ ap (λ l. record { text = l; ended = (h more).ended }) (sym (append_assoc p.text q.text (h more).text));
 }
 
--- a reader or a writer that failed at once, or where nothing more was read
-pub run_stops : (r0 r1 w0 w1 : Option (List ℕ)) (before : List ℕ) (out g : List ℕ → Output) (fault : DryFault) → Consumes r0 r1 before
-    → Goes w0 w1 (λ more. out (before ++ more)) g → IfSome r0 (λ program. Finishes w0 w1 (out program) (Err fault))
-run_stops None r1 w0 w1 before out g fault p run = tt
-run_stops (Some x) None w0 w1 before out g fault p run = absurd p
-run_stops (Some x) (Some y) w0 w1 before out g fault p run = (run.text, (g y).text, ap (λ (o : Output). o.text) (ap out p ∙ run.rest y), run.appends)
+-- a run that broke off between two reads
+pub run_stops : (r0 r1 w0 w1 w2 : Option (List ℕ)) (before : List ℕ) (out : List ℕ → Output) (p : Progress) (kept : List ℕ) (fault : DryFault) → Consumes r0 r1 before
+    → Goes w0 w1 (λ more. out (before ++ more)) (λ more. rest_of p kept more) → Wrote w1 w2 p.text → IfSome r0 (λ program. Finishes w0 w2 (out program) (Err fault))
+run_stops r0 r1 w0 w1 w2 before out p kept fault read run wrote =
+    run_breaks r0 r1 r1 w0 w1 w2 before [] out (λ more. rest_of p kept more) fault read (Consumes-nil r1) run (record {
+      text = wrote.0;
+      appends = wrote.2;
+      rest = λ more.
+          let o = outcome p.terms p.frame p.setup p.number (lines (kept ++ more)) in
+          (wrote.1 ++ o.text, ap (λ l. l ++ o.text) wrote.3 ∙ append_assoc wrote.0 wrote.1 o.text);
+    })
 
 -- a run before the first read
 pub Goes-begun : (a : Option (List ℕ)) (terms : Terms) (p : Progress) (kept : List ℕ) → p ≡ begun terms → kept ≡ [] → Goes a a (λ more. output_of terms ([] ++ more)) (λ more. rest_of p kept more)
@@ -83,3 +88,13 @@ Goes-begun a terms p kept e f = record {
   appends = Appends-nil a;
   rest = λ more. ap (λ q. onto [] (rest_of q [] more)) (sym e) ∙ ap (λ k. onto [] (rest_of p k more)) (sym f);
 }
+
+-- the last line was carried out, and then the text ended
+pub Finishes-stepped : (a b c : Option (List ℕ)) (f g : List (List ℕ) → Output) (o : Output) (r : Result Ended DryFault) → o ≡ f [] → Goes a b f g → Finishes b c (g []) r → Finishes a c o r
+Finishes-stepped a b c f g o r e run h = subst (λ x. Finishes a c x r) (sym (e ∙ run.rest [])) (Finishes-onto a b c run.text (g []) r run.appends h)
+
+pub Finishes-ends : (a b : Option (List ℕ)) (f : List (List ℕ) → Output) (o : Output) (end : Ended) → o ≡ f [] → Ends a b f end → Finishes a b o (Ok end)
+Finishes-ends a b f o end e run = let all = e ∙ run.rest [] in (subst (Appends a b) (ap (λ (x : Output). x.text) (sym all)) run.appends, ap (λ (x : Output). x.ended) (sym all))
+
+pub Finishes-breaks : (a b : Option (List ℕ)) (f : List (List ℕ) → Output) (o : Output) (fault : DryFault) → o ≡ f [] → Breaks a b f → Finishes a b o (Err fault)
+Finishes-breaks a b f o fault e run = let x = run.rest [] in (run.text, x.0, ap (λ (y : Output). y.text) e ∙ x.1, run.appends)

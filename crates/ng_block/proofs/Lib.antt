@@ -1,6 +1,6 @@
 pub mod Streams
 pub mod RunLemmas
 pub mod LineLemmas
-pub mod TookLemmas
-pub mod FlushLemmas
+pub mod StepLemmas
+pub mod DrainLemmas
 pub mod CloseLemmas

@@ -1,23 +1,64 @@
 -- A run between two lines.
-use Rattle.std.proofs.Common.{◌≡◌, ℕ, ◌+◌, List, ◌∷◌, ◌++◌, Option, Some, Result, Err, OnOk, OnErr, IfOk, ap, sym, ◌∙◌}
+use Rattle.std.proofs.Common.{◌≡◌, ℕ, ◌+◌, List, ◌∷◌, ◌++◌, Option, Bool, true, false, Result, Ok, Err, subst, refl, ap, sym, ◌∙◌, append_assoc, append-nil, []}
+use Rattle.std.specs.Io.KnownBytes.{Appends}
 use Rattle.ng_num.specs.declared.fault.Fault.{Fault}
-use Rattle.ng_block.specs.Dry.{onto, outcome, after_line, done_in, frame_after, refusal_text}
-use Rattle.ng_block.specs.Parts.{Progress, due, with_text, Took}
+use Rattle.ng_block.specs.Effects.{Done}
+use Rattle.ng_block.specs.Dry.{Output, onto, outcome, after_line, executed_in_frame, commands_text, is_end, frame_after, refused, Finishes}
+use Rattle.ng_block.specs.Parts.{Progress, due, Goes, Breaks, Drains}
 use Rattle.ng_block.specs.declared.ending.Ended.{Ended}
 use Rattle.ng_block.specs.declared.ending.Ended.TheVariants as ended
-use Rattle.ng_block.proofs.TookLemmas.{Took-refused}
+use Rattle.ng_block.specs.declared.ending.DryFault.{DryFault}
+use Rattle.ng_block.proofs.Streams.{Appends-trans}
 
--- what is to be written begins with the text at hand
-pub due-begins : (p : Progress) (ls : List (List ℕ)) (text : List ℕ) → text ≡ p.text → (after : List ℕ) × ((due p ls).text ≡ text ++ after)
-due-begins p ls text e =
-    let more = (outcome p.terms p.frame p.setup p.number ls).text in
-    (more, ap (λ t. t ++ more) (sym e))
+-- what a line gives
+due-line : (here start : Progress) (line : List ℕ) (r : Result Done Fault) (more : List (List ℕ)) → here ≡ start → executed_in_frame here.terms here.frame here.setup line ≡ r
+    → due start (line ∷ more) ≡ onto here.text (after_line here.number r (λ after. outcome here.terms (frame_after here.frame line) after (here.number + 1) more))
+due-line here start line r more same is =
+    ap (λ p. due p (line ∷ more)) (sym same) ∙ ap (λ answer. onto here.text (after_line here.number answer (λ after. outcome here.terms (frame_after here.frame line) after (here.number + 1) more))) is
 
 -- a line that is refused
-pub Took-line-refused : {E : Type 0} (here start q : Progress) (line : List ℕ) (fault : Fault) (r : Result (Option Ended) E) → here ≡ start → done_in here.terms here.frame here.setup line ≡ Err fault
-    → OnOk r (q ≡ with_text here (refusal_text here.number fault)) → IfOk r (λ o. o ≡ Some (ended.Refused here.number fault)) → OnErr r (q ≡ here)
-    → Took (λ more. due start (line ∷ more)) (λ more. due q more) q.text r
-Took-line-refused here start q line fault r same is ok end err =
-    Took-refused here q _ _ fault r
-    (λ more. ap (λ p. due p (line ∷ more)) (sym same) ∙ ap (λ answer. onto here.text (after_line here.number answer (λ after. outcome here.terms (frame_after here.frame line) after (here.number + 1) more))) is)
-    ok end err
+pub due-refused : (here start : Progress) (line : List ℕ) (fault : Fault) (more : List (List ℕ)) → here ≡ start → executed_in_frame here.terms here.frame here.setup line ≡ Err fault
+    → due start (line ∷ more) ≡ onto here.text (refused here.number fault)
+due-refused here start line fault more same is = due-line here start line (Err fault) more same is
+
+-- a line that ends the program
+pub due-end : (here start : Progress) (line : List ℕ) (done : Done) (more : List (List ℕ)) → here ≡ start → executed_in_frame here.terms here.frame here.setup line ≡ Ok done → is_end done.stop ≡ true
+    → due start (line ∷ more) ≡ record { text = here.text ++ commands_text done.commands; ended = ended.Done }
+due-end here start line done more same is end = due-line here start line (Ok done) more same is ∙ rw end refl
+
+-- a line after which the run goes on
+pub due-next : (here start : Progress) (line : List ℕ) (done : Done) (more : List (List ℕ)) → here ≡ start → executed_in_frame here.terms here.frame here.setup line ≡ Ok done → is_end done.stop ≡ false
+    → due start (line ∷ more) ≡ onto (here.text ++ commands_text done.commands) (outcome here.terms (frame_after here.frame line) done.setup (here.number + 1) more)
+due-next here start line done more same is goes =
+    let o = outcome here.terms (frame_after here.frame line) done.setup (here.number + 1) more in
+    due-line here start line (Ok done) more same is ∙ rw goes (ap (λ l. record { text = l; ended = o.ended }) (sym (append_assoc here.text (commands_text done.commands) o.text)))
+
+-- what is to be written begins with what the line prints
+pub due-begins : (here start : Progress) (line : List ℕ) (done : Done) (more : List (List ℕ)) → here ≡ start → executed_in_frame here.terms here.frame here.setup line ≡ Ok done
+    → (after : List ℕ) × ((due start (line ∷ more)).text ≡ (here.text ++ commands_text done.commands) ++ after)
+due-begins here start line done more same is = due-begins_at (is_end done.stop) refl
+  where
+    due-begins_at : (t : Bool) → is_end done.stop ≡ t → (after : List ℕ) × ((due start (line ∷ more)).text ≡ (here.text ++ commands_text done.commands) ++ after)
+    due-begins_at true e = ([], ap (λ (o : Output). o.text) (due-end here start line done more same is e) ∙ sym (append-nil (here.text ++ commands_text done.commands)))
+    due-begins_at false e = ((outcome here.terms (frame_after here.frame line) done.setup (here.number + 1) more).text, ap (λ (o : Output). o.text) (due-next here start line done more same is e))
+
+-- what waits was written or waits still, and then the run ended
+pub Finishes-drained : {T : Type 0} (a b c : Option (List ℕ)) (waiting left : List ℕ) (end : Ended) (x : T) (r : Result Ended DryFault) → Drains a b waiting left (Ok x) → Finishes b c (record { text = left; ended = end }) r
+    → Finishes a c (record { text = waiting; ended = end }) r
+Finishes-drained a b c waiting left end x (Ok e) w f = (subst (Appends a c) (sym w.2) (Appends-trans a b c w.0 left w.1 f.0), f.1)
+Finishes-drained a b c waiting left end x (Err fault) w f = (w.0 ++ f.0, f.1, w.2 ∙ ap (λ l. w.0 ++ l) f.2 ∙ sym (append_assoc w.0 f.0 f.1), Appends-trans a b c w.0 f.0 w.1 f.3)
+
+-- what waits was written or waits still
+pub Goes-drained : {X T : Type 0} (a b : Option (List ℕ)) (f : X → Output) (waiting left : List ℕ) (o : X → Output) (x : T) → ((more : X) → f more ≡ onto waiting (o more)) → Drains a b waiting left (Ok x) → Goes a b f (λ more. onto left (o more))
+Goes-drained a b f waiting left o x e w = record {
+  text = w.0;
+  appends = w.1;
+  rest = λ more. e more ∙ ap (λ l. onto l (o more)) w.2 ∙ ap (λ l. record { text = l; ended = (o more).ended }) (append_assoc w.0 left (o more).text);
+}
+
+pub Breaks-drained : {X : Type 0} (T : Type 0) (a b : Option (List ℕ)) (f : X → Output) (waiting left : List ℕ) (fault : DryFault) → ((more : X) → (after : List ℕ) × ((f more).text ≡ waiting ++ after)) → Drains {T = T} a b waiting left (Err fault) → Breaks a b f
+Breaks-drained T a b f waiting left fault e w = record {
+  text = w.0;
+  appends = w.2;
+  rest = λ more. let x = e more in (w.1 ++ x.0, x.1 ∙ ap (λ l. l ++ x.0) w.3 ∙ append_assoc w.0 w.1 x.0);
+}

@@ -1,13 +1,11 @@
 -- The state after a block, one equation for each field (NISTIR 6556, 3.5, 3.6, 3.8; the program's end 3.6.1).
-use Rattle.std.specs.Prelude.{pos, List, [], ◌∷◌, ◌++◌, false, ◌||◌, unwrap_or, if◌then◌else◌}
+use Rattle.std.specs.Prelude.{pos, List, [], ◌∷◌, ◌++◌, ◌||◌, unwrap_or, if◌then◌else◌}
 use Rattle.std.specs.Option.{is_some}
 use Rattle.ng_num.specs.Points.{origin as nowhere}
 use Rattle.ng_num.specs.declared.point.Point.{Point}
 use Rattle.ng_params.specs.declared.change.Change.{Change}
 use Rattle.ng_params.specs.Numbers.{system_in_force}
 use Rattle.ng_canon.specs.declared.plane.Plane.TheVariants.{Xy}
-use Rattle.ng_canon.specs.declared.outputs.Outputs.{Outputs}
-use Rattle.ng_canon.specs.declared.outputs.Spindle.TheVariants.{Stopped}
 use Rattle.ng_block.specs.declared.modes.Modes.{Modes}
 use Rattle.ng_block.specs.declared.modes.Motion.TheVariants.{Feed}
 use Rattle.ng_block.specs.declared.modes.Distance.TheVariants.{Absolute}
@@ -19,6 +17,8 @@ use Rattle.ng_block.specs.declared.asked.Asked.{Asked}
 use Rattle.ng_block.specs.declared.goal.Goal.{Goal}
 use Rattle.ng_block.specs.Blocks.{motion_after}
 use Rattle.ng_block.specs.Fresh.{no_words}
+use Rattle.ng_block.specs.Order.{tasks_of, outputs_behind}
+use Rattle.ng_block.specs.Steps.{order}
 
 -- the program's end sets G1, G17, G90, G94, G54, M48; unit, retract and path mode stay
 abbrev pub modes_after : Asked → Modes → Modes
@@ -34,10 +34,6 @@ modes_after a m = record {
   overrides = is_some a.end || m.overrides;
 }
 
--- the program's end stops the spindle and the coolant; speed and slots stay
-abbrev pub outputs_after : Asked → Outputs → Outputs
-outputs_after a o = if is_some a.end then record o { spindle = Stopped; mist = false; flood = false } else o
-
 -- the program's end takes system 1's origin from the table and drops the G92 offset; the tool length stays
 abbrev pub offsets_after : Asked → Point → Offsets → Offsets
 offsets_after a first o = if is_some a.end then record o { origin = first; g92 = nowhere } else o
@@ -51,7 +47,7 @@ abbrev pub machine_after : Asked → Goal → Point → Machine → Machine
 machine_after a goal first m = record {
   modes = modes_after a m.modes;
   feed_per_min = goal.feed_per_min;
-  outputs = outputs_after a m.outputs;
+  outputs = outputs_behind (tasks_of a goal) m.outputs order;
   offsets = offsets_after a first m.offsets;
   kept = kept_after a m.kept;
   point = goal.point;

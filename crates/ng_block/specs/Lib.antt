@@ -6,9 +6,13 @@ pub mod Blocks
 pub mod Goals
 pub mod Faults
 pub mod Remarks
+pub mod Paths
+pub mod Moves
 pub mod Steps
 pub mod Order
 pub mod After
 pub mod Effects
+pub mod Commands
+pub mod Segments
 pub mod Dry
 pub mod Parts

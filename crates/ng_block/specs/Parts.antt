@@ -17,14 +17,6 @@ pub record Progress : Type 0 where
   pub number : ℕ
   pub text : List ℕ
 
--- a run with more text to write
-abbrev pub with_text : Progress → List ℕ → Progress
-with_text p text = record p { text = p.text ++ text }
-
--- a run whose text is written
-abbrev pub written : Progress → Progress
-written p = record p { text = [] }
-
 -- a run before the first line
 abbrev pub begun : Terms → Progress
 begun terms = record { terms = terms; frame = Undecided; setup = fresh; number = 1; text = [] }
@@ -40,18 +32,6 @@ rest_of p line more = due p (lines (line ++ more))
 abbrev pub HasNoNewline : List ℕ → Type 0
 HasNoNewline [] = Unit {0}
 HasNoNewline (b ∷ bs) = (b ≢ 10) × HasNoNewline bs
-
--- a part was to give f. It went on to g; or the run has ended, and the text is whole; or it broke off, and the
--- text is a beginning
-abbrev pub Took : {X E : Type 0} → (X → Output) → (X → Output) → List ℕ → Result (Option Ended) E → Type 0
-Took f g text (Ok None) = (more : _) → f more ≡ g more
-Took f g text (Ok (Some end)) = (more : _) → f more ≡ record { text = text; ended = end }
-Took f g text (Err fault) = (more : _) → (after : List ℕ) × ((f more).text ≡ text ++ after)
-
--- the run is over: the text is whole; or it broke off, and the text is a beginning
-abbrev pub Closes : {E : Type 0} → Output → List ℕ → Result Ended E → Type 0
-Closes output text (Ok end) = output ≡ record { text = text; ended = end }
-Closes output text (Err fault) = (after : List ℕ) × (output.text ≡ text ++ after)
 
 -- a part wrote its text, and g gives the rest
 pub record Goes {X : Type 0} (old new : Option (List ℕ)) (f g : X → Output) : Type 0 where
@@ -81,3 +61,12 @@ Stepped old new f g (Err fault) = Breaks old new f
 abbrev pub Writes : {T : Type 0} → Option (List ℕ) → Option (List ℕ) → List ℕ → Result T DryFault → Type 0
 Writes old new text (Ok x) = Appends old new text
 Writes old new text (Err fault) = (n : ℕ) × Appends old new (take n text)
+
+-- a beginning of a text is written
+abbrev pub Wrote : Option (List ℕ) → Option (List ℕ) → List ℕ → Type 0
+Wrote old new text = (out : List ℕ) × (after : List ℕ) × Appends old new out × (text ≡ out ++ after)
+
+-- what waited is written, or waits still; after a fault a beginning of it is written
+abbrev pub Drains : {T : Type 0} → Option (List ℕ) → Option (List ℕ) → List ℕ → List ℕ → Result T DryFault → Type 0
+Drains old new waiting left (Ok x) = (out : List ℕ) × Appends old new out × (waiting ≡ out ++ left)
+Drains old new waiting left (Err fault) = Wrote old new waiting

@@ -1,29 +1,28 @@
-//! What a line does in a state.
-ghost use Rattle.std.specs.Prelude.{◌≡◌, ◌≤◌, length, MatchResult, Ok, Err, IfSome};
-ghost use Rattle.ng_params.specs.Points.{origin_of};
-ghost use Rattle.ng_block.specs.After.{modes_after, outputs_after, offsets_after, machine_after, changes_of};
-ghost use Rattle.ng_block.specs.Effects.{executed, carried, acted, done_by, stop_of};
-ghost use Rattle.ng_block.specs.Remarks.{remark_of, said_by};
-ghost use Rattle.ng_params.specs.Changes.{with_changes};
-ghost use Rattle.ng_words.specs.Kept.{pieces_by};
-ghost use Rattle.ng_expr.specs.Settle.{settled_of};
+//! What a block leaves behind: the machine, the parameters that it changes, how the program goes on, and the plan of its
+//! commands and segments.
+ghost use Rattle.std.specs.Prelude.{◌≡◌, ◌≤◌, [], length, IfSome};
 ghost use Rattle.std.specs.Option.{option_map};
+ghost use Rattle.ng_params.specs.Points.{origin_of};
+ghost use Rattle.ng_params.specs.Changes.{with_changes};
+ghost use Rattle.ng_block.specs.After.{modes_after, offsets_after, machine_after, changes_of};
+ghost use Rattle.ng_block.specs.Effects.{stop_of, block_done, segments_by, commands_by, in_state};
+ghost use Rattle.ng_block.specs.Remarks.{remark_of};
+ghost use Rattle.ng_block.specs.Dry.{idle};
+ghost use Rattle.ng_block.specs.declared.effect.Stop.TheVariants.{GoesOn};
 
-use crate::asked::{Asked, asked_of};
-use crate::faults::{block_fault, motion_fault};
-use crate::goal::{Goal, goal_of};
+use crate::asked::Asked;
+use crate::goal::Goal;
 use crate::machine::{KeptWords, Machine, Offsets};
 use crate::modes::{Distance, FeedMode, Modes, Motion};
-use crate::order::{Commands, Segments, commands_of, segments_of};
+use crate::path::{Path, path_of};
+use crate::plan::{Plan, Tasks};
 use crate::remark::Remark;
 use crate::state::State;
-use crate::tools::Tools;
+use crate::switches::outputs_after;
 use arrayvec::ArrayVec;
-use ng_canon::{Geometry, Outputs, Plane, Spindle};
-use ng_expr::Values;
-use ng_num::{Fault, Num, Point};
+use ng_canon::Plane;
+use ng_num::Point;
 use ng_params::{Change, Params, System};
-use ng_words::{Line, read_line};
 use std::alloc::Allocator;
 
 /// The most changes of parameters that a line makes: a setting for each of its pieces, and those of its words.
@@ -44,17 +43,14 @@ pub enum Stop {
     Ends,
 }
 
-/// What a line does: all that it changes, and what it prints and moves, in order.
+/// What a line does: all that it changes, and, by `commands` and `segments`, what it prints and moves, in order.
 #[derive(Debug, Drop)]
 pub struct Effect {
     pub machine: Machine,
     /// The parameters that it sets, taken in order.
     pub changes: Changes,
-    /// What it says before all else.
-    pub remark: Remark,
-    pub segments: Segments,
-    pub commands: Commands,
     pub stop: Stop,
+    pub(crate) plan: Plan,
 }
 
 fn modes_after(asked: &Asked, modes: &Modes) -> Modes
@@ -85,21 +81,6 @@ fn modes_after(asked: &Asked, modes: &Modes) -> Modes
             path: modes.path,
             overrides: modes.overrides,
         }
-    }
-}
-
-fn outputs_after(asked: &Asked, outputs: Outputs) -> Outputs
-    ensures { result ≡ outputs_after asked.now outputs }
-{
-    if asked.end.is_some() {
-        Outputs {
-            spindle: Spindle::Stopped,
-            mist: false,
-            flood: false,
-            ..outputs
-        }
-    } else {
-        outputs
     }
 }
 
@@ -152,7 +133,7 @@ fn put_machine_after<A: Allocator + Copy + Drop>(
         after.kept = KeptWords::none();
     }
     if asked.end.is_some() {
-        after.outputs = outputs_after(asked, state.machine.outputs);
+        after.outputs = outputs_after(&Tasks::of(asked, goal), state.machine.outputs);
         after.offsets = offsets_after(asked, &state.params, settings, state.machine.offsets);
     }
 }
@@ -182,98 +163,60 @@ fn stop_of(asked: &Asked) -> Stop
 }
 
 impl Effect {
-    ghost use Rattle.std.specs.Prelude.{[], None};
-    ghost use Rattle.ng_block.specs.declared.effect.Stop.TheVariants.{GoesOn};
-
     /// No effect on a machine.
     pub fn none(machine: Machine) -> Effect
         ensures machine { result.machine ≡ machine }
         ensures changes { result.changes.items ≡ [] }
-        ensures remark { said_by result.remark ≡ None }
-        ensures segments { result.segments.items ≡ [] }
-        ensures commands { result.commands.items ≡ [] }
+        ensures before { result.plan.before ≡ machine.outputs }
+        ensures segments { segments_by result ≡ [] }
+        ensures commands { commands_by result ≡ [] }
         ensures stop { result.stop ≡ GoesOn }
     {
         Effect {
             machine,
             changes: Changes::new(),
-            remark: Remark::none(),
-            segments: Segments::new(),
-            commands: Commands::new(),
             stop: Stop::GoesOn,
+            plan: Plan {
+                remark: Remark::none(),
+                tasks: Tasks::none(),
+                path: Path::Still,
+                before: machine.outputs,
+            },
         }
     }
-}
 
-/// What the values of a line do in a state, put into the places of an effect; or the first fault that refuses
-/// them. After a fault the effect may hold anything.
-#[tactic(auto, unfolding(crate::specs::Effects::acted))]
-fn act<A: Allocator + Copy + Drop>(
-    state: &State<A>,
-    comment: Option<&[u8]>,
-    values: &Values,
-    geometry: &Geometry,
-    effect: &mut Effect,
-) -> Result<(), Fault>
-    requires short { IfSome comment (λ text. length text.now ≤ 256) }
-    ensures { MatchResult result (λ _. acted state.now (remark_of (option_map (λ text. text.now) comment.entry)) (settled_of values.now) geometry.now ≡ Ok (done_by state.now effect.new)) (λ f. acted state.now (remark_of (option_map (λ text. text.now) comment.entry)) (settled_of values.now) geometry.now ≡ Err f) }
-{
-    let asked = asked_of(values.words.as_slice());
-    if let Some(fault) = block_fault(&asked, &state.machine.modes) {
-        return Err(fault);
+    /// Becomes that of a line which does nothing in a state.
+    pub(crate) fn leave<A: Allocator + Copy + Drop>(&mut self, state: &State<A>, stop: Stop)
+        ensures { in_state state.now self.new ≡ idle state.now stop }
+    {
+        self.machine = state.machine;
+        self.changes.clear();
+        self.stop = stop;
+        self.plan.remark.clear();
+        self.plan.tasks = Tasks::none();
+        self.plan.path = Path::Still;
+        self.plan.before = state.machine.outputs;
     }
-    let goal = goal_of(&asked, &state.machine)?;
-    if let Some(fault) = motion_fault(&goal, geometry) {
-        return Err(fault);
-    }
-    let settings = values.settings.as_slice();
-    put_machine_after(&asked, &goal, state, settings, &mut effect.machine);
-    changes_of(&asked, settings, &mut effect.changes);
-    effect.remark.take(comment);
-    segments_of(
-        &asked,
-        &goal,
-        &state.machine,
-        &effect.machine,
-        &mut effect.segments,
-    );
-    commands_of(&asked, &goal, &effect.machine, &mut effect.commands);
-    effect.stop = stop_of(&asked);
-    Ok(())
-}
 
-/// What the pieces of a line do in a state, found in the places of values and put into those of an effect; or the
-/// first fault that refuses them. After a fault both may hold anything.
-#[tactic(auto, unfolding(crate::specs::Effects::carried))]
-pub fn carry<A: Allocator + Copy + Drop>(
-    state: &State<A>,
-    line: &Line,
-    geometry: &Geometry,
-    values: &mut Values,
-    effect: &mut Effect,
-) -> Result<(), Fault>
-    ensures { MatchResult result (λ _. carried state.now (pieces_by line.now.places) geometry.now ≡ Ok (done_by state.now effect.new)) (λ f. carried state.now (pieces_by line.now.places) geometry.now ≡ Err f) }
-{
-    match values.evaluate_into(line, &state.params) {
-        Ok(()) => act(state, line.last_comment(), values, geometry, effect),
-        Err(fault) => Err(fault),
+    /// Becomes that of a lawful block in a state; the line's settings have changed the table before.
+    pub(crate) fn take_block<A: Allocator + Copy + Drop>(
+        &mut self,
+        state: &State<A>,
+        asked: &Asked,
+        goal: &Goal,
+        settings: &[Change],
+        comment: Option<&[u8]>,
+    )
+        requires settings { length settings.now ≤ 128 }
+        requires short { IfSome comment (λ text. length text.now ≤ 256) }
+        ensures { in_state state.now self.new ≡ block_done asked.now goal.now (remark_of (option_map (λ text. text.now) comment.entry)) settings.now state.now }
+    {
+        put_machine_after(asked, goal, state, settings, &mut self.machine);
+        changes_of(asked, settings, &mut self.changes);
+        self.stop = stop_of(asked);
+        self.plan.remark.take(comment);
+        self.plan.tasks = Tasks::of(asked, goal);
+        self.plan.path = path_of(goal, state.machine.point);
+        self.plan.before = state.machine.outputs;
     }
-}
-
-/// What a line does in a state, or the first fault that refuses it, in the order of docs/LANGUAGE.md; the state
-/// stays as it is. Source: NISTIR 6556, 3.8, and own.
-#[tactic(auto, unfolding(crate::specs::Effects::executed))]
-pub fn execute<A: Allocator + Copy + Drop>(
-    state: &State<A>,
-    text: &[u8],
-    tools: &Tools,
-    geometry: &Geometry,
-) -> Result<Effect, Fault>
-    ensures { MatchResult result (λ e. executed state.now tools.now geometry.now text.now ≡ Ok (done_by state.now e)) (λ f. executed state.now tools.now geometry.now text.now ≡ Err f) }
-{
-    let _ = tools;
-    let line = read_line(text)?;
-    let mut effect = Effect::none(state.machine);
-    carry(state, &line, geometry, &mut Values::new(), &mut effect)?;
-    Ok(effect)
 }

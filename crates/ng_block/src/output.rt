@@ -1,15 +1,15 @@
 //! Writing what a run has made.
-ghost use Rattle.std.specs.Prelude.{◌≡◌, ◌++◌, OnOk, OnErr, codes};
+ghost use Rattle.std.specs.Prelude.{◌≡◌, ◌++◌, [], OnOk, OnErr, codes};
 ghost use Rattle.std.specs.Fmt.{decimal};
 ghost use Rattle.std.specs.Io.KnownBytes.{Appends};
-ghost use Rattle.ng_canon.specs.Text.{StaysWithin};
+ghost use Rattle.ng_canon.specs.Text.{StaysWithin, canonical, canonical_text, command_text};
 ghost use Rattle.ng_block.specs.Dry.{commands_text, refusal_text};
-ghost use Rattle.ng_block.specs.Parts.{Writes};
-ghost use Rattle.ng_block.specs.Remarks.{remark_text, said_by};
+ghost use Rattle.ng_block.specs.Parts.{Writes, Wrote, Drains};
+ghost use Rattle.ng_block.specs.Effects.{commands_by};
 
+use crate::commands::Commands;
 use crate::effect::Effect;
 use crate::ending::DryFault;
-use crate::remark::{Manner, Remark};
 use ng_canon::{Canon, Command, print, print_command};
 use ng_num::{Fault, print_whole};
 use std::alloc::{AllocError, Allocator};
@@ -30,15 +30,97 @@ pub fn write_out<W: Write>(writer: &mut W, bytes: &[u8]) -> Result<(), DryFault>
     Ok(())
 }
 
-fn push_commands<A: Allocator + Copy + Drop>(
+/// The text that waits is written once it has so many bytes.
+const FULL: usize = 8192;
+
+/// Writes the text that waits.
+pub fn flush<W: Write, A: Allocator + Copy + Drop>(
     text: &mut Vec<u8, A>,
-    commands: &[Command],
-) -> Result<(), AllocError>
-    ensures ok { OnOk result (text.new.items ≡ text.old.items ++ commands_text commands.now) }
-    ensures err { OnErr result (StaysWithin text.old.items text.new.items) }
+    writer: &mut W,
+) -> Result<(), DryFault>
+    ensures moves { Drains (W.contents writer.old) (W.contents writer.new) text.old.items text.new.items result }
+    ensures empty { OnOk result (text.new.items ≡ []) }
 {
-    for command in commands {
-        print_command(text, command)?;
+    match write_out(writer, text.as_slice()) {
+        Ok(()) => {
+            text.clear();
+            Ok(())
+        }
+        Err(fault) => Err(fault),
+    }
+}
+
+/// Writes the text that waits where it is long.
+#[inline]
+fn relieve<W: Write, A: Allocator + Copy + Drop>(
+    text: &mut Vec<u8, A>,
+    writer: &mut W,
+) -> Result<(), DryFault>
+    ensures { Drains (W.contents writer.old) (W.contents writer.new) text.old.items text.new.items result }
+{
+    if text.len() < FULL {
+        return Ok(());
+    }
+    flush(text, writer)
+}
+
+/// Writes the text that waits before a run breaks off; a fault of the writer then comes first.
+pub fn break_off<W: Write, A: Allocator + Copy + Drop>(
+    text: &mut Vec<u8, A>,
+    writer: &mut W,
+    fault: DryFault,
+) -> DryFault
+    ensures { Wrote (W.contents writer.old) (W.contents writer.new) text.old.items }
+{
+    match flush(text, writer) {
+        Ok(()) => fault,
+        Err(unwritten) => unwritten,
+    }
+}
+
+/// Prints a command behind the text that waits, and writes that where it is long. Before `DryFault::Memory` what
+/// waited is written.
+pub fn put<W: Write, A: Allocator + Copy + Drop>(
+    text: &mut Vec<u8, A>,
+    writer: &mut W,
+    canon: &Canon<'_>,
+) -> Result<(), DryFault>
+    ensures { Drains (W.contents writer.old) (W.contents writer.new) (text.old.items ++ canonical_text (canonical canon.now)) text.new.items result }
+{
+    match print(text, canon) {
+        Ok(()) => relieve(text, writer),
+        Err(_) => Err(break_off(text, writer, DryFault::Memory)),
+    }
+}
+
+/// The same of a command whose arguments are numbers, without a copy of it.
+#[inline]
+fn put_command<W: Write, A: Allocator + Copy + Drop>(
+    text: &mut Vec<u8, A>,
+    writer: &mut W,
+    command: &Command,
+) -> Result<(), DryFault>
+    ensures { Drains (W.contents writer.old) (W.contents writer.new) (text.old.items ++ command_text command.now) text.new.items result }
+{
+    match print_command(text, command) {
+        Ok(()) => relieve(text, writer),
+        Err(_) => Err(break_off(text, writer, DryFault::Memory)),
+    }
+}
+
+/// Prints commands as they come, likewise.
+fn put_commands<W: Write, A: Allocator + Copy + Drop>(
+    text: &mut Vec<u8, A>,
+    writer: &mut W,
+    commands: &mut Commands<'_>,
+) -> Result<(), DryFault>
+    ensures { Drains (W.contents writer.old) (W.contents writer.new) (text.old.items ++ commands_text commands.old) text.new.items result }
+{
+    while let Some(canon) = commands.next() {
+        match put(text, writer, &canon) {
+            Ok(()) => {}
+            Err(fault) => return Err(fault),
+        }
     }
     Ok(())
 }
@@ -70,53 +152,38 @@ fn push_line<A: Allocator + Copy + Drop>(
     text.extend_from_slice(b"\n")
 }
 
-#[tactic(auto, unfolding(ng_canon::specs::Text::canon_text))]
-fn push_remark<A: Allocator + Copy + Drop>(
+/// Prints what a line does, likewise.
+pub fn put_effect<W: Write, A: Allocator + Copy + Drop>(
     text: &mut Vec<u8, A>,
-    remark: &Remark,
-) -> Result<(), AllocError>
-    ensures ok { OnOk result (text.new.items ≡ text.old.items ++ remark_text (said_by remark.now)) }
-    ensures err { OnErr result (StaysWithin text.old.items text.new.items) }
+    writer: &mut W,
+    effect: &Effect,
+) -> Result<(), DryFault>
+    ensures { Drains (W.contents writer.old) (W.contents writer.new) (text.old.items ++ commands_text (commands_by effect.now)) text.new.items result }
 {
-    let words = remark.words.as_slice();
-    match remark.manner {
-        None => Ok(()),
-        Some(Manner::Comment) => print(text, &Canon::Comment(words)),
-        Some(Manner::Message) => print(text, &Canon::Message(words)),
+    match effect.only_command() {
+        Some(command) => put_command(text, writer, &command),
+        None => put_commands(text, writer, &mut effect.commands()),
     }
 }
 
-fn push_effect<A: Allocator + Copy + Drop>(
+/// Prints the line that says which line is refused, and why, and writes all that waits.
+pub fn put_refusal<W: Write, A: Allocator + Copy + Drop>(
     text: &mut Vec<u8, A>,
-    effect: &Effect,
-) -> Result<(), AllocError>
-    ensures ok { OnOk result (text.new.items ≡ text.old.items ++ (remark_text (said_by effect.now.remark) ++ commands_text effect.now.commands.items)) }
-    ensures err { OnErr result (StaysWithin text.old.items text.new.items) }
+    writer: &mut W,
+    number: u64,
+    fault: Fault,
+) -> Result<(), DryFault>
+    ensures drains { Drains (W.contents writer.old) (W.contents writer.new) (text.old.items ++ refusal_text number fault) text.new.items result }
+    ensures empty { OnOk result (text.new.items ≡ []) }
 {
-    push_remark(text, &effect.remark)?;
-    push_commands(text, effect.commands.as_slice())
-}
-
-/// Appends the canonical text of what a line does. A refused growth leaves the text as it was.
-pub fn print_effect<A: Allocator + Copy + Drop>(
-    text: &mut Vec<u8, A>,
-    effect: &Effect,
-) -> Result<(), AllocError>
-    ensures ok { OnOk result (text.new.items ≡ text.old.items ++ (remark_text (said_by effect.now.remark) ++ commands_text effect.now.commands.items)) }
-    ensures err { OnErr result (text.new.items ≡ text.old.items) }
-{
-    let before = text.len();
-    match push_effect(text, effect) {
-        Ok(()) => Ok(()),
-        Err(refused) => {
-            text.truncate(before);
-            Err(refused)
-        }
+    match print_refusal(text, number, fault) {
+        Ok(()) => flush(text, writer),
+        Err(_) => Err(break_off(text, writer, DryFault::Memory)),
     }
 }
 
 /// Appends the line that says which line is refused, and why. A refused growth leaves the text as it was.
-pub fn print_refusal<A: Allocator + Copy + Drop>(
+fn print_refusal<A: Allocator + Copy + Drop>(
     text: &mut Vec<u8, A>,
     number: u64,
     fault: Fault,

@@ -1,41 +1,20 @@
 //! A dry run between two lines.
-ghost use Rattle.std.specs.Prelude.{◌≡◌, ◌+◌, ◌<◌, ◌≤◌, ◌^◌, ◌∷◌, ◌++◌, [], Ok, Err, IfOk, OnOk, OnErr, Some, IfErr, MatchResult};
-ghost use Rattle.ng_block.specs.Dry.{is_deletable, idle, deleted, line_done, done_in, is_end, commands_text, refusal_text};
-ghost use Rattle.ng_block.specs.Effects.{done_by, executed};
-ghost use Rattle.ng_block.specs.Parts.{due, Took, with_text, begun, written, Writes, Closes};
+ghost use Rattle.std.specs.Prelude.{◌≡◌, ◌+◌, ◌<◌, ◌≤◌, ◌^◌, ◌∷◌, ◌++◌, [], Ok, Err, IfOk, MatchResult};
+ghost use Rattle.ng_block.specs.Dry.{is_end, Finishes, onto, refused};
+ghost use Rattle.ng_block.specs.Parts.{due, begun, Stepped, Wrote};
 
-use crate::effect::{Effect, Stop, carry};
+use crate::effect::Stop;
 use crate::ending::{DryFault, Ended};
 use crate::frame::Frame;
 use crate::machine::Machine;
-use crate::output::{print_effect, print_refusal, write_out};
+use crate::output::{break_off, flush, put_effect, put_refusal};
+use crate::places::Places;
 use crate::state::State;
-use crate::tools::Tools;
-use ng_canon::Geometry;
-use ng_expr::Values;
+use crate::terms::Terms;
 use ng_num::Fault;
-use ng_words::{Line, is_deletable};
 use std::alloc::{AllocError, Allocator};
 use std::io::Write;
 use std::marker::Model;
-
-/// What a dry run is run with.
-#[derive(Drop)]
-pub struct Terms<'a> {
-    /// Whether lines that begin with a slash are deleted.
-    pub block_delete: bool,
-    /// The tool table; no code that is built reads it yet.
-    pub tools: &'a Tools,
-    pub geometry: &'a Geometry,
-}
-
-impl<'a> Model for Terms<'a> {
-    ghost use Rattle.ng_block.specs.Dry.{Terms as Given};
-
-    ghost Value = { Given };
-
-    ghost view = { λ t. record { block_delete = t.block_delete; tools = t.tools.now; geometry = t.geometry.now } };
-}
 
 /// A run between two lines: the state, the number of the next line, and the text that isn't written yet.
 #[derive(Drop)]
@@ -45,12 +24,8 @@ pub struct Run<'a, A: Allocator> {
     state: State<A>,
     number: u64,
     text: Vec<u8, A>,
-    /// The places that each line is read into.
-    line: Line,
-    /// The places that each line's values are put into.
-    values: Values,
-    /// The places that each line's effect is put into.
-    effect: Effect,
+    /// The places that each line is executed in.
+    places: Places,
 }
 
 impl<'a, A: Allocator> Model for Run<'a, A> {
@@ -61,73 +36,13 @@ impl<'a, A: Allocator> Model for Run<'a, A> {
     ghost view = { λ r. record { terms = r.terms; frame = r.frame; setup = r.state; number = r.number; text = r.text.items } };
 }
 
-/// A line without an effect.
-fn leave<A: Allocator + Copy + Drop>(state: &State<A>, stop: Stop, effect: &mut Effect)
-    ensures { done_by state.now effect.new ≡ idle state.now stop }
+/// Whether the program ends.
+fn is_end(stop: Stop) -> bool
+    ensures { result ≡ is_end stop }
 {
-    effect.machine = state.machine;
-    effect.changes.clear();
-    effect.remark.clear();
-    effect.segments.clear();
-    effect.commands.clear();
-    effect.stop = stop;
-}
-
-/// A deleted line does nothing; its length alone is looked at.
-fn delete<A: Allocator + Copy + Drop>(
-    state: &State<A>,
-    text: &[u8],
-    effect: &mut Effect,
-) -> Result<(), Fault>
-    ensures { MatchResult result (λ _. deleted state.now text.now ≡ Ok (done_by state.now effect.new)) (λ f. deleted state.now text.now ≡ Err f) }
-{
-    if text.len() > 256 {
-        return Err(Fault::LineTooLong);
-    }
-    leave(state, Stop::GoesOn, effect);
-    Ok(())
-}
-
-/// What a line of the program does that is no percent line, read into the places of a line, its values found in
-/// theirs, and put into those of an effect. After a fault they may hold anything.
-#[tactic(auto, unfolding(crate::specs::Effects::executed))]
-fn line_done<A: Allocator + Copy + Drop>(
-    terms: &Terms<'_>,
-    state: &State<A>,
-    text: &[u8],
-    line: &mut Line,
-    values: &mut Values,
-    effect: &mut Effect,
-) -> Result<(), Fault>
-    ensures { MatchResult result (λ _. line_done terms.now state.now text.now ≡ Ok (done_by state.now effect.new)) (λ f. line_done terms.now state.now text.now ≡ Err f) }
-{
-    if terms.block_delete && is_deletable(text) {
-        return delete(state, text, effect);
-    }
-    match line.read(text) {
-        Ok(()) => carry(state, line, terms.geometry, values, effect),
-        Err(fault) => Err(fault),
-    }
-}
-
-/// What a line of the program does in its frame, likewise.
-fn done_in<A: Allocator + Copy + Drop>(
-    terms: &Terms<'_>,
-    frame: Frame,
-    state: &State<A>,
-    text: &[u8],
-    line: &mut Line,
-    values: &mut Values,
-    effect: &mut Effect,
-) -> Result<(), Fault>
-    ensures { MatchResult result (λ _. done_in terms.now frame state.now text.now ≡ Ok (done_by state.now effect.new)) (λ f. done_in terms.now frame state.now text.now ≡ Err f) }
-{
-    match frame.percent_at(text) {
-        Some(stop) => {
-            leave(state, stop, effect);
-            Ok(())
-        }
-        None => line_done(terms, state, text, line, values, effect),
+    match stop {
+        Stop::Ends => true,
+        Stop::GoesOn | Stop::Stops | Stop::StopsIfWanted => false,
     }
 }
 
@@ -142,75 +57,79 @@ impl<'a, A: Allocator + Copy + Drop> Run<'a, A> {
             state: State::fresh(alloc)?,
             number: 1,
             text: Vec::new(alloc),
-            line: Line::new(),
-            values: Values::new(),
-            effect: Effect::none(Machine::fresh()),
+            places: Places::new(Machine::fresh()),
         })
     }
 
-    /// Writes the text that isn't written yet.
-    pub fn flush<W: Write>(&mut self, writer: &mut W) -> Result<(), DryFault>
-        ensures written { Writes (W.contents writer.old) (W.contents writer.new) self.old.text result }
-        ensures ok { OnOk result (self.new ≡ written self.old) }
-        ensures err { OnErr result (self.new ≡ self.old) }
+    /// Writes the text that isn't written yet, at the end of the run.
+    fn end<W: Write>(&mut self, writer: &mut W, end: Ended) -> Result<Ended, DryFault>
+        ensures ended { Finishes (W.contents writer.old) (W.contents writer.new) (record { text = self.old.text; ended = end }) result }
+        ensures number { self.new.number ≡ self.old.number }
     {
-        if let Err(fault) = write_out(writer, self.text.as_slice()) {
-            return Err(fault);
+        match flush(&mut self.text, writer) {
+            Ok(()) => Ok(end),
+            Err(fault) => Err(fault),
         }
-        self.text.clear();
-        Ok(())
+    }
+
+    /// Breaks the run off: writes the text that isn't written yet.
+    pub fn break_off<W: Write>(&mut self, writer: &mut W, fault: DryFault) -> DryFault
+        ensures { Wrote (W.contents writer.old) (W.contents writer.new) self.old.text }
+    {
+        break_off(&mut self.text, writer, fault)
     }
 
     /// Ends the run by a refusal of the next line.
-    pub fn refuse(&mut self, fault: Fault) -> Result<Option<Ended>, AllocError>
-        ensures ok { OnOk result (self.new ≡ with_text self.old (refusal_text self.old.number fault)) }
-        ensures ended { IfOk result (λ o. o ≡ Some (Ended.Refused self.old.number fault)) }
-        ensures err { OnErr result (self.new ≡ self.old) }
+    pub fn refuse<W: Write>(&mut self, writer: &mut W, fault: Fault) -> Result<Ended, DryFault>
+        ensures ended { Finishes (W.contents writer.old) (W.contents writer.new) (onto self.old.text (refused self.old.number fault)) result }
+        ensures number { self.new.number ≡ self.old.number }
     {
-        print_refusal(&mut self.text, self.number, fault)?;
-        Ok(Some(Ended::Refused(self.number, fault)))
+        let number = self.number;
+        if let Err(broken) = put_refusal(&mut self.text, writer, number, fault) {
+            return Err(broken);
+        }
+        Ok(Ended::Refused(number, fault))
     }
 
-    /// Carries out the next line.
-    pub fn carry_out(&mut self, line: &[u8]) -> Result<Option<Ended>, AllocError>
+    /// Executes the next line, and writes what it gives.
+    pub fn execute<W: Write>(
+        &mut self,
+        writer: &mut W,
+        line: &[u8],
+    ) -> Result<Option<Ended>, DryFault>
         requires { self.old.number < 2 ^ 63 }
-        ensures took { Took (λ more. due self.old (line.now ∷ more)) (λ more. due self.new more) self.new.text result }
+        ensures step { Stepped (W.contents writer.old) (W.contents writer.new) (λ more. due self.old (line.now ∷ more)) (λ more. due self.new more) result }
         ensures number { self.new.number ≤ self.old.number + 1 }
     {
-        if let Err(fault) = done_in(
-            &self.terms,
-            self.frame,
-            &self.state,
-            line,
-            &mut self.line,
-            &mut self.values,
-            &mut self.effect,
-        ) {
-            return self.refuse(fault);
+        if let Err(fault) = self
+            .places
+            .execute_in_frame(&self.terms, self.frame, &self.state, line)
+        {
+            return match self.refuse(writer, fault) {
+                Ok(end) => Ok(Some(end)),
+                Err(broken) => Err(broken),
+            };
         }
-        if let Err(refused) = print_effect(&mut self.text, &self.effect) {
-            return Err(refused);
+        if let Err(broken) = put_effect(&mut self.text, writer, &self.places.effect) {
+            return Err(broken);
         }
-        self.state.apply(&self.effect);
+        self.state.apply(&self.places.effect);
         self.frame = self.frame.after(line);
-        match self.effect.stop {
-            Stop::Ends => Ok(Some(Ended::Done)),
-            Stop::GoesOn | Stop::Stops | Stop::StopsIfWanted => {
-                self.number += 1;
-                Ok(None)
-            }
+        if is_end(self.places.effect.stop) {
+            return match self.end(writer, Ended::Done) {
+                Ok(end) => Ok(Some(end)),
+                Err(broken) => Err(broken),
+            };
         }
+        self.number += 1;
+        Ok(None)
     }
 
     /// Ends the run at the end of a text that has no program end.
-    pub fn end_of_text(&mut self) -> Result<Ended, AllocError>
-        ensures { Closes (due self.old []) self.new.text result }
+    pub fn end_of_text<W: Write>(&mut self, writer: &mut W) -> Result<Ended, DryFault>
+        ensures { Finishes (W.contents writer.old) (W.contents writer.new) (due self.old []) result }
     {
-        let number = self.number;
         let fault = self.frame.missing_end();
-        match self.refuse(fault) {
-            Ok(_) => Ok(Ended::Refused(number, fault)),
-            Err(refused) => Err(refused),
-        }
+        self.refuse(writer, fault)
     }
 }

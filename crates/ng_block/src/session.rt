@@ -1,14 +1,17 @@
 //! A dry run between two reads: it takes the bytes as they come.
-ghost use Rattle.std.specs.Prelude.{◌≡◌, ◌+◌, ◌<◌, ◌≤◌, ◌^◌, ◌∷◌, ◌++◌, [], length, Some, MatchOption};
+ghost use Rattle.std.specs.Prelude.{◌≡◌, ◌+◌, ◌<◌, ◌≤◌, ◌^◌, ◌∷◌, ◌++◌, [], ℕ, List, length, MatchOption};
 ghost use Rattle.std.specs.Str.Lines.{strip_carriage_return};
-ghost use Rattle.ng_block.specs.Parts.{HasNoNewline, Took, Closes, rest_of};
+ghost use Rattle.ng_block.specs.Dry.{Output, Finishes, onto, refused};
+ghost use Rattle.ng_block.specs.Parts.{HasNoNewline, Stepped, rest_of};
+ghost use Rattle.ng_num.specs.declared.fault.Fault.TheVariants.{LineTooLong};
 
-use crate::ending::Ended;
+use crate::ending::{DryFault, Ended};
 use crate::run::Run;
 use arrayvec::ArrayVec;
 use memchr::memchr;
 use ng_num::Fault;
-use std::alloc::{AllocError, Allocator};
+use std::alloc::Allocator;
+use std::io::Write;
 
 /// The most bytes that are kept of a line whose end hasn't come: the longest line and a carriage return.
 pub const KEPT: usize = 257;
@@ -42,72 +45,91 @@ fn split_line(bytes: &[u8]) -> Option<(&[u8], &[u8])>
 
 impl<'a, A: Allocator + Copy + Drop> Session<'a, A> {
     /// Takes the end of a line: the bytes before its newline.
-    fn end_line(&mut self, line: &[u8]) -> Result<Option<Ended>, AllocError>
+    fn end_line<W: Write>(&mut self, writer: &mut W, line: &[u8]) -> Result<Option<Ended>, DryFault>
         requires kept { HasNoNewline self.old.kept.items }
         requires line { HasNoNewline line.now }
         requires room { self.old.run.number < 2 ^ 63 }
-        ensures took { Took (λ more. rest_of self.old.run self.old.kept.items (line.now ++ 10 ∷ more)) (λ more. rest_of self.new.run self.new.kept.items more) self.new.run.text result }
+        ensures step { Stepped (W.contents writer.old) (W.contents writer.new) (λ more. rest_of self.old.run self.old.kept.items (line.now ++ 10 ∷ more)) (λ more. rest_of self.new.run self.new.kept.items more) result }
         ensures kept { HasNoNewline self.new.kept.items }
         ensures number { self.new.run.number ≤ self.old.run.number + 1 }
     {
         if self.kept.is_empty() {
-            return self.run.carry_out(without_return(line));
+            return self.run.execute(writer, without_return(line));
         }
         match self.kept.try_extend_from_slice(line) {
-            Err(_) => self.run.refuse(Fault::LineTooLong),
+            Err(_) => self.refuse_long(writer),
             Ok(()) => {
-                let ended = self.run.carry_out(without_return(self.kept.as_slice()));
+                let ended = self
+                    .run
+                    .execute(writer, without_return(self.kept.as_slice()));
                 self.kept.clear();
                 ended
             }
         }
     }
 
+    /// Ends the run: the next line is too long.
+    fn refuse_long<W: Write>(&mut self, writer: &mut W) -> Result<Option<Ended>, DryFault>
+        ensures step { (f : List ℕ → Output) → ((more : List ℕ) → f more ≡ onto self.old.run.text (refused self.old.run.number LineTooLong)) → Stepped (W.contents writer.old) (W.contents writer.new) f (λ more. rest_of self.new.run self.new.kept.items more) result }
+        ensures kept { self.new.kept ≡ self.old.kept }
+        ensures number { self.new.run.number ≡ self.old.run.number }
+    {
+        match self.run.refuse(writer, Fault::LineTooLong) {
+            Ok(end) => Ok(Some(end)),
+            Err(broken) => Err(broken),
+        }
+    }
+
     /// Keeps the beginning of a line.
-    fn keep(&mut self, bytes: &[u8]) -> Result<Option<Ended>, AllocError>
+    fn keep<W: Write>(&mut self, writer: &mut W, bytes: &[u8]) -> Result<Option<Ended>, DryFault>
         requires kept { HasNoNewline self.old.kept.items }
         requires bytes { HasNoNewline bytes.now }
-        ensures took { Took (λ more. rest_of self.old.run self.old.kept.items (bytes.now ++ more)) (λ more. rest_of self.new.run self.new.kept.items more) self.new.run.text result }
+        ensures step { Stepped (W.contents writer.old) (W.contents writer.new) (λ more. rest_of self.old.run self.old.kept.items (bytes.now ++ more)) (λ more. rest_of self.new.run self.new.kept.items more) result }
         ensures kept { HasNoNewline self.new.kept.items }
         ensures number { self.new.run.number ≡ self.old.run.number }
     {
         match self.kept.try_extend_from_slice(bytes) {
             Ok(()) => Ok(None),
-            Err(_) => self.run.refuse(Fault::LineTooLong),
+            Err(_) => self.refuse_long(writer),
         }
     }
 
-    /// Takes the next bytes of the program.
-    pub fn take(&mut self, bytes: &[u8]) -> Result<Option<Ended>, AllocError>
+    /// Takes the next bytes of the program, and writes what they give.
+    pub fn take<W: Write>(
+        &mut self,
+        writer: &mut W,
+        bytes: &[u8],
+    ) -> Result<Option<Ended>, DryFault>
         requires kept { HasNoNewline self.old.kept.items }
         requires room { self.old.run.number + length bytes.now < 2 ^ 63 }
-        ensures took { Took (λ more. rest_of self.old.run self.old.kept.items (bytes.now ++ more)) (λ more. rest_of self.new.run self.new.kept.items more) self.new.run.text result }
+        ensures step { Stepped (W.contents writer.old) (W.contents writer.new) (λ more. rest_of self.old.run self.old.kept.items (bytes.now ++ more)) (λ more. rest_of self.new.run self.new.kept.items more) result }
         ensures kept { HasNoNewline self.new.kept.items }
         ensures number { self.new.run.number ≤ self.old.run.number + length bytes.now }
     {
         let mut left = bytes;
         while let Some((line, behind)) = split_line(left) {
-            match self.end_line(line) {
+            match self.end_line(writer, line) {
                 Ok(None) => left = behind,
                 Ok(Some(ended)) => return Ok(Some(ended)),
-                Err(refused) => return Err(refused),
+                Err(broken) => return Err(broken),
             }
         }
-        self.keep(left)
+        self.keep(writer, left)
     }
-    /// Takes the end of the program.
-    pub fn close(&mut self) -> Result<Ended, AllocError>
+
+    /// Takes the end of the program, and writes what it gives.
+    pub fn close<W: Write>(&mut self, writer: &mut W) -> Result<Ended, DryFault>
         requires kept { HasNoNewline self.old.kept.items }
         requires room { self.old.run.number < 2 ^ 63 }
-        ensures { Closes (rest_of self.old.run self.old.kept.items []) self.new.run.text result }
+        ensures { Finishes (W.contents writer.old) (W.contents writer.new) (rest_of self.old.run self.old.kept.items []) result }
     {
         if self.kept.is_empty() {
-            return self.run.end_of_text();
+            return self.run.end_of_text(writer);
         }
-        match self.run.carry_out(self.kept.as_slice()) {
-            Ok(None) => self.run.end_of_text(),
+        match self.run.execute(writer, self.kept.as_slice()) {
+            Ok(None) => self.run.end_of_text(writer),
             Ok(Some(ended)) => Ok(ended),
-            Err(refused) => Err(refused),
+            Err(broken) => Err(broken),
         }
     }
 }

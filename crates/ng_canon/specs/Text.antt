@@ -58,11 +58,21 @@ command_text OptionalStop = codes "OPTIONAL_PROGRAM_STOP()\n"
 command_text PalletShuttle = codes "PALLET_SHUTTLE()\n"
 command_text ProgramEnd = codes "PROGRAM_END()\n"
 
--- a command
-unfoldable pub canon_text : Canon → List ℕ
-canon_text (Comment text) = codes "COMMENT(" ++ text.now ++ codes ")\n"
-canon_text (Message text) = codes "MESSAGE(" ++ text.now ++ codes ")\n"
-canon_text (Numeric command) = command_text command
+-- a canonical command, wherever its words lie
+pub data Canonical : Type 0 where
+  comment : List ℕ → Canonical
+  message : List ℕ → Canonical
+  numeric : Command → Canonical
+
+abbrev pub canonical : Canon → Canonical
+canonical (Comment words) = comment words.now
+canonical (Message words) = message words.now
+canonical (Numeric command) = numeric command
+
+unfoldable pub canonical_text : Canonical → List ℕ
+canonical_text (comment words) = codes "COMMENT(" ++ words ++ codes ")\n"
+canonical_text (message words) = codes "MESSAGE(" ++ words ++ codes ")\n"
+canonical_text (numeric command) = command_text command
 
 -- the text was not shortened: what it was is how it begins
 abbrev pub StaysWithin : List ℕ → List ℕ → Type 0

@@ -2,7 +2,7 @@
 ghost use Rattle.std.specs.Prelude.{◌≡◌, ◌++◌, OnOk, OnErr, codes};
 ghost use Rattle.std.specs.Fmt.{decimal};
 ghost use Rattle.ng_num.specs.Text.{number_text, point_text};
-ghost use Rattle.ng_canon.specs.Text.{canon_text, command_text, plane_text, round_text, turn_text, unit_text, StaysWithin};
+ghost use Rattle.ng_canon.specs.Text.{canonical, canonical_text, command_text, plane_text, round_text, turn_text, unit_text, StaysWithin};
 
 use crate::command::{ArcFeed, Canon, Command};
 use crate::plane::{Plane, Turn};
@@ -185,12 +185,12 @@ fn push_command<A: Allocator + Copy + Drop>(
 }
 
 /// Appends a command.
-#[tactic(auto, unfolding(crate::specs::Text::canon_text))]
+#[tactic(auto, unfolding(crate::specs::Text::canonical_text))]
 fn push_canon<A: Allocator + Copy + Drop>(
     text: &mut Vec<u8, A>,
     canon: &Canon<'_>,
 ) -> Result<(), AllocError>
-    ensures ok { OnOk result (text.new.items ≡ text.old.items ++ canon_text canon.now) }
+    ensures ok { OnOk result (text.new.items ≡ text.old.items ++ canonical_text (canonical canon.now)) }
     ensures err { OnErr result (StaysWithin text.old.items text.new.items) }
 {
     match canon {
@@ -206,7 +206,7 @@ pub fn print<A: Allocator + Copy + Drop>(
     text: &mut Vec<u8, A>,
     canon: &Canon<'_>,
 ) -> Result<(), AllocError>
-    ensures ok { OnOk result (text.new.items ≡ text.old.items ++ canon_text canon.now) }
+    ensures ok { OnOk result (text.new.items ≡ text.old.items ++ canonical_text (canonical canon.now)) }
     ensures err { OnErr result (text.new.items ≡ text.old.items) }
 {
     let before = text.len();

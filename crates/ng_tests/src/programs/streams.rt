@@ -1,6 +1,9 @@
 //! Readers that give little, and readers and writers that fail.
-use super::{CUTS, CUTS_TEXT, dry_run};
-use ng_block::{DryFault, Ended};
+use super::{CUTS, CUTS_TEXT, PROGRAM_END, dry_run};
+use linked_list_allocator::LocalHeap;
+use ng_block::{DryFault, Ended, put};
+use ng_canon::{Canon, Command};
+use ng_num::Point;
 use std::io;
 use std::io::{ErrorKind, Read, Write};
 use std::test::Fail;
@@ -128,5 +131,60 @@ fn stops_where_the_writer_fails(rt: HostRuntime) -> Result<(), Fail> {
         }
         assert!(rt; whole > 0 && cut > 0, "{at_most}");
     }
+    Ok(())
+}
+
+#[test]
+fn reads_as_often_as_a_program_needs(rt: HostRuntime) -> Result<(), Fail> {
+    // 24,000 reads of a byte, and 110 of a whole buffer
+    for (lines, at_most) in [(4_000, 1), (150_000, 8192)] {
+        let mut program = Vec::new(rt.alloc());
+        let mut expected = Vec::new(rt.alloc());
+        for _ in 0..lines {
+            program.extend_from_slice(b"G0 X1\n")?;
+            expected.extend_from_slice(b"STRAIGHT_TRAVERSE(1.000000, 0.000000, 0.000000)\n")?;
+        }
+        program.extend_from_slice(b"M2\n")?;
+        expected.extend_from_slice(PROGRAM_END.as_bytes())?;
+        let mut reader = Drip {
+            bytes: program.as_slice(),
+            at_most,
+            reads_left: 1_000_000,
+        };
+        let mut text = Vec::new(rt.alloc());
+        let ended = dry_run(rt.alloc(), &mut reader, &mut text, false);
+        assert!(rt; matches!(ended, Ok(Ended::Done)), "{at_most}");
+        assert!(rt; text.as_slice() == expected.as_slice(), "{at_most}");
+    }
+    Ok(())
+}
+
+/// A writer that counts what it takes.
+#[derive(Drop)]
+struct Counted {
+    bytes: usize,
+}
+
+impl Write for Counted {
+    fn write(&mut self, buf: &[u8]) -> io::Result<usize> {
+        self.bytes = self.bytes.saturating_add(buf.len());
+        Ok(buf.len())
+    }
+
+    fn flush(&mut self) -> io::Result<()> {
+        Ok(())
+    }
+}
+
+#[test]
+fn prints_a_million_commands_in_flat_memory(rt: HostRuntime) -> Result<(), Fail> {
+    let heap = LocalHeap::new(rt.alloc(), 40_000)?;
+    let mut text = Vec::new(&heap);
+    let mut writer = Counted { bytes: 0 };
+    let traverse = Canon::Command(Command::Traverse(Point::origin()));
+    for n in 0..1_000_000 {
+        assert!(rt; put(&mut text, &mut writer, &traverse).is_ok(), "{n}");
+    }
+    assert_eq!(rt; writer.bytes.saturating_add(text.len()), 48_000_000);
     Ok(())
 }

@@ -1,0 +1,41 @@
+-- Text that waits and is written piece by piece.
+use Rattle.std.proofs.Common.{◌≡◌, ℕ, List, [], ◌++◌, Option, Result, Ok, Err, subst, refl, sym, ap, ◌∙◌, append_assoc, append-nil, take, drop, take-append-drop}
+use Rattle.std.specs.Io.KnownBytes.{Appends}
+use Rattle.ng_block.specs.Parts.{Drains}
+use Rattle.ng_block.specs.declared.ending.DryFault.{DryFault}
+use Rattle.ng_block.proofs.Streams.{Appends-nil, Appends-trans}
+
+-- nothing is written yet
+pub Waits : {T : Type 0} (a : Option (List ℕ)) (waiting left : List ℕ) (x : T) → left ≡ waiting → Drains a a waiting left (Ok x)
+Waits a waiting left x e = ([], Appends-nil a, sym e)
+
+pub Waits-broken : (T : Type 0) (a : Option (List ℕ)) (waiting left : List ℕ) (fault : DryFault) → Drains {T = T} a a waiting left (Err fault)
+Waits-broken T a waiting left fault = ([], waiting, Appends-nil a, refl)
+
+-- all is written
+pub Drains-all : {T : Type 0} (a b : Option (List ℕ)) (waiting left : List ℕ) (x : T) → left ≡ [] → Appends a b waiting → Drains a b waiting left (Ok x)
+Drains-all a b waiting left x e w = (waiting, w, sym (append-nil waiting) ∙ ap (λ l. waiting ++ l) (sym e))
+
+-- a beginning is written
+pub Drains-broken : (T : Type 0) (a b : Option (List ℕ)) (waiting left : List ℕ) (n : ℕ) (fault : DryFault) → Appends a b (take n waiting) → Drains {T = T} a b waiting left (Err fault)
+Drains-broken T a b waiting left n fault w = (take n waiting, drop n waiting, w, sym (take-append-drop n waiting))
+
+-- a piece printed behind what waits
+pub Drains-piece : {T : Type 0} (a b c : Option (List ℕ)) (all here piece rest left : List ℕ) (r : Result T DryFault)
+    → (out : List ℕ) × Appends a b out × (all ≡ out ++ (here ++ (piece ++ rest))) → Drains b c (here ++ piece) left r
+    → Drains a c all (left ++ rest) r
+Drains-piece a b c all here piece rest left (Ok x) p q = (
+  p.0 ++ q.0,
+  Appends-trans a b c p.0 q.0 p.1 q.1,
+  p.2 ∙ ap (λ l. p.0 ++ l) (sym (append_assoc here piece rest) ∙ ap (λ l. l ++ rest) q.2 ∙ append_assoc q.0 left rest) ∙ sym (append_assoc p.0 q.0 (left ++ rest)),
+)
+Drains-piece a b c all here piece rest left (Err fault) p q = (
+  p.0 ++ q.0,
+  q.1 ++ rest,
+  Appends-trans a b c p.0 q.0 p.1 q.2,
+  p.2 ∙ ap (λ l. p.0 ++ l) (sym (append_assoc here piece rest) ∙ ap (λ l. l ++ rest) q.3 ∙ append_assoc q.0 q.1 rest) ∙ sym (append_assoc p.0 q.0 (q.1 ++ rest)),
+)
+
+-- what waited, written otherwise
+pub Drains-from : {T : Type 0} (a b : Option (List ℕ)) (waiting before left : List ℕ) (r : Result T DryFault) → before ≡ waiting → Drains a b waiting left r → Drains a b before left r
+Drains-from a b waiting before left r e w = subst (λ l. Drains a b l left r) (sym e) w

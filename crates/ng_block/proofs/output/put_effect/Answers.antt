@@ -1,0 +1,13 @@
+use Rattle.std.proofs.Common.{List, ◌++◌, ◌∙◌, ap, sym, append-nil}
+use Rattle.ng_canon.specs.Text.{Canonical, canonical_text, command_text}
+use Rattle.ng_block.specs.Dry.{commands_text}
+use Rattle.ng_block.proofs.DrainLemmas.{Drains-from}
+use Rattle.ng_block.proofs.output.put_effect.Goals as goal
+
+pub returns-in-Some : goal.returns-in-Some
+unfolding canonical_text
+returns-in-Some g c =
+    let text = c.args.text.now.items in
+    Drains-from _ _ _ _ _ c.put_command.result
+    (ap (λ (l : List Canonical). text ++ commands_text l) c.in-Some.ensures ∙ ap (λ l. text ++ l) (append-nil (command_text c.in-Some.command)))
+    c.put_command.ensures

@@ -1,0 +1,138 @@
+//! The path of a block's motion, and its segments one at a time.
+ghost use Rattle.std.specs.Prelude.{◌≡◌, ◌∷◌, [], MatchOption};
+ghost use Rattle.ng_block.specs.Paths.{straight, feed_path, path_of, path_segments, pace_command, spindle_command, command_of};
+
+use crate::goal::Goal;
+use crate::modes::Motion;
+use ng_canon::{Arc, ArcFeed, Command, Line, Pace, Rate, Segment, Spindle};
+use ng_num::Point;
+use std::marker::Model;
+
+/// The path of a block's motion.
+#[derive(Clone, Copy, Debug, PartialEq, Eq)]
+pub enum Path {
+    /// The machine stays where it is.
+    Still,
+    Straight(Line),
+}
+
+/// The segments that are left of a path.
+#[derive(Drop)]
+pub struct Moves {
+    left: Option<Segment>,
+}
+
+impl Model for Moves {
+    ghost use Rattle.std.specs.Prelude.{List};
+    ghost use Rattle.ng_canon.specs.declared.segment.Segment.{Segment};
+    ghost use Rattle.ng_block.specs.Moves.{left_of};
+
+    ghost Value = { List Segment };
+
+    ghost view = { λ m. left_of m.left };
+}
+
+impl Moves {
+    /// No segment.
+    pub fn none() -> Moves
+        ensures { result ≡ [] }
+    {
+        Moves { left: None }
+    }
+
+    /// All segments of a path.
+    pub fn of(path: &Path) -> Moves
+        ensures { result ≡ path_segments path.now }
+    {
+        match path {
+            Path::Still => Moves { left: None },
+            Path::Straight(line) => Moves {
+                left: Some(Segment::Line(*line)),
+            },
+        }
+    }
+
+    /// The next segment.
+    pub fn next(&mut self) -> Option<Segment>
+        ensures { MatchOption result ((self.old ≡ []) × (self.new ≡ [])) (λ segment. self.old ≡ segment ∷ self.new) }
+    {
+        let next = self.left;
+        self.left = None;
+        next
+    }
+}
+
+/// A straight path.
+fn straight(pace: Pace, start: Point, end: Point) -> Path
+    ensures { result ≡ straight pace start end }
+{
+    Path::Straight(Line { start, end, pace })
+}
+
+/// The path of a feed move.
+fn feed_path(rate: Option<Rate>, start: Point, end: Point) -> Path
+    ensures { result ≡ feed_path rate start end }
+{
+    match rate {
+        Some(rate) => straight(Pace::Feed(rate), start, end),
+        None => Path::Still,
+    }
+}
+
+/// The path of a block from where the machine stands.
+pub fn path_of(goal: &Goal, start: Point) -> Path
+    ensures { result ≡ path_of goal.now start }
+{
+    match goal.motion {
+        Some(Motion::Traverse) => straight(Pace::Traverse, start, goal.point),
+        Some(Motion::Feed) => feed_path(Rate::of(goal.feed_per_min), start, goal.point),
+        _ => Path::Still,
+    }
+}
+
+/// The command of a straight move.
+#[inline]
+pub fn pace_command(pace: Pace, end: Point) -> Command
+    ensures { result ≡ pace_command pace end }
+{
+    match pace {
+        Pace::Traverse => Command::Traverse(end),
+        Pace::Feed(_) => Command::Feed(end),
+        Pace::InverseTime(_) => Command::Feed(end),
+    }
+}
+
+/// The command of an arc.
+fn arc_command(arc: &Arc) -> Command
+    ensures { result ≡ Command.ArcFeed (record { end = arc.now.end; centre_a = arc.now.centre_a; centre_b = arc.now.centre_b; turn = arc.now.turn }) }
+{
+    Command::ArcFeed(ArcFeed {
+        end: arc.end,
+        centre_a: arc.centre_a,
+        centre_b: arc.centre_b,
+        turn: arc.turn,
+    })
+}
+
+/// The command of a spindle that is switched.
+fn spindle_command(spindle: Spindle) -> Command
+    ensures { result ≡ spindle_command spindle }
+{
+    match spindle {
+        Spindle::Stopped => Command::StopSpindle,
+        Spindle::Clockwise => Command::StartSpindleClockwise,
+        Spindle::Counterclockwise => Command::StartSpindleCounterclockwise,
+    }
+}
+
+/// The command of a path's segment.
+pub fn command_of(segment: &Segment) -> Command
+    ensures { result ≡ command_of segment.now }
+{
+    match segment {
+        Segment::Line(line) => pace_command(line.pace, line.end),
+        Segment::Arc(arc) => arc_command(arc),
+        Segment::Dwell(seconds) => Command::Dwell(*seconds),
+        Segment::Switch(outputs) => spindle_command(outputs.spindle),
+    }
+}

@@ -1,0 +1,183 @@
+//! What a line does in a state: one way for all lines, through places that serve one after the other.
+ghost use Rattle.std.specs.Prelude.{◌≡◌, ◌≤◌, length, MatchResult, Ok, Err, IfSome};
+ghost use Rattle.std.specs.Option.{option_map};
+ghost use Rattle.ng_words.specs.Kept.{pieces_by};
+ghost use Rattle.ng_expr.specs.Settle.{settled_of};
+ghost use Rattle.ng_block.specs.Effects.{executed, executed_pieces, executed_values, in_state};
+ghost use Rattle.ng_block.specs.Remarks.{remark_of};
+ghost use Rattle.ng_block.specs.Dry.{deleted, executed_unless_deleted, executed_in_frame};
+
+use crate::asked::asked_of;
+use crate::effect::{Effect, Stop};
+use crate::faults::{block_fault, motion_fault};
+use crate::frame::Frame;
+use crate::goal::goal_of;
+use crate::machine::Machine;
+use crate::state::State;
+use crate::terms::Terms;
+use crate::tools::Tools;
+use ng_canon::Geometry;
+use ng_expr::Values;
+use ng_num::Fault;
+use ng_words::{Line, is_deletable};
+use std::alloc::Allocator;
+
+/// The places that a line is read into, its values are found in and its effect is put into. They serve any number of
+/// lines, one after the other, and take no memory.
+#[derive(Drop)]
+pub struct Places {
+    line: Line,
+    values: Values,
+    /// What the last line did that was lawful; after a fault it may hold anything.
+    pub effect: Effect,
+}
+
+/// What the values of a line do in a state, put into an effect; or the first fault that refuses them.
+#[tactic(auto, unfolding(crate::specs::Effects::executed_values))]
+fn execute_values<A: Allocator + Copy + Drop>(
+    state: &State<A>,
+    comment: Option<&[u8]>,
+    values: &Values,
+    geometry: &Geometry,
+    effect: &mut Effect,
+) -> Result<(), Fault>
+    requires short { IfSome comment (λ text. length text.now ≤ 256) }
+    ensures { MatchResult result (λ _. executed_values state.now (remark_of (option_map (λ text. text.now) comment.entry)) (settled_of values.now) geometry.now ≡ Ok (in_state state.now effect.new)) (λ f. executed_values state.now (remark_of (option_map (λ text. text.now) comment.entry)) (settled_of values.now) geometry.now ≡ Err f) }
+{
+    let asked = asked_of(values.words.as_slice());
+    if let Some(fault) = block_fault(&asked, &state.machine.modes) {
+        return Err(fault);
+    }
+    let goal = goal_of(&asked, &state.machine)?;
+    if let Some(fault) = motion_fault(&goal, geometry) {
+        return Err(fault);
+    }
+    let settings = values.settings.as_slice();
+    effect.take_block(state, &asked, &goal, settings, comment);
+    Ok(())
+}
+
+/// What the pieces of a line do in a state, their values found in places of their own; or the first fault that refuses
+/// them.
+#[tactic(auto, unfolding(crate::specs::Effects::executed_pieces))]
+fn execute_pieces<A: Allocator + Copy + Drop>(
+    state: &State<A>,
+    line: &Line,
+    geometry: &Geometry,
+    values: &mut Values,
+    effect: &mut Effect,
+) -> Result<(), Fault>
+    ensures { MatchResult result (λ _. executed_pieces state.now (pieces_by line.now.places) geometry.now ≡ Ok (in_state state.now effect.new)) (λ f. executed_pieces state.now (pieces_by line.now.places) geometry.now ≡ Err f) }
+{
+    match values.evaluate_into(line, &state.params) {
+        Ok(()) => execute_values(state, line.last_comment(), values, geometry, effect),
+        Err(fault) => Err(fault),
+    }
+}
+
+/// A deleted line does nothing; its length alone is looked at.
+fn delete<A: Allocator + Copy + Drop>(
+    state: &State<A>,
+    text: &[u8],
+    effect: &mut Effect,
+) -> Result<(), Fault>
+    ensures { MatchResult result (λ _. deleted state.now text.now ≡ Ok (in_state state.now effect.new)) (λ f. deleted state.now text.now ≡ Err f) }
+{
+    if text.len() > 256 {
+        return Err(Fault::LineTooLong);
+    }
+    effect.leave(state, Stop::GoesOn);
+    Ok(())
+}
+
+impl Places {
+    ghost use Rattle.ng_block.specs.Effects.{commands_by, segments_by};
+    ghost use Rattle.std.specs.Prelude.{[]};
+
+    /// Places that no line was put into, over a machine.
+    pub fn new(machine: Machine) -> Places
+        ensures commands { commands_by result.effect ≡ [] }
+        ensures segments { segments_by result.effect ≡ [] }
+    {
+        Places {
+            line: Line::new(),
+            values: Values::new(),
+            effect: Effect::none(machine),
+        }
+    }
+
+    /// What a line does in a state, put into `effect`, or the first fault that refuses it, in the order of
+    /// docs/LANGUAGE.md; the state stays as it is. `dry` runs this for each line. Source: NISTIR 6556, 3.8, and own.
+    #[tactic(auto, unfolding(crate::specs::Effects::executed))]
+    pub fn execute<A: Allocator + Copy + Drop>(
+        &mut self,
+        state: &State<A>,
+        text: &[u8],
+        tools: &Tools,
+        geometry: &Geometry,
+    ) -> Result<(), Fault>
+        ensures { MatchResult result (λ _. executed state.now tools.now geometry.now text.now ≡ Ok (in_state state.now self.new.effect)) (λ f. executed state.now tools.now geometry.now text.now ≡ Err f) }
+    {
+        let _ = tools;
+        match self.line.read(text) {
+            Ok(()) => execute_pieces(
+                state,
+                &self.line,
+                geometry,
+                &mut self.values,
+                &mut self.effect,
+            ),
+            Err(fault) => Err(fault),
+        }
+    }
+
+    /// The same, unless the line is deleted.
+    pub(crate) fn execute_unless_deleted<A: Allocator + Copy + Drop>(
+        &mut self,
+        terms: &Terms<'_>,
+        state: &State<A>,
+        text: &[u8],
+    ) -> Result<(), Fault>
+        ensures { MatchResult result (λ _. executed_unless_deleted terms.now state.now text.now ≡ Ok (in_state state.now self.new.effect)) (λ f. executed_unless_deleted terms.now state.now text.now ≡ Err f) }
+    {
+        if terms.block_delete && is_deletable(text) {
+            return delete(state, text, &mut self.effect);
+        }
+        self.execute(state, text, terms.tools, terms.geometry)
+    }
+
+    /// The same in a frame, where it may be a percent line.
+    pub(crate) fn execute_in_frame<A: Allocator + Copy + Drop>(
+        &mut self,
+        terms: &Terms<'_>,
+        frame: Frame,
+        state: &State<A>,
+        text: &[u8],
+    ) -> Result<(), Fault>
+        ensures { MatchResult result (λ _. executed_in_frame terms.now frame state.now text.now ≡ Ok (in_state state.now self.new.effect)) (λ f. executed_in_frame terms.now frame state.now text.now ≡ Err f) }
+    {
+        match frame.percent_at(text) {
+            Some(stop) => {
+                self.effect.leave(state, stop);
+                Ok(())
+            }
+            None => self.execute_unless_deleted(terms, state, text),
+        }
+    }
+}
+
+/// What a line does in a state, or the first fault that refuses it: `Places::execute`, in places of its own.
+pub fn execute<A: Allocator + Copy + Drop>(
+    state: &State<A>,
+    text: &[u8],
+    tools: &Tools,
+    geometry: &Geometry,
+) -> Result<Effect, Fault>
+    ensures { MatchResult result (λ e. executed state.now tools.now geometry.now text.now ≡ Ok (in_state state.now e)) (λ f. executed state.now tools.now geometry.now text.now ≡ Err f) }
+{
+    let mut places = Places::new(state.machine);
+    match places.execute(state, text, tools, geometry) {
+        Ok(()) => Ok(places.effect),
+        Err(fault) => Err(fault),
+    }
+}

@@ -1,0 +1,21 @@
+use crate::tools::Tools;
+use ng_canon::Geometry;
+use std::marker::Model;
+
+/// What a dry run is run with.
+#[derive(Drop)]
+pub struct Terms<'a> {
+    /// Whether lines that begin with a slash are deleted.
+    pub block_delete: bool,
+    /// The tool table; no code that is built reads it yet.
+    pub tools: &'a Tools,
+    pub geometry: &'a Geometry,
+}
+
+impl<'a> Model for Terms<'a> {
+    ghost use Rattle.ng_block.specs.Dry.{Terms as Given};
+
+    ghost Value = { Given };
+
+    ghost view = { λ t. record { block_delete = t.block_delete; tools = t.tools.now; geometry = t.geometry.now } };
+}
