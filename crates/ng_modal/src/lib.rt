@@ -1,0 +1,20 @@
+//! Modal groups: what the words of a line ask for, and whether a line may ask for it.
+#![tactic(auto)]
+
+mod asks;
+mod by_group;
+mod by_letter;
+mod codes;
+mod groups;
+mod lookup;
+mod meanings;
+mod modes;
+mod place;
+
+pub use asks::{Coolant, NonModal, Stop, ToolLength};
+pub use by_group::{GWords, MWords};
+pub use by_letter::ByLetter;
+pub use codes::{GCode, MCode};
+pub use groups::{Group, MGroup};
+pub use lookup::{g_code, g_word, m_code, m_word};
+pub use modes::{Distance, FeedMode, Modes, Motion, PathMode, Retract};
