@@ -1,2 +1,4 @@
 pub mod CodeLemmas
 pub mod GroupLemmas
+pub mod TwiceLemmas
+pub mod SortedLemmas

@@ -5,3 +5,7 @@ pub mod Meanings
 pub mod Words
 pub mod ByLetter
 pub mod ByGroup
+pub mod Lines
+pub mod Blocks
+pub mod WordCauses
+pub mod Sorted

@@ -2,6 +2,7 @@
 #![tactic(auto)]
 
 mod asks;
+mod block;
 mod by_group;
 mod by_letter;
 mod codes;
@@ -10,11 +11,14 @@ mod lookup;
 mod meanings;
 mod modes;
 mod place;
+mod sorted;
 
 pub use asks::{Coolant, NonModal, Stop, ToolLength};
+pub use block::{Block, is_arc, is_cycle, is_straight};
 pub use by_group::{GWords, MWords};
 pub use by_letter::ByLetter;
 pub use codes::{GCode, MCode};
 pub use groups::{Group, MGroup};
 pub use lookup::{g_code, g_word, m_code, m_word};
 pub use modes::{Distance, FeedMode, Modes, Motion, PathMode, Retract};
+pub use sorted::Sorted;
