@@ -2,3 +2,5 @@ pub mod CodeLemmas
 pub mod GroupLemmas
 pub mod TwiceLemmas
 pub mod SortedLemmas
+pub mod LeastLemmas
+pub mod PlainLemmas

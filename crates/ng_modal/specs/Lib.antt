@@ -8,4 +8,6 @@ pub mod ByGroup
 pub mod Lines
 pub mod Blocks
 pub mod WordCauses
+pub mod Causes
 pub mod Sorted
+pub mod Check
