@@ -3,4 +3,6 @@ pub mod GroupLemmas
 pub mod TwiceLemmas
 pub mod SortedLemmas
 pub mod LeastLemmas
+pub mod TestLemmas
 pub mod PlainLemmas
+pub mod AcceptedLemmas

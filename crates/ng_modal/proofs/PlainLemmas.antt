@@ -20,40 +20,12 @@ use Rattle.ng_modal.specs.declared.modes.Modes.{Modes}
 use Rattle.ng_modal.specs.declared.modes.Motion.{Motion}
 use Rattle.ng_modal.specs.declared.modes.Motion.TheVariants.{Traverse, Feed, Off}
 use Rattle.ng_modal.specs.declared.sorted.Sorted.{Sorted}
+use Rattle.ng_modal.proofs.TestLemmas.{and_left, and_right, or_left, or_right, not_true, and_false, nothing_there}
 
 none_first : (fs : List (Bool × Fault)) → NoneHolds fs → first_fault fs ≡ None
 none_first [] h = refl
 none_first ((true, fault) ∷ fs) h = absurd (cc h.0)
 none_first ((false, fault) ∷ fs) h = none_first fs h.1
-
--- parts of tests
-and_left : (a b : Bool) → (a && b) ≡ true → a ≡ true
-and_left true b e = refl
-and_left false b e = absurd (cc e)
-
-and_right : (a b : Bool) → (a && b) ≡ true → b ≡ true
-and_right true b e = e
-and_right false b e = absurd (cc e)
-
-or_left : (a b : Bool) → (a || b) ≡ false → a ≡ false
-or_left true b e = absurd (cc e)
-or_left false b e = refl
-
-or_right : (a b : Bool) → (a || b) ≡ false → b ≡ false
-or_right true b e = absurd (cc e)
-or_right false b e = e
-
-not_true : (a : Bool) → not a ≡ true → a ≡ false
-not_true true e = absurd (cc e)
-not_true false e = refl
-
-and_false : (a : Bool) → (a && false) ≡ false
-and_false true = refl
-and_false false = refl
-
-nothing_there : {X : Type 0} (o : Option X) → is_some o ≡ false → o ≡ None
-nothing_there None e = refl
-nothing_there (Some x) e = absurd (cc e)
 
 -- where a line moves straight, so does the mode after it
 straight_after : (word : Option Motion) (calls : Bool) (mode : Motion) → is_straight (motion_by word calls mode) ≡ true → is_off (unwrap_or word mode) ≡ false

@@ -10,11 +10,13 @@ mod checking;
 mod codes;
 mod groups;
 mod looks;
+mod later;
 mod lookup;
 mod meanings;
 mod modes;
 mod place;
 mod sorted;
+mod wholes;
 
 pub use asks::{Coolant, NonModal, Stop, ToolLength};
 pub use block::{Block, is_arc, is_cycle, is_straight};
