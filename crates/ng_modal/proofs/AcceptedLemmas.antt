@@ -1,6 +1,6 @@
 -- Where no cause holds, words are as they have to be.
 use Rattle.std.proofs.Common.{◌≡◌, ◌≤◌, arith, rules, ℕ, ℤ, pos, negsuc, Bool, true, false, List, Option, Some, None, refl, subst}
-use Rattle.std.specs.Prelude.{not, ◌||◌, ◌&&◌, nat_lt, nat_le, ◌≤ℤ◌, ◌≢◌, max, IsSome, IfSome, Result, Ok, Err, IfOk, OnOk}
+use Rattle.std.specs.Prelude.{not, ◌||◌, ◌&&◌, nat_lt, nat_le, ◌≤ℤ◌, ◌≢◌, max, IsSome, IfSome, Result, Ok, Err, MatchResult, OnOk}
 use Rattle.std.specs.Option.{is_some, is_none, option_and_then}
 use Rattle.std.proofs.lemmas.Bool.{ltb-false}
 use Rattle.ng_num.specs.Whole.{whole_of}
@@ -23,6 +23,7 @@ use Rattle.ng_modal.specs.declared.block.Block.{Block}
 use Rattle.ng_modal.specs.declared.modes.Modes.{Modes}
 use Rattle.ng_modal.specs.declared.modes.Motion.{Motion}
 use Rattle.ng_modal.specs.declared.modes.Motion.TheVariants.{Off}
+use Rattle.ng_modal.proofs.LeastLemmas.{least}
 use Rattle.ng_modal.proofs.TestLemmas.{and_left, and_right, or_left, or_right, not_true, not_false}
 
 -- a number within limits
@@ -100,7 +101,7 @@ accepted ws m slots few h =
     let is_still : Bool = is_dwell b.g.non_modal && is_negative v.p in
     let later : (is_negative v.s || is_still) ≡ false = or_right (is_negative v.f) (is_negative v.s || is_still) from13.0 in
     let counts : (is_cycle b.motion && is_idle v.l (is_positive (option_and_then whole_of v.l))) ≡ false =
-        or_right (is_set_origin b.g.non_modal && not (is_whole_within (pos 2) (pos 2) v.l)) (is_cycle b.motion && is_idle v.l (is_positive (option_and_then whole_of v.l))) from15.0 in
+    or_right (is_set_origin b.g.non_modal && not (is_whole_within (pos 2) (pos 2) v.l)) (is_cycle b.motion && is_idle v.l (is_positive (option_and_then whole_of v.l))) from15.0 in
     record {
       selected = a_slot slots few v.t (or_left slot_t slot_h from13.1.0);
       of_length = a_slot slots few v.h (or_right slot_t slot_h from13.1.0);
@@ -108,14 +109,27 @@ accepted ws m slots few h =
       feed = from_zero v.f (or_left (is_negative v.f) (is_negative v.s || is_still) from13.0);
       speed = from_zero v.s (or_left (is_negative v.s) is_still later);
       dwell = λ is.
-        a_dwell v.p
-        (let P : Option NonModal → Type 0 = λ x. (is_dwell x && is_none v.p) ≡ false in subst P is from15.1.1.0)
-        (let P : Option NonModal → Type 0 = λ x. (is_dwell x && is_negative v.p) ≡ false in subst P is (or_right (is_negative v.s) is_still later));
+          a_dwell v.p
+          (let P : Option NonModal → Type 0 = λ x. (is_dwell x && is_none v.p) ≡ false in subst P is from15.1.1.0)
+          (let P : Option NonModal → Type 0 = λ x. (is_dwell x && is_negative v.p) ≡ false in subst P is (or_right (is_negative v.s) is_still later));
       system = λ is.
-        system_within (option_and_then whole_of v.p)
-        (not_false (is_whole_within (pos 1) (pos 9) v.p)
-        (let P : Option NonModal → Type 0 = λ x. (is_set_origin x && not (is_whole_within (pos 1) (pos 9) v.p)) ≡ false in subst P is from15.1.0));
+          system_within (option_and_then whole_of v.p)
+          (not_false (is_whole_within (pos 1) (pos 9) v.p)
+          (let P : Option NonModal → Type 0 = λ x. (is_set_origin x && not (is_whole_within (pos 1) (pos 9) v.p)) ≡ false in subst P is from15.1.0));
       repeats = λ is. a_count v.l (let P : Bool → Type 0 = λ x. (x && is_idle v.l (is_positive (option_and_then whole_of v.l))) ≡ false in subst P is counts);
       plane = λ is. is_xy (plane_after b m) (let P : Bool → Type 0 = λ x. (x && is_along_z (plane_after b m)) ≡ false in subst P is from15.1.1.1.1.0);
       moves = moves_on b.g.motion (has_axis v && not (takes_axes b.g.non_modal)) m.motion;
     }
+
+unless_ok : (found : Option Fault) (x b : Block) → unless found x ≡ Ok b → x ≡ b
+unless_ok (Some fault) x b e = absurd (cc e)
+unless_ok None x b e = cc e
+
+-- of an answer whose block stands elsewhere
+pub accepted_by : (ws : List Word) (m : Modes) (slots : ℕ) → slots ≤ 255 → (b : Block) (r : Result (Unit {0}) Fault) →
+    MatchResult r (λ _. checked ws m slots ≡ Ok b) (λ fault. checked ws m slots ≡ Err fault) →
+    OnOk r (IsAccepted b m slots)
+accepted_by ws m slots few b (Ok _) e =
+    let Known : Block → Type 0 = λ x. IsAccepted x m slots in
+    subst Known (unless_ok (first_fault (faults ws m slots)) (block_of ws m) b e) (accepted ws m slots few (least ws m slots (Ok b) e))
+accepted_by ws m slots few b (Err fault) e = tt

@@ -1,6 +1,7 @@
 //! Whether a line may ask for what it asks for.
-ghost use Rattle.std.specs.Prelude.{◌≡◌, Ok, Err, MatchResult};
+ghost use Rattle.std.specs.Prelude.{◌≡◌, Ok, Err, MatchResult, OnOk, IfOk};
 ghost use Rattle.ng_modal.specs.Check.{first_fault, faults, checked, NoneHolds, IsLeast};
+ghost use Rattle.ng_modal.specs.Accepted.{IsAccepted};
 
 use crate::block::{Block, is_straight};
 use crate::looks::is_negative;
@@ -107,6 +108,7 @@ impl Sorted {
     pub fn check(&mut self, values: &Values, modes: &Modes, slots: u8) -> Result<(), Fault>
         ensures value { MatchResult result (λ _. checked values.now.words.items modes.now slots ≡ Ok self.new.block) (λ fault. checked values.now.words.items modes.now slots ≡ Err fault) }
         ensures least { MatchResult result (λ _. NoneHolds (faults values.now.words.items modes.now slots)) (λ fault. IsLeast (faults values.now.words.items modes.now slots) fault) }
+        ensures accepted { OnOk result (IsAccepted self.new.block modes.now slots) }
     {
         self.check_words(values.words.as_slice(), modes, slots)
     }
@@ -117,6 +119,7 @@ impl Sorted {
 pub fn check(values: &Values, modes: &Modes, slots: u8) -> Result<Block, Fault>
     ensures value { result ≡ checked values.now.words.items modes.now slots }
     ensures least { MatchResult result (λ _. NoneHolds (faults values.now.words.items modes.now slots)) (λ fault. IsLeast (faults values.now.words.items modes.now slots) fault) }
+    ensures accepted { IfOk result (λ block. IsAccepted block modes.now slots) }
 {
     let mut sorted = Sorted::nothing();
     match sorted.check(values, modes, slots) {
