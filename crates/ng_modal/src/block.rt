@@ -59,7 +59,7 @@ fn motion_by(word: Option<Motion>, calls: bool, mode: Motion) -> Option<Motion>
 
 /// Whether a motion is G0 or G1.
 #[inline]
-pub fn is_straight(motion: Option<Motion>) -> bool
+pub(crate) fn is_straight(motion: Option<Motion>) -> bool
     ensures { result ≡ is_straight motion }
 {
     match motion {
@@ -70,7 +70,7 @@ pub fn is_straight(motion: Option<Motion>) -> bool
 
 /// Whether a motion is G2 or G3.
 #[inline]
-pub fn is_arc(motion: Option<Motion>) -> bool
+pub(crate) fn is_arc(motion: Option<Motion>) -> bool
     ensures { result ≡ is_arc motion }
 {
     match motion {
@@ -81,7 +81,7 @@ pub fn is_arc(motion: Option<Motion>) -> bool
 
 /// Whether a motion is a canned cycle.
 #[inline]
-pub fn is_cycle(motion: Option<Motion>) -> bool
+pub(crate) fn is_cycle(motion: Option<Motion>) -> bool
     ensures { result ≡ is_cycle motion }
 {
     match motion {

@@ -28,7 +28,7 @@ impl Sorted {
 
     /// Whether words ask for a straight move and for nothing else that may be refused. Most lines are such, so this is looked
     /// at before the causes by themselves.
-    #[inline]
+    #[inline(never)]
     fn is_plain(&self) -> bool
         ensures { result ≡ is_plain self.now }
     {

@@ -2,7 +2,7 @@
 
 /// A G code of the language (NISTIR 6556, table 5), those that this controller leaves out among them.
 #[derive(Clone, Copy, Debug, PartialEq, Eq)]
-pub enum GCode {
+pub(crate) enum GCode {
     /// Straight traverse.
     G0,
     /// Straight feed.
@@ -111,7 +111,7 @@ pub enum GCode {
 
 /// An M code of the language (NISTIR 6556, table 7).
 #[derive(Clone, Copy, Debug, PartialEq, Eq)]
-pub enum MCode {
+pub(crate) enum MCode {
     /// Program stop.
     M0,
     /// Optional program stop.

@@ -6,7 +6,7 @@ use crate::codes::{GCode, MCode};
 
 /// A modal group of G codes (NISTIR 6556, table 4).
 #[derive(Clone, Copy, Debug, PartialEq, Eq)]
-pub enum Group {
+pub(crate) enum Group {
     /// Group 0. Words that hold for their line alone.
     NonModal,
     /// Group 1. Motion.
@@ -33,7 +33,7 @@ pub enum Group {
 
 /// A modal group of M codes (NISTIR 6556, table 4).
 #[derive(Clone, Copy, Debug, PartialEq, Eq)]
-pub enum MGroup {
+pub(crate) enum MGroup {
     /// Group 4. Stopping.
     Stop,
     /// Group 6. Tool change.
@@ -49,7 +49,7 @@ pub enum MGroup {
 impl GCode {
     /// Its modal group.
     #[inline]
-    pub fn group(self) -> Group
+    pub(crate) fn group(self) -> Group
         ensures { result ≡ group_of self }
     {
         match self {
@@ -101,7 +101,7 @@ impl GCode {
 impl MCode {
     /// Its modal group.
     #[inline]
-    pub fn group(self) -> MGroup
+    pub(crate) fn group(self) -> MGroup
         ensures { result ≡ m_group_of self }
     {
         match self {

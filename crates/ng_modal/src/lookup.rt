@@ -90,7 +90,7 @@ fn m_code_by(number: i64) -> Option<MCode>
 /// The G code whose value is a tenth of a number; none where no code has it (NISTIR 6556, 3.5).
 #[inline]
 #[tactic(auto, using(crate::proofs::CodeLemmas::the_g_code))]
-pub fn g_code(number: i64) -> Option<GCode>
+pub(crate) fn g_code(number: i64) -> Option<GCode>
     ensures exact { IsCodeOf tenths number result }
     ensures value { result ≡ g_code number }
 {
@@ -100,7 +100,7 @@ pub fn g_code(number: i64) -> Option<GCode>
 /// The M code of a number; none where no code has it (NISTIR 6556, 3.6).
 #[inline]
 #[tactic(auto, using(crate::proofs::CodeLemmas::the_m_code))]
-pub fn m_code(number: i64) -> Option<MCode>
+pub(crate) fn m_code(number: i64) -> Option<MCode>
     ensures exact { IsCodeOf value_of number result }
     ensures value { result ≡ m_code number }
 {
@@ -111,7 +111,7 @@ pub fn m_code(number: i64) -> Option<MCode>
 /// (own); none where that is no code's.
 #[inline]
 #[tactic(auto, unfolding(crate::specs::Codes::g_word))]
-pub fn g_word(value: Num) -> Option<GCode>
+pub(crate) fn g_word(value: Num) -> Option<GCode>
     ensures { result ≡ g_word value }
 {
     match value.whole_tenths() {
@@ -124,7 +124,7 @@ pub fn g_word(value: Num) -> Option<GCode>
 /// no code's.
 #[inline]
 #[tactic(auto, unfolding(crate::specs::Codes::m_word))]
-pub fn m_word(value: Num) -> Option<MCode>
+pub(crate) fn m_word(value: Num) -> Option<MCode>
     ensures { result ≡ m_word value }
 {
     match value.whole() {

@@ -132,8 +132,9 @@ impl Sorted {
         self.left_out = is_left_out_letter(letter, value) | self.left_out;
     }
 
-    /// Takes the word in front of those taken.
-    #[inline]
+    /// Takes the word in front of those taken. A call of its own, so that the places stay in memory: kept in registers over the
+    /// pass they would be put aside and fetched again at each word.
+    #[inline(never)]
     fn take(&mut self, word: &Word)
         ghost ws: { List TheWord }
         requires { self.old ≡ sorted ws }
@@ -159,6 +160,7 @@ impl Sorted {
     }
 
     /// Takes all words of a line, from the last to the first, in place of what was there.
+    #[inline(never)]
     pub(crate) fn sort(&mut self, words: &[Word])
         ensures { self.new ≡ sorted words.now }
     {
