@@ -1,0 +1,17 @@
+-- What a line's words ask for in the modes that they meet.
+use Rattle.std.specs.Prelude.{List, None}
+use Rattle.ng_expr.specs.declared.word.Word.{Word}
+use Rattle.ng_modal.specs.Words.{g_codes_of, m_codes_of}
+use Rattle.ng_modal.specs.ByLetter.{by_letter}
+use Rattle.ng_modal.specs.ByGroup.{g_words, m_words}
+use Rattle.ng_modal.specs.Lines.{motion_for}
+use Rattle.ng_modal.specs.declared.block.Block.{Block}
+use Rattle.ng_modal.specs.declared.modes.Modes.{Modes}
+
+abbrev pub block_of : List Word → Modes → Block
+block_of ws m = record {
+  values = by_letter ws;
+  g = g_words (g_codes_of ws);
+  m = m_words (m_codes_of ws);
+  motion = motion_for (g_words (g_codes_of ws)) (by_letter ws) m.motion;
+}

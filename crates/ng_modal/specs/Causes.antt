@@ -1,0 +1,162 @@
+-- The causes of B6 to B19, a sentence each over what the line asks for and the modes that it meets (NISTIR 6556, 3.3 to
+-- 3.7; numbers own).
+use Rattle.std.specs.Prelude.{ℕ, ℤ, pos, Bool, true, false, not, ◌||◌, ◌&&◌, int_lt, Option, Some, None}
+use Rattle.std.specs.Option.{is_some, is_none, option_and_then}
+use Rattle.ng_num.specs.Whole.{whole_of}
+use Rattle.ng_canon.specs.declared.plane.Plane.{Plane}
+use Rattle.ng_canon.specs.declared.plane.Plane.TheVariants.{Xy, Xz, Yz}
+use Rattle.ng_modal.specs.ByLetter.{has_axis}
+use Rattle.ng_modal.specs.Lines.{takes_axes, moving, motion_after, plane_after, is_straight, is_arc, is_cycle}
+use Rattle.ng_modal.specs.declared.asks.NonModal.{NonModal}
+use Rattle.ng_modal.specs.declared.asks.NonModal.TheVariants.{Dwell, SetOrigin, MachineCoordinates, SetOffset}
+use Rattle.ng_modal.specs.declared.asks.ToolLength.{ToolLength}
+use Rattle.ng_modal.specs.declared.asks.ToolLength.TheVariants.{OfSlot}
+use Rattle.ng_modal.specs.declared.block.Block.{Block}
+use Rattle.ng_modal.specs.declared.modes.Modes.{Modes}
+use Rattle.ng_modal.specs.declared.modes.Motion.{Motion}
+use Rattle.ng_modal.specs.declared.modes.Motion.TheVariants.{Off, DrillingWithDwell, PeckDrilling, BoringWithStop, BoringWithDwell}
+
+-- B6: a group 1 word other than G80 beside G10, G28, G30 or G92
+abbrev pub takes_axes_twice : Block → Bool
+takes_axes_twice b = is_some (option_and_then moving b.g.motion) && takes_axes b.g.non_modal
+
+abbrev pub is_off : Motion → Bool
+is_off Off = true
+is_off _ = false
+
+-- B7: X, Y or Z, the motion mode after the line is G80, and none of G10, G28, G30, G92
+abbrev pub leaves_axis_unused : Block → Modes → Bool
+leaves_axis_unused b m = has_axis b.values && (is_off (motion_after b m) && not (takes_axes b.g.non_modal))
+
+-- B8: a G0 or G1 word without X, Y, Z
+abbrev pub moves_no_axis : Block → Bool
+moves_no_axis b = is_straight b.g.motion && not (has_axis b.values)
+
+abbrev pub is_set_offset : Option NonModal → Bool
+is_set_offset (Some SetOffset) = true
+is_set_offset _ = false
+
+-- B9: G92 without X, Y, Z
+abbrev pub sets_nothing : Block → Bool
+sets_nothing b = is_set_offset b.g.non_modal && not (has_axis b.values)
+
+abbrev pub is_machine : Option NonModal → Bool
+is_machine (Some MachineCoordinates) = true
+is_machine _ = false
+
+-- B10: G53 where the motion mode after the line isn't G0 or G1
+abbrev pub has_bad_g53 : Block → Modes → Bool
+has_bad_g53 b m = is_machine b.g.non_modal && not (is_straight (Some (motion_after b m)))
+
+-- B11: R on a line whose motion is G2 or G3
+abbrev pub has_radius_arc : Block → Bool
+has_radius_arc b = is_some b.values.r && is_arc b.motion
+
+abbrev pub is_dwell : Option NonModal → Bool
+is_dwell (Some Dwell) = true
+is_dwell _ = false
+
+abbrev pub is_set_origin : Option NonModal → Bool
+is_set_origin (Some SetOrigin) = true
+is_set_origin _ = false
+
+abbrev pub is_of_slot : Option ToolLength → Bool
+is_of_slot (Some OfSlot) = true
+is_of_slot _ = false
+
+-- G82, G86 and G89
+abbrev pub dwells : Option Motion → Bool
+dwells (Some DrillingWithDwell) = true
+dwells (Some BoringWithStop) = true
+dwells (Some BoringWithDwell) = true
+dwells _ = false
+
+-- G83
+abbrev pub pecks : Option Motion → Bool
+pecks (Some PeckDrilling) = true
+pecks _ = false
+
+-- an axis is one of the plane's
+abbrev pub is_along_x : Plane → Bool
+is_along_x Yz = false
+is_along_x _ = true
+
+abbrev pub is_along_y : Plane → Bool
+is_along_y Xz = false
+is_along_y _ = true
+
+abbrev pub is_along_z : Plane → Bool
+is_along_z Xy = false
+is_along_z _ = true
+
+-- a word is there that nothing takes
+abbrev pub is_idle : Option ℤ → Bool → Bool
+is_idle word taken = is_some word && not taken
+
+-- I, J, K: offsets of an arc in its plane
+abbrev pub has_idle_offset : Block → Plane → Bool
+has_idle_offset b plane =
+    is_idle b.values.i (is_arc b.motion && is_along_x plane)
+    || (is_idle b.values.j (is_arc b.motion && is_along_y plane)
+    || is_idle b.values.k (is_arc b.motion && is_along_z plane))
+
+-- B12: a word that nothing takes: H but with G43, I, J, K but as offsets of an arc in its plane, L but with G10 or a cycle, P but
+-- with G4, G10, G82, G86 or G89, Q but with G83, R but with a cycle or an arc
+abbrev pub leaves_word_unused : Block → Modes → Bool
+leaves_word_unused b m =
+    is_idle b.values.h (is_of_slot b.g.tool_length)
+    || (has_idle_offset b (plane_after b m)
+    || (is_idle b.values.l (is_set_origin b.g.non_modal || is_cycle b.motion)
+    || (is_idle b.values.p (is_dwell b.g.non_modal || (is_set_origin b.g.non_modal || dwells b.motion))
+    || (is_idle b.values.q (pecks b.motion)
+    || is_idle b.values.r (is_cycle b.motion || is_arc b.motion)))))
+
+abbrev pub is_negative : Option ℤ → Bool
+is_negative None = false
+is_negative (Some v) = int_lt v (pos 0)
+
+-- B13: F, S, or P of G4 below 0
+abbrev pub has_negative : Block → Bool
+has_negative b = is_negative b.values.f || (is_negative b.values.s || (is_dwell b.g.non_modal && is_negative b.values.p))
+
+-- a number from low to high
+abbrev pub is_within : ℤ → ℤ → Option ℤ → Bool
+is_within low high None = false
+is_within low high (Some n) = not (int_lt n low) && not (int_lt high n)
+
+-- a word is there whose value counts as a whole number from low to high
+abbrev pub is_whole_within : ℤ → ℤ → Option ℤ → Bool
+is_whole_within low high value = is_within low high (option_and_then whole_of value)
+
+-- B14: T or H is there and isn't whole from 0 to the number of slots
+abbrev pub has_bad_slot : Block → ℕ → Bool
+has_bad_slot b slots =
+    is_idle b.values.t (is_whole_within (pos 0) (pos slots) b.values.t)
+    || is_idle b.values.h (is_whole_within (pos 0) (pos slots) b.values.h)
+
+-- a number that isn't below 1
+abbrev pub is_positive : Option ℤ → Bool
+is_positive None = false
+is_positive (Some n) = not (int_lt n (pos 1))
+
+-- B15: G10 whose L is missing or isn't 2; L of a cycle not whole or below 1
+abbrev pub has_bad_l : Block → Bool
+has_bad_l b =
+    (is_set_origin b.g.non_modal && not (is_whole_within (pos 2) (pos 2) b.values.l))
+    || (is_cycle b.motion && is_idle b.values.l (is_positive (option_and_then whole_of b.values.l)))
+
+-- B16: G10 whose P is missing or isn't whole from 1 to 9
+abbrev pub has_bad_system : Block → Bool
+has_bad_system b = is_set_origin b.g.non_modal && not (is_whole_within (pos 1) (pos 9) b.values.p)
+
+-- B17: G4 without P
+abbrev pub has_no_dwell : Block → Bool
+has_no_dwell b = is_dwell b.g.non_modal && is_none b.values.p
+
+-- B18: G43 without H
+abbrev pub has_no_h : Block → Bool
+has_no_h b = is_of_slot b.g.tool_length && is_none b.values.h
+
+-- B19: the motion is a cycle and the plane after the line isn't G17
+abbrev pub has_cycle_plane : Block → Modes → Bool
+has_cycle_plane b m = is_cycle b.motion && is_along_z (plane_after b m)

@@ -1,0 +1,15 @@
+pub mod Fresh
+pub mod Codes
+pub mod Groups
+pub mod Meanings
+pub mod Words
+pub mod ByLetter
+pub mod ByGroup
+pub mod Lines
+pub mod Blocks
+pub mod WordCauses
+pub mod Causes
+pub mod Sorted
+pub mod Check
+pub mod Later
+pub mod Accepted

@@ -1,0 +1,68 @@
+-- The causes of B1 to B5: what no line may have, whatever the modes (NISTIR 6556, 3.3.2 and 3.4; numbers own).
+use Rattle.std.specs.Prelude.{ℕ, ℤ, Bool, true, false, ◌||◌, List, length, min, nat_lt, Option, Some}
+use Rattle.std.specs.Option.{is_none}
+use Rattle.std.specs.List.{list_any}
+use Rattle.ng_words.specs.declared.letter.Letter.{Letter}
+use Rattle.ng_words.specs.declared.letter.Letter.TheVariants.{A, B, C, D, G, M}
+use Rattle.ng_expr.specs.declared.word.Word.{Word}
+use Rattle.ng_modal.specs.Codes.{g_word, m_word}
+use Rattle.ng_modal.specs.Groups.{groups, m_groups}
+use Rattle.ng_modal.specs.Words.{value_letters, of_letter, g_codes_of, m_codes_of, of_group, of_m_group, is_twice}
+use Rattle.ng_modal.specs.declared.codes.GCode.{GCode}
+use Rattle.ng_modal.specs.declared.codes.GCode.TheVariants.{G38_2, G41, G42, G84, G87, G88}
+use Rattle.ng_modal.specs.declared.codes.MCode.{MCode}
+
+-- B1: two words of one letter other than G and M
+abbrev pub is_repeated : List Word → Bool
+is_repeated ws = list_any (λ letter. is_twice (of_letter letter ws)) value_letters
+
+-- B2: a G or M word that is no code
+abbrev pub is_unknown_on : Letter → ℤ → Bool
+is_unknown_on G value = is_none (g_word value)
+is_unknown_on M value = is_none (m_word value)
+is_unknown_on _ value = false
+
+abbrev pub has_unknown : List Word → Bool
+has_unknown ws = list_any (λ w. is_unknown_on w.letter w.value) ws
+
+-- left out are probing, cutter radius compensation, tapping, back boring, boring with a manual way out
+abbrev pub is_left_out_code : Option GCode → Bool
+is_left_out_code (Some G38_2) = true
+is_left_out_code (Some G41) = true
+is_left_out_code (Some G42) = true
+is_left_out_code (Some G84) = true
+is_left_out_code (Some G87) = true
+is_left_out_code (Some G88) = true
+is_left_out_code _ = false
+
+-- and rotary axes and the number of a cutter's radius
+abbrev pub is_left_out_on : Letter → ℤ → Bool
+is_left_out_on A value = true
+is_left_out_on B value = true
+is_left_out_on C value = true
+is_left_out_on D value = true
+is_left_out_on G value = is_left_out_code (g_word value)
+is_left_out_on _ value = false
+
+-- B3: a word that is left out, by its letter or by its code
+abbrev pub has_left_out : List Word → Bool
+has_left_out ws = list_any (λ w. is_left_out_on w.letter w.value) ws
+
+-- two codes of one group
+abbrev pub is_group_twice : List GCode → Bool
+is_group_twice codes = list_any (λ group. is_twice (of_group group codes)) groups
+
+abbrev pub is_m_group_twice : List MCode → Bool
+is_m_group_twice codes = list_any (λ group. is_twice (of_m_group group codes)) m_groups
+
+-- B4: two words of one G group or of one M group
+abbrev pub has_group_twice : List Word → Bool
+has_group_twice ws = is_group_twice (g_codes_of ws) || is_m_group_twice (m_codes_of ws)
+
+-- B5: more than four M words
+abbrev pub has_many_m : List Word → Bool
+has_many_m ws = nat_lt 4 (length (of_letter M ws))
+
+-- the number of M words, as far as it is looked at
+abbrev pub count_of_m : List Word → ℕ
+count_of_m ws = min 5 (length (of_letter M ws))

@@ -1,0 +1,129 @@
+//! Whether a line may ask for what it asks for.
+ghost use Rattle.std.specs.Prelude.{◌≡◌, Ok, Err, MatchResult, OnOk, IfOk};
+ghost use Rattle.ng_modal.specs.Check.{first_fault, faults, checked, NoneHolds, IsLeast};
+ghost use Rattle.ng_modal.specs.Accepted.{IsAccepted};
+
+use crate::block::{Block, is_straight};
+use crate::looks::is_negative;
+use crate::modes::Modes;
+use crate::sorted::Sorted;
+use ng_expr::{Values, Word};
+use ng_num::Fault;
+
+/// The first fault whose cause holds.
+#[inline]
+fn first_fault(faults: &[(bool, Fault)]) -> Option<Fault>
+    ensures { result ≡ first_fault faults.now }
+{
+    for fault in faults {
+        if fault.0 {
+            return Some(fault.1);
+        }
+    }
+    None
+}
+
+impl Sorted {
+    ghost use Rattle.ng_modal.specs.Sorted.{sorted_in, is_plain};
+
+    /// Whether words ask for a straight move and for nothing else that may be refused. Most lines are such, so this is looked
+    /// at before the causes by themselves.
+    #[inline(never)]
+    fn is_plain(&self) -> bool
+        ensures { result ≡ is_plain self.now }
+    {
+        let block = &self.block;
+        let values = &block.values;
+        let marked = self.repeated
+            | self.unknown
+            | self.left_out
+            | self.group_twice
+            | self.m_group_twice
+            | (self.m_count > 4);
+        let others = values.h.is_some()
+            | values.i.is_some()
+            | values.j.is_some()
+            | values.k.is_some()
+            | values.l.is_some()
+            | values.p.is_some()
+            | values.q.is_some()
+            | values.r.is_some()
+            | values.s.is_some()
+            | values.t.is_some();
+        let takers = block.g.non_modal.is_some() | block.g.tool_length.is_some();
+        is_straight(block.motion)
+            && values.has_axis()
+            && !is_negative(values.f)
+            && !(marked | others | takers)
+    }
+
+    /// Takes the words of a line in place of those that were there, and the motion that it makes where it meets these
+    /// modes.
+    fn sort_in(&mut self, words: &[Word], modes: &Modes)
+        ensures { self.new ≡ sorted_in words.now modes.now }
+    {
+        self.sort(words);
+        self.block.motion = self.block.motion_for(modes.motion);
+    }
+
+    /// Finds what words ask for, or the first fault whose cause holds.
+    fn check_words(&mut self, words: &[Word], modes: &Modes, slots: u8) -> Result<(), Fault>
+        ensures { MatchResult result (λ _. checked words.now modes.now slots ≡ Ok self.new.block) (λ fault. checked words.now modes.now slots ≡ Err fault) }
+    {
+        self.sort_in(words, modes);
+        if self.is_plain() {
+            return Ok(());
+        }
+        let block = &self.block;
+        let found = first_fault(&[
+            (self.repeated, Fault::RepeatedLetter),
+            (self.unknown, Fault::UnknownCode),
+            (self.left_out, Fault::LeftOutCode),
+            (self.group_twice | self.m_group_twice, Fault::GroupTwice),
+            (self.m_count > 4, Fault::TooManyM),
+            (block.takes_axes_twice(), Fault::AxisTakenTwice),
+            (block.leaves_axis_unused(modes), Fault::AxisUnused),
+            (block.moves_no_axis(), Fault::NoAxis),
+            (block.sets_nothing(), Fault::NothingToSet),
+            (block.has_bad_g53(modes), Fault::BadG53),
+            (block.has_radius_arc(), Fault::RadiusArc),
+            (block.leaves_word_unused(modes), Fault::UnusedWord),
+            (block.has_negative(), Fault::Negative),
+            (block.has_bad_slot(slots), Fault::BadSlot),
+            (block.has_bad_l(), Fault::BadL),
+            (block.has_bad_system(), Fault::BadSystem),
+            (block.has_no_dwell(), Fault::NoDwell),
+            (block.has_no_h(), Fault::NoH),
+            (block.has_cycle_plane(modes), Fault::CyclePlane),
+        ]);
+        match found {
+            Some(fault) => Err(fault),
+            None => Ok(()),
+        }
+    }
+
+    /// Finds what a line asks for in the modes that it meets, with this many slots of tools, in the places kept; else
+    /// the least of B1 to B19 whose cause holds (NISTIR 6556, 3.3 to 3.7; numbers own). After an error the block is of no
+    /// use.
+    pub fn check(&mut self, values: &Values, modes: &Modes, slots: u8) -> Result<(), Fault>
+        ensures value { MatchResult result (λ _. checked values.now.words.items modes.now slots ≡ Ok self.new.block) (λ fault. checked values.now.words.items modes.now slots ≡ Err fault) }
+        ensures least { MatchResult result (λ _. NoneHolds (faults values.now.words.items modes.now slots)) (λ fault. IsLeast (faults values.now.words.items modes.now slots) fault) }
+        ensures accepted { OnOk result (IsAccepted self.new.block modes.now slots) }
+    {
+        self.check_words(values.words.as_slice(), modes, slots)
+    }
+}
+
+/// What a line asks for in the modes that it meets, with this many slots of tools; else the least of B1 to B19 whose cause
+/// holds (NISTIR 6556, 3.3 to 3.7; numbers own).
+pub fn check(values: &Values, modes: &Modes, slots: u8) -> Result<Block, Fault>
+    ensures value { result ≡ checked values.now.words.items modes.now slots }
+    ensures least { MatchResult result (λ _. NoneHolds (faults values.now.words.items modes.now slots)) (λ fault. IsLeast (faults values.now.words.items modes.now slots) fault) }
+    ensures accepted { IfOk result (λ block. IsAccepted block modes.now slots) }
+{
+    let mut sorted = Sorted::nothing();
+    match sorted.check(values, modes, slots) {
+        Ok(()) => Ok(sorted.block),
+        Err(fault) => Err(fault),
+    }
+}

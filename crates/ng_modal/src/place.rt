@@ -1,0 +1,36 @@
+//! Places that are filled while words are taken.
+ghost use Rattle.std.specs.Prelude.{◌≡◌, Some, IsTrue};
+ghost use Rattle.std.specs.Option.{is_some};
+
+/// Puts a value into a place; answers whether one was there.
+#[inline(always)]
+pub(crate) fn put<X: Copy>(place: &mut Option<X>, value: X) -> bool
+    ensures value { place.new ≡ Some value }
+    ensures was { result ≡ is_some place.old }
+{
+    let was = place.is_some();
+    *place = Some(value);
+    was
+}
+
+/// Puts what a code asks for into a place; answers whether something was there.
+#[inline(always)]
+pub(crate) fn replace<X: Copy>(place: &mut Option<X>, asked: Option<X>) -> bool
+    ensures value { place.new ≡ asked }
+    ensures was { result ≡ is_some place.old }
+{
+    let was = place.is_some();
+    *place = asked;
+    was
+}
+
+/// Sets a mark; answers whether it was set.
+#[inline(always)]
+pub(crate) fn mark(place: &mut bool) -> bool
+    ensures value { IsTrue place.new }
+    ensures was { result ≡ place.old }
+{
+    let was = *place;
+    *place = true;
+    was
+}

@@ -1,0 +1,93 @@
+//! The whole numbers that a block's words name.
+ghost use Rattle.std.specs.Prelude.{◌≡◌, ◌≤◌};
+ghost use Rattle.std.specs.Option.{option_and_then};
+ghost use Rattle.ng_num.specs.Whole.{whole_of};
+ghost use Rattle.ng_modal.specs.Accepted.{slot_of, slot_on, system_on, repeats_by, repeats_on};
+
+use crate::block::Block;
+use ng_num::Num;
+use ng_params::System;
+
+/// The slot of a number.
+#[inline]
+fn slot_of(number: i64) -> Option<u8>
+    ensures { result ≡ slot_of number }
+{
+    if 0 <= number && number <= 255 {
+        Some(number as u8)
+    } else {
+        None
+    }
+}
+
+/// The whole number that a word's value counts as.
+#[inline]
+fn whole_on(word: Option<Num>) -> Option<i64>
+    ensures { result ≡ option_and_then whole_of word }
+{
+    match word {
+        Some(value) => value.whole(),
+        None => None,
+    }
+}
+
+/// The slot that a word names.
+#[inline]
+fn slot_on(word: Option<Num>) -> Option<u8>
+    ensures { result ≡ slot_on word }
+{
+    match whole_on(word) {
+        Some(number) => slot_of(number),
+        None => None,
+    }
+}
+
+/// At least one of a number of repeats.
+#[inline]
+fn repeats_by(number: Option<i64>) -> u64
+    ensures { result ≡ repeats_by number }
+{
+    match number {
+        Some(number) => if number < 1 { 1 } else { number as u64 },
+        None => 1,
+    }
+}
+
+impl Block {
+    /// The slot that T selects; of an accepted block none only without T, and at most the number of slots
+    /// (NISTIR 6556, 3.7.3).
+    #[inline]
+    pub fn selected_slot(&self) -> Option<u8>
+        ensures { result ≡ slot_on self.now.values.t }
+    {
+        slot_on(self.values.t)
+    }
+
+    /// The slot whose length G43 takes by H, 0 for none; of an accepted block none only without H, and at most the number
+    /// of slots (NISTIR 6556, 3.5.11).
+    #[inline]
+    pub fn length_slot(&self) -> Option<u8>
+        ensures { result ≡ slot_on self.now.values.h }
+    {
+        slot_on(self.values.h)
+    }
+
+    /// The system whose origin G10 sets by P; some of each accepted block with G10 (NISTIR 6556, 3.5.5).
+    #[inline]
+    pub fn origin_system(&self) -> Option<System>
+        ensures { result ≡ system_on self.now.values.p }
+    {
+        match whole_on(self.values.p) {
+            Some(number) => System::of(number),
+            None => None,
+        }
+    }
+
+    /// How often a cycle is done: L, or once without it; at least once (NISTIR 6556, 3.5.16).
+    #[inline]
+    pub fn repeats(&self) -> u64
+        ensures { result ≡ repeats_on self.now.values.l }
+    {
+        repeats_by(whole_on(self.values.l))
+    }
+}
