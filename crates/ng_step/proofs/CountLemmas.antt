@@ -11,7 +11,7 @@ use Rattle.ng_step.specs.Arcs.{along_a, along_b, net_a, net_b, same_quadrant, st
 use Rattle.ng_step.specs.Turned.{spot_of, Walks, IsStep, budget, beyond}
 use Rattle.ng_step.proofs.ArcLemmas.{left_some}
 use Rattle.ng_step.proofs.PlaceLemmas.{quadrant-place}
-use Rattle.ng_step.specs.declared.line.Steps.{Steps}
+use Rattle.ng_step.specs.declared.steps.Steps.{Steps}
 
 -- how far so many steps go
 scaled_more : (n : ℤ) (s : ℕ) → (pos 1 +ℤ n) *ℤ pos s ≡ pos s +ℤ n *ℤ pos s

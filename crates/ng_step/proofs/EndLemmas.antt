@@ -11,7 +11,7 @@ use Rattle.ng_canon.specs.declared.plane.Turn.TheVariants.{Clockwise, Counterclo
 use Rattle.ng_canon.specs.declared.item.Item.{Item}
 use Rattle.ng_canon.specs.declared.item.Step.{Step}
 use Rattle.ng_canon.specs.declared.item.Step.TheVariants.{Backward, Still, Forward}
-use Rattle.ng_step.specs.declared.line.Distances.{Distances}
+use Rattle.ng_step.specs.declared.steps.Distances.{Distances}
 use Rattle.ng_step.specs.declared.quadrant.PlaneStep.{PlaneStep}
 use Rattle.ng_step.specs.declared.quadrant.PlaneStep.TheVariants.{AddA, SubA, AddB, SubB}
 use Rattle.ng_step.specs.declared.frame.Frame.{Frame}

@@ -17,7 +17,7 @@ use Rattle.ng_canon.specs.declared.plane.Turn.TheVariants.{Clockwise, Counterclo
 use Rattle.ng_canon.specs.declared.segment.Arc.{Arc}
 use Rattle.ng_canon.specs.declared.segment.Segment.{Segment}
 use Rattle.ng_canon.specs.declared.segment.Segment.TheVariants.{Line as LineSegment, Arc as ArcSegment, Dwell as DwellSegment, Switch as SwitchSegment}
-use Rattle.ng_step.specs.declared.line.Distances.{Distances}
+use Rattle.ng_step.specs.declared.steps.Distances.{Distances}
 use Rattle.ng_step.specs.declared.centred.CentredArc.{CentredArc}
 use Rattle.ng_step.specs.Arcs.{larger, HasSteps, IsLargeArc, quadrants_to_walk, plane_steps}
 use Rattle.ng_step.specs.Frames.{mirrored}

@@ -17,7 +17,7 @@ use Rattle.ng_step.proofs.TurnLemmas.{sound_outward, sound_inward, sound_crossin
 use Rattle.ng_step.proofs.ArcLemmas.{in_step_some, budget_same, budget_next}
 use Rattle.ng_step.proofs.PlaceLemmas.{same_quadrant-self, same_quadrant-quadrant_after, moved_inward, moved_crossing, moved_outward, next_outside, next_inside, step_outside, step_inside, in_step_le}
 use Rattle.ng_canon.specs.declared.item.Step.TheVariants.{Still}
-use Rattle.ng_step.specs.declared.line.Steps.{Steps}
+use Rattle.ng_step.specs.declared.steps.Steps.{Steps}
 use Rattle.ng_step.specs.Frames.{pulse_with}
 
 -- the differences are far from the ends of their type

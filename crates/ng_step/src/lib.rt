@@ -14,12 +14,14 @@
 mod arc;
 mod centred;
 mod circle;
+mod distance;
 mod frame;
 mod line;
 mod quadrant;
 mod rounding;
 mod spread;
 mod stepper;
+mod steps;
 #[cfg(test)]
 mod tests;
 mod timing;

@@ -2,9 +2,10 @@
 
 use crate::arc::ArcPulses;
 use crate::centred::CentredArc;
-use crate::line::{Distances, LinePulses, Steps};
+use crate::distance::square_between;
+use crate::line::LinePulses;
 use crate::quadrant::quadrants_to_walk;
-use crate::rounding::square_between;
+use crate::steps::{Distances, Steps};
 use crate::timing::{pulse_us, root_up};
 use crate::walk::Walk;
 use ng_canon::{Arc, Geometry, Item, Pace, Pulse, Segment};

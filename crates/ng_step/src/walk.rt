@@ -4,9 +4,9 @@ ghost use Rattle.std.specs.Prelude.{◌≡◌};
 
 use crate::circle::Circle;
 use crate::frame::Frame;
-use crate::line::Steps;
 use crate::quadrant::{Quadrant, Spot, left_after};
 use crate::rounding::whole_steps;
+use crate::steps::Steps;
 use crate::wide::{difference, product, square, sum, twice};
 use ng_canon::Step;
 
