@@ -270,7 +270,7 @@ mul_neg_left (suc i) (negsuc n) = grind (arith, ints)
 le_as_difference : (x y z : ℤ) → x -ℤ y ≡ z → int_le x y ≡ int_le z (pos 0)
 le_as_difference x y z h = grind (arith, ints)
 
-cross-place : (q : Quadrant) (i o : ℕ) (e : Spot) → pos i *ℤ (turned q e).b -ℤ pos o *ℤ (turned q e).a ≡ cross (place q i o) e
+pub cross-place : (q : Quadrant) (i o : ℕ) (e : Spot) → pos i *ℤ (turned q e).b -ℤ pos o *ℤ (turned q e).a ≡ cross (place q i o) e
 cross-place First i o e = refl
 cross-place Second i o e = simp (mul_neg_right, mul_neg_left) (omega (arith, ints))
 cross-place Third i o e = simp (mul_neg_right, mul_neg_left) (omega (arith, ints))

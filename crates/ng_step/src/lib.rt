@@ -17,6 +17,7 @@ mod circle;
 mod distance;
 mod frame;
 mod line;
+mod passage;
 mod quadrant;
 mod rounding;
 mod spread;
