@@ -1,21 +1,20 @@
 -- Counting an arc's steps.
-use Rattle.std.proofs.Common.{arith, ℕ, zero, suc, ◌+◌, ◌-◌, ◌≤◌, ◌≡◌, refl, sym, ap, ◌∙◌, ℤ, pos, negsuc, ◌+ℤ◌, ◌-ℤ◌, ◌*ℤ◌, List, [], ◌∷◌, length, drop, add-one, true, false}
+use Rattle.std.proofs.Common.{arith, ℕ, zero, suc, ◌≤◌, ◌≡◌, refl, ap, ◌∙◌, ℤ, pos, negsuc, ◌+ℤ◌, ◌-ℤ◌, ◌*ℤ◌, List, [], ◌∷◌, length, drop, true, false}
 use Rattle.std.proofs.lemmas.Int.{ints}
-use Rattle.std.specs.Prelude.{if◌then◌else◌}
 use Rattle.ng_step.specs.declared.circle.Circle.{Circle}
 use Rattle.ng_step.specs.declared.quadrant.Spot.{Spot}
 use Rattle.ng_step.specs.declared.quadrant.PlaneStep.{PlaneStep}
 use Rattle.ng_step.specs.declared.quadrant.PlaneStep.TheVariants.{AddA, SubA, AddB, SubB}
-use Rattle.ng_step.specs.Arcs.{along_a, along_b, net_a, net_b, same_quadrant, stops, left_after, IsArc, next_spot, step_at, moved}
+use Rattle.ng_step.specs.Arcs.{along_a, along_b, net_a, net_b, stops, left_after, IsArc, next_spot, step_at, moved}
 use Rattle.ng_step.specs.Leaps.{reach_a, reach_b}
 
 -- how far so many steps go
-scaled_more : (n : ℤ) (s : ℕ) → (pos 1 +ℤ n) *ℤ pos s ≡ pos s +ℤ n *ℤ pos s
+pub scaled_more : (n : ℤ) (s : ℕ) → (pos 1 +ℤ n) *ℤ pos s ≡ pos s +ℤ n *ℤ pos s
 scaled_more (pos n) s = omega (arith, ints)
 scaled_more (negsuc zero) s = omega (arith, ints)
 scaled_more (negsuc (suc n)) s = let e : pos 1 +ℤ negsuc (suc n) ≡ negsuc n = omega (arith, ints) in rw e (omega (arith, ints))
 
-scaled_less : (n : ℤ) (s : ℕ) → (negsuc 0 +ℤ n) *ℤ pos s ≡ n *ℤ pos s -ℤ pos s
+pub scaled_less : (n : ℤ) (s : ℕ) → (negsuc 0 +ℤ n) *ℤ pos s ≡ n *ℤ pos s -ℤ pos s
 scaled_less (pos zero) s = omega (arith, ints)
 scaled_less (pos (suc n)) s = let e : negsuc 0 +ℤ pos (suc n) ≡ pos n = omega (arith, ints) in let rest : pos n *ℤ pos s ≡ pos (suc n) *ℤ pos s -ℤ pos s = omega (arith, ints) in ap (λ x. x *ℤ pos s) e ∙ rest
 scaled_less (negsuc n) s = let e : negsuc 0 +ℤ negsuc n ≡ negsuc (suc n) = omega (arith, ints) in let rest : negsuc (suc n) *ℤ pos s ≡ negsuc n *ℤ pos s -ℤ pos s = omega (arith, ints) in ap (λ x. x *ℤ pos s) e ∙ rest

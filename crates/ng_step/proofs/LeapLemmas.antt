@@ -16,8 +16,8 @@ use Rattle.ng_step.specs.declared.passage.Way.{Way}
 use Rattle.ng_step.specs.declared.walk.Walk.{Walk}
 use Rattle.ng_step.specs.Arcs.{quadrant_after, next_spot, left_after, larger, stops, cross, IsArc, HasSteps, net_a, net_b}
 use Rattle.ng_step.specs.Turned.{spot_of, Walks, place, turned, in_step, out_step, norm, Sound, Roomy, farthest, beyond, budget}
-use Rattle.ng_step.specs.Passages.{inner_at, outer_at, OnWay, IsLast, IsBefore, ComesInward, ComesOutward, IsFirstPast}
-use Rattle.ng_step.specs.Leaps.{reach_a, reach_b, Leads, WalkLeads, Ends, PassesFrom, GoesOn, NeverStops, IsAhead, StopsAt}
+use Rattle.ng_step.specs.Passages.{inner_at, outer_at, OnWay, IsLast, ComesInward, ComesOutward}
+use Rattle.ng_step.specs.Leaps.{reach_a, reach_b, Leads, WalkLeads, Ends, PassesFrom, GoesOn, IsAhead, StopsAt}
 use Rattle.ng_step.proofs.TurnLemmas.{sound_outward, sound_inward, sound_crossing}
 use Rattle.ng_step.proofs.PlaceLemmas.{quadrant-place, moved_inward, moved_crossing, moved_outward, next_outside, next_inside, in_step_le, same_quadrant-self, same_quadrant-quadrant_after}
 use Rattle.ng_step.proofs.ArcLemmas.{in_step_some}

@@ -16,5 +16,6 @@ pub mod LengthLemmas
 pub mod HandLemmas
 pub mod EndLemmas
 pub mod PromiseLemmas
+pub mod PathLemmas
 pub mod CentreLemmas
 pub mod WalkableLemmas

@@ -1,6 +1,6 @@
 -- The points of a passage, without walking it.
-use Rattle.std.proofs.Common.{arith, ℕ, zero, suc, ◌+◌, ◌-◌, ◌*◌, ◌/◌, ◌<◌, ◌≤◌, ◌≡◌, ◌⊎◌, ◌^◌, inl, inr, refl, sym, ap, subst}
-use Rattle.std.proofs.lemmas.Nat.{mul-le, mul-lt}
+use Rattle.std.proofs.Common.{arith, ℕ, zero, suc, ◌+◌, ◌-◌, ◌*◌, ◌/◌, ◌<◌, ◌≤◌, ◌≡◌, ◌⊎◌, ◌^◌, inl, inr, refl, subst}
+use Rattle.std.proofs.lemmas.Nat.{mul-le}
 use Rattle.std.proofs.lemmas.Bool.{cases_lt}
 use Rattle.ng_step.specs.declared.passage.Passage.{Passage}
 use Rattle.ng_step.specs.declared.passage.Way.{Way}

@@ -1,5 +1,3 @@
-use Rattle.std.proofs.Common.{◌≡◌, ◌⊎◌, ◌+◌, ◌-◌, ◌<◌, ◌≤◌}
-use Rattle.ng_step.specs.Passages.{LeavesPast, LeavesBefore}
 use Rattle.ng_step.proofs.PassageLemmas.{Halves}
 use Rattle.ng_step.proofs.passage.Passage.first_level_past.Given as goal
 
