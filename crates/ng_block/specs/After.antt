@@ -1,10 +1,10 @@
 -- The state after a block, one equation for each field (NISTIR 6556, 3.5, 3.6, 3.8; the program's end 3.6.1).
-use Rattle.std.specs.Prelude.{pos, List, [], ◌∷◌, ◌++◌, ◌||◌, unwrap_or, if◌then◌else◌}
+use Rattle.std.specs.Prelude.{List, [], ◌∷◌, ◌++◌, ◌||◌, unwrap_or, if◌then◌else◌}
 use Rattle.std.specs.Option.{is_some}
 use Rattle.ng_num.specs.Points.{origin as nowhere}
 use Rattle.ng_num.specs.declared.point.Point.{Point}
 use Rattle.ng_params.specs.declared.change.Change.{Change}
-use Rattle.ng_params.specs.Numbers.{system_in_force}
+use Rattle.ng_params.specs.Points.{selection}
 use Rattle.ng_canon.specs.declared.plane.Plane.TheVariants.{Xy}
 use Rattle.ng_block.specs.declared.modes.Modes.{Modes}
 use Rattle.ng_block.specs.declared.modes.Motion.TheVariants.{Feed}
@@ -56,4 +56,4 @@ machine_after a goal first m = record {
 
 -- the settings of the line; then the program's end puts system 1 in force
 abbrev pub changes_of : Asked → List Change → List Change
-changes_of a settings = settings ++ (if is_some a.end then record { index = system_in_force; value = pos 1_000_000 } ∷ [] else [])
+changes_of a settings = settings ++ (if is_some a.end then selection 1 ∷ [] else [])

@@ -12,7 +12,7 @@ use Rattle.ng_canon.specs.declared.geometry.Geometry.{Geometry}
 use Rattle.ng_words.specs.Reading.{read}
 use Rattle.ng_words.specs.Grammar.{Piece}
 use Rattle.ng_words.specs.Lines.{last_comment}
-use Rattle.ng_expr.specs.Value.{and_then}
+use Rattle.ng_num.specs.Results.{and_then}
 use Rattle.ng_expr.specs.Settle.{Settled, settled}
 use Rattle.ng_block.specs.declared.asked.Asked.{Asked}
 use Rattle.ng_block.specs.declared.goal.Goal.{Goal}

@@ -17,7 +17,7 @@ use Rattle.ng_step.proofs.TurnLemmas.{sound_outward, sound_inward, sound_crossin
 use Rattle.ng_step.proofs.ArcLemmas.{in_step_some, budget_same, budget_next}
 use Rattle.ng_step.proofs.PlaceLemmas.{same_quadrant-self, same_quadrant-quadrant_after, moved_inward, moved_crossing, moved_outward, next_outside, next_inside, step_outside, step_inside, in_step_le}
 use Rattle.ng_canon.specs.declared.item.Step.TheVariants.{Still}
-use Rattle.ng_step.specs.declared.line.Steps.{Steps}
+use Rattle.ng_step.specs.declared.steps.Steps.{Steps}
 use Rattle.ng_step.specs.Frames.{pulse_with}
 
 -- the differences are far from the ends of their type
@@ -270,7 +270,7 @@ mul_neg_left (suc i) (negsuc n) = grind (arith, ints)
 le_as_difference : (x y z : ℤ) → x -ℤ y ≡ z → int_le x y ≡ int_le z (pos 0)
 le_as_difference x y z h = grind (arith, ints)
 
-cross-place : (q : Quadrant) (i o : ℕ) (e : Spot) → pos i *ℤ (turned q e).b -ℤ pos o *ℤ (turned q e).a ≡ cross (place q i o) e
+pub cross-place : (q : Quadrant) (i o : ℕ) (e : Spot) → pos i *ℤ (turned q e).b -ℤ pos o *ℤ (turned q e).a ≡ cross (place q i o) e
 cross-place First i o e = refl
 cross-place Second i o e = simp (mul_neg_right, mul_neg_left) (omega (arith, ints))
 cross-place Third i o e = simp (mul_neg_right, mul_neg_left) (omega (arith, ints))

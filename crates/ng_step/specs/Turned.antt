@@ -4,7 +4,7 @@ use Rattle.ng_step.specs.declared.quadrant.Quadrant.{Quadrant}
 use Rattle.ng_step.specs.declared.quadrant.Quadrant.TheVariants.{First, Second, Third, Fourth}
 use Rattle.ng_step.specs.Arcs.{inward, outward, quadrant_after, larger, HasSteps, same_quadrant, step_at, next_spot}
 use Rattle.ng_canon.specs.declared.item.Step.TheVariants.{Still}
-use Rattle.ng_step.specs.declared.line.Steps.{Steps}
+use Rattle.ng_step.specs.declared.steps.Steps.{Steps}
 use Rattle.ng_step.specs.Frames.{pulse_with}
 use Rattle.ng_step.specs.declared.walk.Walk.{Walk}
 use Rattle.ng_step.specs.declared.circle.Circle.{Circle}

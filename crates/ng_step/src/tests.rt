@@ -7,6 +7,8 @@ use ng_num::{Len, Num, Point};
 use std::alloc::Global;
 use std::test::Fail;
 
+mod largest;
+
 type Text = Result<String<Global>, Fail>;
 
 fn len(nm: i64) -> Len {

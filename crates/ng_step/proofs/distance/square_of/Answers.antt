@@ -1,7 +1,7 @@
 use Rattle.std.proofs.Common.{arith}
 use Rattle.std.proofs.lemmas.Int.{ints}
 use Rattle.ng_step.proofs.RoundLemmas.{square_small}
-use Rattle.ng_step.proofs.rounding.square_of.Goals as goal
+use Rattle.ng_step.proofs.distance.square_of.Goals as goal
 
 pub returns-clause-size : goal.returns-clause-size
 returns-clause-size c =

@@ -1,4 +1,4 @@
--- Of the settings of one parameter the last counts (NISTIR 6556, 3.3.3).
+-- What settings leave of a table (NISTIR 6556, 3.3.3): of those of one parameter the last counts, and all others stay.
 use Rattle.std.specs.Prelude.{◌≡◌, ◌≢◌, ◌≤◌, ℕ, List, [], ◌∷◌, ◌++◌, ℤ, length}
 use Rattle.ng_params.specs.Changes.{with_changes}
 use Rattle.ng_params.specs.Table.{at}
@@ -13,3 +13,7 @@ AreOthers p (c ∷ changes) = (1 ≤ c.index) × (c.index ≢ p) × AreOthers p 
 abbrev pub TheLastCounts : Type 0
 TheLastCounts = (table : List ℤ) (before others : List Change) (c : Change) → 1 ≤ c.index → c.index ≤ length table → AreOthers c.index others
     → at (with_changes table (before ++ c ∷ others)) c.index ≡ c.value
+
+-- a parameter that isn't set keeps its value
+abbrev pub TheOthersStay : Type 0
+TheOthersStay = (table : List ℤ) (changes : List Change) (p : ℕ) → 1 ≤ p → AreOthers p changes → at (with_changes table changes) p ≡ at table p
