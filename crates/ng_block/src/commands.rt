@@ -15,11 +15,11 @@ use ng_num::{Len, Point, Unit};
 use std::marker::Model;
 
 /// The most commands of a step but the motion.
-const WAITING: usize = 8;
+const MOST: usize = 8;
 
-type Waiting = ArrayVec<Command, WAITING>;
+type OfStep = ArrayVec<Command, MOST>;
 
-fn put_feed(feed_per_min: Option<Len>, commands: &mut Waiting)
+fn put_feed(feed_per_min: Option<Len>, commands: &mut OfStep)
     requires { commands.old.items ≡ [] }
     ensures { commands.new.items ≡ feed_commands feed_per_min }
 {
@@ -28,7 +28,7 @@ fn put_feed(feed_per_min: Option<Len>, commands: &mut Waiting)
     }
 }
 
-fn put_unit(unit: Option<Unit>, commands: &mut Waiting)
+fn put_unit(unit: Option<Unit>, commands: &mut OfStep)
     requires { commands.old.items ≡ [] }
     ensures { commands.new.items ≡ unit_commands unit }
 {
@@ -37,7 +37,7 @@ fn put_unit(unit: Option<Unit>, commands: &mut Waiting)
     }
 }
 
-fn put_end(end: Option<End>, origin: Point, commands: &mut Waiting)
+fn put_end(end: Option<End>, origin: Point, commands: &mut OfStep)
     requires { commands.old.items ≡ [] }
     ensures { commands.new.items ≡ end_commands end origin }
 {
@@ -55,10 +55,10 @@ fn put_end(end: Option<End>, origin: Point, commands: &mut Waiting)
 
 /// What is left of a block's commands.
 #[derive(Drop)]
-struct Rest<'a> {
+struct CommandsLeft<'a> {
     effect: &'a Effect,
     /// Those of the step that has begun, from `taken` on.
-    waiting: Waiting,
+    waiting: OfStep,
     taken: usize,
     /// The segments of the motion, where that has begun.
     moves: Moves,
@@ -69,7 +69,7 @@ struct Rest<'a> {
 /// The commands that are left of a block, in their order.
 #[derive(Drop)]
 pub struct Commands<'a> {
-    rest: Rest<'a>,
+    rest: CommandsLeft<'a>,
 }
 
 impl<'a> Model for Commands<'a> {
@@ -88,7 +88,7 @@ impl Effect {
         ensures { result ≡ commands_by self.now }
     {
         Commands {
-            rest: Rest {
+            rest: CommandsLeft {
                 effect: self,
                 waiting: ArrayVec::new(),
                 taken: 0,
@@ -113,7 +113,7 @@ impl Effect {
     }
 }
 
-impl<'a> Rest<'a> {
+impl<'a> CommandsLeft<'a> {
     /// The next command of the step that has begun.
     fn next_begun(&mut self) -> Option<Command>
         ensures effect { self.new.effect ≡ self.old.effect }

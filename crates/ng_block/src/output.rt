@@ -80,7 +80,7 @@ pub fn break_off<W: Write, A: Allocator + Copy + Drop>(
 
 /// Prints a command behind the text that waits, and writes that where it is long. Before `DryFault::Memory` what
 /// waited is written.
-pub fn put<W: Write, A: Allocator + Copy + Drop>(
+pub fn put_canon<W: Write, A: Allocator + Copy + Drop>(
     text: &mut Vec<u8, A>,
     writer: &mut W,
     canon: &Canon<'_>,
@@ -117,7 +117,7 @@ fn put_commands<W: Write, A: Allocator + Copy + Drop>(
     ensures { Drains (W.contents writer.old) (W.contents writer.new) (text.old.items ++ commands_text commands.old) text.new.items result }
 {
     while let Some(canon) = commands.next() {
-        match put(text, writer, &canon) {
+        match put_canon(text, writer, &canon) {
             Ok(()) => {}
             Err(fault) => return Err(fault),
         }
