@@ -3,14 +3,15 @@ ghost use Rattle.std.specs.Prelude.{◌≡◌, ◌∷◌, [], map, MatchOption, 
 ghost use Rattle.ng_canon.specs.Text.{canonical, numeric};
 ghost use Rattle.ng_block.specs.Commands.{begun_commands, rest_commands};
 ghost use Rattle.ng_block.specs.Effects.{plan_by, commands_by};
+ghost use Rattle.ng_block.specs.Paths.{pace_command};
 ghost use Rattle.ng_block.specs.Order.{commands_at, numeric_at, feed_commands, unit_commands, end_commands};
 
 use crate::asked::End;
 use crate::effect::Effect;
-use crate::path::{Moves, Path, command_of, pace_command};
+use crate::path::{Moves, Path, command_of};
 use crate::steps::{ORDER, Step};
 use arrayvec::ArrayVec;
-use ng_canon::{Canon, Command, Plane};
+use ng_canon::{Canon, Command, Plane, StraightMove};
 use ng_num::{Len, Point, Unit};
 use std::marker::Model;
 
@@ -98,16 +99,16 @@ impl Effect {
         }
     }
 
-    /// The one command of a block that only goes straight and says nothing; none of any other.
+    /// The one move of a block that only goes straight and says nothing; none of any other.
     #[inline]
-    pub(crate) fn only_command(&self) -> Option<Command>
-        ensures { IfSome result (λ command. commands_by self.now ≡ numeric command ∷ []) }
+    pub(crate) fn only_move(&self) -> Option<&StraightMove>
+        ensures { IfSome result (λ move. commands_by self.now ≡ numeric (pace_command move.now.pace move.now.end) ∷ []) }
     {
         if !self.plan.tasks.is_empty() || self.plan.remark.manner.is_some() {
             return None;
         }
-        match self.plan.path {
-            Path::Straight(line) => Some(pace_command(line.pace, line.end)),
+        match &self.plan.path {
+            Path::Straight(line) => Some(line),
             Path::Still => None,
         }
     }
