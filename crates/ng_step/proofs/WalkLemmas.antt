@@ -11,11 +11,10 @@ use Rattle.ng_step.specs.declared.circle.Circle.{Circle}
 use Rattle.ng_step.specs.declared.quadrant.Spot.{Spot}
 use Rattle.ng_step.specs.declared.walk.Walk.{Walk}
 use Rattle.ng_step.specs.declared.quadrant.PlaneStep.{PlaneStep}
-use Rattle.ng_step.specs.Arcs.{quadrant_after, cross, same_quadrant, inward, outward, larger, moved}
+use Rattle.ng_step.specs.Arcs.{quadrant_after, cross, inward, outward, larger, moved}
 use Rattle.ng_step.specs.Turned.{turned, place, in_step, out_step, norm, Sound, Walks, IsStep, farthest, beyond}
 use Rattle.ng_step.proofs.TurnLemmas.{sound_outward, sound_inward, sound_crossing}
-use Rattle.ng_step.proofs.ArcLemmas.{in_step_some, budget_same, budget_next}
-use Rattle.ng_step.proofs.PlaceLemmas.{same_quadrant-self, same_quadrant-quadrant_after, moved_inward, moved_crossing, moved_outward, next_outside, next_inside, step_outside, step_inside, in_step_le}
+use Rattle.ng_step.proofs.PlaceLemmas.{moved_inward, moved_crossing, moved_outward, next_outside, next_inside, step_outside, step_inside, in_step_le}
 use Rattle.ng_canon.specs.declared.item.Step.TheVariants.{Still}
 use Rattle.ng_step.specs.declared.steps.Steps.{Steps}
 use Rattle.ng_step.specs.Frames.{pulse_with}
