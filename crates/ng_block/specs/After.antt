@@ -1,7 +1,7 @@
 -- The state after a block, one equation for each field (NISTIR 6556, 3.5, 3.6, 3.8; the program's end 3.6.1).
 use Rattle.std.specs.Prelude.{List, [], ◌∷◌, ◌++◌, ◌||◌, unwrap_or, if◌then◌else◌}
 use Rattle.std.specs.Option.{is_some}
-use Rattle.ng_num.specs.Points.{origin as nowhere}
+use Rattle.ng_num.specs.Points.{zero_point}
 use Rattle.ng_num.specs.declared.point.Point.{Point}
 use Rattle.ng_params.specs.declared.change.Change.{Change}
 use Rattle.ng_params.specs.Points.{selection}
@@ -36,7 +36,7 @@ modes_after a m = record {
 
 -- the program's end takes system 1's origin from the table and drops the G92 offset; the tool length stays
 abbrev pub offsets_after : Asked → Point → Offsets → Offsets
-offsets_after a first o = if is_some a.end then record o { origin = first; g92 = nowhere } else o
+offsets_after a first o = if is_some a.end then record o { origin = first; g92 = zero_point } else o
 
 -- another motion and the program's end drop the words that a cycle keeps
 abbrev pub kept_after : Asked → KeptWords → KeptWords

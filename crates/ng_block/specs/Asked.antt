@@ -13,14 +13,14 @@ use Rattle.ng_block.specs.declared.codes.MCode.TheVariants.{M2, M30}
 use Rattle.ng_block.specs.declared.modes.Motion.TheVariants.{Traverse, Feed}
 use Rattle.ng_block.specs.declared.modes.Distance.TheVariants.{Absolute, Incremental}
 use Rattle.ng_block.specs.declared.asked.Asked.{Asked}
-use Rattle.ng_block.specs.declared.asked.Values.{Values}
+use Rattle.ng_block.specs.declared.asked.Given.{Given}
 use Rattle.ng_block.specs.declared.asked.End.TheVariants.{Plain, WithShuttle}
 
-abbrev pub no_values : Values
-no_values = record { a = None; b = None; c = None; d = None; f = None; h = None; i = None; j = None; k = None; l = None; p = None; q = None; r = None; s = None; t = None; x = None; y = None; z = None }
+abbrev pub nothing_given : Given
+nothing_given = record { a = None; b = None; c = None; d = None; f = None; h = None; i = None; j = None; k = None; l = None; p = None; q = None; r = None; s = None; t = None; x = None; y = None; z = None }
 
 abbrev pub nothing : Asked
-nothing = record { values = no_values; repeated = false; unknown = false; left_out = false; twice = false; motion = None; unit = None; distance = None; end = None }
+nothing = record { values = nothing_given; repeated = false; unknown = false; left_out = false; twice = false; motion = None; unit = None; distance = None; end = None }
 
 -- a G word asks for its code's mode; a second one of a group is kept as such
 unfoldable pub with_g : Asked → Option GCode → Asked

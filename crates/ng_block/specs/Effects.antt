@@ -64,14 +64,12 @@ stop_of a = if is_some a.end then Ends else GoesOn
 abbrev pub plan_of : Asked → Goal → List Canonical → Machine → Machine → Plan
 plan_of a goal remark m after = record { remark = remark; tasks = tasks_of a goal; path = path_of goal m.point; origin = after.offsets.origin; before = m.outputs }
 
-abbrev pub done_by : Plan → Machine → List Change → Stop → Setup → Done
-done_by p after changes stop s = record { setup = changed s after changes; before = p.before; segments = segments_of p; commands = commands_of p; stop = stop }
-
 -- what a lawful block does; the settings of the line act first, so the program's end takes system 1's origin from the table that they leave
 abbrev pub block_done : Asked → Goal → List Canonical → List Change → Setup → Done
 block_done a goal remark settings s =
     let after = machine_after a goal (origin_of (with_changes s.params settings) 1) s.machine in
-    done_by (plan_of a goal remark s.machine after) after (changes_of a settings) (stop_of a) s
+    let plan = plan_of a goal remark s.machine after in
+    record { setup = changed s after (changes_of a settings); before = plan.before; segments = segments_of plan; commands = commands_of plan; stop = stop_of a }
 
 -- what the values of a line do: the faults of the words first, then those of computed lengths, then those of the move
 unfoldable pub executed_values : Setup → List Canonical → Settled → Geometry → Result Done Fault

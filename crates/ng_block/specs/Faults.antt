@@ -11,7 +11,7 @@ use Rattle.ng_block.specs.declared.modes.Motion.TheVariants.{Off, Traverse, Feed
 use Rattle.ng_block.specs.declared.modes.FeedMode.{FeedMode}
 use Rattle.ng_block.specs.declared.modes.FeedMode.TheVariants.{PerMinute, InverseTime}
 use Rattle.ng_block.specs.declared.asked.Asked.{Asked}
-use Rattle.ng_block.specs.declared.asked.Values.{Values}
+use Rattle.ng_block.specs.declared.asked.Given.{Given}
 use Rattle.ng_block.specs.declared.goal.Goal.{Goal}
 use Rattle.ng_block.specs.Blocks.{has_axis, motion_after, motion_of}
 use Rattle.ng_canon.specs.Inside.{is_inside}
@@ -43,7 +43,7 @@ is_inverse PerMinute = false
 is_inverse InverseTime = true
 
 -- rotary axes, cutter compensation, spindle speed and slots
-abbrev pub has_left_out : Values → Bool
+abbrev pub has_left_out : Given → Bool
 has_left_out v = is_some v.a || (is_some v.b || (is_some v.c || (is_some v.d || (is_some v.s || is_some v.t))))
 
 -- a code or a letter that is left out, or a motion or feed mode that isn't built
@@ -53,7 +53,7 @@ asks_left_out a m =
     || (is_inverse m.feed_mode && (is_some a.values.f || is_feed (motion_of a m)))))
 
 -- a word that nothing on the line takes
-abbrev pub has_unused : Values → Bool
+abbrev pub has_unused : Given → Bool
 has_unused v =
     is_some v.h || (is_some v.i || (is_some v.j || (is_some v.k || (is_some v.l || (is_some v.p || (is_some v.q || is_some v.r))))))
 

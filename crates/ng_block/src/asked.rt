@@ -1,7 +1,7 @@
 //! What the words of a line ask for: values by letter, codes by modal group.
 ghost use Rattle.std.specs.Prelude.{◌≡◌, Some, None, ◌||◌};
 ghost use Rattle.std.specs.Option.{is_some};
-ghost use Rattle.ng_block.specs.Asked.{nothing, no_values, with_word, with_value, with_g, with_m, asked_of};
+ghost use Rattle.ng_block.specs.Asked.{nothing, nothing_given, with_word, with_value, with_g, with_m, asked_of};
 
 use crate::codes::{GCode, MCode, g_word, m_word};
 use crate::modes::{Distance, Motion};
@@ -11,7 +11,7 @@ use ng_words::Letter;
 
 /// The values of a line's words other than G and M, by letter (NISTIR 6556, table 3).
 #[derive(Clone, Copy, Debug, PartialEq, Eq)]
-pub struct Values {
+pub struct Given {
     pub a: Option<Num>,
     pub b: Option<Num>,
     pub c: Option<Num>,
@@ -44,7 +44,7 @@ pub enum End {
 /// What a line asks for.
 #[derive(Clone, Copy, Debug, PartialEq, Eq)]
 pub struct Asked {
-    pub values: Values,
+    pub values: Given,
     /// A letter other than G and M stands twice.
     pub repeated: bool,
     /// A G or M word is no code of the language.
@@ -59,12 +59,12 @@ pub struct Asked {
     pub end: Option<End>,
 }
 
-impl Values {
+impl Given {
     /// No word.
-    pub fn none() -> Values
-        ensures { result ≡ no_values }
+    pub fn none() -> Given
+        ensures { result ≡ nothing_given }
     {
-        Values {
+        Given {
             a: None,
             b: None,
             c: None,
@@ -103,7 +103,7 @@ impl Asked {
         ensures { result ≡ nothing }
     {
         Asked {
-            values: Values::none(),
+            values: Given::none(),
             repeated: false,
             unknown: false,
             left_out: false,

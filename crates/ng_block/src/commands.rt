@@ -3,23 +3,24 @@ ghost use Rattle.std.specs.Prelude.{◌≡◌, ◌∷◌, [], map, MatchOption, 
 ghost use Rattle.ng_canon.specs.Text.{canonical, numeric};
 ghost use Rattle.ng_block.specs.Commands.{begun_commands, rest_commands};
 ghost use Rattle.ng_block.specs.Effects.{plan_by, commands_by};
+ghost use Rattle.ng_block.specs.Paths.{pace_command};
 ghost use Rattle.ng_block.specs.Order.{commands_at, numeric_at, feed_commands, unit_commands, end_commands};
 
 use crate::asked::End;
 use crate::effect::Effect;
-use crate::path::{Moves, Path, command_of, pace_command};
+use crate::path::{Moves, Path, command_of};
 use crate::steps::{ORDER, Step};
 use arrayvec::ArrayVec;
-use ng_canon::{Canon, Command, Plane};
+use ng_canon::{Canon, Command, Plane, StraightMove};
 use ng_num::{Len, Point, Unit};
 use std::marker::Model;
 
 /// The most commands of a step but the motion.
-const WAITING: usize = 8;
+const MOST: usize = 8;
 
-type Waiting = ArrayVec<Command, WAITING>;
+type OfStep = ArrayVec<Command, MOST>;
 
-fn put_feed(feed_per_min: Option<Len>, commands: &mut Waiting)
+fn put_feed(feed_per_min: Option<Len>, commands: &mut OfStep)
     requires { commands.old.items ≡ [] }
     ensures { commands.new.items ≡ feed_commands feed_per_min }
 {
@@ -28,7 +29,7 @@ fn put_feed(feed_per_min: Option<Len>, commands: &mut Waiting)
     }
 }
 
-fn put_unit(unit: Option<Unit>, commands: &mut Waiting)
+fn put_unit(unit: Option<Unit>, commands: &mut OfStep)
     requires { commands.old.items ≡ [] }
     ensures { commands.new.items ≡ unit_commands unit }
 {
@@ -37,7 +38,7 @@ fn put_unit(unit: Option<Unit>, commands: &mut Waiting)
     }
 }
 
-fn put_end(end: Option<End>, origin: Point, commands: &mut Waiting)
+fn put_end(end: Option<End>, origin: Point, commands: &mut OfStep)
     requires { commands.old.items ≡ [] }
     ensures { commands.new.items ≡ end_commands end origin }
 {
@@ -55,10 +56,10 @@ fn put_end(end: Option<End>, origin: Point, commands: &mut Waiting)
 
 /// What is left of a block's commands.
 #[derive(Drop)]
-struct Rest<'a> {
+struct CommandsLeft<'a> {
     effect: &'a Effect,
     /// Those of the step that has begun, from `taken` on.
-    waiting: Waiting,
+    waiting: OfStep,
     taken: usize,
     /// The segments of the motion, where that has begun.
     moves: Moves,
@@ -69,7 +70,7 @@ struct Rest<'a> {
 /// The commands that are left of a block, in their order.
 #[derive(Drop)]
 pub struct Commands<'a> {
-    rest: Rest<'a>,
+    rest: CommandsLeft<'a>,
 }
 
 impl<'a> Model for Commands<'a> {
@@ -88,7 +89,7 @@ impl Effect {
         ensures { result ≡ commands_by self.now }
     {
         Commands {
-            rest: Rest {
+            rest: CommandsLeft {
                 effect: self,
                 waiting: ArrayVec::new(),
                 taken: 0,
@@ -98,22 +99,22 @@ impl Effect {
         }
     }
 
-    /// The one command of a block that only goes straight and says nothing; none of any other.
+    /// The one move of a block that only goes straight and says nothing; none of any other.
     #[inline]
-    pub(crate) fn only_command(&self) -> Option<Command>
-        ensures { IfSome result (λ command. commands_by self.now ≡ numeric command ∷ []) }
+    pub(crate) fn only_move(&self) -> Option<&StraightMove>
+        ensures { IfSome result (λ move. commands_by self.now ≡ numeric (pace_command move.now.pace move.now.end) ∷ []) }
     {
         if !self.plan.tasks.is_empty() || self.plan.remark.manner.is_some() {
             return None;
         }
-        match self.plan.path {
-            Path::Straight(line) => Some(pace_command(line.pace, line.end)),
+        match &self.plan.path {
+            Path::Straight(line) => Some(line),
             Path::Still => None,
         }
     }
 }
 
-impl<'a> Rest<'a> {
+impl<'a> CommandsLeft<'a> {
     /// The next command of the step that has begun.
     fn next_begun(&mut self) -> Option<Command>
         ensures effect { self.new.effect ≡ self.old.effect }

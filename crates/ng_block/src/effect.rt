@@ -106,7 +106,7 @@ fn offsets_after<A: Allocator + Copy + Drop>(
     if asked.end.is_some() {
         Offsets {
             origin: first_origin(params, settings),
-            g92: Point::origin(),
+            g92: Point::zero(),
             tool_length: offsets.tool_length,
         }
     } else {

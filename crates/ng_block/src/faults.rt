@@ -2,7 +2,7 @@
 ghost use Rattle.std.specs.Prelude.{◌≡◌};
 ghost use Rattle.ng_block.specs.Faults.{first_of, block_faults, motion_faults, is_off, is_left_out, is_feed, is_inverse, has_left_out, has_unused, asks_left_out, is_negative};
 
-use crate::asked::{Asked, Values};
+use crate::asked::{Asked, Given};
 use crate::goal::{Goal, motion_of};
 use crate::modes::{FeedMode, Modes, Motion};
 use ng_canon::Geometry;
@@ -54,7 +54,7 @@ fn is_negative(value: Option<Num>) -> bool
     }
 }
 
-impl Values {
+impl Given {
     fn has_left_out(&self) -> bool
         ensures { result ≡ has_left_out self.now }
     {

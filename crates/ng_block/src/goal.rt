@@ -4,7 +4,7 @@ ghost use Rattle.ng_num.specs.Range.{IsCount, in_range};
 ghost use Rattle.ng_block.specs.Blocks.{feed_of, feed_by, offset_x, offset_y, offset_z, program_coordinate, coordinate, end_of, motion_of, has_axis};
 ghost use Rattle.ng_block.specs.Goals.{goal_of};
 
-use crate::asked::{Asked, Values};
+use crate::asked::{Asked, Given};
 use crate::machine::{Machine, Offsets};
 use crate::modes::{Distance, Modes, Motion};
 use ng_num::{Fault, Len, Num, Point, Unit, nm_of};
@@ -24,7 +24,7 @@ struct Reading {
     distance: Distance,
 }
 
-impl Values {
+impl Given {
     /// Whether an axis is named.
     pub fn has_axis(&self) -> bool
         ensures { result ≡ has_axis self.now }

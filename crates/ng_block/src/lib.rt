@@ -42,7 +42,7 @@ pub use effect::{CHANGES, Changes, Effect, Stop};
 pub use ending::{DryFault, Ended};
 pub use machine::{KeptWords, Machine, Offsets};
 pub use modes::{Distance, FeedMode, Modes, Motion, PathMode, Retract};
-pub use output::put;
+pub use output::put_canon;
 pub use percent::{first_kind, missing_end, percent_at};
 pub use places::{Places, execute};
 pub use segments::Segments;

@@ -4,7 +4,7 @@ ghost use Rattle.ng_block.specs.Paths.{straight, feed_path, path_of, path_segmen
 
 use crate::goal::Goal;
 use crate::modes::Motion;
-use ng_canon::{Arc, ArcFeed, Command, Line, Pace, Rate, Segment, Spindle};
+use ng_canon::{Arc, ArcFeed, Command, Pace, Rate, Segment, Spindle, StraightMove};
 use ng_num::Point;
 use std::marker::Model;
 
@@ -13,7 +13,7 @@ use std::marker::Model;
 pub enum Path {
     /// The machine stays where it is.
     Still,
-    Straight(Line),
+    Straight(StraightMove),
 }
 
 /// The segments that are left of a path.
@@ -66,7 +66,7 @@ impl Moves {
 fn straight(pace: Pace, start: Point, end: Point) -> Path
     ensures { result ≡ straight pace start end }
 {
-    Path::Straight(Line { start, end, pace })
+    Path::Straight(StraightMove { start, end, pace })
 }
 
 /// The path of a feed move.

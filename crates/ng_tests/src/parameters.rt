@@ -104,7 +104,7 @@ fn points_lie_at_their_numbers(rt: HostRuntime) -> Result<(), Fail> {
         assert_eq!(rt; count(&params, number), want, "parameter {number}");
     }
     assert_eq!(rt; params.origin(nine), point(-1, 2, 3));
-    assert_eq!(rt; params.origin(System::first()), Point::origin());
+    assert_eq!(rt; params.origin(System::first()), Point::zero());
     assert_eq!(rt; params.g92_stored(), point(4, 5, 6));
     assert_eq!(rt; params.home(), point(7, 0, 0));
     assert_eq!(rt; params.second_home(), point(0, 0, 8));

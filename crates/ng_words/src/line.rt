@@ -11,7 +11,7 @@ use crate::pieces::Pieces;
 use crate::reading::read_pieces;
 use crate::start::{Head, block_number, slash};
 use crate::tree::{NODES, Node};
-use crate::value::Stack;
+use crate::value::WaitingList;
 use arrayvec::ArrayVec;
 use ng_num::Fault;
 use std::marker::Model;
@@ -34,7 +34,7 @@ pub struct Line {
     /// The bytes of all comments, in order.
     bytes: ArrayVec<u8, BYTES>,
     /// What waits while a value is read; nothing between lines.
-    stack: Stack,
+    stack: WaitingList,
 }
 
 impl Model for Line {

@@ -1,6 +1,6 @@
 use Rattle.std.proofs.Common.{◌≡◌, [], length}
 use Rattle.ng_block.specs.Segments.{rest_segments}
-use Rattle.ng_block.proofs.segments.Rest.step.Given as goal
+use Rattle.ng_block.proofs.segments.SegmentsLeft.step.Given as goal
 
 abbrev pub invariant-loop-self : goal.invariant-loop-self
 invariant-loop-self l = record {

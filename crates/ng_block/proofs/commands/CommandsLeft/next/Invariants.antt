@@ -1,6 +1,6 @@
 use Rattle.std.proofs.Common.{◌≡◌, [], length}
 use Rattle.ng_block.specs.Commands.{begun_commands, rest_commands}
-use Rattle.ng_block.proofs.commands.Rest.next.Given as goal
+use Rattle.ng_block.proofs.commands.CommandsLeft.next.Given as goal
 
 abbrev pub invariant-loop-self : goal.invariant-loop-self
 invariant-loop-self l = record {
