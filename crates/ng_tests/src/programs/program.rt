@@ -55,8 +55,10 @@ fn reads_the_words(rt: HostRuntime) -> Result<(), Fail> {
 
 /// How help begins, of the program and of `dry`; how the text of wrong words begins.
 const HELP: &str = "A controller for three-axis milling machines\n\nUsage: ngc <COMMAND>\n";
+
 const DRY_HELP: &str =
     "Run a program without a machine and print its canonical text\n\nUsage: ngc dry [OPTIONS] <PROGRAM>\n";
+
 const WRONG: &str = "error: ";
 
 #[test]
@@ -72,8 +74,14 @@ fn answers_wrong_words_and_help_with_text(rt: HostRuntime) -> Result<(), Fail> {
         (&["ngc", "help", "wet"], WRONG),
         (&["ngc", "dry", "a.ngc", "b.ngc"], WRONG),
         (&["ngc", "wet", "a.ngc"], WRONG),
-        (&["ngc", "dry", "a.ngc", "--block-delete", "--block-delete"], WRONG),
-        (&["ngc", "dry", "--block-delete", "a.ngc", "--block-delete"], WRONG),
+        (
+            &["ngc", "dry", "a.ngc", "--block-delete", "--block-delete"],
+            WRONG,
+        ),
+        (
+            &["ngc", "dry", "--block-delete", "a.ngc", "--block-delete"],
+            WRONG,
+        ),
         (&["ngc", "dry", "--block-delete"], WRONG),
         (&["ngc", "dry", "a.ngc", "--block-delete=true"], WRONG),
         (&["ngc", "dry", "a.ngc", "--block-deletes"], WRONG),
@@ -84,10 +92,18 @@ fn answers_wrong_words_and_help_with_text(rt: HostRuntime) -> Result<(), Fail> {
     for (given, beginning) in rows {
         let mut text = Vec::new(rt.alloc());
         assert!(rt; ngc(&rt, given, &mut text) == 2, "{given:?}");
-        assert!(rt; text.as_slice().starts_with(beginning.as_bytes()), "{given:?}");
+        assert!(rt;
+            text.as_slice().starts_with(beginning.as_bytes()),
+            "{given:?}"
+        );
         // help says what an exit status means
-        let says = text.as_slice().ends_with(b"A file that can't be read prints nothing.\n");
-        assert!(rt; says == (beginning == HELP || beginning == DRY_HELP), "{given:?}");
+        let says = text
+            .as_slice()
+            .ends_with(b"A file that can't be read prints nothing.\n");
+        assert!(rt;
+            says == (beginning == HELP || beginning == DRY_HELP),
+            "{given:?}"
+        );
     }
     Ok(())
 }
