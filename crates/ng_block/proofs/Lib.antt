@@ -4,3 +4,4 @@ pub mod LineLemmas
 pub mod StepLemmas
 pub mod DrainLemmas
 pub mod CloseLemmas
+pub mod TaskLemmas
