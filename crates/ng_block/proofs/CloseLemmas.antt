@@ -2,11 +2,13 @@
 use Rattle.std.proofs.Common.{◌≡◌, ◌≢◌, ℕ, List, [], ◌∷◌, ◌++◌, length, take, Bool, false, ◌==◌, Option, None, Some, Result, Ok, Err, IfSome, refl, sym, ap, ◌∙◌, subst, append_assoc, append-nil}
 use Rattle.std.specs.Str.Lines.{lines}
 use Rattle.std.specs.Io.KnownBytes.{Appends, Consumes, IsAtEnd}
-use Rattle.ng_block.specs.Dry.{Terms, Output, onto, outcome, Finishes, output_of}
-use Rattle.ng_block.specs.Parts.{Progress, begun, due, rest_of, HasNoNewline, Goes, Ends, Breaks, Wrote}
+use Rattle.ng_block.specs.Dry.{Terms, Output, onto, Finishes, output_of}
+use Rattle.ng_block.specs.Parts.{Progress, begun, outcome_by, due, rest_of, HasNoNewline, Goes, Ends, Breaks, Wrote}
 use Rattle.ng_block.specs.declared.ending.Ended.{Ended}
 use Rattle.ng_block.specs.declared.ending.DryFault.{DryFault}
+use Rattle.ng_block.specs.Setup.{fresh}
 use Rattle.ng_block.proofs.LineLemmas.{lines-alone}
+use Rattle.ng_block.proofs.PercentLemmas.{outcome_is}
 use Rattle.ng_block.proofs.Streams.{Appends-nil, Appends-trans, Consumes-nil}
 
 pub Finishes-from : (a b : Option (List ℕ)) (o before : Output) (r : Result Ended DryFault) → before ≡ o → Finishes a b o r → Finishes a b before r
@@ -77,7 +79,7 @@ run_stops r0 r1 w0 w1 w2 before out p kept fault read run wrote =
       text = wrote.0;
       appends = wrote.2;
       rest = λ more.
-          let o = outcome p.terms p.frame p.setup p.number (lines (kept ++ more)) in
+          let o = outcome_by p.terms p.first p.setup p.number (lines (kept ++ more)) in
           (wrote.1 ++ o.text, ap (λ l. l ++ o.text) wrote.3 ∙ append_assoc wrote.0 wrote.1 o.text);
     })
 
@@ -86,7 +88,7 @@ pub Goes-begun : (a : Option (List ℕ)) (terms : Terms) (p : Progress) (kept : 
 Goes-begun a terms p kept e f = record {
   text = [];
   appends = Appends-nil a;
-  rest = λ more. ap (λ q. onto [] (rest_of q [] more)) (sym e) ∙ ap (λ k. onto [] (rest_of p k more)) (sym f);
+  rest = λ more. outcome_is terms [] fresh (lines more) ∙ ap (λ q. onto [] (rest_of q [] more)) (sym e) ∙ ap (λ k. onto [] (rest_of p k more)) (sym f);
 }
 
 -- the last line was carried out, and then the text ended

@@ -1,6 +1,7 @@
 pub mod Streams
 pub mod RunLemmas
 pub mod LineLemmas
+pub mod PercentLemmas
 pub mod StepLemmas
 pub mod DrainLemmas
 pub mod CloseLemmas

@@ -2,45 +2,46 @@
 use Rattle.std.proofs.Common.{◌≡◌, ℕ, ◌+◌, List, ◌∷◌, ◌++◌, Option, Bool, true, false, Result, Ok, Err, subst, refl, ap, sym, ◌∙◌, append_assoc, append-nil, []}
 use Rattle.std.specs.Io.KnownBytes.{Appends}
 use Rattle.ng_num.specs.declared.fault.Fault.{Fault}
+use Rattle.ng_words.specs.Kinds.{kind_of}
 use Rattle.ng_block.specs.Effects.{Done}
-use Rattle.ng_block.specs.Dry.{Output, onto, outcome, after_line, executed_in_frame, commands_text, is_end, frame_after, refused, Finishes}
-use Rattle.ng_block.specs.Parts.{Progress, due, Goes, Breaks, Drains}
+use Rattle.ng_block.specs.Dry.{Output, onto, after_line, commands_text, is_end, kind_before, refused, Finishes}
+use Rattle.ng_block.specs.Parts.{Progress, executed_behind, outcome_by, due, Goes, Breaks, Drains}
 use Rattle.ng_block.specs.declared.ending.Ended.{Ended}
 use Rattle.ng_block.specs.declared.ending.Ended.TheVariants as ended
 use Rattle.ng_block.specs.declared.ending.DryFault.{DryFault}
 use Rattle.ng_block.proofs.Streams.{Appends-trans}
 
 -- what a line gives
-due-line : (here start : Progress) (line : List ℕ) (r : Result Done Fault) (more : List (List ℕ)) → here ≡ start → executed_in_frame here.terms here.frame here.setup line ≡ r
-    → due start (line ∷ more) ≡ onto here.text (after_line here.number r (λ after. outcome here.terms (frame_after here.frame line) after (here.number + 1) more))
+due-line : (here start : Progress) (line : List ℕ) (r : Result Done Fault) (more : List (List ℕ)) → here ≡ start → executed_behind here.terms here.first here.setup line ≡ r
+    → due start (line ∷ more) ≡ onto here.text (after_line here.number r (λ after. outcome_by here.terms (kind_before here.first (kind_of line)) after (here.number + 1) more))
 due-line here start line r more same is =
-    ap (λ p. due p (line ∷ more)) (sym same) ∙ ap (λ answer. onto here.text (after_line here.number answer (λ after. outcome here.terms (frame_after here.frame line) after (here.number + 1) more))) is
+    ap (λ p. due p (line ∷ more)) (sym same) ∙ ap (λ answer. onto here.text (after_line here.number answer (λ after. outcome_by here.terms (kind_before here.first (kind_of line)) after (here.number + 1) more))) is
 
 -- a line that is refused
-pub due-refused : (here start : Progress) (line : List ℕ) (fault : Fault) (more : List (List ℕ)) → here ≡ start → executed_in_frame here.terms here.frame here.setup line ≡ Err fault
+pub due-refused : (here start : Progress) (line : List ℕ) (fault : Fault) (more : List (List ℕ)) → here ≡ start → executed_behind here.terms here.first here.setup line ≡ Err fault
     → due start (line ∷ more) ≡ onto here.text (refused here.number fault)
 due-refused here start line fault more same is = due-line here start line (Err fault) more same is
 
 -- a line that ends the program
-pub due-end : (here start : Progress) (line : List ℕ) (done : Done) (more : List (List ℕ)) → here ≡ start → executed_in_frame here.terms here.frame here.setup line ≡ Ok done → is_end done.stop ≡ true
+pub due-end : (here start : Progress) (line : List ℕ) (done : Done) (more : List (List ℕ)) → here ≡ start → executed_behind here.terms here.first here.setup line ≡ Ok done → is_end done.stop ≡ true
     → due start (line ∷ more) ≡ record { text = here.text ++ commands_text done.commands; ended = ended.Done }
 due-end here start line done more same is end = due-line here start line (Ok done) more same is ∙ rw end refl
 
 -- a line after which the run goes on
-pub due-next : (here start : Progress) (line : List ℕ) (done : Done) (more : List (List ℕ)) → here ≡ start → executed_in_frame here.terms here.frame here.setup line ≡ Ok done → is_end done.stop ≡ false
-    → due start (line ∷ more) ≡ onto (here.text ++ commands_text done.commands) (outcome here.terms (frame_after here.frame line) done.setup (here.number + 1) more)
+pub due-next : (here start : Progress) (line : List ℕ) (done : Done) (more : List (List ℕ)) → here ≡ start → executed_behind here.terms here.first here.setup line ≡ Ok done → is_end done.stop ≡ false
+    → due start (line ∷ more) ≡ onto (here.text ++ commands_text done.commands) (outcome_by here.terms (kind_before here.first (kind_of line)) done.setup (here.number + 1) more)
 due-next here start line done more same is goes =
-    let o = outcome here.terms (frame_after here.frame line) done.setup (here.number + 1) more in
+    let o = outcome_by here.terms (kind_before here.first (kind_of line)) done.setup (here.number + 1) more in
     due-line here start line (Ok done) more same is ∙ rw goes (ap (λ l. record { text = l; ended = o.ended }) (sym (append_assoc here.text (commands_text done.commands) o.text)))
 
 -- what is to be written begins with what the line prints
-pub due-begins : (here start : Progress) (line : List ℕ) (done : Done) (more : List (List ℕ)) → here ≡ start → executed_in_frame here.terms here.frame here.setup line ≡ Ok done
+pub due-begins : (here start : Progress) (line : List ℕ) (done : Done) (more : List (List ℕ)) → here ≡ start → executed_behind here.terms here.first here.setup line ≡ Ok done
     → (after : List ℕ) × ((due start (line ∷ more)).text ≡ (here.text ++ commands_text done.commands) ++ after)
 due-begins here start line done more same is = due-begins_at (is_end done.stop) refl
   where
     due-begins_at : (t : Bool) → is_end done.stop ≡ t → (after : List ℕ) × ((due start (line ∷ more)).text ≡ (here.text ++ commands_text done.commands) ++ after)
     due-begins_at true e = ([], ap (λ (o : Output). o.text) (due-end here start line done more same is e) ∙ sym (append-nil (here.text ++ commands_text done.commands)))
-    due-begins_at false e = ((outcome here.terms (frame_after here.frame line) done.setup (here.number + 1) more).text, ap (λ (o : Output). o.text) (due-next here start line done more same is e))
+    due-begins_at false e = ((outcome_by here.terms (kind_before here.first (kind_of line)) done.setup (here.number + 1) more).text, ap (λ (o : Output). o.text) (due-next here start line done more same is e))
 
 -- what waits was written or waits still, and then the run ended
 pub Finishes-drained : {T : Type 0} (a b c : Option (List ℕ)) (waiting left : List ℕ) (end : Ended) (x : T) (r : Result Ended DryFault) → Drains a b waiting left (Ok x) → Finishes b c (record { text = left; ended = end }) r

@@ -1,12 +1,13 @@
 -- The parts of a run, each for every continuation of the program.
 use Rattle.std.proofs.Common.{◌≡◌, ℕ, ◌+◌, ◌<◌, List, [], ◌∷◌, ◌++◌, length, Option, None, Some, Result, Ok, Err, sym, ap, ◌∙◌, append_assoc}
 use Rattle.std.specs.Str.Lines.{lines, strip_carriage_return}
+use Rattle.ng_words.specs.Kinds.{kind_of}
 use Rattle.ng_num.specs.declared.fault.Fault.TheVariants.{LineTooLong}
-use Rattle.ng_block.specs.Dry.{Output, onto, outcome, after_line, frame_after, refused, Finishes}
-use Rattle.ng_block.specs.Parts.{Progress, due, rest_of, HasNoNewline, Goes, Ends, Breaks, Stepped}
+use Rattle.ng_block.specs.Dry.{Output, onto, after_line, kind_before, refused, Finishes}
+use Rattle.ng_block.specs.Parts.{Progress, outcome_by, due, rest_of, HasNoNewline, Goes, Ends, Breaks, Stepped}
 use Rattle.ng_block.specs.declared.ending.Ended.{Ended}
 use Rattle.ng_block.specs.declared.ending.DryFault.{DryFault}
-use Rattle.ng_block.proofs.LineLemmas.{lines-newline, lines-long, executed_in_frame-long}
+use Rattle.ng_block.proofs.LineLemmas.{lines-newline, lines-long, executed_behind-long}
 use Rattle.ng_block.proofs.Streams.{Appends-trans}
 
 -- a part that begins elsewhere
@@ -71,7 +72,7 @@ Stepped-line a b p q kept line left stripped r none is nothing h =
 due-long : (p : Progress) (front more : List ℕ) → HasNoNewline front → 257 < length front → due p (lines (front ++ more)) ≡ onto p.text (refused p.number LineTooLong)
 due-long p front more none long =
     let found = lines-long front more none long in
-    ap (due p) found.2 ∙ ap (λ r. onto p.text (after_line p.number r (λ after. outcome p.terms (frame_after p.frame found.0) after (p.number + 1) found.1))) (executed_in_frame-long p.terms p.frame p.setup found.0 found.3)
+    ap (due p) found.2 ∙ ap (λ r. onto p.text (after_line p.number r (λ after. outcome_by p.terms (kind_before p.first (kind_of found.0)) after (p.number + 1) found.1))) (executed_behind-long p.terms p.first p.setup found.0 found.3)
 
 pub rest_of-long : (p : Progress) (kept bytes more : List ℕ) → HasNoNewline (kept ++ bytes) → 257 < length (kept ++ bytes) → rest_of p kept (bytes ++ more) ≡ onto p.text (refused p.number LineTooLong)
 rest_of-long p kept bytes more none long = ap (λ l. due p (lines l)) (sym (append_assoc kept bytes more)) ∙ due-long p (kept ++ bytes) more none long

@@ -9,7 +9,7 @@ use Rattle.ng_canon.specs.declared.geometry.Geometry.{Geometry}
 use Rattle.ng_words.specs.Reading.{read}
 use Rattle.ng_words.specs.Grammar.{Piece}
 use Rattle.ng_words.specs.Lines.{last_comment}
-use Rattle.ng_expr.specs.Value.{and_then}
+use Rattle.ng_num.specs.Results.{and_then}
 use Rattle.ng_expr.specs.Settle.{Settled, settled}
 use Rattle.ng_modal.specs.Check.{checked, first_fault}
 use Rattle.ng_modal.specs.Later.{is_later}
@@ -60,14 +60,12 @@ lawful (Some fault) answer = Err fault
 abbrev pub plan_of : List Canonical → Tasks → Goal → Machine → Plan
 plan_of remark tasks goal m = record { remark = remark; tasks = tasks; path = goal.path; origin = goal.offsets.origin; before = m.outputs }
 
-abbrev pub done_by : Plan → Machine → Goal → Stop → Setup → Done
-done_by p after goal stop s = record { setup = changed s after goal.changes; before = p.before; segments = segments_of p; commands = commands_of p; stop = stop }
-
 -- what a lawful block does
 abbrev pub block_done : Block → Goal → List Canonical → Setup → Done
 block_done b goal remark s =
     let tasks = tasks_of b (feed_mode_after b s.machine.modes) goal.feed_per_min s.machine.outputs in
-    done_by (plan_of remark tasks goal s.machine) (machine_after b goal tasks s.machine) goal (stop_of b.m.stop) s
+    let plan = plan_of remark tasks goal s.machine in
+    record { setup = changed s (machine_after b goal tasks s.machine) goal.changes; before = plan.before; segments = segments_of plan; commands = commands_of plan; stop = stop_of b.m.stop }
 
 -- what the values of a line do. It is refused by B1 to B19 of its words, then for a code that isn't built (B3), then for a computed
 -- length (E3), then for its move (X1, X2); of each of these by the first whose cause holds

@@ -1,29 +1,48 @@
--- The parts of a dry run (own): each says what it did for every continuation of the program.
-use Rattle.std.specs.Prelude.{ℕ, ◌≡◌, ◌≢◌, List, [], ◌∷◌, ◌++◌, Option, None, Some, Result, Ok, Err, take}
+-- For the proofs of the dry run alone, which promise nothing outside: what its parts do, each for every continuation of
+-- the program.
+use Rattle.std.specs.Prelude.{ℕ, ◌+◌, ◌≡◌, ◌≢◌, List, [], ◌∷◌, ◌++◌, Option, None, Some, Result, Ok, Err, take, if◌then◌else◌}
 use Rattle.std.specs.Str.Lines.{lines}
 use Rattle.std.specs.Io.KnownBytes.{Appends}
 use Rattle.ng_block.specs.Setup.{Setup, fresh}
-use Rattle.ng_block.specs.Dry.{Terms, Output, onto, outcome}
-use Rattle.ng_block.specs.declared.frame.Frame.{Frame}
-use Rattle.ng_block.specs.declared.frame.Frame.TheVariants.{Undecided}
+use Rattle.ng_num.specs.declared.fault.Fault.{Fault}
+use Rattle.ng_words.specs.Kinds.{kind_of}
+use Rattle.ng_words.specs.declared.start.Kind.{Kind}
+use Rattle.ng_words.specs.declared.start.Kind.TheVariants.{Blank}
+use Rattle.ng_block.specs.Effects.{Done}
+use Rattle.ng_block.specs.Dry.{Terms, Output, onto, refused, after_line, framed, is_percent, percent_behind, kind_before, missing_end, executed_unless_deleted}
+use Rattle.ng_block.specs.declared.effect.Stop.{Stop}
 use Rattle.ng_block.specs.declared.ending.Ended.{Ended}
 use Rattle.ng_block.specs.declared.ending.DryFault.{DryFault}
 
--- a run between two lines: its terms, the frame, the state, the number of the next line, and the text not yet written
+-- a run between two lines: its terms, the kind of the first line that isn't blank, the state, the number of the next line, and the text not yet written
 pub record Progress : Type 0 where
   pub terms : Terms
-  pub frame : Frame
+  pub first : Kind
   pub setup : Setup
   pub number : ℕ
   pub text : List ℕ
 
 -- a run before the first line
 abbrev pub begun : Terms → Progress
-begun terms = record { terms = terms; frame = Undecided; setup = fresh; number = 1; text = [] }
+begun terms = record { terms = terms; first = Blank; setup = fresh; number = 1; text = [] }
+
+-- how the program goes on behind a line, by the kind of the first line before it that isn't blank
+abbrev pub percent_by : Kind → List ℕ → Option Stop
+percent_by first line = if is_percent line then percent_behind first else None
+
+-- what a line does, likewise
+abbrev pub executed_behind : Terms → Kind → Setup → List ℕ → Result Done Fault
+executed_behind terms first setup line = framed (percent_by first line) setup (executed_unless_deleted terms setup line)
+
+-- the fold over the lines that are left, likewise
+abbrev pub outcome_by : Terms → Kind → Setup → ℕ → List (List ℕ) → Output
+outcome_by terms first setup number [] = refused number (missing_end first)
+outcome_by terms first setup number (l ∷ ls) =
+    after_line number (executed_behind terms first setup l) (λ after. outcome_by terms (kind_before first (kind_of l)) after (number + 1) ls)
 
 -- what a run has still to write where these lines follow
 abbrev pub due : Progress → List (List ℕ) → Output
-due p ls = onto p.text (outcome p.terms p.frame p.setup p.number ls)
+due p ls = onto p.text (outcome_by p.terms p.first p.setup p.number ls)
 
 -- the same of a run that holds the beginning of a line, where these bytes follow
 abbrev pub rest_of : Progress → List ℕ → List ℕ → Output

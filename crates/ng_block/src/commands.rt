@@ -3,23 +3,24 @@ ghost use Rattle.std.specs.Prelude.{◌≡◌, ◌∷◌, [], map, MatchOption, 
 ghost use Rattle.ng_canon.specs.Text.{canonical, numeric};
 ghost use Rattle.ng_block.specs.Commands.{begun_commands, rest_commands};
 ghost use Rattle.ng_block.specs.Effects.{plan_by, commands_by};
+ghost use Rattle.ng_block.specs.Paths.{pace_command};
 ghost use Rattle.ng_block.specs.Tasks.{tasks_in};
 ghost use Rattle.ng_block.specs.Order.{commands_at, numeric_at, command_at, task_commands, coolant_commands, stop_commands};
 
 use crate::effect::Effect;
-use crate::path::{Moves, Path, command_of, pace_command, spindle_command};
+use crate::path::{Moves, Path, command_of, spindle_command};
 use crate::steps::{ORDER, Step};
 use crate::tasks::Tasks;
 use arrayvec::ArrayVec;
-use ng_canon::{Canon, Command, Plane};
+use ng_canon::{Canon, Command, Plane, StraightMove};
 use ng_modal::{Coolant, Stop as StopWord};
 use ng_num::Point;
 use std::marker::Model;
 
 /// The most commands of a step but the motion.
-const WAITING: usize = 8;
+const MOST: usize = 8;
 
-type Waiting = ArrayVec<Command, WAITING>;
+type OfStep = ArrayVec<Command, MOST>;
 
 /// The command of a step that has at most one.
 fn command_at(tasks: &Tasks, step: Step) -> Option<Command>
@@ -40,7 +41,7 @@ fn command_at(tasks: &Tasks, step: Step) -> Option<Command>
     Some(command)
 }
 
-fn put_coolant(coolant: Option<Coolant>, commands: &mut Waiting)
+fn put_coolant(coolant: Option<Coolant>, commands: &mut OfStep)
     requires { commands.old.items ≡ [] }
     ensures { commands.new.items ≡ coolant_commands coolant }
 {
@@ -56,7 +57,7 @@ fn put_coolant(coolant: Option<Coolant>, commands: &mut Waiting)
 }
 
 /// The commands of the program's end, but for its shuttle and its last one.
-fn put_end(origin: Point, commands: &mut Waiting)
+fn put_end(origin: Point, commands: &mut OfStep)
     requires { commands.old.items ≡ [] }
     ensures { commands.new.items ≡ Command.OriginOffsets origin ∷ Command.SelectPlane Plane.Xy ∷ Command.StopSpindle ∷ Command.MistOff ∷ Command.FloodOff ∷ [] }
 {
@@ -67,7 +68,7 @@ fn put_end(origin: Point, commands: &mut Waiting)
     commands.push(Command::FloodOff);
 }
 
-fn put_stop(word: Option<StopWord>, origin: Point, commands: &mut Waiting)
+fn put_stop(word: Option<StopWord>, origin: Point, commands: &mut OfStep)
     requires { commands.old.items ≡ [] }
     ensures { commands.new.items ≡ stop_commands word origin }
 {
@@ -92,7 +93,7 @@ fn put_stop(word: Option<StopWord>, origin: Point, commands: &mut Waiting)
 }
 
 /// Puts the commands of a step, but for its remark and its moves.
-fn put_tasks(tasks: &Option<Tasks>, origin: Point, step: Step, commands: &mut Waiting)
+fn put_tasks(tasks: &Option<Tasks>, origin: Point, step: Step, commands: &mut OfStep)
     requires { commands.old.items ≡ [] }
     ensures { commands.new.items ≡ task_commands (tasks_in tasks.now) origin step }
 {
@@ -108,10 +109,10 @@ fn put_tasks(tasks: &Option<Tasks>, origin: Point, step: Step, commands: &mut Wa
 
 /// What is left of a block's commands.
 #[derive(Drop)]
-struct Rest<'a> {
+struct CommandsLeft<'a> {
     effect: &'a Effect,
     /// Those of the step that has begun, from `taken` on.
-    waiting: Waiting,
+    waiting: OfStep,
     taken: usize,
     /// The segments of the motion, where that has begun.
     moves: Moves,
@@ -122,7 +123,7 @@ struct Rest<'a> {
 /// The commands that are left of a block, in their order.
 #[derive(Drop)]
 pub struct Commands<'a> {
-    rest: Rest<'a>,
+    rest: CommandsLeft<'a>,
 }
 
 impl<'a> Model for Commands<'a> {
@@ -141,7 +142,7 @@ impl Effect {
         ensures { result ≡ commands_by self.now }
     {
         Commands {
-            rest: Rest {
+            rest: CommandsLeft {
                 effect: self,
                 waiting: ArrayVec::new(),
                 taken: 0,
@@ -151,23 +152,23 @@ impl Effect {
         }
     }
 
-    /// The one command of a block that only goes straight and says nothing; none of any other.
+    /// The one move of a block that only goes straight and says nothing; none of any other.
     #[inline]
-    pub(crate) fn only_command(&self) -> Option<Command>
-        ensures { IfSome result (λ command. commands_by self.now ≡ numeric command ∷ []) }
+    pub(crate) fn only_move(&self) -> Option<&StraightMove>
+        ensures { IfSome result (λ move. commands_by self.now ≡ numeric (pace_command move.now.pace move.now.end) ∷ []) }
     {
         if self.plan.tasks.is_some() || self.plan.remark.manner.is_some() {
             return None;
         }
-        match self.plan.path {
-            Path::Straight(line) => Some(pace_command(line.pace, line.end)),
+        match &self.plan.path {
+            Path::Straight(line) => Some(line),
             Path::Still => None,
             Path::WithoutFeed => None,
         }
     }
 }
 
-impl<'a> Rest<'a> {
+impl<'a> CommandsLeft<'a> {
     /// The next command of the step that has begun.
     fn next_begun(&mut self) -> Option<Command>
         ensures effect { self.new.effect ≡ self.old.effect }

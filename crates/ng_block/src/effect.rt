@@ -119,7 +119,7 @@ fn offsets_after<A: Allocator + Copy + Drop>(
     if ends(block.m.stop) {
         Offsets {
             origin: first_origin(params, settings),
-            g92: Point::origin(),
+            g92: Point::zero(),
             tool_length: offsets.tool_length,
         }
     } else {

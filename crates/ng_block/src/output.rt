@@ -10,6 +10,7 @@ ghost use Rattle.ng_block.specs.Effects.{commands_by};
 use crate::commands::Commands;
 use crate::effect::Effect;
 use crate::ending::DryFault;
+use crate::path::pace_command;
 use ng_canon::{Canon, Command, print, print_command};
 use ng_num::{Fault, print_whole};
 use std::alloc::{AllocError, Allocator};
@@ -80,7 +81,7 @@ pub fn break_off<W: Write, A: Allocator + Copy + Drop>(
 
 /// Prints a command behind the text that waits, and writes that where it is long. Before `DryFault::Memory` what
 /// waited is written.
-pub fn put<W: Write, A: Allocator + Copy + Drop>(
+pub fn put_canon<W: Write, A: Allocator + Copy + Drop>(
     text: &mut Vec<u8, A>,
     writer: &mut W,
     canon: &Canon<'_>,
@@ -117,7 +118,7 @@ fn put_commands<W: Write, A: Allocator + Copy + Drop>(
     ensures { Drains (W.contents writer.old) (W.contents writer.new) (text.old.items ++ commands_text commands.old) text.new.items result }
 {
     while let Some(canon) = commands.next() {
-        match put(text, writer, &canon) {
+        match put_canon(text, writer, &canon) {
             Ok(()) => {}
             Err(fault) => return Err(fault),
         }
@@ -152,7 +153,18 @@ fn push_line<A: Allocator + Copy + Drop>(
     text.extend_from_slice(b"\n")
 }
 
-/// Prints what a line does, likewise.
+/// Prints all commands of a line, likewise.
+fn put_all<W: Write, A: Allocator + Copy + Drop>(
+    text: &mut Vec<u8, A>,
+    writer: &mut W,
+    effect: &Effect,
+) -> Result<(), DryFault>
+    ensures { Drains (W.contents writer.old) (W.contents writer.new) (text.old.items ++ commands_text (commands_by effect.now)) text.new.items result }
+{
+    put_commands(text, writer, &mut effect.commands())
+}
+
+/// Prints what a line does, likewise; of nearly every line this is one move.
 pub fn put_effect<W: Write, A: Allocator + Copy + Drop>(
     text: &mut Vec<u8, A>,
     writer: &mut W,
@@ -160,9 +172,9 @@ pub fn put_effect<W: Write, A: Allocator + Copy + Drop>(
 ) -> Result<(), DryFault>
     ensures { Drains (W.contents writer.old) (W.contents writer.new) (text.old.items ++ commands_text (commands_by effect.now)) text.new.items result }
 {
-    match effect.only_command() {
-        Some(command) => put_command(text, writer, &command),
-        None => put_commands(text, writer, &mut effect.commands()),
+    match effect.only_move() {
+        Some(line) => put_command(text, writer, &pace_command(line.pace, line.end)),
+        None => put_all(text, writer, effect),
     }
 }
 

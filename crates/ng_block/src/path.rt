@@ -2,7 +2,7 @@
 ghost use Rattle.std.specs.Prelude.{◌≡◌, ◌∷◌, [], MatchOption};
 ghost use Rattle.ng_block.specs.Paths.{moving_at, point_after, path_segments, pace_command, spindle_command, command_of};
 
-use ng_canon::{Arc, ArcFeed, Command, Line, Pace, Segment, Spindle};
+use ng_canon::{Arc, ArcFeed, Command, Pace, Segment, Spindle, StraightMove};
 use ng_num::Point;
 use std::marker::Model;
 
@@ -13,7 +13,7 @@ pub enum Path {
     Still,
     /// A move whose feed or time is missing: its block is refused (X1).
     WithoutFeed,
-    Straight(Line),
+    Straight(StraightMove),
 }
 
 impl Path {
@@ -23,7 +23,7 @@ impl Path {
         ensures { result ≡ moving_at pace start end }
     {
         match pace {
-            Some(pace) => Path::Straight(Line { start, end, pace }),
+            Some(pace) => Path::Straight(StraightMove { start, end, pace }),
             None => Path::WithoutFeed,
         }
     }

@@ -5,12 +5,13 @@ ghost use Rattle.ng_words.specs.Kept.{pieces_by};
 ghost use Rattle.ng_expr.specs.Settle.{settled_of};
 ghost use Rattle.ng_block.specs.Effects.{executed, executed_pieces, executed_values, in_state};
 ghost use Rattle.ng_block.specs.Remarks.{remark_of};
-ghost use Rattle.ng_block.specs.Dry.{deleted, executed_unless_deleted, executed_in_frame};
+ghost use Rattle.ng_block.specs.Dry.{deleted, executed_unless_deleted};
+ghost use Rattle.ng_block.specs.Parts.{executed_behind};
 
 use crate::effect::{Effect, Stop};
 use crate::faults::path_fault;
-use crate::frame::Frame;
 use crate::machine::Machine;
+use crate::percent::percent_at;
 use crate::state::State;
 use crate::terms::Terms;
 use crate::tools::Tools;
@@ -18,7 +19,7 @@ use ng_canon::Geometry;
 use ng_expr::Values;
 use ng_modal::Sorted;
 use ng_num::Fault;
-use ng_words::{Line, is_deletable};
+use ng_words::{Kind, Line, is_deletable, is_too_long};
 use std::alloc::Allocator;
 
 /// The places that a line is read into, its values are found in and its effect is put into. They serve any number of
@@ -95,7 +96,7 @@ fn delete<A: Allocator + Copy + Drop>(
 ) -> Result<(), Fault>
     ensures { MatchResult result (λ _. deleted state.now text.now ≡ Ok (in_state state.now effect.new)) (λ f. deleted state.now text.now ≡ Err f) }
 {
-    if text.len() > 256 {
+    if is_too_long(text) {
         return Err(Fault::LineTooLong);
     }
     effect.leave(state, Stop::GoesOn);
@@ -160,17 +161,17 @@ impl Places {
         self.execute(state, text, terms.tools, terms.geometry)
     }
 
-    /// The same in a frame, where it may be a percent line.
-    pub(crate) fn execute_in_frame<A: Allocator + Copy + Drop>(
+    /// The same behind lines before it, whose first that isn't blank is of a kind: it may be a percent line.
+    pub(crate) fn execute_behind<A: Allocator + Copy + Drop>(
         &mut self,
         terms: &Terms<'_>,
-        frame: Frame,
+        first: Kind,
         state: &State<A>,
         text: &[u8],
     ) -> Result<(), Fault>
-        ensures { MatchResult result (λ _. executed_in_frame terms.now frame state.now text.now ≡ Ok (in_state state.now self.new.effect)) (λ f. executed_in_frame terms.now frame state.now text.now ≡ Err f) }
+        ensures { MatchResult result (λ _. executed_behind terms.now first state.now text.now ≡ Ok (in_state state.now self.new.effect)) (λ f. executed_behind terms.now first state.now text.now ≡ Err f) }
     {
-        match frame.percent_at(text) {
+        match percent_at(first, text) {
             Some(stop) => {
                 self.effect.leave(state, stop);
                 Ok(())

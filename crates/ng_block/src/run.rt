@@ -5,13 +5,14 @@ ghost use Rattle.ng_block.specs.Parts.{due, begun, Stepped, Wrote};
 
 use crate::effect::Stop;
 use crate::ending::{DryFault, Ended};
-use crate::frame::Frame;
 use crate::machine::Machine;
 use crate::output::{break_off, flush, put_effect, put_refusal};
+use crate::percent::{first_kind, missing_end};
 use crate::places::Places;
 use crate::state::State;
 use crate::terms::Terms;
 use ng_num::Fault;
+use ng_words::Kind;
 use std::alloc::{AllocError, Allocator};
 use std::io::Write;
 use std::marker::Model;
@@ -20,7 +21,8 @@ use std::marker::Model;
 #[derive(Drop)]
 pub struct Run<'a, A: Allocator> {
     terms: Terms<'a>,
-    frame: Frame,
+    /// The kind of the first line that isn't blank, of those before.
+    first: Kind,
     state: State<A>,
     number: u64,
     text: Vec<u8, A>,
@@ -33,7 +35,7 @@ impl<'a, A: Allocator> Model for Run<'a, A> {
 
     ghost Value = { Progress };
 
-    ghost view = { λ r. record { terms = r.terms; frame = r.frame; setup = r.state; number = r.number; text = r.text.items } };
+    ghost view = { λ r. record { terms = r.terms; first = r.first; setup = r.state; number = r.number; text = r.text.items } };
 }
 
 /// Whether the program ends.
@@ -53,7 +55,7 @@ impl<'a, A: Allocator + Copy + Drop> Run<'a, A> {
     {
         Ok(Run {
             terms,
-            frame: Frame::Undecided,
+            first: Kind::Blank,
             state: State::fresh(alloc)?,
             number: 1,
             text: Vec::new(alloc),
@@ -103,7 +105,7 @@ impl<'a, A: Allocator + Copy + Drop> Run<'a, A> {
     {
         if let Err(fault) = self
             .places
-            .execute_in_frame(&self.terms, self.frame, &self.state, line)
+            .execute_behind(&self.terms, self.first, &self.state, line)
         {
             return match self.refuse(writer, fault) {
                 Ok(end) => Ok(Some(end)),
@@ -114,7 +116,7 @@ impl<'a, A: Allocator + Copy + Drop> Run<'a, A> {
             return Err(broken);
         }
         self.state.apply(&self.places.effect);
-        self.frame = self.frame.after(line);
+        self.first = first_kind(self.first, line);
         if is_end(self.places.effect.stop) {
             return match self.end(writer, Ended::Done) {
                 Ok(end) => Ok(Some(end)),
@@ -129,7 +131,7 @@ impl<'a, A: Allocator + Copy + Drop> Run<'a, A> {
     pub fn end_of_text<W: Write>(&mut self, writer: &mut W) -> Result<Ended, DryFault>
         ensures { Finishes (W.contents writer.old) (W.contents writer.new) (due self.old []) result }
     {
-        let fault = self.frame.missing_end();
+        let fault = missing_end(self.first);
         self.refuse(writer, fault)
     }
 }

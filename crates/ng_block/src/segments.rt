@@ -14,7 +14,7 @@ use std::marker::Model;
 
 /// What is left of a block's segments.
 #[derive(Drop)]
-struct Rest<'a> {
+struct SegmentsLeft<'a> {
     effect: &'a Effect,
     /// The outputs as the last switch left them.
     now: Outputs,
@@ -29,7 +29,7 @@ struct Rest<'a> {
 /// The segments that are left of a block, in their order, and the outputs before them.
 #[derive(Drop)]
 pub struct Segments<'a> {
-    rest: Rest<'a>,
+    rest: SegmentsLeft<'a>,
 }
 
 impl<'a> Model for Segments<'a> {
@@ -49,7 +49,7 @@ impl Effect {
         let before = self.plan.before;
         let behind = before;
         Segments {
-            rest: Rest {
+            rest: SegmentsLeft {
                 effect: self,
                 now: before,
                 behind,
@@ -72,7 +72,7 @@ fn outputs_with(outputs: Outputs, segment: &Segment) -> Outputs
     }
 }
 
-impl<'a> Rest<'a> {
+impl<'a> SegmentsLeft<'a> {
     /// Begins a step, and gives its first segment.
     fn first_in(&mut self, step: Step) -> Option<Segment>
         requires { self.old.moves ≡ [] }

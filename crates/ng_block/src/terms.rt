@@ -13,9 +13,9 @@ pub struct Terms<'a> {
 }
 
 impl<'a> Model for Terms<'a> {
-    ghost use Rattle.ng_block.specs.Dry.{Terms as Given};
+    ghost use Rattle.ng_block.specs.Dry.{Terms as Stated};
 
-    ghost Value = { Given };
+    ghost Value = { Stated };
 
     ghost view = { λ t. record { block_delete = t.block_delete; tools = t.tools.now; geometry = t.geometry.now } };
 }

@@ -23,4 +23,4 @@ pub use outputs::{Outputs, Spindle};
 pub use pace::{InverseTime, Pace, Rate};
 pub use plane::{Plane, Turn};
 pub use printing::{print, print_command};
-pub use segment::{Arc, Line, Segment};
+pub use segment::{Arc, Segment, StraightMove};

@@ -5,7 +5,7 @@ use ng_num::{Len, Num, Point};
 
 /// A straight move between two machine points, perhaps of no length.
 #[derive(Clone, Copy, Debug, PartialEq, Eq)]
-pub struct Line {
+pub struct StraightMove {
     pub start: Point,
     pub end: Point,
     pub pace: Pace,
@@ -28,7 +28,7 @@ pub struct Arc {
 /// A part of a block that is journaled before it begins (own).
 #[derive(Clone, Copy, Debug, PartialEq, Eq)]
 pub enum Segment {
-    Line(Line),
+    Line(StraightMove),
     Arc(Arc),
     /// Seconds.
     Dwell(Num),

@@ -4,7 +4,7 @@ use Rattle.ng_num.specs.declared.fault.Fault.{Fault}
 use Rattle.ng_params.specs.declared.change.Change.{Change}
 use Rattle.ng_words.specs.Grammar.{Piece}
 use Rattle.ng_expr.specs.declared.word.Word.{Word}
-use Rattle.ng_expr.specs.Value.{and_then}
+use Rattle.ng_num.specs.Results.{and_then}
 use Rattle.ng_expr.specs.Settle.{Settled, followed, behind, given, settled}
 
 followed_assoc : (a b c : Settled) → followed a (followed b c) ≡ followed (followed a b) c

@@ -7,7 +7,8 @@ use Rattle.ng_words.specs.Kept.{postfix, IsTree, tree_by}
 use Rattle.ng_words.specs.declared.tree.Node.{Node}
 use Rattle.ng_words.specs.declared.tree.Node.TheVariants as node
 use Rattle.ng_words.proofs.Kept.{tree_by-postfix}
-use Rattle.ng_expr.specs.Value.{and_then, written, parameter_value, apply, join, value}
+use Rattle.ng_num.specs.Results.{and_then}
+use Rattle.ng_expr.specs.Value.{written, parameter_value, apply, join, value}
 use Rattle.ng_expr.specs.Walk.{onto, after_node, after_nodes}
 
 -- what goes on with a value put on top goes on with the value

@@ -1,4 +1,3 @@
 pub mod Value
 pub mod Settle
 pub mod Walk
-pub mod Settings

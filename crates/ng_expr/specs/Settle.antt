@@ -3,7 +3,8 @@ use Rattle.std.specs.Prelude.{ℕ, ℤ, List, [], ◌∷◌, ◌++◌, Result, O
 use Rattle.ng_num.specs.declared.fault.Fault.{Fault}
 use Rattle.ng_params.specs.declared.change.Change.{Change}
 use Rattle.ng_words.specs.Grammar.{Tree, Piece, word, setting, comment}
-use Rattle.ng_expr.specs.Value.{and_then, named, value}
+use Rattle.ng_num.specs.Results.{and_then}
+use Rattle.ng_expr.specs.Value.{named, value}
 use Rattle.ng_expr.specs.declared.word.Word.{Word}
 use Rattle.ng_expr.specs.declared.values.Values.{Values}
 

@@ -1,10 +1,11 @@
 -- The value of a tree in a table of parameters (NISTIR 6556, 3.3.2.2 to 3.3.2.4; range, rounding and faults own).
-use Rattle.std.specs.Prelude.{ℕ, ℤ, pos, unsigned_abs, ◌+ℤ◌, ◌-ℤ◌, List, Bool, not, ◌&&◌, ◌||◌, Option, Result, Ok, Err, if◌then◌else◌}
+use Rattle.std.specs.Prelude.{ℕ, ℤ, pos, unsigned_abs, ◌+ℤ◌, ◌-ℤ◌, List, Bool, not, ◌&&◌, ◌||◌, Option, Result, Ok, if◌then◌else◌}
 use Rattle.std.specs.Option.{ok_or, option_and_then}
 use Rattle.std.specs.Ordering.{int_eq}
 use Rattle.ng_num.specs.Arithmetic.{million, product, quotient_of, remainder_of}
 use Rattle.ng_num.specs.Power.{power_of}
 use Rattle.ng_num.specs.Range.{in_range}
+use Rattle.ng_num.specs.Results.{and_then}
 use Rattle.ng_num.specs.Root.{root_of}
 use Rattle.ng_num.specs.Whole.{fix, fup, round, whole_of}
 use Rattle.ng_num.specs.declared.fault.Fault.{Fault}
@@ -16,11 +17,6 @@ use Rattle.ng_words.specs.declared.tree.Operation.{Operation}
 use Rattle.ng_words.specs.declared.tree.Operation.TheVariants.{Power, Times, Over, Modulo, Plus, Minus, Or, Xor, And}
 use Rattle.ng_words.specs.declared.tree.Function.{Function}
 use Rattle.ng_words.specs.declared.tree.Function.TheVariants.{Abs, Fix, Fup, Round, Sqrt}
-
--- what is found with a value, where there is one; otherwise its fault
-abbrev pub and_then : {X Y : Type 0} → Result X Fault → (X → Result Y Fault) → Result Y Fault
-and_then (Ok x) f = f x
-and_then (Err fault) f = Err fault
 
 -- a number as written: nothing is one out of range
 abbrev pub written : Option ℤ → Result ℤ Fault

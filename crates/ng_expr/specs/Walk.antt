@@ -4,7 +4,8 @@ use Rattle.ng_num.specs.declared.fault.Fault.{Fault}
 use Rattle.ng_num.specs.declared.fault.Fault.TheVariants.{BadArithmetic}
 use Rattle.ng_words.specs.declared.tree.Node.{Node}
 use Rattle.ng_words.specs.declared.tree.Node.TheVariants as node
-use Rattle.ng_expr.specs.Value.{and_then, written, parameter_value, apply, join}
+use Rattle.ng_num.specs.Results.{and_then}
+use Rattle.ng_expr.specs.Value.{written, parameter_value, apply, join}
 
 -- a value found comes first
 abbrev pub onto : List ℤ → Result ℤ Fault → Result (List ℤ) Fault

@@ -7,7 +7,6 @@
 //! settings take effect, is for the crates above.
 #![tactic(auto)]
 
-pub mod laws;
 mod operation;
 mod setting;
 mod stack;

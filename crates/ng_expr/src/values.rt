@@ -131,7 +131,8 @@ impl Values {
     }
 }
 
-/// The values of a line; its faults are those of `Values::evaluate_into`.
+/// The values of a line: `Values::evaluate_into` into new places, which alone is what the dry run calls; its faults are
+/// those.
 pub fn evaluate<A: Allocator + Copy + Drop>(
     line: &Line,
     params: &Params<A>,

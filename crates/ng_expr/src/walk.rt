@@ -175,7 +175,7 @@ pub(crate) fn value_on<A: Allocator + Copy + Drop>(
 
 /// The value of a tree in a table of parameters (NISTIR 6556, 3.3.2.2 to 3.3.2.4). E3 where a number or a value on the
 /// way is out of range, E4 where an index is no parameter's, E5 where an operation or a function has no answer; of two
-/// faults the one further to the left.
+/// faults the one further to the left. The dry run walks the same on a stack that it keeps.
 pub fn value<A: Allocator + Copy + Drop>(tree: &Tree<'_>, params: &Params<A>) -> Result<Num, Fault>
     ensures { result ≡ value (tree_by tree.now) params.now }
 {

@@ -10,7 +10,7 @@ use Rattle.ng_modal.specs.Groups.{group_of, m_group_of}
 use Rattle.ng_modal.specs.Words.{of_letter, g_code_on, m_code_on, g_codes_of, m_codes_of, has_byte, first}
 use Rattle.ng_modal.specs.ByLetter.{by_letter, takes_value}
 use Rattle.ng_modal.specs.ByGroup.{g_words, m_words, has_word, has_m_word}
-use Rattle.ng_modal.specs.WordCauses.{is_unknown_on, is_left_out_code, is_left_out_on, count_of_m}
+use Rattle.ng_modal.specs.WordCauses.{is_unknown_on, is_left_out_code, is_left_out_letter, is_left_out_on, count_of_m}
 use Rattle.ng_modal.specs.Sorted.{sorted}
 use Rattle.ng_modal.specs.declared.codes.GCode.{GCode}
 use Rattle.ng_modal.specs.declared.codes.MCode.{MCode}
@@ -95,12 +95,16 @@ is_no_m : (l : Letter) → takes_value l ≡ true → has_byte 77 l ≡ false
 is_no_m M e = absurd (cc e)
 is_no_m _ e = refl
 
+left_out_by_letter : (l : Letter) (v : ℤ) → takes_value l ≡ true → is_left_out_letter l ≡ is_left_out_on l v
+left_out_by_letter G v e = absurd (cc e)
+left_out_by_letter _ v e = refl
+
 pub sorted_with_value : (l : Letter) (v : ℤ) (ws : List Word) (old : Sorted) (values : ByLetter) (was left_out : Bool) →
     takes_value l ≡ true →
     old ≡ sorted ws →
     values ≡ by_letter (record { letter = l; value = v } ∷ ws) →
     was ≡ (takes_value l && is_some (first (of_letter l ws))) →
-    left_out ≡ is_left_out_on l v →
+    left_out ≡ is_left_out_letter l →
     record old { block = record old.block { values = values }; repeated = old.repeated || was; left_out = left_out || old.left_out }
     ≡ sorted (record { letter = l; value = v } ∷ ws)
 sorted_with_value l v ws old values was left_out takes before taken was_is left_out_is =
@@ -110,6 +114,7 @@ sorted_with_value l v ws old values was left_out takes before taken was_is left_
       ← repeated_with l v ws,
       taken,
       left_out_is,
+      left_out_by_letter l v takes,
       no_g_code l v takes,
       no_m_code l v takes,
       is_known l v takes,

@@ -35,14 +35,17 @@ is_left_out_code (Some G87) = true
 is_left_out_code (Some G88) = true
 is_left_out_code _ = false
 
--- and rotary axes and the number of a cutter's radius
+-- and words of rotary axes and of the number of a cutter's radius
+abbrev pub is_left_out_letter : Letter → Bool
+is_left_out_letter A = true
+is_left_out_letter B = true
+is_left_out_letter C = true
+is_left_out_letter D = true
+is_left_out_letter _ = false
+
 abbrev pub is_left_out_on : Letter → ℤ → Bool
-is_left_out_on A value = true
-is_left_out_on B value = true
-is_left_out_on C value = true
-is_left_out_on D value = true
 is_left_out_on G value = is_left_out_code (g_word value)
-is_left_out_on _ value = false
+is_left_out_on letter value = is_left_out_letter letter
 
 -- B3: a word that is left out, by its letter or by its code
 abbrev pub has_left_out : List Word → Bool

@@ -4,7 +4,7 @@ ghost use Rattle.ng_words.specs.declared.letter.Letter.TheVariants.{G, M};
 ghost use Rattle.ng_expr.specs.declared.word.Word.{Word as TheWord};
 ghost use Rattle.ng_modal.specs.Words.{of_letter};
 ghost use Rattle.ng_modal.specs.ByLetter.{takes_value};
-ghost use Rattle.ng_modal.specs.WordCauses.{is_left_out_code, is_left_out_on, count_of_m};
+ghost use Rattle.ng_modal.specs.WordCauses.{is_left_out_code, is_left_out_letter, count_of_m};
 
 use crate::block::Block;
 use crate::by_group::{GWords, MWords};
@@ -45,13 +45,11 @@ fn is_left_out_code(code: GCode) -> bool
     }
 }
 
-/// Whether words of a letter other than G and M are left out.
+/// Whether words of a letter are left out.
 #[inline]
-fn is_left_out_letter(letter: Letter, value: Num) -> bool
-    requires { takes_value letter ≡ true }
-    ensures { result ≡ is_left_out_on letter value }
+fn is_left_out_letter(letter: Letter) -> bool
+    ensures { result ≡ is_left_out_letter letter }
 {
-    let _ = value;
     match letter {
         Letter::A | Letter::B | Letter::C | Letter::D => true,
         _ => false,
@@ -129,7 +127,7 @@ impl Sorted {
         ensures { self.new ≡ sorted (record { letter = letter; value = value } ∷ ws) }
     {
         self.repeated |= self.block.values.take(letter, value);
-        self.left_out = is_left_out_letter(letter, value) | self.left_out;
+        self.left_out = is_left_out_letter(letter) | self.left_out;
     }
 
     /// Takes the word in front of those taken. A call of its own, so that the places stay in memory: kept in registers over the

@@ -3,7 +3,7 @@ pub mod Rounding
 pub mod Lengths
 pub mod Points
 pub mod FaultText
-pub mod Gives
+pub mod Results
 pub mod Text
 pub mod Arithmetic
 pub mod Extremes

@@ -10,11 +10,11 @@ pub struct Point {
 
 impl Point {
     ghost use Rattle.std.specs.Prelude.{◌≡◌};
-    ghost use Rattle.ng_num.specs.Points.{origin};
+    ghost use Rattle.ng_num.specs.Points.{zero_point};
 
     /// The point whose coordinates are all 0.
-    pub fn origin() -> Point
-        ensures { result ≡ origin }
+    pub fn zero() -> Point
+        ensures { result ≡ zero_point }
     {
         Point {
             x: Len::zero(),

@@ -1,3 +1,4 @@
 pub mod ClearLemmas
 pub mod ChangeLemmas
 pub mod AheadLemmas
+pub mod SettingLaws

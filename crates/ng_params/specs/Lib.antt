@@ -3,3 +3,4 @@ pub mod Table
 pub mod Points
 pub mod Lasting
 pub mod Changes
+pub mod Settings

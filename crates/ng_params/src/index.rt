@@ -58,6 +58,10 @@ impl Index {
 }
 
 impl Default for Index {
+    ghost use Rattle.std.specs.Prelude.{◌≡◌};
+
+    ghost is_default = { λ i. i ≡ 1 };
+
     /// Parameter 1.
     fn default() -> Self {
         Index { number: 1 }

@@ -4,12 +4,13 @@
 //! range, so that reading and setting never fail. Points are stored as three neighbours, in millimetres, whatever
 //! unit a program writes. `changes_from` says how a table differs from an older one, and `apply` puts such changes
 //! into the older one. The crate stands on `ng_num`; which word sets which parameter, and when an offset acts, is
-//! for the crates above. Memory is taken by `new`, `copy` and `changes_from` alone.
+//! for the crates above, which are given the changes to make. Memory is taken by `new`, `copy` and `changes_from` alone.
 #![tactic(auto)]
 
 mod change;
 mod index;
 mod lasting;
+pub mod laws;
 mod params;
 mod points;
 mod system;
@@ -17,4 +18,5 @@ mod system;
 pub use change::Change;
 pub use index::Index;
 pub use params::Params;
+pub use points::g92_changes;
 pub use system::System;

@@ -2,7 +2,7 @@
 ghost use Rattle.std.specs.Prelude.{◌≡◌, ◌≤◌};
 ghost use Rattle.ng_params.specs.Changes.{with_changes};
 ghost use Rattle.ng_params.specs.Numbers.{first_of_origin};
-ghost use Rattle.ng_params.specs.Points.{g92_stored, home, origin_of, point_at, second_home, with_g92, with_origin, with_point, with_system};
+ghost use Rattle.ng_params.specs.Points.{changes_to, g92_changes, g92_stored, home, origin_changes, origin_of, point_at, second_home};
 
 use crate::change::Change;
 use crate::index::Index;
@@ -48,17 +48,6 @@ impl<A: Allocator + Copy + Drop> Params<A> {
         }
     }
 
-    /// Puts a point into three parameters.
-    fn set_point(&mut self, first: u16, point: Point)
-        requires low { 1 ≤ first }
-        requires high { first ≤ 5397 }
-        ensures { self.new ≡ with_point self.old first point }
-    {
-        self.set(Index::known(first), millimetres_of(point.x));
-        self.set(Index::known(first + 1), millimetres_of(point.y));
-        self.set(Index::known(first + 2), millimetres_of(point.z));
-    }
-
     /// The home of G28, in machine coordinates (NISTIR 6556, 3.5.8).
     pub fn home(&self) -> Point
         ensures { result ≡ home self.now }
@@ -80,13 +69,6 @@ impl<A: Allocator + Copy + Drop> Params<A> {
         self.point_at(5211)
     }
 
-    /// Stores a G92 offset (NISTIR 6556, 3.5.18).
-    pub fn set_g92(&mut self, offset: Point)
-        ensures { self.new ≡ with_g92 self.old offset }
-    {
-        self.set_point(5211, offset);
-    }
-
     /// The origin of a system (NISTIR 6556, 3.5.5).
     pub fn origin(&self, system: System) -> Point
         ensures { result ≡ origin_of self.now system }
@@ -105,21 +87,42 @@ impl<A: Allocator + Copy + Drop> Params<A> {
             z: length_of(self.get_after(Index::known(first + 2), changes)),
         }
     }
+}
 
-    /// Gives a system an origin (NISTIR 6556, 3.5.5: G10).
-    pub fn set_origin(&mut self, system: System, origin: Point)
-        ensures { self.new ≡ with_origin self.old system origin }
-    {
-        self.set_point(first_of_origin(system), origin);
-    }
+/// The changes that put a point into three parameters.
+fn changes_to(first: u16, point: Point) -> [Change; 3]
+    requires low { 1 ≤ first }
+    requires high { first ≤ 5397 }
+    ensures { result ≡ changes_to first point }
+{
+    [
+        Change {
+            index: Index::known(first),
+            value: millimetres_of(point.x),
+        },
+        Change {
+            index: Index::known(first + 1),
+            value: millimetres_of(point.y),
+        },
+        Change {
+            index: Index::known(first + 2),
+            value: millimetres_of(point.z),
+        },
+    ]
+}
 
-    /// Stores the number of the system in force (NISTIR 6556, 3.5.13: G54 to G59.3).
-    pub fn set_system(&mut self, system: System)
-        ensures { self.new ≡ with_system self.old system }
+/// The changes of parameters that store a G92 offset (NISTIR 6556, 3.5.18).
+pub fn g92_changes(offset: Point) -> [Change; 3]
+    ensures { result ≡ g92_changes offset }
+{
+    changes_to(5211, offset)
+}
+
+impl System {
+    /// The changes of parameters that give it an origin (NISTIR 6556, 3.5.5: G10).
+    pub fn origin_changes(self, origin: Point) -> [Change; 3]
+        ensures { result ≡ origin_changes self origin }
     {
-        self.set(
-            Index::known(5220),
-            Num::of(system.number() as i128 * 1_000_000).unwrap(),
-        );
+        changes_to(first_of_origin(self), origin)
     }
 }

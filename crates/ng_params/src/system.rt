@@ -1,5 +1,6 @@
-ghost use Rattle.std.specs.Prelude.{◌≡◌, ◌≤◌, ◌*◌, pos};
-ghost use Rattle.ng_params.specs.Numbers.{system_of, system_in_force};
+ghost use Rattle.std.specs.Prelude.{◌≡◌, ◌≤◌};
+ghost use Rattle.ng_params.specs.Numbers.{system_of};
+ghost use Rattle.ng_params.specs.Points.{selection};
 
 use crate::change::Change;
 use crate::index::Index;
@@ -45,10 +46,9 @@ impl System {
         System { number: 1 }
     }
 
-    /// The change of parameters that puts it in force.
+    /// The change of parameters that puts it in force (NISTIR 6556, 3.5.13: G54 to G59.3).
     pub fn selection(self) -> Change
-        ensures index { result.index ≡ system_in_force }
-        ensures value { result.value ≡ pos (self * 1_000_000) }
+        ensures { result ≡ selection self }
     {
         Change {
             index: Index::known(5220),
@@ -67,6 +67,11 @@ impl System {
 }
 
 impl Default for System {
+    ghost use Rattle.std.specs.Prelude.{◌≡◌};
+
+    ghost is_default = { λ s. s ≡ 1 };
+
+    /// System 1.
     fn default() -> Self {
         System::first()
     }

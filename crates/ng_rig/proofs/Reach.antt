@@ -91,7 +91,7 @@ module _ (size n : ℕ) (past : size ≤ n) where
   unsynced_past life (Hand item ∷ calls) all none = unsynced_past (Handed item life) calls (All-tail (λ c. is_within size c ≡ true) (Hand item) calls all) none
 
 -- in every way
-pub reached : (first : List (List ℕ)) (calls : List Call) (image : ℕ → List ℕ) → AllWithin (length first) calls → ((i : ℕ) → MayHold (life_of first calls) i (image i)) → IsReached (life_of first calls) image
+pub reached : (first : List (List ℕ)) (calls : List Call) (image : ℕ → List ℕ) → AllWithin (length first) calls → ((i : ℕ) → MayHold (life_of first calls) i (image i)) → IsReached (length first) (life_of first calls) image
 reached first calls image within may =
     let life = life_of first calls in
     let f = λ (i : ℕ). (number life i (image i) (may i)).k in
@@ -107,15 +107,16 @@ reached first calls image within may =
     ] in
     record {
       keep = keep;
+      short = omega (arith, length-map-range_with_len f 0 (length first));
       is = λ j i. (ap (λ (k : ℕ). kept life i k) (at i) ∙ (number life i (image i) (may i)).is) j;
       small = λ i. omega (arith, at i, (number life i (image i) (may i)).below, unsynced-moment life i);
     }
 
 -- in every way, at a moment
-pub reached_at : (t : ℕ) (first : List (List ℕ)) (calls : List Call) → AllWithin (length first) calls → (image : ℕ → List ℕ) (handed : List Item) → IsStop (life_at t (life_of first calls)) image handed → IsReached (life_at t (life_of first calls)) image
+pub reached_at : (t : ℕ) (first : List (List ℕ)) (calls : List Call) → AllWithin (length first) calls → (image : ℕ → List ℕ) (handed : List Item) → IsStop (life_at t (life_of first calls)) image handed → IsReached (length first) (life_at t (life_of first calls)) image
 reached_at t first calls within image handed stop =
     let at = life_at-life_of t first calls in
-    subst (λ (l : Life). IsReached l image) (sym at) (reached first (take t calls) image (within_take (length first) calls t within) (λ n. subst (λ (l : Life). MayHold l n (image n)) at (stop.0 n)))
+    subst (λ (l : Life). IsReached (length first) l image) (sym at) (reached first (take t calls) image (within_take (length first) calls t within) (λ n. subst (λ (l : Life). MayHold l n (image n)) at (stop.0 n)))
 
 -- in no other, at a moment
 pub stop-kept_image : (life : Life) (keep : List ℕ) → IsStop life (kept_image life keep) (items life)

@@ -1,10 +1,11 @@
 -- How a run of calls goes on.
-use Rattle.std.proofs.Common.{◌≡◌, inl, inr, ⊎_elim, ℕ, ◌==◌, if◌then◌else◌, List, refl, sym, subst, arith}
+use Rattle.std.proofs.Common.{◌≡◌, inl, inr, ⊎_elim, ℕ, ◌==◌, if◌then◌else◌, List, Result, Ok, Err, refl, sym, subst, arith}
 use Rattle.std.proofs.lemmas.Bool.{cases_eq}
 use Rattle.std.proofs.lemmas.Bool.Decides.{nat_tests}
 use Rattle.ng_canon.specs.declared.item.Item.{Item}
 use Rattle.ng_rig.specs.Life.{Image, Life, Began, Wrote, Perhaps, Synced, Handed, MayHold, reads, moment, IsStop, StopSince}
-use Rattle.ng_rig.specs.Onward.{Onward, IsSynced}
+use Rattle.ng_rig.specs.Calls.{Hands}
+use Rattle.ng_rig.specs.Onward.{Onward, IsSynced, HasBesides, HandsOne}
 
 -- a device as it reads is one of its stops
 pub may_hold-reads : (life : Life) (n : ℕ) → MayHold life n (reads life n)
@@ -62,3 +63,24 @@ is_synced life = record { one = λ n c may. may }
 
 pub handed_synced : (item : Item) (life : Life) → IsSynced life → IsSynced (Handed item life)
 handed_synced item life synced = record { one = synced.one }
+
+-- so each stop's image is what reads give
+pub one_image : (life : Life) (image : Image) (handed : List Item) → IsSynced life → IsStop life image handed → image ≡ reads life
+one_image life image handed synced stop = λ i n. synced.one n (image n) (stop.0 n) i
+
+hands_none : (item : Item) (life : Life) → IsSynced life → HandsOne item life life
+hands_none item life synced = record { stops = stays life (HasBesides life item); synced = synced; reads_are = refl; items_are = inl refl }
+
+hands_one : (item : Item) (life : Life) → IsSynced life → HandsOne item life (Handed item life)
+hands_one item life synced = record {
+  stops = on_hand life item (HasBesides life item) (λ image handed s. record { image_is = one_image (Handed item life) image handed (handed_synced item life synced) s; handed_is = s.1 });
+  synced = handed_synced item life synced;
+  reads_are = refl;
+  items_are = inr refl;
+}
+
+-- a hand-out after a good sync, also one that fails
+pub hands : {T E : Type 0} (result : Result T E) (item : Item) (old new : Life) → IsSynced old → Hands result item old new → HandsOne item old new
+hands (Ok _) item old new synced is = subst (λ (l : Life). HandsOne item old l) (sym is) (hands_one item old synced)
+hands (Err _) item old new synced (inl is) = subst (λ (l : Life). HandsOne item old l) (sym is) (hands_none item old synced)
+hands (Err _) item old new synced (inr is) = subst (λ (l : Life). HandsOne item old l) (sym is) (hands_one item old synced)

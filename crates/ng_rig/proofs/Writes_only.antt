@@ -1,7 +1,7 @@
 -- Writes of what may be written.
 use Rattle.std.proofs.Common.{◌≡◌, inl, inr, ⊎_elim, ℕ, List, refl, sym, ◌∙◌, subst, Result, Ok, Err}
 use Rattle.ng_rig.specs.Life.{Life, Wrote, Perhaps, Synced, MayHold, reads, items}
-use Rattle.ng_rig.specs.Calls.{Writes}
+use Rattle.ng_rig.specs.Calls.{Writes, Syncs}
 use Rattle.ng_rig.specs.Onward.{Onward}
 use Rattle.ng_rig.specs.Only.{Blend, WritesOnly}
 use Rattle.ng_rig.proofs.Running.{may_hold-reads, stays, joined, weaker, on_write, on_perhaps, on_sync}
@@ -48,3 +48,24 @@ module _ (May : ℕ → List ℕ → Type 0) where
   -- and so is each stop up to a sync and at it
   pub only_sync : (old mid : Life) → WritesOnly May old mid → Onward old (Synced mid) (Blend old May)
   only_sync old mid w = joined old mid (Synced mid) (Blend old May) w.stops (on_sync mid (Blend old May) (λ image handed s. record { each = λ n. w.holds n (image n) (subst (λ (c : List ℕ). MayHold mid n c) (sym (s.0 n)) (may_hold-reads mid n)); handed_is = s.1 ∙ w.items_are }))
+
+  -- a run goes on over a sync
+  pub only_synced : (old mid : Life) → WritesOnly May old mid → WritesOnly May old (Synced mid)
+  only_synced old mid w = record {
+    stops = only_sync old mid w;
+    holds = λ n c h. w.holds n c (subst (λ (x : List ℕ). MayHold mid n x) (sym h) (may_hold-reads mid n));
+    items_are = w.items_are;
+  }
+
+  -- also over one that fails
+  pub only_syncs : {T E : Type 0} (result : Result T E) (old mid new : Life) → WritesOnly May old mid → Syncs result mid new → WritesOnly May old new
+  only_syncs (Ok _) old mid new w is = subst (λ (l : Life). WritesOnly May old l) (sym is) (only_synced old mid w)
+  only_syncs (Err _) old mid new w is = subst (λ (l : Life). WritesOnly May old l) (sym is) w
+
+-- from fewer places to more
+pub only_wider : (Fewer More : ℕ → List ℕ → Type 0) (old new : Life) → ((n : ℕ) (c : List ℕ) → Fewer n c → More n c) → WritesOnly Fewer old new → WritesOnly More old new
+only_wider Fewer More old new wider w = record {
+  stops = weaker old new (Blend old Fewer) (Blend old More) w.stops (λ image handed b. record { each = λ n. ⊎_elim (λ was. inl was) (λ may. inr (wider n (image n) may)) (b.each n); handed_is = b.handed_is });
+  holds = λ n c h. ⊎_elim (λ was. inl was) (λ may. inr (wider n c may)) (w.holds n c h);
+  items_are = w.items_are;
+}

@@ -1,7 +1,7 @@
 -- What a run of calls may leave at a stop (own).
-use Rattle.std.specs.Prelude.{◌≡◌, ◌⊎◌, ℕ, ◌≤◌, List}
+use Rattle.std.specs.Prelude.{◌≡◌, ◌⊎◌, ℕ, ◌≤◌, List, [], ◌∷◌, ◌++◌}
 use Rattle.ng_canon.specs.declared.item.Item.{Item}
-use Rattle.ng_rig.specs.Life.{Image, Life, MayHold, reads, moment, StopSince}
+use Rattle.ng_rig.specs.Life.{Image, Life, MayHold, reads, items, moment, StopSince}
 
 -- Each stop since old is one that old might have had, or has P.
 pub record Onward (old new : Life) (P : Image → List Item → Type 0) : Type 0 where
@@ -11,3 +11,15 @@ pub record Onward (old new : Life) (P : Image → List Item → Type 0) : Type 0
 -- each sector has one content, which is what a read gives
 pub record IsSynced (life : Life) : Type 0 where
   pub one : (n : ℕ) (c : List ℕ) → MayHold life n c → c ≡ reads life n
+
+-- the device reads as it did, and this item is handed out besides
+pub record HasBesides (old : Life) (item : Item) (image : Image) (handed : List Item) : Type 0 where
+  pub image_is : image ≡ reads old
+  pub handed_is : handed ≡ items old ++ item ∷ []
+
+-- One item is handed out at most, and the device stays synced and reads as it did.
+pub record HandsOne (item : Item) (old new : Life) : Type 0 where
+  pub stops : Onward old new (HasBesides old item)
+  pub synced : IsSynced new
+  pub reads_are : reads new ≡ reads old
+  pub items_are : (items new ≡ items old) ⊎ (items new ≡ items old ++ item ∷ [])

@@ -1,5 +1,5 @@
 -- A stop by numbers: how many of its unsynced contents each sector keeps (own).
-use Rattle.std.specs.Prelude.{◌≡◌, ◌≤◌, ℕ, ◌+◌, ◌==◌, List, if◌then◌else◌, nat_lt, slice_index}
+use Rattle.std.specs.Prelude.{◌≡◌, ◌≤◌, ℕ, ◌+◌, ◌==◌, List, length, if◌then◌else◌, nat_lt, slice_index}
 use Rattle.ng_rig.specs.Life.{Image, Life, Began, Wrote, Perhaps, Synced, Handed, reads, moment}
 
 -- how many contents were written to a sector since the last sync
@@ -22,8 +22,9 @@ kept (Handed item life) n k = kept life n k
 abbrev pub kept_image : Life → List ℕ → Image
 kept_image life keep n = kept life n (slice_index keep n)
 
--- some list of numbers leaves this image, none of them above the number of calls
-pub record IsReached (life : Life) (image : Image) : Type 0 where
+-- some list of numbers leaves this image: at most one for each sector, and none above the number of calls
+pub record IsReached (sectors : ℕ) (life : Life) (image : Image) : Type 0 where
   pub keep : List ℕ
+  pub short : length keep ≤ sectors
   pub is : kept_image life keep ≡ image
   pub small : (n : ℕ) → slice_index keep n ≤ moment life

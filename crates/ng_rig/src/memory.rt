@@ -93,7 +93,8 @@ impl<A: Allocator + Copy + Drop> MemoryRig<A> {
 
         // and in every way that it allows
         ensures every { (image : Image) (handed : List Item) →
-            IsStop (life_at n (life_kept self.now)) image handed → IsReached (life_at n (life_kept self.now)) image }
+            IsStop (life_at n (life_kept self.now)) image handed →
+            IsReached (sector_count self.now) (life_at n (life_kept self.now)) image }
     {
         let image = stop_image(self.alloc, &self.first, self.before(n), keep)?;
         MemoryRig::holding(self.alloc, image)

@@ -13,7 +13,7 @@ use Rattle.ng_step.specs.Turned.{place}
 use Rattle.ng_step.proofs.ArcLemmas.{abs_neg}
 use Rattle.ng_step.proofs.PlaceLemmas.{placed, quadrant-place}
 use Rattle.ng_canon.specs.declared.item.Step.TheVariants.{Still}
-use Rattle.ng_step.specs.declared.line.Steps.{Steps}
+use Rattle.ng_step.specs.declared.steps.Steps.{Steps}
 use Rattle.ng_step.specs.declared.frame.Frame.{Frame}
 use Rattle.ng_step.specs.Frames.{pulse_with}
 

@@ -9,7 +9,7 @@ use Rattle.ng_canon.specs.declared.plane.Plane.TheVariants.{Xy, Xz, Yz}
 use Rattle.ng_canon.specs.declared.segment.Arc.{Arc}
 use Rattle.ng_step.specs.declared.quadrant.Spot.{Spot}
 use Rattle.ng_step.specs.declared.frame.Frame.{Frame}
-use Rattle.ng_step.specs.declared.line.Distances.{Distances}
+use Rattle.ng_step.specs.declared.steps.Distances.{Distances}
 use Rattle.ng_step.specs.declared.centred.CentredArc.{CentredArc}
 use Rattle.ng_step.specs.Arcs.{cross}
 use Rattle.ng_step.specs.Frames.{of_a, of_b, of_third, at_x, at_y, at_z, mirrored}

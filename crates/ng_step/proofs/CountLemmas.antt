@@ -1,25 +1,20 @@
 -- Counting an arc's steps.
-use Rattle.std.proofs.Common.{arith, ℕ, zero, suc, ◌+◌, ◌-◌, ◌≤◌, ◌≡◌, refl, sym, ap, ◌∙◌, ℤ, pos, negsuc, ◌+ℤ◌, ◌-ℤ◌, ◌*ℤ◌, List, [], ◌∷◌, length, drop, add-one, true, false}
+use Rattle.std.proofs.Common.{arith, ℕ, zero, suc, ◌≤◌, ◌≡◌, refl, ap, ◌∙◌, ℤ, pos, negsuc, ◌+ℤ◌, ◌-ℤ◌, ◌*ℤ◌, List, [], ◌∷◌, length, drop, true, false}
 use Rattle.std.proofs.lemmas.Int.{ints}
-use Rattle.std.specs.Prelude.{if◌then◌else◌}
 use Rattle.ng_step.specs.declared.circle.Circle.{Circle}
 use Rattle.ng_step.specs.declared.quadrant.Spot.{Spot}
-use Rattle.ng_step.specs.declared.walk.Walk.{Walk}
 use Rattle.ng_step.specs.declared.quadrant.PlaneStep.{PlaneStep}
 use Rattle.ng_step.specs.declared.quadrant.PlaneStep.TheVariants.{AddA, SubA, AddB, SubB}
-use Rattle.ng_step.specs.Arcs.{along_a, along_b, net_a, net_b, same_quadrant, stops, left_after, IsArc, next_spot, step_at, moved}
-use Rattle.ng_step.specs.Turned.{spot_of, Walks, IsStep, budget, beyond}
-use Rattle.ng_step.proofs.ArcLemmas.{left_some}
-use Rattle.ng_step.proofs.PlaceLemmas.{quadrant-place}
-use Rattle.ng_step.specs.declared.line.Steps.{Steps}
+use Rattle.ng_step.specs.Arcs.{along_a, along_b, net_a, net_b, stops, left_after, IsArc, next_spot, step_at, moved}
+use Rattle.ng_step.specs.Leaps.{reach_a, reach_b}
 
 -- how far so many steps go
-scaled_more : (n : ℤ) (s : ℕ) → (pos 1 +ℤ n) *ℤ pos s ≡ pos s +ℤ n *ℤ pos s
+pub scaled_more : (n : ℤ) (s : ℕ) → (pos 1 +ℤ n) *ℤ pos s ≡ pos s +ℤ n *ℤ pos s
 scaled_more (pos n) s = omega (arith, ints)
 scaled_more (negsuc zero) s = omega (arith, ints)
 scaled_more (negsuc (suc n)) s = let e : pos 1 +ℤ negsuc (suc n) ≡ negsuc n = omega (arith, ints) in rw e (omega (arith, ints))
 
-scaled_less : (n : ℤ) (s : ℕ) → (negsuc 0 +ℤ n) *ℤ pos s ≡ n *ℤ pos s -ℤ pos s
+pub scaled_less : (n : ℤ) (s : ℕ) → (negsuc 0 +ℤ n) *ℤ pos s ≡ n *ℤ pos s -ℤ pos s
 scaled_less (pos zero) s = omega (arith, ints)
 scaled_less (pos (suc n)) s = let e : negsuc 0 +ℤ pos (suc n) ≡ pos n = omega (arith, ints) in let rest : pos n *ℤ pos s ≡ pos (suc n) *ℤ pos s -ℤ pos s = omega (arith, ints) in ap (λ x. x *ℤ pos s) e ∙ rest
 scaled_less (negsuc n) s = let e : negsuc 0 +ℤ negsuc n ≡ negsuc (suc n) = omega (arith, ints) in let rest : negsuc (suc n) *ℤ pos s ≡ negsuc n *ℤ pos s -ℤ pos s = omega (arith, ints) in ap (λ x. x *ℤ pos s) e ∙ rest
@@ -45,27 +40,8 @@ moved_b c SubA p n = still p.b n c.step_b
 moved_b c AddB p n = forward p.b n c.step_b
 moved_b c SubB p n = backward p.b n c.step_b
 
--- the steps to come lead on as far as this
-abbrev pub reach_a : Circle → Spot → List PlaneStep → ℤ
-reach_a c p ms = p.a +ℤ net_a ms *ℤ pos c.step_a
-
-abbrev pub reach_b : Circle → Spot → List PlaneStep → ℤ
-reach_b c p ms = p.b +ℤ net_b ms *ℤ pos c.step_b
-
--- a walk has made n steps of the arc, and has as many quadrants left
-pub record Counts (e : Spot) (first : Walk) (quadrants : ℕ) (w : Walk) (left n : ℕ) : Type 0 where
-  pub walks : Walks w
-  pub circle : w.circle ≡ first.circle
-  pub rest : (ms : List PlaneStep) → IsArc first.circle e quadrants (spot_of first) ms → (n ≤ length ms) × IsArc first.circle e left (spot_of w) (drop n ms)
-  pub net : (ms : List PlaneStep) → IsArc first.circle e quadrants (spot_of first) ms
-      → (reach_a first.circle (spot_of w) (drop n ms) ≡ reach_a first.circle (spot_of first) ms) × (reach_b first.circle (spot_of w) (drop n ms) ≡ reach_b first.circle (spot_of first) ms)
-  pub bound : n + budget beyond left w.inner w.outer ≤ budget beyond quadrants first.inner first.outer
-
-pub counts_none : (e : Spot) (w : Walk) (quadrants : ℕ) → Walks w → Counts e w quadrants w quadrants 0
-counts_none e w quadrants h = record { walks = h; circle = refl; rest = λ ms arc. (omega arith, arc); net = λ ms arc. (refl, refl); bound = omega arith }
-
 -- where the arc does not stop there is a step more
-arc_more : (c : Circle) (e : Spot) (left : ℕ) (p : Spot) (ms : List PlaneStep) (n : ℕ) → stops e left p ≡ false → n ≤ length ms → IsArc c e left p (drop n ms)
+pub arc_more : (c : Circle) (e : Spot) (left : ℕ) (p : Spot) (ms : List PlaneStep) (n : ℕ) → stops e left p ≡ false → n ≤ length ms → IsArc c e left p (drop n ms)
     → (suc n ≤ length ms) × IsArc c e (left_after c left p) (next_spot c p) (drop (suc n) ms)
     × (net_a (drop n ms) ≡ along_a (step_at c p) +ℤ net_a (drop (suc n) ms)) × (net_b (drop n ms) ≡ along_b (step_at c p) +ℤ net_b (drop (suc n) ms))
 arc_more c e left p [] zero go le h = absurd (cc)
@@ -75,70 +51,26 @@ arc_more c e left p (m ∷ ms) (suc n) go le h =
     let more = arc_more c e left p ms n go (omega arith) h in
     (omega (arith, more.0), more.1, more.2, more.3)
 
-arc_all : (c : Circle) (e : Spot) (left : ℕ) (p : Spot) (ms : List PlaneStep) (n : ℕ) → stops e left p ≡ true → n ≤ length ms → IsArc c e left p (drop n ms) → n ≡ length ms
+pub arc_all : (c : Circle) (e : Spot) (left : ℕ) (p : Spot) (ms : List PlaneStep) (n : ℕ) → stops e left p ≡ true → n ≤ length ms → IsArc c e left p (drop n ms) → n ≡ length ms
 arc_all c e left p [] zero stop le h = refl
 arc_all c e left p (m ∷ ms) zero stop le h = absurd (cc (h.0, stop))
 arc_all c e left p [] (suc n) stop le h = absurd (omega arith)
 arc_all c e left p (m ∷ ms) (suc n) stop le h = let others = arc_all c e left p ms n stop (omega arith) h in omega arith
 
-left_is : (w w' : Walk) (made : Steps) (left : ℕ) → Walks w → IsStep w w' made → left_after w.circle left (spot_of w) ≡ (if same_quadrant w.quadrant w'.quadrant then left else left - 1)
-unfolding left_after
-left_is w w' made left h s =
-    let after = s.walks in
-    rw (← s.spot, quadrant-place w.quadrant w.inner w.outer h.sound.some, quadrant-place w'.quadrant w'.inner w'.outer after.sound.some) refl
-
-next_reach_a : (c : Circle) (p : Spot) (ms : List PlaneStep) → reach_a c (next_spot c p) ms ≡ p.a +ℤ (along_a (step_at c p) +ℤ net_a ms) *ℤ pos c.step_a
+pub next_reach_a : (c : Circle) (p : Spot) (ms : List PlaneStep) → reach_a c (next_spot c p) ms ≡ p.a +ℤ (along_a (step_at c p) +ℤ net_a ms) *ℤ pos c.step_a
 unfolding next_spot
 next_reach_a c p ms = moved_a c (step_at c p) p (net_a ms)
 
-next_reach_b : (c : Circle) (p : Spot) (ms : List PlaneStep) → reach_b c (next_spot c p) ms ≡ p.b +ℤ (along_b (step_at c p) +ℤ net_b ms) *ℤ pos c.step_b
+pub next_reach_b : (c : Circle) (p : Spot) (ms : List PlaneStep) → reach_b c (next_spot c p) ms ≡ p.b +ℤ (along_b (step_at c p) +ℤ net_b ms) *ℤ pos c.step_b
 unfolding next_spot
 next_reach_b c p ms = moved_b c (step_at c p) p (net_b ms)
 
-pub counts_more : (e : Spot) (first : Walk) (quadrants : ℕ) (w w' : Walk) (made : Steps) (left left' n : ℕ) → Counts e first quadrants w left n
-    → stops e left (spot_of w) ≡ false → IsStep w w' made → left' ≡ (if same_quadrant w.quadrant w'.quadrant then left else left - 1)
-    → Counts e first quadrants w' left' (n + 1)
-counts_more e first quadrants w w' made left left' n h go s is =
-    let lefts : left_after first.circle left (spot_of w) ≡ left' = rw (← h.circle) (left_is w w' made left h.walks s ∙ sym is) in
-    let spots : next_spot first.circle (spot_of w) ≡ spot_of w' = rw (← h.circle) (sym s.spot) in
-    record {
-      walks = s.walks;
-      circle = s.circle ∙ h.circle;
-      rest = λ ms arc.
-          let before = h.rest ms arc in
-          let more = arc_more first.circle e left (spot_of w) ms n go before.0 before.1 in
-          rw add-one (more.0, rw (lefts, spots) at more.1);
-      net = λ ms arc.
-          let before = h.rest ms arc in
-          let more = arc_more first.circle e left (spot_of w) ms n go before.0 before.1 in
-          let nets = h.net ms arc in
-          rw add-one (
-            ap (λ (p : Spot). reach_a first.circle p (drop (suc n) ms)) (sym spots) ∙ next_reach_a first.circle (spot_of w) (drop (suc n) ms)
-                ∙ ap (λ x. (spot_of w).a +ℤ x *ℤ pos first.circle.step_a) (sym more.2) ∙ nets.0,
-            ap (λ (p : Spot). reach_b first.circle p (drop (suc n) ms)) (sym spots) ∙ next_reach_b first.circle (spot_of w) (drop (suc n) ms)
-                ∙ ap (λ x. (spot_of w).b +ℤ x *ℤ pos first.circle.step_b) (sym more.3) ∙ nets.1,
-          );
-      bound = (let less = s.smaller left (left_some e left (spot_of w) go) in let bound = h.bound in rw is (omega arith));
-    }
-
-pub counts_all : (e : Spot) (first : Walk) (quadrants : ℕ) (w : Walk) (left n : ℕ) → Counts e first quadrants w left n → stops e left (spot_of w) ≡ true
-    → (ms : List PlaneStep) → IsArc first.circle e quadrants (spot_of first) ms → n ≡ length ms
-counts_all e first quadrants w left n h stop ms arc = arc_all first.circle e left (spot_of w) ms n stop (h.rest ms arc).0 (h.rest ms arc).1
-
-drop_all : (n : ℕ) (ms : List PlaneStep) → n ≡ length ms → drop n ms ≡ []
+pub drop_all : (n : ℕ) (ms : List PlaneStep) → n ≡ length ms → drop n ms ≡ []
 drop_all n ms e = rw e (drop_length ms)
   where
     drop_length : (ms : List PlaneStep) → drop (length ms) ms ≡ []
     drop_length [] = refl
     drop_length (m ∷ ms) = drop_length ms
 
-none_left : (x y n : ℤ) (s : ℕ) → x +ℤ pos 0 *ℤ pos s ≡ y +ℤ n *ℤ pos s → x -ℤ y ≡ n *ℤ pos s
+pub none_left : (x y n : ℤ) (s : ℕ) → x +ℤ pos 0 *ℤ pos s ≡ y +ℤ n *ℤ pos s → x -ℤ y ≡ n *ℤ pos s
 none_left x y n s h = omega (arith, ints)
-
-pub counts_net : (e : Spot) (first : Walk) (quadrants : ℕ) (w : Walk) (left n : ℕ) → Counts e first quadrants w left n → stops e left (spot_of w) ≡ true
-    → (ms : List PlaneStep) → IsArc first.circle e quadrants (spot_of first) ms
-    → ((spot_of w).a -ℤ (spot_of first).a ≡ net_a ms *ℤ pos first.circle.step_a) × ((spot_of w).b -ℤ (spot_of first).b ≡ net_b ms *ℤ pos first.circle.step_b)
-counts_net e first quadrants w left n h stop ms arc =
-    let none : drop n ms ≡ [] = drop_all n ms (counts_all e first quadrants w left n h stop ms arc) in
-    let nets = h.net ms arc in
-    (none_left (spot_of w).a (spot_of first).a (net_a ms) first.circle.step_a (ap (reach_a first.circle (spot_of w)) (sym none) ∙ nets.0), none_left (spot_of w).b (spot_of first).b (net_b ms) first.circle.step_b (ap (reach_b first.circle (spot_of w)) (sym none) ∙ nets.1))

@@ -11,7 +11,7 @@ use Rattle.ng_canon.specs.declared.plane.Turn.TheVariants.{Clockwise, Counterclo
 use Rattle.ng_canon.specs.declared.item.Item.{Item}
 use Rattle.ng_canon.specs.declared.item.Step.{Step}
 use Rattle.ng_canon.specs.declared.item.Step.TheVariants.{Backward, Still, Forward}
-use Rattle.ng_step.specs.declared.line.Distances.{Distances}
+use Rattle.ng_step.specs.declared.steps.Distances.{Distances}
 use Rattle.ng_step.specs.declared.quadrant.PlaneStep.{PlaneStep}
 use Rattle.ng_step.specs.declared.quadrant.PlaneStep.TheVariants.{AddA, SubA, AddB, SubB}
 use Rattle.ng_step.specs.declared.frame.Frame.{Frame}
@@ -47,10 +47,10 @@ pub record AreAtMost (d : Distances) (n : ℕ) : Type 0 where
 pub at_most_largest : (d : Distances) → AreAtMost d (largest d)
 at_most_largest d = record { x = omega arith; y = omega arith; z = omega arith }
 
-difference_is : (a d : ℤ) → (a +ℤ d) -ℤ a ≡ d
+pub difference_is : (a d : ℤ) → (a +ℤ d) -ℤ a ≡ d
 difference_is a d = omega (arith, ints)
 
-axis_moves : (n k : ℕ) (a d : ℤ) → 0 < n → unsigned_abs d ≤ n → line_at n a (a +ℤ d) k +ℤ step_value (line_step n d k) ≡ line_at n a (a +ℤ d) (k + 1)
+pub axis_moves : (n k : ℕ) (a d : ℤ) → 0 < n → unsigned_abs d ≤ n → line_at n a (a +ℤ d) k +ℤ step_value (line_step n d k) ≡ line_at n a (a +ℤ d) (k + 1)
 axis_moves n k a d some le =
     let e : (a +ℤ d) -ℤ a ≡ d = difference_is a d in
     let le' : unsigned_abs ((a +ℤ d) -ℤ a) ≤ n = rw e le in
@@ -109,7 +109,7 @@ move_placed us Yz a b third p = refl
 add_once : (x y z : ℤ) → (x +ℤ y) +ℤ z ≡ x +ℤ (y +ℤ z)
 add_once x y z = omega (arith, ints)
 
-add_placed : (plane : Plane) (p : Distances) (a b t a' b' t' : ℤ) → moved (moved p (placed plane a b t)) (placed plane a' b' t') ≡ moved p (placed plane (a +ℤ a') (b +ℤ b') (t +ℤ t'))
+pub add_placed : (plane : Plane) (p : Distances) (a b t a' b' t' : ℤ) → moved (moved p (placed plane a b t)) (placed plane a' b' t') ≡ moved p (placed plane (a +ℤ a') (b +ℤ b') (t +ℤ t'))
 add_placed Xy p a b t a' b' t' = distances_same _ _ _ _ _ _ (add_once p.x a a') (add_once p.y b b') (add_once p.z t t')
 add_placed Xz p a b t a' b' t' = distances_same _ _ _ _ _ _ (add_once p.x b b') (add_once p.y t t') (add_once p.z a a')
 add_placed Yz p a b t a' b' t' = distances_same _ _ _ _ _ _ (add_once p.x t t') (add_once p.y a a') (add_once p.z b b')
@@ -140,14 +140,14 @@ value_b SubA = refl
 value_b AddB = refl
 value_b SubB = refl
 
-with_placed : (us : ℕ) (frame : Frame) (m : PlaneStep) (third : Step) (p : Distances)
+pub with_placed : (us : ℕ) (frame : Frame) (m : PlaneStep) (third : Step) (p : Distances)
     → moved_by (pulse_item us (pulse_with frame m third)) p ≡ moved p (placed frame.plane (along_a m) (mirrored frame.turn (along_b m)) (step_value third))
 with_placed us frame m third p =
     move_placed us frame.plane (on_a m) (mirrored_step frame.turn (on_b m)) third p
     ∙ ap (λ b. moved p (placed frame.plane (step_value (on_a m)) b (step_value third))) (mirrored_value frame.turn (on_b m) ∙ ap (mirrored frame.turn) (value_b m))
     ∙ ap (λ a. moved p (placed frame.plane a (mirrored frame.turn (along_b m)) (step_value third))) (value_a m)
 
-without_placed : (us : ℕ) (frame : Frame) (third : Step) (p : Distances)
+pub without_placed : (us : ℕ) (frame : Frame) (third : Step) (p : Distances)
     → moved_by (pulse_item us (pulse_without frame third)) p ≡ moved p (placed frame.plane (pos 0) (mirrored frame.turn (pos 0)) (step_value third))
 without_placed us frame third p =
     move_placed us frame.plane Still Still third p ∙ ap (λ b. moved p (placed frame.plane (pos 0) b (step_value third))) (sym (mirrored_none frame.turn))
@@ -220,7 +220,7 @@ reaches_none frame [] p third len none = rw (none, mirrored_none frame.turn) (st
     stays Yz p = distances_same p.x p.y p.z _ _ _ (omega (arith, ints)) (omega (arith, ints)) (omega (arith, ints))
 reaches_none frame (m ∷ ms) p third len none = absurd (omega arith)
 
-placed_same : (plane : Plane) (p : Distances) (a a' b b' t t' : ℤ) → a ≡ a' → b ≡ b' → t ≡ t' → moved p (placed plane a b t) ≡ moved p (placed plane a' b' t')
+pub placed_same : (plane : Plane) (p : Distances) (a a' b b' t t' : ℤ) → a ≡ a' → b ≡ b' → t ≡ t' → moved p (placed plane a b t) ≡ moved p (placed plane a' b' t')
 placed_same plane p a a' b b' t t' e f g = rw (e, f, g) refl
 
 arc_stands : (us : ℕ) (frame : Frame) (n count : ℕ) (forward : Bool) (d : ℕ) (ms : List PlaneStep) (p : Distances) (left : ℕ) → 0 < n → count ≤ n → d ≤ n → left ≤ n
@@ -270,17 +270,17 @@ arc_leads us frame ms third p = of_total (max (length ms) (unsigned_abs third)) 
         arc_stands us frame (suc n) (length ms) (int_le (pos 0) third) (unsigned_abs third) ms p (suc n) (omega arith) (omega arith) (omega arith) (omega arith) (omega arith)
         ∙ ap (λ x. moved p (arc_reaches frame ms x)) (ap (signed (int_le (pos 0) third)) whole ∙ signed_is third)
 
-stands_after-append : (xs ys : List Item) (p : Distances) → stands_after (xs ++ ys) p ≡ stands_after ys (stands_after xs p)
+pub stands_after-append : (xs ys : List Item) (p : Distances) → stands_after (xs ++ ys) p ≡ stands_after ys (stands_after xs p)
 stands_after-append [] ys p = refl
 stands_after-append (x ∷ xs) ys p = stands_after-append xs ys (moved_by x p)
 
 pub rest_of : (x y : ℤ) → x +ℤ (y -ℤ x) ≡ y
 rest_of x y = omega (arith, ints)
 
-none_more : (x : ℤ) → x +ℤ pos 0 ≡ x
+pub none_more : (x : ℤ) → x +ℤ pos 0 ≡ x
 none_more x = omega (arith, ints)
 
-of_all : (plane : Plane) (d : Distances) → placed plane (of_a plane d.x d.y d.z) (of_b plane d.x d.y d.z) (of_third plane d.x d.y d.z) ≡ d
+pub of_all : (plane : Plane) (d : Distances) → placed plane (of_a plane d.x d.y d.z) (of_b plane d.x d.y d.z) (of_third plane d.x d.y d.z) ≡ d
 of_all Xy d = refl
 of_all Xz d = refl
 of_all Yz d = refl

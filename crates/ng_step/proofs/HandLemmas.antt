@@ -17,8 +17,8 @@ use Rattle.ng_step.proofs.PulseLemmas.{pulses_of}
 use Rattle.ng_num.specs.declared.point.Point.{Point}
 use Rattle.ng_canon.specs.declared.geometry.Geometry.{Geometry}
 use Rattle.ng_canon.specs.declared.pace.Pace.{Pace}
-use Rattle.ng_step.specs.declared.line.Steps.{Steps}
-use Rattle.ng_step.specs.declared.line.Distances.{Distances}
+use Rattle.ng_step.specs.declared.steps.Steps.{Steps}
+use Rattle.ng_step.specs.declared.steps.Distances.{Distances}
 use Rattle.ng_step.specs.Lines.{largest, line_pulses, line_from}
 use Rattle.ng_step.specs.Periods.{root_up, pulse_us}
 use Rattle.ng_step.specs.Hands.{pulse_item, distances, square_between, line_items, centred, is_small, arc_path, across, closing, closing_after, arc_total, items_over, large_arc_items, arc_items}

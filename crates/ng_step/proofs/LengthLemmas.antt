@@ -6,7 +6,7 @@ use Rattle.std.proofs.lemmas.Bool.{cases_lt}
 use Rattle.std.specs.Prelude.{unsigned_abs}
 use Rattle.ng_num.specs.declared.point.Point.{Point}
 use Rattle.ng_canon.specs.declared.geometry.Geometry.{Geometry}
-use Rattle.ng_step.specs.declared.line.Distances.{Distances}
+use Rattle.ng_step.specs.declared.steps.Distances.{Distances}
 use Rattle.ng_step.specs.Lines.{in_steps, largest}
 use Rattle.ng_step.specs.Periods.{root_up}
 use Rattle.ng_step.specs.Hands.{distances, square_between}

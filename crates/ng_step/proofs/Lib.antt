@@ -1,10 +1,12 @@
 pub mod QuadrantLemmas
 pub mod TurnLemmas
+pub mod PassageLemmas
 pub mod PlaceLemmas
 pub mod ArcLemmas
 pub mod LineLemmas
 pub mod WalkLemmas
 pub mod CountLemmas
+pub mod LeapLemmas
 pub mod BeginLemmas
 pub mod PulseLemmas
 pub mod PeriodLemmas
@@ -14,5 +16,6 @@ pub mod LengthLemmas
 pub mod HandLemmas
 pub mod EndLemmas
 pub mod PromiseLemmas
+pub mod PathLemmas
 pub mod CentreLemmas
 pub mod WalkableLemmas

@@ -7,7 +7,7 @@ use mir.Val.{SFits}
 use Rattle.std.proofs.lemmas.Nat.{div-mul-add, mul-le, div_below}
 use Rattle.std.proofs.lemmas.Bool.{cases_lt}
 use Rattle.std.specs.Prelude.{unsigned_abs, ◌≤ℤ◌, int_le}
-use Rattle.ng_step.specs.declared.line.Distances.{Distances}
+use Rattle.ng_step.specs.declared.steps.Distances.{Distances}
 use Rattle.ng_canon.specs.declared.item.Step.{Step}
 use Rattle.ng_canon.specs.declared.item.Step.TheVariants.{Still}
 use Rattle.ng_step.specs.declared.spread.Spread.{Spread}

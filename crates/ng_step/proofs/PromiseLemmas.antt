@@ -1,5 +1,5 @@
 -- What holds of every segment's items.
-use Rattle.std.proofs.Common.{take, arith, ℕ, zero, suc, ◌+◌, ◌-◌, ◌*◌, ◌<◌, ◌≤◌, ◌≡◌, inl, inr, refl, sym, ap, ◌∙◌, subst, ℤ, ◌+ℤ◌, ◌-ℤ◌, Bool, true, false, [], map}
+use Rattle.std.proofs.Common.{take, arith, ℕ, zero, suc, ◌+◌, ◌-◌, ◌*◌, ◌<◌, ◌≤◌, ◌≡◌, inl, inr, refl, sym, ap, ◌∙◌, subst, ℤ, ◌+ℤ◌, ◌-ℤ◌, Bool, true, false, List, [], map}
 use Rattle.std.proofs.lemmas.Int.{ints}
 use Rattle.std.proofs.lemmas.Bool.{cases_lt}
 use Rattle.std.proofs.lemmas.Bool.Decides.{nat_tests}
@@ -17,13 +17,14 @@ use Rattle.ng_canon.specs.declared.plane.Turn.TheVariants.{Clockwise, Counterclo
 use Rattle.ng_canon.specs.declared.segment.Arc.{Arc}
 use Rattle.ng_canon.specs.declared.segment.Segment.{Segment}
 use Rattle.ng_canon.specs.declared.segment.Segment.TheVariants.{Line as LineSegment, Arc as ArcSegment, Dwell as DwellSegment, Switch as SwitchSegment}
-use Rattle.ng_step.specs.declared.line.Distances.{Distances}
+use Rattle.ng_canon.specs.declared.item.Item.{Item}
+use Rattle.ng_step.specs.declared.steps.Distances.{Distances}
 use Rattle.ng_step.specs.declared.centred.CentredArc.{CentredArc}
 use Rattle.ng_step.specs.Arcs.{larger, HasSteps, IsLargeArc, quadrants_to_walk, plane_steps}
 use Rattle.ng_step.specs.Frames.{mirrored}
 use Rattle.ng_step.specs.Lines.{in_steps, line_at, line_from, largest, line_pulses, IsByHalfIn}
 use Rattle.ng_step.specs.Hands.{pulse_item, distances, line_items, centred, is_small, arc_path, large_arc_items, arc_items, step_a, step_b}
-use Rattle.ng_step.specs.Promises.{stands_after, on_line, FollowsItsLine, point_in_steps, stands_at, LeadsTo, EndsOnItsEnd, IsInsideByHalf, StaysInside, IsTrueArc, KeepsToItsCircle}
+use Rattle.ng_step.specs.Promises.{stands_after, on_line, FollowsLine, FollowsItsLine, StaysInTravel, point_in_steps, stands_at, LeadsTo, EndsOnItsEnd, IsInsideByHalf, StaysInside, IsTrueArc, KeepsToItsCircle}
 use Rattle.ng_step.proofs.LineLemmas.{in_steps_near, line_inside}
 use Rattle.ng_step.proofs.RoundLemmas.{rounded_near}
 use Rattle.ng_step.proofs.LengthLemmas.{limits}
@@ -34,7 +35,7 @@ use Rattle.ng_step.proofs.EndLemmas.{moved, distances_same, line_leads, over_lea
 
 -- ---- the end
 
-start_moved : (g : Geometry) (p q : Point) → moved (point_in_steps g p) (distances g p q) ≡ point_in_steps g q
+pub start_moved : (g : Geometry) (p q : Point) → moved (point_in_steps g p) (distances g p q) ≡ point_in_steps g q
 start_moved g p q = distances_same _ _ _ _ _ _ (rest_of _ _) (rest_of _ _) (rest_of _ _)
 
 line_ends : (g : Geometry) (pace : Pace) (p q : Point) → LeadsTo g (line_items g pace p q) p q
@@ -72,15 +73,20 @@ first_stands us n p d (suc left) (suc j) some most small le =
     let step = line_moves us n (n - suc left) p d some most ∙ ap (line_point n p d) e in
     ap (stands_after (take j (map (pulse_item us) (line_from n d left)))) step ∙ first_stands us n p d left j some most (omega arith) (omega arith) ∙ ap (line_point n p d) e'
 
+pub line_goes : (us : ℕ) (p d : Distances) (k : ℕ) → 0 < largest d → k ≤ largest d → stands_after (take k (map (pulse_item us) (line_pulses d))) p ≡ line_point (largest d) p d k
+unfolding line_pulses
+line_goes us p d k some le =
+    let n = largest d in
+    let e : n - n + k ≡ k = omega arith in
+    ap (stands_after (take k (map (pulse_item us) (line_from n d n)))) (sym (line_point_none n p d some))
+    ∙ first_stands us n p d n k some (at_most_largest d) (omega arith) le
+    ∙ ap (line_point n p d) e
+
 pulses_follow : (g : Geometry) (us : ℕ) (p q : Point) (k : ℕ) → 0 < largest (distances g p q) → k ≤ largest (distances g p q)
     → stands_after (take k (map (pulse_item us) (line_pulses (distances g p q)))) (point_in_steps g p) ≡ on_line (largest (distances g p q)) (point_in_steps g p) (point_in_steps g q) k
-unfolding line_pulses
 pulses_follow g us p q k some le =
     let n = largest (distances g p q) in
-    let e : n - n + k ≡ k = omega arith in
-    ap (stands_after (take k (map (pulse_item us) (line_from n (distances g p q) n)))) (sym (line_point_none n (point_in_steps g p) (distances g p q) some))
-    ∙ first_stands us n (point_in_steps g p) (distances g p q) n k some (at_most_largest (distances g p q)) (omega arith) le
-    ∙ ap (line_point n (point_in_steps g p) (distances g p q)) e
+    line_goes us (point_in_steps g p) (distances g p q) k some le
     ∙ distances_same _ _ _ _ _ _ (ap (λ z. line_at n (in_steps p.x g.x.step_nm) z k) (rest_of _ _)) (ap (λ z. line_at n (in_steps p.y g.y.step_nm) z k) (rest_of _ _)) (ap (λ z. line_at n (in_steps p.z g.z.step_nm) z k) (rest_of _ _))
 
 line_follows : (g : Geometry) (pace : Pace) (p q : Point) (k : ℕ) → 0 < largest (distances g p q) → k ≤ largest (distances g p q)
@@ -88,9 +94,14 @@ line_follows : (g : Geometry) (pace : Pace) (p q : Point) (k : ℕ) → 0 < larg
 unfolding line_items
 line_follows g pace p q k some le = pulses_follow g _ p q k some le
 
+-- a small arc's items are those of a line
+small_items : (g : Geometry) (arc : Arc) → is_small (centred g arc).circle ≡ true → line_items g arc.pace arc.start arc.end ≡ arc_items g arc
+unfolding arc_items
+small_items g arc small = rw small refl
+
 pub follows : (s : Segment) (g : Geometry) → FollowsItsLine s g
 follows (LineSegment l) g = λ k some le. line_follows g l.pace l.start l.end k some le
-follows (ArcSegment arc) g = tt
+follows (ArcSegment arc) g = λ small. subst (λ (items : List Item). FollowsLine g items arc.start arc.end) (small_items g arc small) (λ k some le. line_follows g arc.pace arc.start arc.end k some le)
 follows (DwellSegment time) g = tt
 follows (SwitchSegment outputs) g = tt
 
@@ -170,7 +181,7 @@ line_stays g pace p q hp hq = elim (cases_lt 0 (largest (distances g p q))) [
 
 pub stays : (s : Segment) (g : Geometry) → StaysInside s g
 stays (LineSegment l) g = λ hp hq. line_stays g l.pace l.start l.end hp hq
-stays (ArcSegment arc) g = tt
+stays (ArcSegment arc) g = λ small. subst (λ (items : List Item). StaysInTravel g items arc.start arc.end) (small_items g arc small) (λ hp hq. line_stays g arc.pace arc.start arc.end hp hq)
 stays (DwellSegment time) g = tt
 stays (SwitchSegment outputs) g = tt
 
@@ -206,7 +217,7 @@ near_b Clockwise u z c s m h le = omega (arith, ints)
 far : (n m : ℕ) → nat_lt n m ≡ false → m ≤ n
 far n m h = grind (arith, nat_tests)
 
-true_arc : (g : Geometry) (arc : Arc) → is_small (centred g arc).circle ≡ false → IsTrueArc (centred g arc)
+pub true_arc : (g : Geometry) (arc : Arc) → is_small (centred g arc).circle ≡ false → IsTrueArc (centred g arc)
 unfolding centred
 true_arc g arc large =
     let c = centred g arc in

@@ -11,13 +11,12 @@ use Rattle.ng_step.specs.declared.circle.Circle.{Circle}
 use Rattle.ng_step.specs.declared.quadrant.Spot.{Spot}
 use Rattle.ng_step.specs.declared.walk.Walk.{Walk}
 use Rattle.ng_step.specs.declared.quadrant.PlaneStep.{PlaneStep}
-use Rattle.ng_step.specs.Arcs.{quadrant_after, cross, same_quadrant, inward, outward, larger, moved}
+use Rattle.ng_step.specs.Arcs.{quadrant_after, cross, inward, outward, larger, moved}
 use Rattle.ng_step.specs.Turned.{turned, place, in_step, out_step, norm, Sound, Walks, IsStep, farthest, beyond}
 use Rattle.ng_step.proofs.TurnLemmas.{sound_outward, sound_inward, sound_crossing}
-use Rattle.ng_step.proofs.ArcLemmas.{in_step_some, budget_same, budget_next}
-use Rattle.ng_step.proofs.PlaceLemmas.{same_quadrant-self, same_quadrant-quadrant_after, moved_inward, moved_crossing, moved_outward, next_outside, next_inside, step_outside, step_inside, in_step_le}
+use Rattle.ng_step.proofs.PlaceLemmas.{moved_inward, moved_crossing, moved_outward, next_outside, next_inside, step_outside, step_inside, in_step_le}
 use Rattle.ng_canon.specs.declared.item.Step.TheVariants.{Still}
-use Rattle.ng_step.specs.declared.line.Steps.{Steps}
+use Rattle.ng_step.specs.declared.steps.Steps.{Steps}
 use Rattle.ng_step.specs.Frames.{pulse_with}
 
 -- the differences are far from the ends of their type
@@ -126,9 +125,6 @@ outward_is w h excess_low =
       spot = sym (next_inside w.circle w.quadrant w.inner w.outer h.sound.some inside ∙ moved_outward w.circle w.quadrant w.inner w.outer
           ∙ ap (λ s. place w.quadrant w.inner (w.outer + s)) (sym h.outer_step));
       circle = refl;
-      smaller = λ left some. budget_same beyond left w.inner w.outer w.inner (w.outer + w.outer_step) (same_quadrant w.quadrant w.quadrant) (same_quadrant-self w.quadrant)
-          (let step : 0 < w.outer_step = rw h.outer_step (in_step_some w.circle (quadrant_after w.quadrant) h.has) in
-          let after = (sound_outward _ _ _ _ w.inner w.outer w.outer_step h.roomy inside outer_le h.sound).outer in omega arith);
     }
 
 pub inward_is : (w : Walk) → Walks w → pos 0 <ℤ w.excess → w.inner_step < w.inner → IsStep w (after_inward w) (flat w (inward w.quadrant))
@@ -160,8 +156,6 @@ inward_is w h excess_high far =
           ∙ ap (λ x. moved w.circle (inward w.quadrant) (place w.quadrant x w.outer)) (split ∙ ap (λ s. s + j) h.inner_step)
           ∙ moved_inward w.circle w.quadrant j w.outer);
       circle = refl;
-      smaller = λ left some. budget_same beyond left w.inner w.outer j w.outer (same_quadrant w.quadrant w.quadrant) (same_quadrant-self w.quadrant)
-          (let step : 0 < w.inner_step = rw h.inner_step (in_step_some w.circle w.quadrant h.has) in omega arith);
     }
   where
     excess_inward : (s j i o n : ℕ) → i ≡ s + j → (z d : ℤ) → z ≡ pos (norm i o) -ℤ pos n → d ≡ pos (s * s) -ℤ pos (2 * (i * s)) → z +ℤ d ≡ pos (norm j o) -ℤ pos n
@@ -201,7 +195,6 @@ crossing_is w h excess_high near =
       spot = sym (next_outside w.circle w.quadrant w.inner w.outer h.sound.some outside
           ∙ moved_crossing w.circle w.quadrant w.inner w.outer j (sym split ∙ h.inner_step));
       circle = refl;
-      smaller = λ left some. budget_next beyond left w.inner w.outer w.outer j (same_quadrant w.quadrant (quadrant_after w.quadrant)) (same_quadrant-quadrant_after w.quadrant) some h.sound.outer;
     }
   where
     excess_crossing : (s j i o n : ℕ) → s ≡ i + j → (z d : ℤ) → z ≡ pos (norm i o) -ℤ pos n → d ≡ pos (s * s) -ℤ pos (2 * (i * s)) → z +ℤ d ≡ pos (norm o j) -ℤ pos n
@@ -270,7 +263,7 @@ mul_neg_left (suc i) (negsuc n) = grind (arith, ints)
 le_as_difference : (x y z : ℤ) → x -ℤ y ≡ z → int_le x y ≡ int_le z (pos 0)
 le_as_difference x y z h = grind (arith, ints)
 
-cross-place : (q : Quadrant) (i o : ℕ) (e : Spot) → pos i *ℤ (turned q e).b -ℤ pos o *ℤ (turned q e).a ≡ cross (place q i o) e
+pub cross-place : (q : Quadrant) (i o : ℕ) (e : Spot) → pos i *ℤ (turned q e).b -ℤ pos o *ℤ (turned q e).a ≡ cross (place q i o) e
 cross-place First i o e = refl
 cross-place Second i o e = simp (mul_neg_right, mul_neg_left) (omega (arith, ints))
 cross-place Third i o e = simp (mul_neg_right, mul_neg_left) (omega (arith, ints))

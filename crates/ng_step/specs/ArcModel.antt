@@ -1,6 +1,6 @@
 -- The pulses of an arc as a model.
 use Rattle.std.specs.Prelude.{◌≡◌, ◌-◌, ◌*◌, ◌^◌, ◌<◌, ◌≤◌, true, List}
-use Rattle.ng_step.specs.declared.line.Steps.{Steps}
+use Rattle.ng_step.specs.declared.steps.Steps.{Steps}
 use Rattle.ng_step.specs.declared.arc.ArcPulses.TheInside.{Inside}
 use Rattle.ng_step.specs.Axes.{IsSpread}
 use Rattle.ng_step.specs.Turned.{Walks, spot_of}

@@ -5,7 +5,7 @@ use Rattle.ng_step.specs.declared.quadrant.Spot.{Spot}
 use Rattle.ng_step.specs.declared.quadrant.PlaneStep.{PlaneStep}
 use Rattle.ng_step.specs.declared.frame.Frame.{Frame}
 use Rattle.ng_step.specs.Frames.{pulse_with, pulse_without}
-use Rattle.ng_step.specs.declared.line.Steps.{Steps}
+use Rattle.ng_step.specs.declared.steps.Steps.{Steps}
 use Rattle.ng_canon.specs.declared.item.Step.{Step}
 use Rattle.ng_canon.specs.declared.item.Step.TheVariants.{Backward, Still, Forward}
 use Rattle.ng_step.specs.Arcs.{step_at, next_spot}

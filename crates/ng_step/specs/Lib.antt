@@ -11,3 +11,5 @@ pub mod Hands
 pub mod StepperModel
 pub mod Sizes
 pub mod Promises
+pub mod Passages
+pub mod Leaps

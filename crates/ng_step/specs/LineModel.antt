@@ -1,6 +1,6 @@
 -- The pulses of a line as a model.
 use Rattle.std.specs.Prelude.{◌≡◌, ℕ, zero, suc, ◌-◌, ◌*◌, ◌^◌, ◌<◌, ◌≤◌, List, [], ◌∷◌}
-use Rattle.ng_step.specs.declared.line.Steps.{Steps}
+use Rattle.ng_step.specs.declared.steps.Steps.{Steps}
 use Rattle.ng_canon.specs.declared.item.Step.{Step}
 use Rattle.ng_step.specs.declared.spread.Spread.{Spread}
 use Rattle.ng_step.specs.declared.line.LinePulses.TheInside.{Inside}

@@ -1,8 +1,8 @@
 -- The steps of a line.
 use Rattle.std.specs.Prelude.{ℕ, zero, suc, ◌+◌, ◌-◌, ◌*◌, ◌/◌, max, ℤ, pos, ◌+ℤ◌, ◌-ℤ◌, ◌*ℤ◌, ◌≤ℤ◌, unsigned_abs, int_lt, int_le, Bool, true, false, if◌then◌else◌, List, [], ◌∷◌}
 use Rattle.ng_num.specs.Rounding.{near}
-use Rattle.ng_step.specs.declared.line.Distances.{Distances}
-use Rattle.ng_step.specs.declared.line.Steps.{Steps}
+use Rattle.ng_step.specs.declared.steps.Distances.{Distances}
+use Rattle.ng_step.specs.declared.steps.Steps.{Steps}
 use Rattle.ng_canon.specs.declared.item.Step.{Step}
 use Rattle.ng_canon.specs.declared.item.Step.TheVariants.{Backward, Still, Forward}
 

@@ -1,19 +1,22 @@
 -- What holds of every segment's items (own).
-use Rattle.std.specs.Prelude.{◌≡◌, ℕ, ◌+◌, ◌<◌, ◌≤◌, take, ℤ, pos, negsuc, ◌+ℤ◌, unsigned_abs, true, false, List, [], ◌∷◌, All, length}
+use Rattle.std.specs.Prelude.{◌≡◌, ℕ, ◌+◌, ◌*◌, ◌<◌, ◌≤◌, max, take, ℤ, pos, negsuc, ◌+ℤ◌, ◌-ℤ◌, ◌*ℤ◌, unsigned_abs, true, false, List, [], ◌∷◌, All, length, slice_get, Some}
 use Rattle.ng_num.specs.declared.point.Point.{Point}
 use Rattle.ng_canon.specs.Inside.{is_inside}
 use Rattle.ng_canon.specs.declared.geometry.Geometry.{Geometry}
+use Rattle.ng_canon.specs.declared.segment.Arc.{Arc}
 use Rattle.ng_canon.specs.declared.segment.Segment.{Segment}
 use Rattle.ng_canon.specs.declared.segment.Segment.TheVariants.{Line as LineSegment, Arc as ArcSegment, Dwell as DwellSegment, Switch as SwitchSegment}
 use Rattle.ng_canon.specs.declared.item.Step.{Step}
 use Rattle.ng_canon.specs.declared.item.Step.TheVariants.{Backward, Still, Forward}
 use Rattle.ng_canon.specs.declared.item.Item.{Item}
 use Rattle.ng_canon.specs.declared.item.Item.TheVariants.{Pulse as PulseItem, Dwell as DwellItem, Switch as SwitchItem}
-use Rattle.ng_step.specs.declared.line.Distances.{Distances}
+use Rattle.ng_step.specs.declared.steps.Distances.{Distances}
 use Rattle.ng_step.specs.declared.centred.CentredArc.{CentredArc}
-use Rattle.ng_step.specs.Arcs.{IsArc, IsNearCircle, quadrants_to_walk, most_steps}
-use Rattle.ng_step.specs.Lines.{in_steps, line_at, largest, IsByHalfIn}
-use Rattle.ng_step.specs.Hands.{hand, distances, centred, is_small, arc_path}
+use Rattle.ng_step.specs.declared.quadrant.Spot.{Spot}
+use Rattle.ng_step.specs.Frames.{of_a, of_b, of_third}
+use Rattle.ng_step.specs.Arcs.{IsArc, IsNearCircle, IsWithin, spots, excess, larger, quadrants_to_walk, most_steps}
+use Rattle.ng_step.specs.Lines.{in_steps, made, line_at, largest, IsByHalfIn}
+use Rattle.ng_step.specs.Hands.{hand, distances, from_centre, step_a, step_b, across, centred, is_small, arc_path}
 
 -- a machine point in whole steps
 abbrev pub point_in_steps : Geometry → Point → Distances
@@ -55,11 +58,15 @@ EndsOnItsEnd (ArcSegment arc) g = LeadsTo g (hand (ArcSegment arc) g) arc.start 
 EndsOnItsEnd (DwellSegment time) g = Unit {0}
 EndsOnItsEnd (SwitchSegment outputs) g = Unit {0}
 
--- after pulse k of a line each axis has made the steps of the closed formula
+-- after pulse k each axis has made the steps of the closed formula
+abbrev pub FollowsLine : Geometry → List Item → Point → Point → Type 0
+FollowsLine g items p q = (k : ℕ) → 0 < largest (distances g p q) → k ≤ largest (distances g p q)
+    → stands_after (take k items) (point_in_steps g p) ≡ on_line (largest (distances g p q)) (point_in_steps g p) (point_in_steps g q) k
+
+-- a line does, and a small arc
 abbrev pub FollowsItsLine : Segment → Geometry → Type 0
-FollowsItsLine (LineSegment l) g = (k : ℕ) → 0 < largest (distances g l.start l.end) → k ≤ largest (distances g l.start l.end)
-    → stands_after (take k (hand (LineSegment l) g)) (point_in_steps g l.start) ≡ on_line (largest (distances g l.start l.end)) (point_in_steps g l.start) (point_in_steps g l.end) k
-FollowsItsLine (ArcSegment arc) g = Unit {0}
+FollowsItsLine (LineSegment l) g = FollowsLine g (hand (LineSegment l) g) l.start l.end
+FollowsItsLine (ArcSegment arc) g = is_small (centred g arc).circle ≡ true → FollowsLine g (hand (ArcSegment arc) g) arc.start arc.end
 FollowsItsLine (DwellSegment time) g = Unit {0}
 FollowsItsLine (SwitchSegment outputs) g = Unit {0}
 
@@ -69,11 +76,14 @@ pub record IsInsideByHalf (g : Geometry) (at : Distances) : Type 0 where
   pub y : IsByHalfIn g.y.low g.y.high g.y.step_nm at.y
   pub z : IsByHalfIn g.z.low g.z.high g.z.step_nm at.z
 
--- a line between points of the travel leaves it by no more than half a step
+-- between points of the travel it is left by no more than half a step
+abbrev pub StaysInTravel : Geometry → List Item → Point → Point → Type 0
+StaysInTravel g items p q = is_inside g p ≡ true → is_inside g q ≡ true → All (IsInsideByHalf g) (stands_at items (point_in_steps g p))
+
+-- by a line, and by a small arc
 abbrev pub StaysInside : Segment → Geometry → Type 0
-StaysInside (LineSegment l) g = is_inside g l.start ≡ true → is_inside g l.end ≡ true
-    → All (IsInsideByHalf g) (stands_at (hand (LineSegment l) g) (point_in_steps g l.start))
-StaysInside (ArcSegment arc) g = Unit {0}
+StaysInside (LineSegment l) g = StaysInTravel g (hand (LineSegment l) g) l.start l.end
+StaysInside (ArcSegment arc) g = is_small (centred g arc).circle ≡ true → StaysInTravel g (hand (ArcSegment arc) g) arc.start arc.end
 StaysInside (DwellSegment time) g = Unit {0}
 StaysInside (SwitchSegment outputs) g = Unit {0}
 
@@ -89,3 +99,51 @@ KeepsToItsCircle (LineSegment l) g = Unit {0}
 KeepsToItsCircle (ArcSegment arc) g = is_small (centred g arc).circle ≡ false → IsTrueArc (centred g arc)
 KeepsToItsCircle (DwellSegment time) g = Unit {0}
 KeepsToItsCircle (SwitchSegment outputs) g = Unit {0}
+
+-- ---- where the machine stands on an arc
+
+-- a machine point in steps, as an offset from the arc's centre in nanometres
+abbrev pub offset_of : Geometry → Arc → Distances → Spot
+offset_of g arc at = from_centre arc (of_a arc.plane at.x at.y at.z *ℤ pos (step_a g arc.plane)) (of_b arc.plane at.x at.y at.z *ℤ pos (step_b g arc.plane))
+
+-- where the machine stands behind the first k items
+abbrev pub stands_behind : Geometry → Arc → List Item → ℕ → Distances
+stands_behind g arc items k = stands_after (take k items) (point_in_steps g arc.start)
+
+-- the pulses before the closing line: as many as the arc has steps, or the third axis
+abbrev pub round_total : Geometry → Arc → ℕ
+round_total g arc = max (length (arc_path (centred g arc))) (unsigned_abs (across (centred g arc).frame (distances g arc.start arc.end)))
+
+-- the steps between two points
+abbrev pub steps_between : Distances → Distances → Distances
+steps_between p q = record { x = q.x -ℤ p.x; y = q.y -ℤ p.y; z = q.z -ℤ p.z }
+
+-- the pulses of the closing line
+abbrev pub closing_total : Geometry → Arc → List Item → ℕ
+closing_total g arc items = largest (steps_between (stands_behind g arc items (round_total g arc)) (point_in_steps g arc.end))
+
+-- The machine goes along the arc's path, and from its end in a line to the rounded end.
+pub record FollowsPath (g : Geometry) (arc : Arc) (items : List Item) : Type 0 where
+  -- after pulse k the machine stands at the spot of the path behind the arc steps made by then
+  pub path : (k : ℕ) → 0 < round_total g arc → k ≤ round_total g arc
+      → slice_get (spots (centred g arc).circle (centred g arc).from (arc_path (centred g arc))) (made (round_total g arc) (length (arc_path (centred g arc))) k)
+      ≡ Some (offset_of g arc (stands_behind g arc items k))
+  -- and the third axis where a line's formula has it
+  pub third : (k : ℕ) → 0 < round_total g arc → k ≤ round_total g arc
+      → of_third arc.plane (stands_behind g arc items k).x (stands_behind g arc items k).y (stands_behind g arc items k).z
+      ≡ line_at (round_total g arc) (of_third arc.plane (point_in_steps g arc.start).x (point_in_steps g arc.start).y (point_in_steps g arc.start).z)
+      (of_third arc.plane (point_in_steps g arc.end).x (point_in_steps g arc.end).y (point_in_steps g arc.end).z) k
+  -- each position up to there is near the circle, by the largest coordinate w among them
+  pub near : (w : ℕ) → ((k : ℕ) → k ≤ round_total g arc → IsWithin w (offset_of g arc (stands_behind g arc items k))) → (k : ℕ) → k ≤ round_total g arc
+      → unsigned_abs (excess (centred g arc).circle (offset_of g arc (stands_behind g arc items k)))
+      ≤ 2 * (larger (centred g arc).circle * w) + larger (centred g arc).circle * larger (centred g arc).circle + unsigned_abs (excess (centred g arc).circle (centred g arc).from)
+  -- then it follows the closing line
+  pub closing : (k : ℕ) → 0 < closing_total g arc items → k ≤ closing_total g arc items
+      → stands_behind g arc items (round_total g arc + k) ≡ on_line (closing_total g arc items) (stands_behind g arc items (round_total g arc)) (point_in_steps g arc.end) k
+
+-- an arc that isn't small does
+abbrev pub FollowsItsPath : Segment → Geometry → Type 0
+FollowsItsPath (LineSegment l) g = Unit {0}
+FollowsItsPath (ArcSegment arc) g = is_small (centred g arc).circle ≡ false → FollowsPath g arc (hand (ArcSegment arc) g)
+FollowsItsPath (DwellSegment time) g = Unit {0}
+FollowsItsPath (SwitchSegment outputs) g = Unit {0}

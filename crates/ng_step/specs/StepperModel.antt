@@ -2,7 +2,7 @@
 use Rattle.std.specs.Prelude.{Option, Some, None, List, [], ◌∷◌, ◌++◌, map}
 use Rattle.ng_canon.specs.declared.item.Item.{Item}
 use Rattle.ng_step.specs.declared.stepper.Stepper.TheInside.{Inside}
-use Rattle.ng_step.specs.declared.line.Steps.{Steps}
+use Rattle.ng_step.specs.declared.steps.Steps.{Steps}
 use Rattle.ng_step.specs.Hands.{pulse_item}
 
 abbrev pub single_item : Option Item → List Item

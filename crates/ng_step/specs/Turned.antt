@@ -1,10 +1,10 @@
 -- The same in every quadrant: a point by the coordinate that inward steps lessen and the one that outward steps make larger.
-use Rattle.std.specs.Prelude.{◌≡◌, ℕ, ◌+◌, ◌-◌, ◌*◌, ◌^◌, ◌<◌, ◌≤◌, pos, neg_ℤ, ◌+ℤ◌, ◌-ℤ◌, if◌then◌else◌}
+use Rattle.std.specs.Prelude.{◌≡◌, ℕ, ◌+◌, ◌-◌, ◌*◌, ◌^◌, ◌<◌, ◌≤◌, pos, neg_ℤ, ◌+ℤ◌, ◌-ℤ◌}
 use Rattle.ng_step.specs.declared.quadrant.Quadrant.{Quadrant}
 use Rattle.ng_step.specs.declared.quadrant.Quadrant.TheVariants.{First, Second, Third, Fourth}
-use Rattle.ng_step.specs.Arcs.{inward, outward, quadrant_after, larger, HasSteps, same_quadrant, step_at, next_spot}
+use Rattle.ng_step.specs.Arcs.{inward, outward, quadrant_after, larger, HasSteps, step_at, next_spot}
 use Rattle.ng_canon.specs.declared.item.Step.TheVariants.{Still}
-use Rattle.ng_step.specs.declared.line.Steps.{Steps}
+use Rattle.ng_step.specs.declared.steps.Steps.{Steps}
 use Rattle.ng_step.specs.Frames.{pulse_with}
 use Rattle.ng_step.specs.declared.walk.Walk.{Walk}
 use Rattle.ng_step.specs.declared.circle.Circle.{Circle}
@@ -83,7 +83,6 @@ pub record IsStep (w w' : Walk) (made : Steps) : Type 0 where
   pub step : made ≡ pulse_with w.frame (step_at w.circle (spot_of w)) Still
   pub spot : spot_of w' ≡ next_spot w.circle (spot_of w)
   pub circle : w'.circle ≡ w.circle
-  pub smaller : (left : ℕ) → 0 < left → budget beyond (if same_quadrant w.quadrant w'.quadrant then left else left - 1) w'.inner w'.outer < budget beyond left w.inner w.outer
 
 -- a point seen from a quadrant, as its inner and its outer coordinate
 abbrev pub turned : Quadrant → Spot → Spot

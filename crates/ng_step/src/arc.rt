@@ -1,8 +1,8 @@
 //! The pulses of an arc.
 
 use crate::frame::with_third;
-use crate::line::Steps;
 use crate::spread::Spread;
+use crate::steps::Steps;
 use crate::walk::Walk;
 use ng_canon::Step;
 use std::marker::Model;
@@ -20,7 +20,7 @@ pub struct ArcPulses {
 
 impl Model for ArcPulses {
     ghost use Rattle.std.specs.Prelude.{List};
-    ghost use Rattle.ng_step.specs.declared.line.Steps.{Steps};
+    ghost use Rattle.ng_step.specs.declared.steps.Steps.{Steps};
 
     ghost Value = { List Steps };
 

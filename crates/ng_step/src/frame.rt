@@ -1,7 +1,7 @@
 //! The axes of an arc's plane, and the side that an arc is seen from.
 
-use crate::line::{Distances, Steps};
 use crate::quadrant::PlaneStep;
+use crate::steps::{Distances, Steps};
 use ng_canon::{Plane, Step, Turn};
 
 /// How an arc lies in the machine: its plane, and its way round. A clockwise arc is stepped as a counterclockwise

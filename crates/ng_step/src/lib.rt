@@ -14,12 +14,15 @@
 mod arc;
 mod centred;
 mod circle;
+mod distance;
 mod frame;
 mod line;
+mod passage;
 mod quadrant;
 mod rounding;
 mod spread;
 mod stepper;
+mod steps;
 #[cfg(test)]
 mod tests;
 mod timing;

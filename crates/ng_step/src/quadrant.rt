@@ -159,18 +159,6 @@ ghost use Rattle.std.specs.Prelude.{◌≡◌, ◌<◌, ◌≤◌, ◌-◌, ◌^
 ghost use Rattle.ng_step.specs.Arcs.{same_quadrant, cross, changes, quadrants_to_walk};
 ghost use Rattle.ng_step.specs.Sizes.{AreWithin};
 
-/// The quadrants still to walk in, the present one included, after a step between two quadrants.
-pub(crate) fn left_after(left: u64, before: Quadrant, after: Quadrant) -> u64
-    requires { 0 < left }
-    ensures { result ≡ (if same_quadrant before after then left else left - 1) }
-{
-    if before.is_same(after) {
-        left
-    } else {
-        left - 1
-    }
-}
-
 /// Whether an end is ahead of a start by less than half a turn.
 fn is_ahead(start: Spot, end: Spot) -> bool
     requires start { AreWithin start (2 ^ 50) }

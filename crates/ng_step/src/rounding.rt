@@ -3,9 +3,9 @@
 ghost use Rattle.std.specs.Prelude.{◌≡◌, ◌<◌, ◌≤◌, ◌^◌, ◌*◌, ℤ, ◌-ℤ◌, ◌*ℤ◌, pos, unsigned_abs};
 ghost use Rattle.ng_num.specs.Range.{IsCount};
 ghost use Rattle.ng_step.specs.Lines.{in_steps};
-ghost use Rattle.ng_step.specs.Hands.{rounded, square_between};
+ghost use Rattle.ng_step.specs.Hands.{rounded};
 
-use ng_num::{Len, Point};
+use ng_num::Len;
 
 /// A coordinate in steps, rounded half away from zero.
 pub(crate) fn in_steps(at: Len, step_nm: u32) -> i64
@@ -50,21 +50,4 @@ pub(crate) fn steps_between(from: Len, to: Len, step_nm: u32) -> i64
     ensures size { unsigned_abs result < 2 ^ 46 }
 {
     in_steps(to, step_nm) - in_steps(from, step_nm)
-}
-
-/// The square of the distance between two coordinates.
-fn square_of(from: Len, to: Len) -> u128
-    ensures value { result ≡ unsigned_abs (to -ℤ from) * unsigned_abs (to -ℤ from) }
-    ensures size { result < 2 ^ 90 }
-{
-    let size = (to.nm() - from.nm()).unsigned_abs() as u128;
-    size * size
-}
-
-/// The square of the distance between two points.
-pub(crate) fn square_between(start: &Point, end: &Point) -> u128
-    ensures value { result ≡ square_between start.now end.now }
-    ensures size { result < 2 ^ 92 }
-{
-    square_of(start.x, end.x) + square_of(start.y, end.y) + square_of(start.z, end.z)
 }

@@ -2,9 +2,10 @@
 
 use crate::arc::ArcPulses;
 use crate::centred::CentredArc;
-use crate::line::{Distances, LinePulses, Steps};
+use crate::distance::square_between;
+use crate::line::LinePulses;
 use crate::quadrant::quadrants_to_walk;
-use crate::rounding::square_between;
+use crate::steps::{Distances, Steps};
 use crate::timing::{pulse_us, root_up};
 use crate::walk::Walk;
 use ng_canon::{Arc, Geometry, Item, Pace, Pulse, Segment};
@@ -35,18 +36,19 @@ impl Model for Stepper {
 impl Stepper {
     ghost use Rattle.std.specs.Prelude.{◌≡◌, ◌∷◌, ◌++◌, ◌^◌, [], MatchOption, map};
     ghost use Rattle.ng_step.specs.Hands.{pulse_item, line_items, arc_items, large_arc_items, hand};
-    ghost use Rattle.ng_step.specs.Promises.{EndsOnItsEnd, FollowsItsLine, StaysInside, KeepsToItsCircle};
+    ghost use Rattle.ng_step.specs.Promises.{EndsOnItsEnd, FollowsItsLine, StaysInside, KeepsToItsCircle, FollowsItsPath};
     ghost use Rattle.ng_step.specs.Sizes.{AreSized, IsWalkable};
     ghost use Rattle.ng_step.specs.StepperModel.{or_none};
 
-    /// At the start of a segment: any one, inside the travel or not. It takes no memory and doesn't fail. An arc is
-    /// walked once here, since its period needs the number of its steps.
+    /// At the start of a segment: any one, inside the travel or not. It takes no memory and doesn't fail. It takes
+    /// 60 roots at most, also for the longest arc.
     pub fn new(segment: &Segment, geometry: &Geometry) -> Stepper
         ensures items { result ≡ hand segment.now geometry.now }
         ensures ends { EndsOnItsEnd segment.now geometry.now }
         ensures follows { FollowsItsLine segment.now geometry.now }
         ensures stays { StaysInside segment.now geometry.now }
         ensures keeps { KeepsToItsCircle segment.now geometry.now }
+        ensures path { FollowsItsPath segment.now geometry.now }
     {
         match segment {
             Segment::Line(line) => Stepper::over_line(geometry, line.pace, &line.start, &line.end),

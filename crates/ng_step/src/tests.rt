@@ -1,11 +1,13 @@
 use crate::Stepper;
 use ng_canon::{
-    Arc, Axis, Geometry, InverseTime, Item, Line, Outputs, Pace, Plane, Pulse, Rate, Segment, Step,
-    Turn,
+    Arc, Axis, Geometry, InverseTime, Item, Outputs, Pace, Plane, Pulse, Rate, Segment, Step,
+    StraightMove, Turn,
 };
 use ng_num::{Len, Num, Point};
 use std::alloc::Global;
 use std::test::Fail;
+
+mod largest;
 
 type Text = Result<String<Global>, Fail>;
 
@@ -43,7 +45,7 @@ fn steps_of(x: u32, y: u32, z: u32) -> Geometry {
 }
 
 fn line(start: Point, end: Point, pace: Pace) -> Segment {
-    Segment::Line(Line { start, end, pace })
+    Segment::Line(StraightMove { start, end, pace })
 }
 
 fn arc(plane: Plane, turn: Turn, start: Point, end: Point, centre: (i64, i64)) -> Segment {
@@ -112,7 +114,7 @@ fn items(alloc: Global, segment: &Segment, machine: &Geometry) -> Text {
 #[test]
 fn lines(rt: HostRuntime) -> Result<(), Fail> {
     let machine = Geometry::standard();
-    let origin = Point::origin();
+    let origin = Point::zero();
     let inverse = InverseTime::of(Num::of(60_000_000)?).map_or(Pace::Traverse, Pace::InverseTime);
     for (end, pace, want) in [
         (point(5_000, 2_000, 0), feed(), "1078: +X +X+Y +X +X+Y +X"),
@@ -138,7 +140,7 @@ fn lines(rt: HostRuntime) -> Result<(), Fail> {
 #[test]
 fn circles(rt: HostRuntime) -> Result<(), Fail> {
     let machine = Geometry::standard();
-    let origin = Point::origin();
+    let origin = Point::zero();
     for (plane, turn, want) in [
         (
             Plane::Xy,

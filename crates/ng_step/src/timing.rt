@@ -20,7 +20,7 @@ pub(crate) fn root_up(square: u128) -> u128
 }
 
 /// The quotient rounded up.
-fn ceil_div(a: u128, b: u128) -> u128
+pub(crate) fn ceil_div(a: u128, b: u128) -> u128
     requires some { 0 < b }
     requires small { a < 2 ^ 120 }
     requires small_b { b < 2 ^ 120 }

@@ -2,11 +2,12 @@
 
 ghost use Rattle.std.specs.Prelude.{◌≡◌};
 
+mod count;
+
 use crate::circle::Circle;
 use crate::frame::Frame;
-use crate::line::Steps;
-use crate::quadrant::{Quadrant, Spot, left_after};
-use crate::rounding::whole_steps;
+use crate::quadrant::{Quadrant, Spot};
+use crate::steps::Steps;
 use crate::wide::{difference, product, square, sum, twice};
 use ng_canon::Step;
 
@@ -29,14 +30,6 @@ pub struct Walk {
     frame: Frame,
     inward_made: Steps,
     outward_made: Steps,
-}
-
-/// How many steps an arc has, and how far they go along each axis, in steps.
-#[derive(Clone, Copy, Debug, PartialEq, Eq)]
-pub struct Count {
-    pub steps: u64,
-    pub a: i64,
-    pub b: i64,
 }
 
 impl Walk {
@@ -99,6 +92,9 @@ impl Walk {
         requires outer_step { outer_step ≡ out_step circle quadrant }
         ensures walks { Walks result }
         ensures spot { spot_of result ≡ place quadrant inner outer }
+        ensures quadrant { result.quadrant ≡ quadrant }
+        ensures inner { result.inner ≡ inner }
+        ensures outer { result.outer ≡ outer }
         ensures circle { result.circle ≡ circle }
         ensures frame { result.frame ≡ frame }
     {
@@ -142,37 +138,6 @@ impl Walk {
         ensures { result ≡ stops end left (spot_of self.now) }
     {
         left == 0 || (left == 1 && self.is_past(end))
-    }
-
-    /// How many steps there are to the end, and how far they go.
-    pub(crate) fn count(&self, end: Spot, quadrants: u64) -> Count
-        requires walks { Walks self.now }
-        requires end_a { unsigned_abs end.a < 2 ^ 50 }
-        requires end_b { unsigned_abs end.b < 2 ^ 50 }
-        requires few { quadrants ≤ 6 }
-        ensures steps { (ms : List PlaneStep) → IsArc self.now.circle end quadrants (spot_of self.now) ms → result.steps ≡ length ms }
-        ensures a { (ms : List PlaneStep) → IsArc self.now.circle end quadrants (spot_of self.now) ms → result.a ≡ net_a ms }
-        ensures b { (ms : List PlaneStep) → IsArc self.now.circle end quadrants (spot_of self.now) ms → result.b ≡ net_b ms }
-        ensures bounded { result.steps < 2 ^ 52 }
-        ensures size_a { unsigned_abs result.a < 2 ^ 50 }
-        ensures size_b { unsigned_abs result.b < 2 ^ 50 }
-    {
-        let mut walk = *self;
-        let mut left = quadrants;
-        let mut steps: u64 = 0;
-        'steps: while !walk.stops(end, left) {
-            let before = walk.quadrant;
-            let _made = walk.step();
-            left = left_after(left, before, walk.quadrant);
-            steps += 1;
-        }
-        let first = self.spot();
-        let last = walk.spot();
-        Count {
-            steps,
-            a: whole_steps(first.a, last.a, self.circle.step_a),
-            b: whole_steps(first.b, last.b, self.circle.step_b),
-        }
     }
 
     /// How its arc lies in the machine.

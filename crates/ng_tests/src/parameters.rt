@@ -1,6 +1,6 @@
 use linked_list_allocator::LocalHeap;
 use ng_num::{Len, Num, Point};
-use ng_params::{Change, Index, Params, System};
+use ng_params::{Change, Index, Params, System, g92_changes};
 use std::alloc::{AllocError, Allocator, Global};
 use std::test::Fail;
 
@@ -88,9 +88,9 @@ fn point(x: i64, y: i64, z: i64) -> Point {
 fn points_lie_at_their_numbers(rt: HostRuntime) -> Result<(), Fail> {
     let mut params = Params::new(rt.alloc())?;
     let nine = System::of(9).unwrap_or_default();
-    params.set_origin(nine, point(-1, 2, 3));
-    params.set_g92(point(4, 5, 6));
-    params.set_system(nine);
+    params.apply(&nine.origin_changes(point(-1, 2, 3)));
+    params.apply(&g92_changes(point(4, 5, 6)));
+    params.apply(&[nine.selection()]);
     put(&mut params, 5161, 7);
     put(&mut params, 5183, 8);
     for (number, want) in [
@@ -104,7 +104,7 @@ fn points_lie_at_their_numbers(rt: HostRuntime) -> Result<(), Fail> {
         assert_eq!(rt; count(&params, number), want, "parameter {number}");
     }
     assert_eq!(rt; params.origin(nine), point(-1, 2, 3));
-    assert_eq!(rt; params.origin(System::first()), Point::origin());
+    assert_eq!(rt; params.origin(System::first()), Point::zero());
     assert_eq!(rt; params.g92_stored(), point(4, 5, 6));
     assert_eq!(rt; params.home(), point(7, 0, 0));
     assert_eq!(rt; params.second_home(), point(0, 0, 8));

@@ -5,7 +5,8 @@ use Rattle.std.proofs.lemmas.Bool.Decides.{nat_tests, Decides-eqb}
 use Rattle.std.proofs.Common.{rules}
 use Rattle.ng_words.specs.Grammar.{is_digit, AreDigits, written_after, millionths, IsUnsigned, IsNumber, count_of}
 use Rattle.ng_words.proofs.Round.{fraction_is}
-use Rattle.ng_words.specs.Scan.{fraction_from, front_digits, after_digits, whole_after, point_at, is_empty, unsigned_parts, unsigned_at, sign_at, signed, number_at}
+use Rattle.ng_num.specs.Rounding.{signed}
+use Rattle.ng_words.specs.Scan.{fraction_from, front_digits, after_digits, whole_after, point_at, is_empty, unsigned_parts, unsigned_at, sign_at, number_at}
 
 -- no number goes on with these bytes
 abbrev pub Stops : List ℕ → Type 0

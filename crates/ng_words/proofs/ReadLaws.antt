@@ -1,11 +1,11 @@
 -- What the reader's calls owe: that its steps compute `read`, and what `read` says of a line.
-use Rattle.std.proofs.Common.{ℕ, suc, ◌+◌, ◌<◌, ◌≤◌, ◌≡◌, List, [], ◌∷◌, length, Bool, true, false, cond, not, ◌==◌, nat_lt, Option, Some, None, Ok, Err, refl, sym, ap, ◌∙◌, arith, length-append}
+use Rattle.std.proofs.Common.{ℕ, suc, ◌+◌, ◌<◌, ◌≤◌, ◌≡◌, ◌↔◌, List, [], ◌∷◌, length, Bool, true, false, cond, not, ◌==◌, nat_lt, Option, Some, None, Ok, Err, refl, sym, ap, ◌∙◌, arith, length-append}
 use Rattle.std.specs.Option.{option_map, option_and_then}
 use Rattle.std.proofs.lemmas.Bool.Decides.{nat_tests}
 use Rattle.ng_num.specs.declared.fault.Fault.{Fault}
 use Rattle.ng_num.specs.declared.fault.Fault.TheVariants.{Unreadable, LineTooLong}
 use Rattle.ng_words.specs.Plain.{plain, is_blank, capital}
-use Rattle.ng_words.specs.Grammar.{Written, IsLine}
+use Rattle.ng_words.specs.Grammar.{Written, IsLine, is_too_long}
 use Rattle.ng_words.specs.Scan.{slash_at, block_number_at}
 use Rattle.ng_words.specs.Pieces.{pieces_at}
 use Rattle.ng_words.specs.Reading.{body_at, line_at, or_unreadable, read}
@@ -50,6 +50,47 @@ read_found text line h = read_is text (Some line) h.0 (line_found (plain false t
 -- what is refused is no line of the grammar
 pub read_none : (text : List ℕ) (fault : Fault) → read text ≡ Err fault → (line : Written) → IsLine text line → ⊥
 read_none text fault e line h = let found = read_found text line h in cc
+
+-- what is read is the grammar, both ways
+pub reads_iff : (text : List ℕ) (line : Written) → (read text ≡ Ok line) ↔ IsLine text line
+reads_iff text line = (read_sound text line, read_found text line)
+
+-- a test that came out, on lengths
+pub length_over : (text : List ℕ) (t : Bool) → t ≡ is_too_long text → t ≡ true → 256 < length text
+length_over text t e f = let long : nat_lt 256 (length text) ≡ true = sym e ∙ f in grind (arith, nat_tests)
+
+pub length_within : (text : List ℕ) (t : Bool) → t ≡ is_too_long text → t ≡ false → length text ≤ 256
+length_within text t e f = let fits : nat_lt 256 (length text) ≡ false = sym e ∙ f in grind (arith, nat_tests)
+
+fault_by : (text : List ℕ) (t : Bool) (o : Option Written) → nat_lt 256 (length text) ≡ t → cond t (Err LineTooLong) (or_unreadable o) ≡ Err LineTooLong → 256 < length text
+fault_by text true o t_is e = grind (arith, nat_tests)
+fault_by text false None t_is e = absurd cc
+fault_by text false (Some w) t_is e = absurd cc
+
+read_long : (text : List ℕ) → read text ≡ Err LineTooLong → 256 < length text
+unfolding read
+read_long text e = fault_by text (nat_lt 256 (length text)) (line_at (plain false text)) refl e
+
+pub too_long_iff : (text : List ℕ) → (read text ≡ Err LineTooLong) ↔ (256 < length text)
+too_long_iff text = (read_long text, read_too_long text)
+
+short_by : (text : List ℕ) (t : Bool) (o : Option Written) → nat_lt 256 (length text) ≡ t → cond t (Err LineTooLong) (or_unreadable o) ≡ Err Unreadable → length text ≤ 256
+short_by text true o t_is e = absurd cc
+short_by text false o t_is e = grind (arith, nat_tests)
+
+read_short : (text : List ℕ) → read text ≡ Err Unreadable → length text ≤ 256
+unfolding read
+read_short text e = short_by text (nat_lt 256 (length text)) (line_at (plain false text)) refl e
+
+unread_by : (text : List ℕ) (o : Option Written) → length text ≤ 256 → line_at (plain false text) ≡ o → ((line : Written) → IsLine text line → ⊥) → read text ≡ Err Unreadable
+unread_by text None short e none = read_is text None short e
+unread_by text (Some w) short e none = absurd (none w (read_sound text w (read_is text (Some w) short e)))
+
+pub unreadable_iff : (text : List ℕ) → (read text ≡ Err Unreadable) ↔ ((length text ≤ 256) × ((line : Written) → IsLine text line → ⊥))
+unreadable_iff text = (
+  λ e. (read_short text e, read_none text Unreadable e),
+  λ h. unread_by text (line_at (plain false text)) h.0 refl h.1,
+)
 
 -- ---- how the reader comes to it
 

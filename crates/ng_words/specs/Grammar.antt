@@ -1,5 +1,5 @@
 -- The grammar of a line, on the bytes that count. The rules are NISTIR 6556's, section 3.3, where no other source stands.
-use Rattle.std.specs.Prelude.{ℕ, ◌+◌, ◌-◌, ◌*◌, ◌^◌, ◌<◌, ◌≤◌, ◌≡◌, ◌≢◌, ◌⊎◌, List, [], ◌∷◌, ◌++◌, length, codes, Bool, true, false, ◌&&◌, nat_le, IsTrue, ℤ, pos, neg_ℤ, unsigned_abs, Option, Some, None, if◌then◌else◌}
+use Rattle.std.specs.Prelude.{ℕ, ◌+◌, ◌-◌, ◌*◌, ◌^◌, ◌<◌, ◌≤◌, ◌≡◌, ◌≢◌, ◌⊎◌, List, [], ◌∷◌, ◌++◌, length, codes, Bool, true, false, ◌&&◌, nat_le, nat_lt, IsTrue, ℤ, pos, neg_ℤ, unsigned_abs, Option, Some, None, if◌then◌else◌}
 use Rattle.ng_num.specs.Rounding.{nearest}
 use Rattle.ng_num.specs.Range.{greatest}
 use Rattle.ng_words.specs.Plain.{plain}
@@ -179,6 +179,13 @@ IsBlockNumber bytes (Some n) = (digits : List ℕ) × (bytes ≡ 78 ∷ digits) 
 abbrev pub Writes : List ℕ → Written → Type 0
 Writes bytes line = (front : List ℕ) × (rest : List ℕ) × (bytes ≡ slash line.deletable ++ (front ++ rest)) × IsBlockNumber front line.number × Reads rest line.pieces
 
--- a text of at most 256 bytes is this line
+-- the most bytes of a line, without its end (own)
+abbrev pub longest : ℕ
+longest = 256
+
+abbrev pub is_too_long : List ℕ → Bool
+is_too_long text = nat_lt longest (length text)
+
+-- a text that isn't too long is this line
 abbrev pub IsLine : List ℕ → Written → Type 0
-IsLine text line = (length text ≤ 256) × Writes (plain false text) line
+IsLine text line = (length text ≤ longest) × Writes (plain false text) line

@@ -1,5 +1,5 @@
--- Which lines are blank, and which are a percent sign alone (NISTIR 6556, 3.3).
-use Rattle.std.specs.Prelude.{ℕ, List, [], ◌∷◌, false, ◌==◌, if◌then◌else◌}
+-- Which lines are blank, which are a percent sign alone, and which begin with the slash of block delete (NISTIR 6556, 3.3).
+use Rattle.std.specs.Prelude.{ℕ, List, [], ◌∷◌, Bool, false, ◌==◌, if◌then◌else◌}
 use Rattle.ng_words.specs.Plain.{plain}
 use Rattle.ng_words.specs.declared.start.Kind.{Kind}
 use Rattle.ng_words.specs.declared.start.Kind.TheVariants.{Blank, Percent, Other}
@@ -12,3 +12,10 @@ kind (b ∷ c ∷ bs) = Other
 
 abbrev pub kind_of : List ℕ → Kind
 kind_of text = kind (plain false text)
+
+abbrev pub begins_with_slash : List ℕ → Bool
+begins_with_slash [] = false
+begins_with_slash (b ∷ bs) = b == 47
+
+abbrev pub is_deletable : List ℕ → Bool
+is_deletable text = begins_with_slash (plain false text)

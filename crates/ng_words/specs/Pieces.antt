@@ -1,4 +1,5 @@
--- The pieces at the front of a list of bytes, and what is left.
+-- The pieces at the front of a list of bytes, and what is left. They serve the proofs; what is promised is the grammar
+-- (`laws::lines`).
 use Rattle.std.specs.Prelude.{ℕ, zero, suc, List, [], ◌∷◌, codes, ◌==◌, Option, Some, None, if◌then◌else◌}
 use Rattle.std.specs.Option.{option_map, option_and_then}
 use Rattle.ng_words.specs.Grammar.{Tree, Piece, word, setting, comment}

@@ -1,10 +1,11 @@
--- Reading a line, as a function: what is written, or the fault.
-use Rattle.std.specs.Prelude.{ℕ, List, length, Bool, false, Option, Some, None, Result, Ok, Err, nat_lt, if◌then◌else◌}
+-- Reading a line, as a function: what is written, or the fault. `laws::lines` says that it is the grammar; how it goes over
+-- the bytes serves the proofs.
+use Rattle.std.specs.Prelude.{ℕ, List, length, Bool, false, Option, Some, None, Result, Ok, Err, if◌then◌else◌}
 use Rattle.std.specs.Option.{option_map, option_and_then}
 use Rattle.ng_num.specs.declared.fault.Fault.{Fault}
 use Rattle.ng_num.specs.declared.fault.Fault.TheVariants.{Unreadable, LineTooLong}
 use Rattle.ng_words.specs.Plain.{plain}
-use Rattle.ng_words.specs.Grammar.{Written}
+use Rattle.ng_words.specs.Grammar.{Written, is_too_long}
 use Rattle.ng_words.specs.Scan.{slash_at, block_number_at}
 use Rattle.ng_words.specs.Pieces.{pieces_at}
 
@@ -22,4 +23,4 @@ or_unreadable (Some w) = Ok w
 
 -- what a line holds, or why it can't be read; the length comes first
 unfoldable pub read : List ℕ → Result Written Fault
-read text = if nat_lt 256 (length text) then Err LineTooLong else or_unreadable (line_at (plain false text))
+read text = if is_too_long text then Err LineTooLong else or_unreadable (line_at (plain false text))

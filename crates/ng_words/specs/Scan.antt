@@ -1,6 +1,8 @@
--- What stands at the front of a list of bytes, and what is left: functions that the readers compute.
-use Rattle.std.specs.Prelude.{ℕ, ◌+◌, ◌-◌, ◌*◌, ◌/◌, List, [], ◌∷◌, length, Bool, true, false, ◌||◌, ◌&&◌, ◌==◌, ℤ, pos, neg_ℤ, Option, Some, None, if◌then◌else◌, nat_lt, min}
+-- What stands at the front of a list of bytes, and what is left: functions that the readers compute. They serve the proofs;
+-- what is promised is the grammar (`laws::lines`).
+use Rattle.std.specs.Prelude.{ℕ, ◌+◌, ◌-◌, ◌*◌, ◌/◌, List, [], ◌∷◌, length, Bool, true, false, ◌||◌, ◌&&◌, ◌==◌, ℤ, Option, Some, None, if◌then◌else◌, nat_lt, min}
 use Rattle.std.specs.Option.{option_map}
+use Rattle.ng_num.specs.Rounding.{signed}
 use Rattle.ng_words.specs.Grammar.{is_digit, count_of, code}
 use Rattle.ng_words.specs.declared.letter.Letter.{Letter}
 use Rattle.ng_words.specs.declared.letter.Letter.TheVariants.{A, B, C, D, F, G, H, I, J, K, L, M, P, Q, R, S, T, X, Y, Z}
@@ -46,10 +48,6 @@ unsigned_at bytes = unsigned_parts (front_digits bytes) (after_digits bytes) (po
 abbrev pub sign_at : List ℕ → Bool × List ℕ
 sign_at [] = (false, [])
 sign_at (b ∷ bs) = if b == 43 then (false, bs) else (if b == 45 then (true, bs) else (false, b ∷ bs))
-
-abbrev pub signed : Bool → ℕ → ℤ
-signed false n = pos n
-signed true n = neg_ℤ (pos n)
 
 -- a number's value, and what follows
 abbrev pub number_at : List ℕ → Option (Option ℤ × List ℕ)

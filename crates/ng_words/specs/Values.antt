@@ -1,4 +1,5 @@
 -- A value at the front of a list of bytes, and what is left: one walk over the bytes with a list of what waits.
+-- It serves the proofs; what is promised is the grammar (`laws::lines`).
 use Rattle.std.specs.Prelude.{ℕ, zero, suc, List, [], ◌∷◌, ◌++◌, length, codes, ◌==◌, Option, Some, None, if◌then◌else◌, nat_le}
 use Rattle.std.specs.Option.{option_map, option_and_then}
 use Rattle.ng_words.specs.Grammar.{symbol, level, name, Tree, number, parameter, bracketed, applied, joined}

@@ -1,4 +1,4 @@
--- What the reader's parts owe: how the places of a walk stand in the code, and what each step says.
+-- For the proofs of the reader alone, which promise nothing outside: what its parts owe, how the places of a walk stand in the code, and what each step says.
 use Rattle.std.specs.Prelude.{ℕ, ◌+◌, ◌-◌, ◌<◌, ◌≤◌, ◌≡◌, List, [], ◌∷◌, ◌++◌, length, take, drop, Bool, true, false, Option, Some, None, slice_get, nat_le, if◌then◌else◌}
 use Rattle.std.specs.Option.{option_and_then}
 use Rattle.ng_words.specs.Plain.{plain}

@@ -10,6 +10,7 @@ mod comment;
 mod cursor;
 mod digits;
 mod item;
+pub mod laws;
 mod letter;
 mod line;
 mod number;
@@ -21,7 +22,7 @@ mod value;
 
 pub use comment::message;
 pub use letter::Letter;
-pub use line::{Line, PIECES, read_line};
+pub use line::{Line, PIECES, is_too_long, read_line};
 pub use pieces::{Piece, Pieces};
 pub use start::{Kind, is_deletable, kind_of};
 pub use tree::{Function, NODES, Node, Operation, Tree};

@@ -1,5 +1,5 @@
 ghost use Rattle.std.specs.Prelude.{◌≡◌, ◌<◌, ◌≤◌, ◌↔◌, ◌⊎◌, [], false, length, None, Ok, Err, MatchResult, MatchOption, OnOk, OnErr, IfOk, IfErr, IfSome, IsErrOf};
-ghost use Rattle.ng_words.specs.Grammar.{Written, IsLine};
+ghost use Rattle.ng_words.specs.Grammar.{Written, IsLine, is_too_long};
 ghost use Rattle.ng_words.specs.Reading.{read};
 ghost use Rattle.ng_words.specs.Kept.{pieces_by, written_by};
 ghost use Rattle.ng_words.specs.Items.{last_size};
@@ -11,7 +11,7 @@ use crate::pieces::Pieces;
 use crate::reading::read_pieces;
 use crate::start::{Head, block_number, slash};
 use crate::tree::{NODES, Node};
-use crate::value::Stack;
+use crate::value::WaitingList;
 use arrayvec::ArrayVec;
 use ng_num::Fault;
 use std::marker::Model;
@@ -34,7 +34,7 @@ pub struct Line {
     /// The bytes of all comments, in order.
     bytes: ArrayVec<u8, BYTES>,
     /// What waits while a value is read; nothing between lines.
-    stack: Stack,
+    stack: WaitingList,
 }
 
 impl Model for Line {
@@ -80,7 +80,7 @@ impl Line {
         self.items.clear();
         self.nodes.clear();
         self.bytes.clear();
-        if text.len() > BYTES {
+        if is_too_long(text) {
             return Err(Fault::LineTooLong);
         }
         let mut cursor = Cursor::new(text);
@@ -140,10 +140,17 @@ impl Line {
     }
 }
 
-/// Reads a line, without its end: what is on it, where it is in the grammar.
+/// Whether a text has more bytes than a line may have, 256 without its end (own): the cause of E2.
+pub fn is_too_long(text: &[u8]) -> bool
+    ensures { result ≡ is_too_long text.now }
+{
+    text.len() > BYTES
+}
+
+/// Reads a line, without its end: `Line::read` into a new line, which alone is what the dry run calls.
 ///
-/// E2 where the text has over 256 bytes, else E1 where it isn't in the grammar. Each call fills a new line;
-/// `Line::read` spares that. Source: NISTIR 6556, 3.3; the faults are own.
+/// E2 where the text has over 256 bytes, else E1 where it isn't in the grammar. Source: NISTIR 6556, 3.3; the faults
+/// are own.
 pub fn read_line(text: &[u8]) -> Result<Line, Fault>
     ensures value { MatchResult result (λ line. read text.now ≡ Ok (written_by line)) (λ e. read text.now ≡ Err e) }
     ensures reads { IfOk result (λ line. IsLine text.now (written_by line)) }

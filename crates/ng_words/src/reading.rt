@@ -9,7 +9,7 @@ use crate::cursor::Cursor;
 use crate::item::Item;
 use crate::letter::{Letter, letter_of};
 use crate::line::{BYTES, PIECES};
-use crate::value::{Nodes, Stack, value};
+use crate::value::{Nodes, WaitingList, value};
 use arrayvec::ArrayVec;
 
 /// The items of a line.
@@ -37,7 +37,7 @@ fn word(
     cursor: &mut Cursor<'_>,
     items: &mut Items,
     nodes: &mut Nodes,
-    stack: &mut Stack,
+    stack: &mut WaitingList,
 ) -> bool
     requires few { length items.old.items < 128 }
     requires room { length nodes.old.items + length cursor.old ≤ 256 }
@@ -54,7 +54,12 @@ fn word(
 }
 
 /// Takes a setting's index, its equals sign and its value, the parameter's sign aside.
-fn setting(cursor: &mut Cursor<'_>, items: &mut Items, nodes: &mut Nodes, stack: &mut Stack) -> bool
+fn setting(
+    cursor: &mut Cursor<'_>,
+    items: &mut Items,
+    nodes: &mut Nodes,
+    stack: &mut WaitingList,
+) -> bool
     requires few { length items.old.items < 128 }
     requires room { length nodes.old.items + length cursor.old ≤ 256 }
     ensures setting { MatchBool result (AddsSetting cursor.old cursor.new items.old.items items.new.items nodes.old.items nodes.new.items) (setting_at cursor.old ≡ None) }
@@ -100,7 +105,7 @@ fn piece(
     items: &mut Items,
     nodes: &mut Nodes,
     bytes: &mut Bytes,
-    stack: &mut Stack,
+    stack: &mut WaitingList,
 ) -> bool
     requires few { length items.old.items < 128 }
     requires nodes_fit { length nodes.old.items + length cursor.old ≤ 256 }
@@ -132,7 +137,7 @@ fn take_pieces(
     items: &mut Items,
     nodes: &mut Nodes,
     bytes: &mut Bytes,
-    stack: &mut Stack,
+    stack: &mut WaitingList,
 ) -> bool
     requires no_items { items.old.items ≡ [] }
     requires no_nodes { nodes.old.items ≡ [] }
@@ -155,7 +160,7 @@ pub(crate) fn read_pieces(
     items: &mut Items,
     nodes: &mut Nodes,
     bytes: &mut Bytes,
-    stack: &mut Stack,
+    stack: &mut WaitingList,
 ) -> bool
     requires no_items { items.old.items ≡ [] }
     requires no_nodes { nodes.old.items ≡ [] }

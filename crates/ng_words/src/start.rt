@@ -1,6 +1,5 @@
-ghost use Rattle.std.specs.Prelude.{false, ◌≡◌, Some, None, MatchOption};
-ghost use Rattle.ng_words.specs.Plain.{plain};
-ghost use Rattle.ng_words.specs.Kinds.{kind_of};
+ghost use Rattle.std.specs.Prelude.{◌≡◌, false, Some, None, MatchOption};
+ghost use Rattle.ng_words.specs.Kinds.{is_deletable, kind_of};
 ghost use Rattle.ng_words.specs.Scan.{front_digits, after_digits, slash_at, numbered, block_number_at};
 
 use crate::cursor::Cursor;
@@ -45,9 +44,13 @@ pub(crate) fn slash(cursor: &mut Cursor<'_>) -> bool
 
 /// Whether a line begins with the slash of block delete, blanks before it left aside (NISTIR 6556, 3.3).
 pub fn is_deletable(text: &[u8]) -> bool
-    ensures { result ≡ (slash_at (plain false text.now)).0 }
+    ensures { result ≡ is_deletable text.now }
 {
-    slash(&mut Cursor::new(text))
+    let cursor = Cursor::new(text);
+    match cursor.peek() {
+        Some(b'/') => true,
+        _ => false,
+    }
 }
 
 /// What kind of line a text is, as far as the bounds of a program go.

@@ -32,7 +32,7 @@ impl Default for Waiting {
 pub(crate) type Nodes = ArrayVec<Node, NODES>;
 
 /// The list of what waits, the nearest last. Each has a byte at least.
-pub(crate) type Stack = ArrayVec<Waiting, NODES>;
+pub(crate) type WaitingList = ArrayVec<Waiting, NODES>;
 
 /// How loosely the loosest operations bind.
 const LOOSEST: u8 = 3;
@@ -125,7 +125,7 @@ fn level(operation: Operation) -> u8
 
 /// The nearest of what waits.
 #[inline]
-fn nearest(stack: &Stack) -> Option<Waiting>
+fn nearest(stack: &WaitingList) -> Option<Waiting>
     ensures { result ≡ nearest stack.now.items }
 {
     stack.as_slice().last().copied()
@@ -181,7 +181,7 @@ fn push_node(nodes: &mut Nodes, node: Node)
 }
 
 /// Settles the value that stands at the end of the nodes: the parameters that wait take it as their index.
-fn settle(stack: &mut Stack, nodes: &mut Nodes)
+fn settle(stack: &mut WaitingList, nodes: &mut Nodes)
     requires { length stack.old.items + length nodes.old.items ≤ 256 }
     ensures settles { Settles stack.old.items nodes.old.items stack.new.items nodes.new.items }
     ensures room { length stack.new.items + length nodes.new.items ≡ length stack.old.items + length nodes.old.items }
@@ -193,7 +193,7 @@ fn settle(stack: &mut Stack, nodes: &mut Nodes)
 }
 
 /// Gathers the value that stands at the end of the nodes: operations that bind tightly enough take it as their right part.
-fn gather(most: u8, stack: &mut Stack, nodes: &mut Nodes)
+fn gather(most: u8, stack: &mut WaitingList, nodes: &mut Nodes)
     requires { length stack.old.items + length nodes.old.items ≤ 256 }
     ensures gathers { Gathers most stack.old.items nodes.old.items stack.new.items nodes.new.items }
     ensures room { length stack.new.items + length nodes.new.items ≡ length stack.old.items + length nodes.old.items }
@@ -205,7 +205,7 @@ fn gather(most: u8, stack: &mut Stack, nodes: &mut Nodes)
 }
 
 /// Closes the brackets that wait for the chain at the end of the nodes; answers whether there are some.
-fn close(stack: &mut Stack, nodes: &mut Nodes) -> bool
+fn close(stack: &mut WaitingList, nodes: &mut Nodes) -> bool
     requires { length stack.old.items + length nodes.old.items ≤ 256 }
     ensures closes { Closes stack.old.items nodes.old.items result stack.new.items nodes.new.items }
     ensures room { length stack.new.items + length nodes.new.items ≡ length stack.old.items + length nodes.old.items }
@@ -222,7 +222,7 @@ fn close(stack: &mut Stack, nodes: &mut Nodes) -> bool
 }
 
 /// A step where no value stands right before: what opens one, or a number. Answers whether a value stands there then.
-fn begin(cursor: &mut Cursor<'_>, stack: &mut Stack, nodes: &mut Nodes) -> Option<bool>
+fn begin(cursor: &mut Cursor<'_>, stack: &mut WaitingList, nodes: &mut Nodes) -> Option<bool>
     requires { length stack.old.items + length nodes.old.items + length cursor.old ≤ 256 }
     ensures steps { GoesOn false cursor.old stack.old.items nodes.old.items result cursor.new stack.new.items nodes.new.items }
     ensures room { OnSome result (length stack.new.items + length nodes.new.items + length cursor.new ≤ length stack.old.items + length nodes.old.items + length cursor.old) }
@@ -242,7 +242,7 @@ fn begin(cursor: &mut Cursor<'_>, stack: &mut Stack, nodes: &mut Nodes) -> Optio
 }
 
 /// A step behind a value: a bracket that closes, or an operation. Answers whether a value stands there then.
-fn go_on(cursor: &mut Cursor<'_>, stack: &mut Stack, nodes: &mut Nodes) -> Option<bool>
+fn go_on(cursor: &mut Cursor<'_>, stack: &mut WaitingList, nodes: &mut Nodes) -> Option<bool>
     requires { length stack.old.items + length nodes.old.items + length cursor.old ≤ 256 }
     ensures steps { GoesOn true cursor.old stack.old.items nodes.old.items result cursor.new stack.new.items nodes.new.items }
     ensures room { OnSome result (length stack.new.items + length nodes.new.items + length cursor.new ≤ length stack.old.items + length nodes.old.items + length cursor.old) }
@@ -266,7 +266,12 @@ fn go_on(cursor: &mut Cursor<'_>, stack: &mut Stack, nodes: &mut Nodes) -> Optio
 }
 
 /// A step of the walk. Answers whether a value stands right before then.
-fn step(behind: bool, cursor: &mut Cursor<'_>, stack: &mut Stack, nodes: &mut Nodes) -> Option<bool>
+fn step(
+    behind: bool,
+    cursor: &mut Cursor<'_>,
+    stack: &mut WaitingList,
+    nodes: &mut Nodes,
+) -> Option<bool>
     requires { length stack.old.items + length nodes.old.items + length cursor.old ≤ 256 }
     ensures steps { GoesOn behind cursor.old stack.old.items nodes.old.items result cursor.new stack.new.items nodes.new.items }
     ensures room { OnSome result (length stack.new.items + length nodes.new.items + length cursor.new ≤ length stack.old.items + length nodes.old.items + length cursor.old) }
@@ -280,14 +285,14 @@ fn step(behind: bool, cursor: &mut Cursor<'_>, stack: &mut Stack, nodes: &mut No
 
 /// Whether the walk has ended: a value stands right before, and nothing waits.
 #[inline]
-fn has_ended(behind: bool, stack: &Stack) -> bool
+fn has_ended(behind: bool, stack: &WaitingList) -> bool
     ensures { IsTrue result ↔ ((behind ≡ true) × (stack.now.items ≡ [])) }
 {
     behind && stack.is_empty()
 }
 
 /// Takes a value of any form: pushes its nodes, and answers how many they are.
-fn walk(cursor: &mut Cursor<'_>, stack: &mut Stack, nodes: &mut Nodes) -> Option<u16>
+fn walk(cursor: &mut Cursor<'_>, stack: &mut WaitingList, nodes: &mut Nodes) -> Option<u16>
     requires { length nodes.old.items + length cursor.old ≤ 256 }
     ensures value { TakesValue cursor.old nodes.old.items result cursor.new nodes.new.items }
     ensures room { OnSome result (length nodes.new.items + length cursor.new ≤ length nodes.old.items + length cursor.old) }
@@ -319,7 +324,11 @@ fn begins_number(cursor: &Cursor<'_>) -> bool
 /// Takes a value: pushes its nodes, and answers how many they are. The places of `stack` serve as its list of
 /// what waits.
 #[inline(always)]
-pub(crate) fn value(cursor: &mut Cursor<'_>, stack: &mut Stack, nodes: &mut Nodes) -> Option<u16>
+pub(crate) fn value(
+    cursor: &mut Cursor<'_>,
+    stack: &mut WaitingList,
+    nodes: &mut Nodes,
+) -> Option<u16>
     requires { length nodes.old.items + length cursor.old ≤ 256 }
     ensures value { TakesValue cursor.old nodes.old.items result cursor.new nodes.new.items }
     ensures room { OnSome result (length nodes.new.items + length cursor.new ≤ length nodes.old.items + length cursor.old) }

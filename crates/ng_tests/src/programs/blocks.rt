@@ -57,7 +57,7 @@ fn a_program_end_selects_the_first_system(rt: HostRuntime) -> Result<(), Fail> {
     let mut commands = effect.commands();
     assert_eq!(rt;
         next_of(&mut commands),
-        Some(Command::OriginOffsets(Point::origin()))
+        Some(Command::OriginOffsets(Point::zero()))
     );
     assert_eq!(rt;
         next_of(&mut commands),

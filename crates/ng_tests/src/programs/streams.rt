@@ -1,7 +1,7 @@
 //! Readers that give little, and readers and writers that fail.
 use super::{CUTS, CUTS_TEXT, PROGRAM_END, dry_run};
 use linked_list_allocator::LocalHeap;
-use ng_block::{DryFault, Ended, put};
+use ng_block::{DryFault, Ended, put_canon};
 use ng_canon::{Canon, Command};
 use ng_num::Point;
 use std::io;
@@ -181,9 +181,9 @@ fn prints_a_million_commands_in_flat_memory(rt: HostRuntime) -> Result<(), Fail>
     let heap = LocalHeap::new(rt.alloc(), 40_000)?;
     let mut text = Vec::new(&heap);
     let mut writer = Counted { bytes: 0 };
-    let traverse = Canon::Command(Command::Traverse(Point::origin()));
+    let traverse = Canon::Command(Command::Traverse(Point::zero()));
     for n in 0..1_000_000 {
-        assert!(rt; put(&mut text, &mut writer, &traverse).is_ok(), "{n}");
+        assert!(rt; put_canon(&mut text, &mut writer, &traverse).is_ok(), "{n}");
     }
     assert_eq!(rt; writer.bytes.saturating_add(text.len()), 48_000_000);
     Ok(())

@@ -1,40 +1,37 @@
-use Rattle.std.proofs.Common.{arith, ap, ◌∙◌, ◌≡◌, true, false}
-use Rattle.std.proofs.lemmas.Grind.{common_steps}
+use Rattle.std.proofs.Common.{arith, ◌+◌, ◌-◌, ap, ◌∙◌}
 use Rattle.std.proofs.lemmas.Int.{ints}
 use Rattle.ng_step.specs.declared.quadrant.Spot.{Spot}
-use Rattle.ng_step.specs.Arcs.{stops, net_a, net_b}
-use Rattle.ng_step.specs.Turned.{spot_of}
-use Rattle.ng_step.proofs.ArcLemmas.{left_some}
+use Rattle.ng_step.specs.Arcs.{net_a, net_b}
+use Rattle.ng_step.specs.Turned.{spot_of, place}
+use Rattle.ng_step.specs.Leaps.{WalkLeads, Ends}
 use Rattle.ng_step.proofs.RoundLemmas.{stored}
-use Rattle.ng_step.proofs.CountLemmas.{counts_more, counts_all, counts_net}
+use Rattle.ng_step.proofs.LeapLemmas.{goes_on_before, reached_more, reached_end, few_steps}
 use Rattle.ng_step.proofs.walk.Walk.count.Goals as goal
 
-pub left_after-left-requires : goal.left_after-left-requires
-left_after-left-requires c =
-    let go : stops c.args.end c.steps.left (spot_of c.steps.walk) ≡ false = grind (arith, common_steps) in
-    left_some c.args.end c.steps.left (spot_of c.steps.walk) go
+leads : (c : goal.After-struct_known-1) → WalkLeads c.args.end c.quadrants.walk c.quadrants.left c.across-leap.result.walk (c.quadrants.left - 1) c.across-leap.result.steps
+leads c = c.across-leap.ensures.leads c.args.end c.quadrants.left (omega arith) (λ i o low high near far. goes_on_before c.args.end (place c.quadrants.walk.quadrant i o) c.quadrants.left c.quadrants-test.true)
 
-pub steps-smaller : goal.steps-smaller
-steps-smaller c =
-    let go : stops c.args.end c.steps.left (spot_of c.steps.walk) ≡ false = grind (arith, common_steps) in
-    let some = left_some c.args.end c.steps.left (spot_of c.steps.walk) go in
-    let less = c.step-made.ensures.smaller c.steps.left some in
-    rw c.left_after-left.ensures less
+pub overflow_add-steps : goal.overflow_add-steps
+overflow_add-steps c =
+    let few = few_steps c.args.self.now c.args.quadrants c.requires.walks c.requires.few in
+    let so_far = c.quadrants.invariant.leads.bound in
+    let more = (leads c).bound in
+    omega arith
 
-pub steps-preserved : goal.steps-preserved
-steps-preserved c =
-    let go : stops c.args.end c.steps.left (spot_of c.steps.walk) ≡ false = grind (arith, common_steps) in
-    counts_more c.args.end c.args.self.now c.args.quadrants c.steps.walk c.step-made.new.self _ c.steps.left _ c.steps.steps c.steps.invariant go c.step-made.ensures c.left_after-left.ensures
+pub quadrants-preserved : goal.quadrants-preserved
+quadrants-preserved c =
+    reached_more c.args.end c.args.self.now c.args.quadrants c.quadrants.walk c.across-leap.result.walk c.quadrants.left (c.quadrants.left - 1) c.quadrants.steps c.across-leap.result.steps c.quadrants.invariant
+    c.across-leap.ensures.walks c.across-leap.ensures.circle (leads c)
+
+ends : (c : goal.After-whole_steps-2) → Ends c.args.self.now.circle c.args.end c.args.self.now.quadrant c.args.self.now.inner c.args.self.now.outer c.args.quadrants (spot_of c.to_end-leap.result.walk) (c.quadrants.steps + c.to_end-leap.result.steps)
+ends c = reached_end c.args.end c.args.self.now c.args.quadrants c.quadrants.walk c.quadrants.left c.quadrants.steps (spot_of c.to_end-leap.result.walk) c.to_end-leap.result.steps c.quadrants.invariant c.to_end-leap.ensures.ends
 
 pub returns-clause-steps : goal.returns-clause-steps
-returns-clause-steps c =
-    let stop : stops c.args.end c.steps.left (spot_of c.steps.walk) ≡ true = grind (arith, common_steps) in
-    counts_all c.args.end c.args.self.now c.args.quadrants c.steps.walk c.steps.left c.steps.steps c.steps.invariant stop
+returns-clause-steps c = (ends c).steps
 
 pub returns-clause-a : goal.returns-clause-a
 returns-clause-a c = λ ms arc.
-    let stop : stops c.args.end c.steps.left (spot_of c.steps.walk) ≡ true = grind (arith, common_steps) in
-    let net = counts_net c.args.end c.args.self.now c.args.quadrants c.steps.walk c.steps.left c.steps.steps c.steps.invariant stop ms arc in
+    let net = (ends c).net ms arc in
     let first = ap (λ (p : Spot). p.a) c.spot-first.ensures.value in
     let last = ap (λ (p : Spot). p.a) c.spot-last.ensures.value in
     let small_first = c.spot-first.ensures.a in
@@ -43,8 +40,7 @@ returns-clause-a c = λ ms arc.
 
 pub returns-clause-b : goal.returns-clause-b
 returns-clause-b c = λ ms arc.
-    let stop : stops c.args.end c.steps.left (spot_of c.steps.walk) ≡ true = grind (arith, common_steps) in
-    let net = counts_net c.args.end c.args.self.now c.args.quadrants c.steps.walk c.steps.left c.steps.steps c.steps.invariant stop ms arc in
+    let net = (ends c).net ms arc in
     let first = ap (λ (p : Spot). p.b) c.spot-first.ensures.value in
     let last = ap (λ (p : Spot). p.b) c.spot-last.ensures.value in
     let small_first = c.spot-first.ensures.b in

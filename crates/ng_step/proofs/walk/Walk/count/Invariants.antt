@@ -1,9 +1,8 @@
-use Rattle.ng_step.specs.Turned.{budget, beyond}
-use Rattle.ng_step.proofs.CountLemmas.{Counts}
+use Rattle.ng_step.proofs.LeapLemmas.{Reached}
 use Rattle.ng_step.proofs.walk.Walk.count.Given as goal
 
-abbrev pub invariant-steps : goal.invariant-steps
-invariant-steps l = Counts l.end l.self l.quadrants l.walk l.left l.steps
+abbrev pub invariant-quadrants : goal.invariant-quadrants
+invariant-quadrants l = Reached l.end l.self l.quadrants l.walk l.left l.steps
 
-abbrev pub decreases-steps : goal.decreases-steps
-decreases-steps l = budget beyond l.left l.walk.inner l.walk.outer
+abbrev pub decreases-quadrants : goal.decreases-quadrants
+decreases-quadrants l = l.left

@@ -1,0 +1,195 @@
+//! How many steps an arc has: its passages through the quadrants put together, none of them walked.
+
+use crate::passage::{Ahead, Passage, Way};
+use crate::quadrant::Spot;
+use crate::rounding::whole_steps;
+use crate::walk::Walk;
+
+/// How many steps an arc has, and how far they go along each axis, in steps.
+#[derive(Clone, Copy, Debug, PartialEq, Eq)]
+pub struct Count {
+    pub steps: u64,
+    pub a: i64,
+    pub b: i64,
+}
+
+/// A walk so many steps on.
+#[derive(Clone, Copy, Debug)]
+struct Leap {
+    walk: Walk,
+    steps: u64,
+}
+
+impl Walk {
+    ghost use Rattle.std.specs.Prelude.{List, length, MatchOption, IfSome, false, ◌^◌, unsigned_abs, ◌≡◌, ℕ, ◌+◌, ◌-◌, ◌*◌, ◌<◌, ◌≤◌};
+    ghost use Rattle.ng_step.specs.Arcs.{quadrant_after, stops, IsArc, net_a, net_b};
+    ghost use Rattle.ng_step.specs.declared.quadrant.PlaneStep.{PlaneStep};
+    ghost use Rattle.ng_step.specs.Turned.{spot_of, Walks, beyond};
+    ghost use Rattle.ng_step.specs.Passages.{inner_at, outer_at, IsLast};
+    ghost use Rattle.ng_step.specs.Leaps.{WalkLeads, Ends, PassesFrom, GoesOn, NeverStops, IsAhead, StopsAt};
+
+    /// How many steps there are to the end, and how far they go. It takes one root for each quadrant, and as many
+    /// as a search by halves in the last one: 60 at most.
+    pub(crate) fn count(&self, end: Spot, quadrants: u64) -> Count
+        requires walks { Walks self.now }
+        requires end_a { unsigned_abs end.a < 2 ^ 50 }
+        requires end_b { unsigned_abs end.b < 2 ^ 50 }
+        requires few { quadrants ≤ 6 }
+        ensures steps { (ms : List PlaneStep) → IsArc self.now.circle end quadrants (spot_of self.now) ms → result.steps ≡ length ms }
+        ensures a { (ms : List PlaneStep) → IsArc self.now.circle end quadrants (spot_of self.now) ms → result.a ≡ net_a ms }
+        ensures b { (ms : List PlaneStep) → IsArc self.now.circle end quadrants (spot_of self.now) ms → result.b ≡ net_b ms }
+        ensures bounded { result.steps < 2 ^ 52 }
+        ensures size_a { unsigned_abs result.a < 2 ^ 50 }
+        ensures size_b { unsigned_abs result.b < 2 ^ 50 }
+    {
+        let mut walk = *self;
+        let mut left = quadrants;
+        let mut steps: u64 = 0;
+        'quadrants: while left > 1 {
+            let passage = walk.passage();
+            let leap = walk.across(passage, passage.last());
+            walk = leap.walk;
+            steps += leap.steps;
+            left -= 1;
+        }
+        let leap = walk.to_end(end, left);
+        let (first, last) = (self.spot(), leap.walk.spot());
+        Count {
+            steps: steps + leap.steps,
+            a: whole_steps(first.a, last.a, self.circle.step_a),
+            b: whole_steps(first.b, last.b, self.circle.step_b),
+        }
+    }
+
+    /// Its passage through the quadrant.
+    fn passage(&self) -> Passage
+        requires { Walks self.now }
+        ensures { PassesFrom self.now result }
+    {
+        Passage {
+            square: self.circle.square,
+            inner: self.inner,
+            outer: self.outer,
+            inner_step: self.inner_step,
+            outer_step: self.outer_step,
+        }
+    }
+
+    /// Across the rest of the quadrant into the next one.
+    fn across(&self, passage: Passage, last: Way) -> Leap
+        requires walks { Walks self.now }
+        requires from { PassesFrom self.now passage }
+        requires last { IsLast passage last }
+        requires room { outer_at passage last.outward ≤ beyond }
+        ensures walks { Walks result.walk }
+        ensures circle { result.walk.circle ≡ self.now.circle }
+        ensures leads { (e : Spot) (left : ℕ) → 0 < left → GoesOn e left self.now (inner_at passage last.inward) (outer_at passage last.outward)
+            → WalkLeads e self.now left result.walk (left - 1) result.steps }
+    {
+        let walk = Walk::begin(
+            self.frame,
+            self.circle,
+            self.quadrant.next(),
+            self.outer + last.outward * self.outer_step,
+            self.inner_step - (self.inner - last.inward * self.inner_step),
+            self.outer_step,
+            self.inner_step,
+        );
+        Leap {
+            walk,
+            steps: last.inward + last.outward + 1,
+        }
+    }
+
+    /// To a point of the quadrant.
+    fn onward(&self, passage: Passage, way: Way) -> Leap
+        requires walks { Walks self.now }
+        requires from { PassesFrom self.now passage }
+        requires inside { way.inward * passage.inner_step < passage.inner }
+        requires room { outer_at passage way.outward ≤ beyond }
+        ensures walks { Walks result.walk }
+        ensures circle { result.walk.circle ≡ self.now.circle }
+        ensures quadrant { result.walk.quadrant ≡ self.now.quadrant }
+        ensures inner { result.walk.inner ≡ inner_at passage way.inward }
+        ensures outer { result.walk.outer ≡ outer_at passage way.outward }
+        ensures steps { result.steps ≡ way.inward + way.outward }
+    {
+        let walk = Walk::begin(
+            self.frame,
+            self.circle,
+            self.quadrant,
+            self.inner - way.inward * self.inner_step,
+            self.outer + way.outward * self.outer_step,
+            self.inner_step,
+            self.outer_step,
+        );
+        Leap {
+            walk,
+            steps: way.inward + way.outward,
+        }
+    }
+
+    /// To the end of an arc that has at most the present quadrant left.
+    fn to_end(&self, end: Spot, left: u64) -> Leap
+        requires walks { Walks self.now }
+        requires end_a { unsigned_abs end.a < 2 ^ 50 }
+        requires end_b { unsigned_abs end.b < 2 ^ 50 }
+        requires last { left ≤ 1 }
+        ensures walks { Walks result.walk }
+        ensures ends { Ends self.now.circle end self.now.quadrant self.now.inner self.now.outer left (spot_of result.walk) result.steps }
+    {
+        if self.stops(end, left) {
+            return Leap {
+                walk: *self,
+                steps: 0,
+            };
+        }
+        let passage = self.passage();
+        let last = passage.last();
+        match self.stop(passage, last, end) {
+            Some(way) => self.onward(passage, way),
+            None => self.across(passage, last),
+        }
+    }
+
+    /// The first point of the quadrant at which an arc stops; none where it goes on to the next quadrant.
+    fn stop(&self, passage: Passage, last: Way, end: Spot) -> Option<Way>
+        requires walks { Walks self.now }
+        requires from { PassesFrom self.now passage }
+        requires last { IsLast passage last }
+        requires room { outer_at passage last.outward ≤ beyond }
+        requires end_a { unsigned_abs end.a < 2 ^ 50 }
+        requires end_b { unsigned_abs end.b < 2 ^ 50 }
+        requires before { stops end 1 (spot_of self.now) ≡ false }
+        ensures stop { MatchOption result
+            (GoesOn end 1 self.now (inner_at passage last.inward) (outer_at passage last.outward))
+            (λ way. StopsAt end self.now passage way) }
+        ensures inside { IfSome result (λ way. way.inward * passage.inner_step < passage.inner) }
+        ensures room { IfSome result (λ way. outer_at passage way.outward ≤ beyond) }
+    {
+        let ahead = self.ahead(end)?;
+        if passage.ends_past(last, ahead) {
+            Some(passage.first_past(last, ahead))
+        } else {
+            None
+        }
+    }
+
+    /// An end by its coordinates in the quadrant; none where the arc doesn't stop there.
+    fn ahead(&self, end: Spot) -> Option<Ahead>
+        requires walks { Walks self.now }
+        requires end_a { unsigned_abs end.a < 2 ^ 50 }
+        requires end_b { unsigned_abs end.b < 2 ^ 50 }
+        requires before { stops end 1 (spot_of self.now) ≡ false }
+        ensures { MatchOption result (NeverStops end self.now) (λ ahead. IsAhead self.now.quadrant end ahead) }
+    {
+        let end = end.turned(self.quadrant);
+        if end.a <= 0 {
+            return None;
+        }
+        Some(Ahead {
+            inner: end.a.unsigned_abs(),
+            outer: end.b.unsigned_abs(),
+        })
+    }
+}
