@@ -5,3 +5,4 @@ pub mod PercentLemmas
 pub mod StepLemmas
 pub mod DrainLemmas
 pub mod CloseLemmas
+pub mod TaskLemmas

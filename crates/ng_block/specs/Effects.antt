@@ -1,10 +1,7 @@
 -- What a line does in a state (NISTIR 6556, 3.8).
-use Rattle.std.specs.Prelude.{ℕ, ℤ, List, Option, Some, None, Result, Ok, Err, if◌then◌else◌}
-use Rattle.std.specs.Option.{is_some}
+use Rattle.std.specs.Prelude.{ℕ, ℤ, List, [], ◌∷◌, length, Option, Some, None, Result, Ok, Err}
 use Rattle.ng_num.specs.declared.fault.Fault.{Fault}
-use Rattle.ng_params.specs.Points.{origin_of}
-use Rattle.ng_params.specs.Changes.{with_changes}
-use Rattle.ng_params.specs.declared.change.Change.{Change}
+use Rattle.ng_num.specs.declared.fault.Fault.TheVariants.{LeftOutCode}
 use Rattle.ng_canon.specs.Text.{Canonical}
 use Rattle.ng_canon.specs.declared.outputs.Outputs.{Outputs}
 use Rattle.ng_canon.specs.declared.segment.Segment.{Segment}
@@ -14,20 +11,22 @@ use Rattle.ng_words.specs.Grammar.{Piece}
 use Rattle.ng_words.specs.Lines.{last_comment}
 use Rattle.ng_num.specs.Results.{and_then}
 use Rattle.ng_expr.specs.Settle.{Settled, settled}
-use Rattle.ng_block.specs.declared.asked.Asked.{Asked}
-use Rattle.ng_block.specs.declared.goal.Goal.{Goal}
-use Rattle.ng_block.specs.declared.machine.Machine.{Machine}
+use Rattle.ng_modal.specs.Check.{checked, first_fault}
+use Rattle.ng_modal.specs.Later.{is_later}
+use Rattle.ng_modal.specs.declared.block.Block.{Block}
 use Rattle.ng_block.specs.declared.effect.Effect.{Effect}
 use Rattle.ng_block.specs.declared.effect.Stop.{Stop}
-use Rattle.ng_block.specs.declared.effect.Stop.TheVariants.{GoesOn, Ends}
+use Rattle.ng_block.specs.declared.machine.Machine.{Machine}
+use Rattle.ng_block.specs.declared.tasks.Tasks.{Tasks}
 use Rattle.ng_block.specs.Setup.{Setup, changed}
 use Rattle.ng_block.specs.Remarks.{remark_of, said_by}
-use Rattle.ng_block.specs.Asked.{asked_of}
-use Rattle.ng_block.specs.Goals.{goal_of}
-use Rattle.ng_block.specs.Faults.{first_of, block_faults, motion_faults}
-use Rattle.ng_block.specs.After.{machine_after, changes_of}
-use Rattle.ng_block.specs.Paths.{path_of}
-use Rattle.ng_block.specs.Order.{Plan, tasks_of, commands_of, segments_of}
+use Rattle.ng_block.specs.Blocks.{feed_mode_after}
+use Rattle.ng_block.specs.Ends.{stop_of}
+use Rattle.ng_block.specs.Goals.{Goal, goal_of}
+use Rattle.ng_block.specs.Faults.{path_faults}
+use Rattle.ng_block.specs.Tasks.{tasks_of, tasks_in}
+use Rattle.ng_block.specs.After.{machine_after}
+use Rattle.ng_block.specs.Order.{Plan, commands_of, segments_of}
 
 -- what a line has done: the new state, the outputs that it began with, its segments and commands in their order, and how the program goes on
 pub record Done : Type 0 where
@@ -39,7 +38,7 @@ pub record Done : Type 0 where
 
 -- what is kept of a line
 abbrev pub plan_by : Effect → Plan
-plan_by e = record { remark = said_by e.plan.remark; tasks = e.plan.tasks; path = e.plan.path; origin = e.machine.offsets.origin; before = e.plan.before }
+plan_by e = record { remark = said_by e.plan.remark; tasks = tasks_in e.plan.tasks; path = e.plan.path; origin = e.machine.offsets.origin; before = e.plan.before }
 
 abbrev pub commands_by : Effect → List Canonical
 commands_by e = commands_of (plan_by e)
@@ -58,31 +57,29 @@ abbrev pub lawful : {X : Type 0} → Option Fault → Result X Fault → Result 
 lawful None answer = answer
 lawful (Some fault) answer = Err fault
 
-abbrev pub stop_of : Asked → Stop
-stop_of a = if is_some a.end then Ends else GoesOn
+abbrev pub plan_of : List Canonical → Tasks → Goal → Machine → Plan
+plan_of remark tasks goal m = record { remark = remark; tasks = tasks; path = goal.path; origin = goal.offsets.origin; before = m.outputs }
 
-abbrev pub plan_of : Asked → Goal → List Canonical → Machine → Machine → Plan
-plan_of a goal remark m after = record { remark = remark; tasks = tasks_of a goal; path = path_of goal m.point; origin = after.offsets.origin; before = m.outputs }
+-- what a lawful block does
+abbrev pub block_done : Block → Goal → List Canonical → Setup → Done
+block_done b goal remark s =
+    let tasks = tasks_of b (feed_mode_after b s.machine.modes) goal.feed_per_min s.machine.outputs in
+    let plan = plan_of remark tasks goal s.machine in
+    record { setup = changed s (machine_after b goal tasks s.machine) goal.changes; before = plan.before; segments = segments_of plan; commands = commands_of plan; stop = stop_of b.m.stop }
 
--- what a lawful block does; the settings of the line act first, so the program's end takes system 1's origin from the table that they leave
-abbrev pub block_done : Asked → Goal → List Canonical → List Change → Setup → Done
-block_done a goal remark settings s =
-    let after = machine_after a goal (origin_of (with_changes s.params settings) 1) s.machine in
-    let plan = plan_of a goal remark s.machine after in
-    record { setup = changed s after (changes_of a settings); before = plan.before; segments = segments_of plan; commands = commands_of plan; stop = stop_of a }
-
--- what the values of a line do: the faults of the words first, then those of computed lengths, then those of the move
-unfoldable pub executed_values : Setup → List Canonical → Settled → Geometry → Result Done Fault
-executed_values s remark values geometry =
-    let a = asked_of values.words in
-    lawful (first_of (block_faults a s.machine.modes))
-    (and_then (goal_of a s.machine) (λ goal.
-    lawful (first_of (motion_faults goal geometry)) (Ok (block_done a goal remark values.settings s))))
+-- what the values of a line do. It is refused by B1 to B19 of its words, then for a code that isn't built (B3), then for a computed
+-- length (E3), then for its move (X1, X2); of each of these by the first whose cause holds
+unfoldable pub executed_values : Setup → List Canonical → Settled → List ℤ → Geometry → Result Done Fault
+executed_values s remark values tools geometry =
+    and_then (checked values.words s.machine.modes (length tools)) (λ b.
+    lawful (first_fault ((is_later b, LeftOutCode) ∷ []))
+    (and_then (goal_of b values.settings s) (λ goal.
+    lawful (first_fault (path_faults goal.path geometry)) (Ok (block_done b goal remark s)))))
 
 -- what the pieces of a line do: the faults of their values come first
-unfoldable pub executed_pieces : Setup → List Piece → Geometry → Result Done Fault
-executed_pieces s pieces geometry = and_then (settled pieces s.params) (λ values. executed_values s (remark_of (last_comment pieces)) values geometry)
+unfoldable pub executed_pieces : Setup → List Piece → List ℤ → Geometry → Result Done Fault
+executed_pieces s pieces tools geometry = and_then (settled pieces s.params) (λ values. executed_values s (remark_of (last_comment pieces)) values tools geometry)
 
 -- what a line does, or why it is refused
 unfoldable pub executed : Setup → List ℤ → Geometry → List ℕ → Result Done Fault
-executed s tools geometry text = and_then (read text) (λ line. executed_pieces s line.pieces geometry)
+executed s tools geometry text = and_then (read text) (λ line. executed_pieces s line.pieces tools geometry)

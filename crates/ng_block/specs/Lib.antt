@@ -1,12 +1,12 @@
-pub mod Codes
 pub mod Fresh
 pub mod Setup
-pub mod Asked
+pub mod Ends
+pub mod Paths
 pub mod Blocks
 pub mod Goals
 pub mod Faults
 pub mod Remarks
-pub mod Paths
+pub mod Tasks
 pub mod Moves
 pub mod Steps
 pub mod Order

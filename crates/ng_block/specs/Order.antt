@@ -1,25 +1,28 @@
 -- What each step of a block prints, moves and switches (NISTIR 6556, 3.5 and 3.6).
-use Rattle.std.specs.Prelude.{ℤ, List, [], ◌∷◌, ◌++◌, Option, Some, None, Bool, false, not, ◌||◌, flat_map, fold, map, if◌then◌else◌}
+use Rattle.std.specs.Prelude.{ℕ, ℤ, List, [], ◌∷◌, ◌++◌, Bool, true, false, Option, Some, None, flat_map, fold, map, if◌then◌else◌}
 use Rattle.std.specs.Option.{is_some}
 use Rattle.ng_num.specs.declared.point.Point.{Point}
 use Rattle.ng_num.specs.declared.unit.Unit.{Unit as LengthUnit}
 use Rattle.ng_canon.specs.Text.{Canonical, numeric}
+use Rattle.ng_canon.specs.declared.plane.Plane.{Plane}
 use Rattle.ng_canon.specs.declared.plane.Plane.TheVariants.{Xy}
 use Rattle.ng_canon.specs.declared.command.Command.{Command}
 use Rattle.ng_canon.specs.declared.command.Command.TheVariants as command
 use Rattle.ng_canon.specs.declared.outputs.Outputs.{Outputs}
+use Rattle.ng_canon.specs.declared.outputs.Spindle.{Spindle}
 use Rattle.ng_canon.specs.declared.outputs.Spindle.TheVariants.{Stopped}
 use Rattle.ng_canon.specs.declared.segment.Segment.{Segment}
 use Rattle.ng_canon.specs.declared.segment.Segment.TheVariants as segment
-use Rattle.ng_block.specs.declared.goal.Goal.{Goal}
-use Rattle.ng_block.specs.declared.asked.Asked.{Asked}
-use Rattle.ng_block.specs.declared.asked.End.{End}
-use Rattle.ng_block.specs.declared.asked.End.TheVariants.{Plain, WithShuttle}
+use Rattle.ng_modal.specs.declared.asks.Coolant.{Coolant}
+use Rattle.ng_modal.specs.declared.asks.Coolant.TheVariants.{Mist, Flood, Off}
+use Rattle.ng_modal.specs.declared.asks.Stop.{Stop as StopWord}
+use Rattle.ng_modal.specs.declared.asks.Stop.TheVariants as word
 use Rattle.ng_block.specs.declared.path.Path.{Path}
-use Rattle.ng_block.specs.declared.plan.Tasks.{Tasks}
+use Rattle.ng_block.specs.declared.tasks.Tasks.{Tasks}
 use Rattle.ng_block.specs.declared.steps.Step.{Step}
 use Rattle.ng_block.specs.declared.steps.Step.TheVariants as step
-use Rattle.ng_block.specs.Paths.{path_segments, path_commands}
+use Rattle.ng_block.specs.Ends.{ends}
+use Rattle.ng_block.specs.Paths.{path_segments, path_commands, spindle_command}
 use Rattle.ng_block.specs.Steps.{order}
 
 -- what a block says, what its steps do, where its motion goes, the origin after it, and the outputs before it
@@ -30,35 +33,50 @@ pub record Plan : Type 0 where
   pub origin : Point
   pub before : Outputs
 
--- what its words give the steps to do: F the feed after the line
-abbrev pub tasks_of : Asked → Goal → Tasks
-tasks_of a goal = record { feed = if is_some a.values.f then Some goal.feed_per_min else None; unit = a.unit; end = a.end }
-
-abbrev pub has_nothing : Tasks → Bool
-has_nothing t = not (is_some t.feed || (is_some t.unit || is_some t.end))
-
 -- ---- what each step prints
 
-abbrev pub feed_commands : Option ℤ → List Command
-feed_commands None = []
-feed_commands (Some feed) = command.FeedRate feed ∷ []
+-- one command of what is there
+abbrev pub command_for : {X : Type 0} → (X → Command) → Option X → List Command
+command_for to None = []
+command_for to (Some x) = to x ∷ []
 
-abbrev pub unit_commands : Option LengthUnit → List Command
-unit_commands None = []
-unit_commands (Some unit) = command.LengthUnits unit ∷ []
+abbrev pub coolant_commands : Option Coolant → List Command
+coolant_commands None = []
+coolant_commands (Some Mist) = command.MistOn ∷ []
+coolant_commands (Some Flood) = command.FloodOn ∷ []
+coolant_commands (Some Off) = command.MistOff ∷ command.FloodOff ∷ []
 
-abbrev pub end_commands : Option End → Point → List Command
-end_commands None origin = []
-end_commands (Some Plain) origin = command.OriginOffsets origin ∷ command.SelectPlane Xy ∷ command.StopSpindle ∷ command.MistOff ∷ command.FloodOff ∷ command.ProgramEnd ∷ []
-end_commands (Some WithShuttle) origin = command.OriginOffsets origin ∷ command.SelectPlane Xy ∷ command.StopSpindle ∷ command.MistOff ∷ command.FloodOff ∷ command.PalletShuttle ∷ command.ProgramEnd ∷ []
+abbrev pub stop_commands : Option StopWord → Point → List Command
+stop_commands None origin = []
+stop_commands (Some word.Program) origin = command.ProgramStop ∷ []
+stop_commands (Some word.Optional) origin = command.OptionalStop ∷ []
+stop_commands (Some word.Shuttle) origin = command.PalletShuttle ∷ command.ProgramStop ∷ []
+stop_commands (Some word.End) origin = command.OriginOffsets origin ∷ command.SelectPlane Xy ∷ command.StopSpindle ∷ command.MistOff ∷ command.FloodOff ∷ command.ProgramEnd ∷ []
+stop_commands (Some word.EndWithShuttle) origin = command.OriginOffsets origin ∷ command.SelectPlane Xy ∷ command.StopSpindle ∷ command.MistOff ∷ command.FloodOff ∷ command.PalletShuttle ∷ command.ProgramEnd ∷ []
 
--- what a step but the remark prints; one whose codes aren't built prints nothing
+-- what a step prints that has at most one command; nothing where none of its words has a command, and where its codes aren't built
+abbrev pub command_at : Tasks → Step → List Command
+command_at t step.Feed = command_for command.FeedRate t.feed
+command_at t step.SpindleSpeed = command_for command.SpindleSpeed t.speed
+command_at t step.SelectTool = command_for command.SelectTool t.selected_slot
+command_at t step.ChangeTool = command_for command.ChangeTool t.changed_slot
+command_at t step.Spindle = command_for spindle_command t.spindle
+command_at t step.Dwell = command_for command.Dwell t.dwell
+command_at t step.Plane = command_for command.SelectPlane t.plane
+command_at t step.Units = command_for command.LengthUnits t.unit
+command_at t step.Motion = command_for command.InverseTime t.time
+command_at t _ = []
+
+-- what a step but the remark prints, but for its moves
+abbrev pub task_commands : Tasks → Point → Step → List Command
+task_commands t origin step.Coolant = coolant_commands t.coolant
+task_commands t origin step.Stop = stop_commands t.stop origin
+task_commands t origin s = command_at t s
+
+-- the time of a move stands right before it
 abbrev pub numeric_at : Plan → Step → List Command
-numeric_at p step.Feed = feed_commands p.tasks.feed
-numeric_at p step.Units = unit_commands p.tasks.unit
-numeric_at p step.Motion = path_commands p.path
-numeric_at p step.Stop = end_commands p.tasks.end p.origin
-numeric_at p _ = []
+numeric_at p step.Motion = command_at p.tasks step.Motion ++ path_commands p.path
+numeric_at p s = task_commands p.tasks p.origin s
 
 abbrev pub commands_at : Plan → Step → List Canonical
 commands_at p step.Remark = p.remark
@@ -69,32 +87,70 @@ commands_of p = flat_map (commands_at p) order
 
 -- ---- what each step moves or switches
 
+abbrev pub speed_outputs : Option ℤ → Outputs → Outputs
+speed_outputs None o = o
+speed_outputs (Some speed) o = record o { speed = speed }
+
+abbrev pub selected_outputs : Option ℕ → Outputs → Outputs
+selected_outputs None o = o
+selected_outputs (Some slot) o = record o { selected_slot = slot }
+
+-- a change of the tool stops the spindle (own)
+abbrev pub changed_outputs : Option ℕ → Outputs → Outputs
+changed_outputs None o = o
+changed_outputs (Some slot) o = record o { spindle = Stopped; spindle_slot = slot }
+
+abbrev pub spindle_outputs : Option Spindle → Outputs → Outputs
+spindle_outputs None o = o
+spindle_outputs (Some spindle) o = record o { spindle = spindle }
+
+-- mist and flood may both be on
+abbrev pub coolant_outputs : Option Coolant → Outputs → Outputs
+coolant_outputs None o = o
+coolant_outputs (Some Mist) o = record o { mist = true }
+coolant_outputs (Some Flood) o = record o { flood = true }
+coolant_outputs (Some Off) o = record o { mist = false; flood = false }
+
 -- the program's end stops the spindle and the coolant; speed and slots stay
-abbrev pub end_outputs : Option End → Outputs → Outputs
-end_outputs None o = o
-end_outputs (Some end) o = record o { spindle = Stopped; mist = false; flood = false }
+abbrev pub stop_outputs : Option StopWord → Outputs → Outputs
+stop_outputs word o = if ends word then record o { spindle = Stopped; mist = false; flood = false } else o
 
 -- the outputs behind a step: what its words switch, all else as it was
 abbrev pub outputs_through : Tasks → Outputs → Step → Outputs
-outputs_through t o step.Stop = end_outputs t.end o
+outputs_through t o step.SpindleSpeed = speed_outputs t.speed o
+outputs_through t o step.SelectTool = selected_outputs t.selected_slot o
+outputs_through t o step.ChangeTool = changed_outputs t.changed_slot o
+outputs_through t o step.Spindle = spindle_outputs t.spindle o
+outputs_through t o step.Coolant = coolant_outputs t.coolant o
+outputs_through t o step.Stop = stop_outputs t.stop o
 outputs_through t o _ = o
 
 -- the outputs behind some steps
 abbrev pub outputs_behind : Tasks → Outputs → List Step → Outputs
 outputs_behind t o steps = fold (outputs_through t) o steps
 
-abbrev pub end_segments : Option End → Outputs → List Segment
-end_segments None now = []
-end_segments (Some end) now = segment.Switch now ∷ []
+-- a switch carries all outputs as they then are, behind its step
+abbrev pub switch_where : Bool → Outputs → List Segment
+switch_where there now = if there then segment.Switch now ∷ [] else []
 
--- what a step but the motion switches; a switch carries all outputs as they then are, behind its step
-abbrev pub switches_at : Tasks → Outputs → Step → List Segment
-switches_at t now step.Stop = end_segments t.end now
-switches_at t now _ = []
+abbrev pub dwell_segments : Option ℤ → List Segment
+dwell_segments None = []
+dwell_segments (Some seconds) = segment.Dwell seconds ∷ []
+
+-- what a step but the motion switches, or how long it waits
+abbrev pub task_segments : Tasks → Outputs → Step → List Segment
+task_segments t now step.SpindleSpeed = switch_where (is_some t.speed) now
+task_segments t now step.SelectTool = switch_where (is_some t.selected_slot) now
+task_segments t now step.ChangeTool = switch_where (is_some t.changed_slot) now
+task_segments t now step.Spindle = switch_where (is_some t.spindle) now
+task_segments t now step.Coolant = switch_where (is_some t.coolant) now
+task_segments t now step.Dwell = dwell_segments t.dwell
+task_segments t now step.Stop = switch_where (ends t.stop) now
+task_segments t now _ = []
 
 abbrev pub segments_at : Plan → Outputs → Step → List Segment
 segments_at p now step.Motion = path_segments p.path
-segments_at p now s = switches_at p.tasks now s
+segments_at p now s = task_segments p.tasks now s
 
 abbrev pub segments_through : Plan → Outputs → List Step → List Segment
 segments_through p o [] = []

@@ -4,15 +4,17 @@ ghost use Rattle.ng_canon.specs.Text.{canonical, numeric};
 ghost use Rattle.ng_block.specs.Commands.{begun_commands, rest_commands};
 ghost use Rattle.ng_block.specs.Effects.{plan_by, commands_by};
 ghost use Rattle.ng_block.specs.Paths.{pace_command};
-ghost use Rattle.ng_block.specs.Order.{commands_at, numeric_at, feed_commands, unit_commands, end_commands};
+ghost use Rattle.ng_block.specs.Tasks.{tasks_in};
+ghost use Rattle.ng_block.specs.Order.{commands_at, numeric_at, command_at, task_commands, coolant_commands, stop_commands};
 
-use crate::asked::End;
 use crate::effect::Effect;
-use crate::path::{Moves, Path, command_of};
+use crate::path::{Moves, Path, command_of, spindle_command};
 use crate::steps::{ORDER, Step};
+use crate::tasks::Tasks;
 use arrayvec::ArrayVec;
 use ng_canon::{Canon, Command, Plane, StraightMove};
-use ng_num::{Len, Point, Unit};
+use ng_modal::{Coolant, Stop as StopWord};
+use ng_num::Point;
 use std::marker::Model;
 
 /// The most commands of a step but the motion.
@@ -20,38 +22,89 @@ const MOST: usize = 8;
 
 type OfStep = ArrayVec<Command, MOST>;
 
-fn put_feed(feed_per_min: Option<Len>, commands: &mut OfStep)
-    requires { commands.old.items ≡ [] }
-    ensures { commands.new.items ≡ feed_commands feed_per_min }
+/// The command of a step that has at most one.
+fn command_at(tasks: &Tasks, step: Step) -> Option<Command>
+    ensures { MatchOption result (command_at tasks.now step ≡ []) (λ command. command_at tasks.now step ≡ command ∷ []) }
 {
-    if let Some(feed_per_min) = feed_per_min {
-        commands.push(Command::FeedRate(feed_per_min));
+    let command = match step {
+        Step::Feed => Command::FeedRate(tasks.feed?),
+        Step::SpindleSpeed => Command::SpindleSpeed(tasks.speed?),
+        Step::SelectTool => Command::SelectTool(tasks.selected_slot?),
+        Step::ChangeTool => Command::ChangeTool(tasks.changed_slot?),
+        Step::Spindle => spindle_command(tasks.spindle?),
+        Step::Dwell => Command::Dwell(tasks.dwell?),
+        Step::Plane => Command::SelectPlane(tasks.plane?),
+        Step::Units => Command::LengthUnits(tasks.unit?),
+        Step::Motion => Command::InverseTime(tasks.time?),
+        _ => return None,
+    };
+    Some(command)
+}
+
+fn put_coolant(coolant: Option<Coolant>, commands: &mut OfStep)
+    requires { commands.old.items ≡ [] }
+    ensures { commands.new.items ≡ coolant_commands coolant }
+{
+    match coolant {
+        None => {}
+        Some(Coolant::Mist) => commands.push(Command::MistOn),
+        Some(Coolant::Flood) => commands.push(Command::FloodOn),
+        Some(Coolant::Off) => {
+            commands.push(Command::MistOff);
+            commands.push(Command::FloodOff);
+        }
     }
 }
 
-fn put_unit(unit: Option<Unit>, commands: &mut OfStep)
+/// The commands of the program's end, but for its shuttle and its last one.
+fn put_end(origin: Point, commands: &mut OfStep)
     requires { commands.old.items ≡ [] }
-    ensures { commands.new.items ≡ unit_commands unit }
+    ensures { commands.new.items ≡ Command.OriginOffsets origin ∷ Command.SelectPlane Plane.Xy ∷ Command.StopSpindle ∷ Command.MistOff ∷ Command.FloodOff ∷ [] }
 {
-    if let Some(unit) = unit {
-        commands.push(Command::LengthUnits(unit));
-    }
-}
-
-fn put_end(end: Option<End>, origin: Point, commands: &mut OfStep)
-    requires { commands.old.items ≡ [] }
-    ensures { commands.new.items ≡ end_commands end origin }
-{
-    let Some(end) = end else { return };
     commands.push(Command::OriginOffsets(origin));
     commands.push(Command::SelectPlane(Plane::Xy));
     commands.push(Command::StopSpindle);
     commands.push(Command::MistOff);
     commands.push(Command::FloodOff);
-    if let End::WithShuttle = end {
-        commands.push(Command::PalletShuttle);
+}
+
+fn put_stop(word: Option<StopWord>, origin: Point, commands: &mut OfStep)
+    requires { commands.old.items ≡ [] }
+    ensures { commands.new.items ≡ stop_commands word origin }
+{
+    match word {
+        None => {}
+        Some(StopWord::Program) => commands.push(Command::ProgramStop),
+        Some(StopWord::Optional) => commands.push(Command::OptionalStop),
+        Some(StopWord::Shuttle) => {
+            commands.push(Command::PalletShuttle);
+            commands.push(Command::ProgramStop);
+        }
+        Some(StopWord::End) => {
+            put_end(origin, commands);
+            commands.push(Command::ProgramEnd);
+        }
+        Some(StopWord::EndWithShuttle) => {
+            put_end(origin, commands);
+            commands.push(Command::PalletShuttle);
+            commands.push(Command::ProgramEnd);
+        }
     }
-    commands.push(Command::ProgramEnd);
+}
+
+/// Puts the commands of a step, but for its remark and its moves.
+fn put_tasks(tasks: &Option<Tasks>, origin: Point, step: Step, commands: &mut OfStep)
+    requires { commands.old.items ≡ [] }
+    ensures { commands.new.items ≡ task_commands (tasks_in tasks.now) origin step }
+{
+    let Some(tasks) = tasks else { return };
+    match step {
+        Step::Coolant => put_coolant(tasks.coolant, commands),
+        Step::Stop => put_stop(tasks.stop, origin, commands),
+        _ => if let Some(command) = command_at(tasks, step) {
+            commands.push(command);
+        },
+    }
 }
 
 /// What is left of a block's commands.
@@ -104,12 +157,13 @@ impl Effect {
     pub(crate) fn only_move(&self) -> Option<&StraightMove>
         ensures { IfSome result (λ move. commands_by self.now ≡ numeric (pace_command move.now.pace move.now.end) ∷ []) }
     {
-        if !self.plan.tasks.is_empty() || self.plan.remark.manner.is_some() {
+        if self.plan.tasks.is_some() || self.plan.remark.manner.is_some() {
             return None;
         }
         match &self.plan.path {
             Path::Straight(line) => Some(line),
             Path::Still => None,
+            Path::WithoutFeed => None,
         }
     }
 }
@@ -141,16 +195,10 @@ impl<'a> CommandsLeft<'a> {
     {
         self.waiting.clear();
         self.taken = 0;
-        match step {
-            Step::Feed => put_feed(self.effect.plan.tasks.feed, &mut self.waiting),
-            Step::Units => put_unit(self.effect.plan.tasks.unit, &mut self.waiting),
-            Step::Motion => self.moves = Moves::of(&self.effect.plan.path),
-            Step::Stop => put_end(
-                self.effect.plan.tasks.end,
-                self.effect.machine.offsets.origin,
-                &mut self.waiting,
-            ),
-            _ => {}
+        let origin = self.effect.machine.offsets.origin;
+        put_tasks(&self.effect.plan.tasks, origin, step, &mut self.waiting);
+        if let Step::Motion = step {
+            self.moves = Moves::of(&self.effect.plan.path);
         }
     }
 

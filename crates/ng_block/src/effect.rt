@@ -1,27 +1,29 @@
 //! What a block leaves behind: the machine, the parameters that it changes, how the program goes on, and the plan of its
 //! commands and segments.
-ghost use Rattle.std.specs.Prelude.{◌≡◌, ◌≤◌, [], length, IfSome};
+ghost use Rattle.std.specs.Prelude.{◌≡◌, ◌≤◌, [], Ok, Err, length, IfSome, MatchResult, None};
 ghost use Rattle.std.specs.Option.{option_map};
 ghost use Rattle.ng_params.specs.Points.{origin_of};
 ghost use Rattle.ng_params.specs.Changes.{with_changes};
-ghost use Rattle.ng_block.specs.After.{modes_after, offsets_after, machine_after, changes_of};
-ghost use Rattle.ng_block.specs.Effects.{stop_of, block_done, segments_by, commands_by, in_state};
+ghost use Rattle.ng_block.specs.After.{modes_after, kept_after};
+ghost use Rattle.ng_block.specs.Goals.{offsets_after, changes_of, goal_of, goal_by};
+ghost use Rattle.ng_block.specs.Effects.{block_done, segments_by, commands_by, in_state};
 ghost use Rattle.ng_block.specs.Remarks.{remark_of};
 ghost use Rattle.ng_block.specs.Dry.{idle};
 ghost use Rattle.ng_block.specs.declared.effect.Stop.TheVariants.{GoesOn};
 
-use crate::asked::Asked;
-use crate::goal::Goal;
+use crate::ends::{ends, stop_of};
+use crate::goal::{feed_mode_after, feed_of, path_of};
 use crate::machine::{KeptWords, Machine, Offsets};
-use crate::modes::{Distance, FeedMode, Modes, Motion};
-use crate::path::{Path, path_of};
-use crate::plan::{Plan, Tasks};
+use crate::path::Path;
+use crate::plan::Plan;
 use crate::remark::Remark;
 use crate::state::State;
 use crate::switches::outputs_after;
+use crate::tasks::tasks_of;
 use arrayvec::ArrayVec;
 use ng_canon::Plane;
-use ng_num::Point;
+use ng_modal::{Block, Distance, FeedMode, Modes, Motion};
+use ng_num::{Fault, Point};
 use ng_params::{Change, Params, System};
 use std::alloc::Allocator;
 
@@ -53,34 +55,45 @@ pub struct Effect {
     pub(crate) plan: Plan,
 }
 
-fn modes_after(asked: &Asked, modes: &Modes) -> Modes
-    ensures { result ≡ modes_after asked.now modes.now }
+/// The modes after a block.
+fn modes_after(block: &Block, modes: &Modes) -> Modes
+    ensures { result ≡ modes_after block.now modes.now }
 {
-    let unit = asked.unit.unwrap_or(modes.unit);
-    if asked.end.is_some() {
+    let words = &block.g;
+    let after = Modes {
+        motion: block.motion_after(modes),
+        plane: block.plane_after(modes),
+        distance: words.distance.unwrap_or(modes.distance),
+        feed_mode: feed_mode_after(block, modes),
+        unit: words.unit.unwrap_or(modes.unit),
+        retract: words.retract.unwrap_or(modes.retract),
+        system: modes.system,
+        path: words.path.unwrap_or(modes.path),
+        overrides: block.m.overrides.unwrap_or(modes.overrides),
+    };
+    if ends(block.m.stop) {
         Modes {
             motion: Motion::Feed,
             plane: Plane::Xy,
             distance: Distance::Absolute,
             feed_mode: FeedMode::PerMinute,
-            unit,
-            retract: modes.retract,
             system: System::first(),
-            path: modes.path,
             overrides: true,
+            ..after
         }
     } else {
-        Modes {
-            motion: asked.motion.unwrap_or(modes.motion),
-            plane: modes.plane,
-            distance: asked.distance.unwrap_or(modes.distance),
-            feed_mode: modes.feed_mode,
-            unit,
-            retract: modes.retract,
-            system: modes.system,
-            path: modes.path,
-            overrides: modes.overrides,
-        }
+        after
+    }
+}
+
+/// The words that a cycle keeps, after a block.
+fn kept_after(block: &Block, kept: KeptWords) -> KeptWords
+    ensures { result ≡ kept_after block.now kept }
+{
+    if block.g.motion.is_some() || ends(block.m.stop) {
+        KeptWords::none()
+    } else {
+        kept
     }
 }
 
@@ -96,14 +109,14 @@ fn first_origin<A: Allocator + Copy + Drop>(params: &Params<A>, settings: &[Chan
 
 /// The offsets after a block, in the table that the line's settings leave.
 fn offsets_after<A: Allocator + Copy + Drop>(
-    asked: &Asked,
+    block: &Block,
     params: &Params<A>,
     settings: &[Change],
     offsets: Offsets,
 ) -> Offsets
-    ensures { result ≡ offsets_after asked.now (origin_of (with_changes params.now settings.now) 1) offsets }
+    ensures { result ≡ offsets_after block.now (origin_of (with_changes params.now settings.now) 1) offsets }
 {
-    if asked.end.is_some() {
+    if ends(block.m.stop) {
         Offsets {
             origin: first_origin(params, settings),
             g92: Point::zero(),
@@ -114,51 +127,17 @@ fn offsets_after<A: Allocator + Copy + Drop>(
     }
 }
 
-/// Puts the machine after a block into its place; the line's settings have changed the table before. Most lines leave
-/// most of the machine as it is, so it is copied as a whole first.
-fn put_machine_after<A: Allocator + Copy + Drop>(
-    asked: &Asked,
-    goal: &Goal,
-    state: &State<A>,
-    settings: &[Change],
-    after: &mut Machine,
-)
-    ensures { after.new ≡ machine_after asked.now goal.now (origin_of (with_changes state.now.params settings.now) 1) state.now.machine }
-{
-    *after = state.machine;
-    after.modes = modes_after(asked, &state.machine.modes);
-    after.feed_per_min = goal.feed_per_min;
-    after.point = goal.point;
-    if asked.motion.is_some() || asked.end.is_some() {
-        after.kept = KeptWords::none();
-    }
-    if asked.end.is_some() {
-        after.outputs = outputs_after(&Tasks::of(asked, goal), state.machine.outputs);
-        after.offsets = offsets_after(asked, &state.params, settings, state.machine.offsets);
-    }
-}
-
 /// Lists the changes of parameters that a block makes.
-fn changes_of(asked: &Asked, settings: &[Change], changes: &mut Changes)
+fn changes_of(block: &Block, settings: &[Change], changes: &mut Changes)
     requires { length settings.now ≤ 128 }
-    ensures { changes.new.items ≡ changes_of asked.now settings.now }
+    ensures { changes.new.items ≡ changes_of block.now settings.now }
 {
     changes.clear();
     for setting in settings {
         changes.push(*setting);
     }
-    if asked.end.is_some() {
+    if ends(block.m.stop) {
         changes.push(System::first().selection());
-    }
-}
-
-fn stop_of(asked: &Asked) -> Stop
-    ensures { result ≡ stop_of asked.now }
-{
-    if asked.end.is_some() {
-        Stop::Ends
-    } else {
-        Stop::GoesOn
     }
 }
 
@@ -178,7 +157,7 @@ impl Effect {
             stop: Stop::GoesOn,
             plan: Plan {
                 remark: Remark::none(),
-                tasks: Tasks::none(),
+                tasks: None,
                 path: Path::Still,
                 before: machine.outputs,
             },
@@ -193,30 +172,53 @@ impl Effect {
         self.changes.clear();
         self.stop = stop;
         self.plan.remark.clear();
-        self.plan.tasks = Tasks::none();
+        self.plan.tasks = None;
         self.plan.path = Path::Still;
         self.plan.before = state.machine.outputs;
     }
 
-    /// Becomes that of a lawful block in a state; the line's settings have changed the table before.
+    /// Finds all lengths that a block's words come to in a state: the feed and the offsets after it, the parameters that it
+    /// sets, and its path. E3 where one of them is beyond the range.
+    pub(crate) fn find_goal<A: Allocator + Copy + Drop>(
+        &mut self,
+        state: &State<A>,
+        block: &Block,
+        settings: &[Change],
+    ) -> Result<(), Fault>
+        requires { length settings.now ≤ 128 }
+        ensures { MatchResult result (λ _. goal_of block.now settings.now state.now ≡ Ok (goal_by self.new)) (λ fault. goal_of block.now settings.now state.now ≡ Err fault) }
+    {
+        let machine = &state.machine;
+        let feed_per_min = feed_of(block, machine)?;
+        self.plan.path = path_of(block, machine, feed_per_min)?;
+        self.machine.feed_per_min = feed_per_min;
+        self.machine.offsets = offsets_after(block, &state.params, settings, machine.offsets);
+        changes_of(block, settings, &mut self.changes);
+        Ok(())
+    }
+
+    /// Becomes that of a lawful block in a state, whose goal it has.
     pub(crate) fn take_block<A: Allocator + Copy + Drop>(
         &mut self,
         state: &State<A>,
-        asked: &Asked,
-        goal: &Goal,
-        settings: &[Change],
+        block: &Block,
         comment: Option<&[u8]>,
     )
-        requires settings { length settings.now ≤ 128 }
-        requires short { IfSome comment (λ text. length text.now ≤ 256) }
-        ensures { in_state state.now self.new ≡ block_done asked.now goal.now (remark_of (option_map (λ text. text.now) comment.entry)) settings.now state.now }
+        requires { IfSome comment (λ text. length text.now ≤ 256) }
+        ensures { in_state state.now self.new ≡ block_done block.now (goal_by self.old) (remark_of (option_map (λ text. text.now) comment.entry)) state.now }
     {
-        put_machine_after(asked, goal, state, settings, &mut self.machine);
-        changes_of(asked, settings, &mut self.changes);
-        self.stop = stop_of(asked);
+        let machine = &state.machine;
+        let before = machine.outputs;
+        let mode = feed_mode_after(block, &machine.modes);
+        let tasks = tasks_of(block, mode, self.machine.feed_per_min, &before);
+        self.machine.outputs = outputs_after(&tasks, before);
+        self.machine.modes = modes_after(block, &machine.modes);
+        self.machine.kept = kept_after(block, machine.kept);
+        self.machine.point = self.plan.path.point_after(machine.point);
+        self.machine.place_known = machine.place_known;
+        self.stop = stop_of(block.m.stop);
         self.plan.remark.take(comment);
-        self.plan.tasks = Tasks::of(asked, goal);
-        self.plan.path = path_of(goal, state.machine.point);
-        self.plan.before = state.machine.outputs;
+        self.plan.tasks = tasks;
+        self.plan.before = before;
     }
 }

@@ -1,21 +1,15 @@
-//! Where a line takes the machine: its motion, the feed and the end (NISTIR 6556, 3.5.1, 3.5.2, 3.5.17).
+//! What a line does to motion: its feed, its pace and where it goes (NISTIR 6556, 3.5.1, 3.5.2, 3.5.17, 3.5.19). E3 where a
+//! length that it computes is beyond the range.
 ghost use Rattle.std.specs.Prelude.{◌≡◌, ◌≤◌, ◌<◌, ◌^◌, ◌+ℤ◌, ◌-ℤ◌, unsigned_abs};
 ghost use Rattle.ng_num.specs.Range.{IsCount, in_range};
-ghost use Rattle.ng_block.specs.Blocks.{feed_of, feed_by, offset_x, offset_y, offset_z, program_coordinate, coordinate, end_of, motion_of, has_axis};
-ghost use Rattle.ng_block.specs.Goals.{goal_of};
+ghost use Rattle.ng_modal.specs.Lines.{is_straight};
+ghost use Rattle.ng_block.specs.Blocks.{feed_mode_after, is_fed, feed_word, time_word, feed_of, fed_pace, pace_by, offset_x, offset_y, offset_z, program_coordinate, coordinate, end_of, path_of};
 
-use crate::asked::{Asked, Given};
 use crate::machine::{Machine, Offsets};
-use crate::modes::{Distance, Modes, Motion};
+use crate::path::Path;
+use ng_canon::{InverseTime, Pace, Rate};
+use ng_modal::{Block, Distance, FeedMode, Modes, Motion};
 use ng_num::{Fault, Len, Num, Point, Unit, nm_of};
-
-/// Where a line takes the machine.
-#[derive(Clone, Copy, Debug, PartialEq, Eq)]
-pub struct Goal {
-    pub motion: Option<Motion>,
-    pub feed_per_min: Len,
-    pub point: Point,
-}
 
 /// What a line's axis words are read by.
 #[derive(Clone, Copy, Debug, PartialEq, Eq)]
@@ -24,38 +18,89 @@ struct Reading {
     distance: Distance,
 }
 
-impl Given {
-    /// Whether an axis is named.
-    pub fn has_axis(&self) -> bool
-        ensures { result ≡ has_axis self.now }
-    {
-        self.x.is_some() || self.y.is_some() || self.z.is_some()
+/// The feed mode after a line, by which its F is read.
+#[inline]
+pub fn feed_mode_after(block: &Block, modes: &Modes) -> FeedMode
+    ensures { result ≡ feed_mode_after block.now modes.now }
+{
+    block.g.feed_mode.unwrap_or(modes.feed_mode)
+}
+
+/// Whether a motion goes at a feed: G1, G2, G3.
+fn is_fed(motion: Option<Motion>) -> bool
+    ensures { result ≡ is_fed motion }
+{
+    match motion {
+        Some(Motion::Feed) | Some(Motion::ClockwiseArc) | Some(Motion::CounterclockwiseArc) => true,
+        _ => false,
     }
 }
 
-/// The motion of a line.
-pub fn motion_of(asked: &Asked, modes: &Modes) -> Option<Motion>
-    ensures { result ≡ motion_of asked.now modes.now }
+/// The F that sets the feed.
+#[inline]
+pub fn feed_word(mode: FeedMode, word: Option<Num>) -> Option<Num>
+    ensures { result ≡ feed_word mode word }
 {
-    match asked.motion {
-        Some(motion) => Some(motion),
-        None => {
-            if asked.values.has_axis() {
-                Some(modes.motion)
-            } else {
-                None
-            }
-        }
+    match mode {
+        FeedMode::PerMinute => word,
+        FeedMode::InverseTime => None,
+    }
+}
+
+/// The F that is the time of its line's move.
+#[inline]
+pub fn time_word(mode: FeedMode, motion: Option<Motion>, word: Option<Num>) -> Option<Num>
+    ensures { result ≡ time_word mode motion word }
+{
+    match mode {
+        FeedMode::PerMinute => None,
+        FeedMode::InverseTime => if is_fed(motion) { word } else { None },
     }
 }
 
 /// The feed after a line.
-fn feed_of(asked: &Asked, machine: &Machine) -> Result<Len, Fault>
-    ensures { result ≡ feed_of asked.now machine.now }
+#[inline]
+pub fn feed_of(block: &Block, machine: &Machine) -> Result<Len, Fault>
+    ensures { result ≡ feed_of block.now machine.now }
 {
-    match asked.values.f {
+    match feed_word(feed_mode_after(block, &machine.modes), block.values.f) {
         None => Ok(machine.feed_per_min),
         Some(feed) => nm_of(feed, machine.modes.unit),
+    }
+}
+
+/// The pace of a move at a feed or in a time.
+fn fed_pace(mode: FeedMode, feed_per_min: Len, word: Option<Num>) -> Option<Pace>
+    ensures { result ≡ fed_pace mode feed_per_min word }
+{
+    match mode {
+        FeedMode::PerMinute => match Rate::of(feed_per_min) {
+            Some(rate) => Some(Pace::Feed(rate)),
+            None => None,
+        },
+        FeedMode::InverseTime => match word {
+            None => None,
+            Some(word) => match InverseTime::of(word) {
+                Some(time) => Some(Pace::InverseTime(time)),
+                None => None,
+            },
+        },
+    }
+}
+
+/// How fast a line's move goes; none where its feed or its time is missing.
+#[inline]
+fn pace_by(
+    motion: Option<Motion>,
+    mode: FeedMode,
+    feed_per_min: Len,
+    word: Option<Num>,
+) -> Option<Pace>
+    ensures { result ≡ pace_by motion mode feed_per_min word }
+{
+    match motion {
+        Some(Motion::Traverse) => Some(Pace::Traverse),
+        _ => fed_pace(mode, feed_per_min, word),
     }
 }
 
@@ -139,27 +184,27 @@ fn coordinate(word: Option<Num>, reading: Reading, offset: i64, machine: Len) ->
 }
 
 /// The end of a straight move.
-fn end_of(asked: &Asked, machine: &Machine) -> Result<Point, Fault>
-    ensures { result ≡ end_of asked.now machine.now }
+fn end_of(block: &Block, machine: &Machine) -> Result<Point, Fault>
+    ensures { result ≡ end_of block.now machine.now }
 {
     let reading = Reading {
-        unit: asked.unit.unwrap_or(machine.modes.unit),
-        distance: asked.distance.unwrap_or(machine.modes.distance),
+        unit: block.g.unit.unwrap_or(machine.modes.unit),
+        distance: block.g.distance.unwrap_or(machine.modes.distance),
     };
     let x = coordinate(
-        asked.values.x,
+        block.values.x,
         reading,
         machine.offsets.x(),
         machine.point.x,
     )?;
     let y = coordinate(
-        asked.values.y,
+        block.values.y,
         reading,
         machine.offsets.y(),
         machine.point.y,
     )?;
     let z = coordinate(
-        asked.values.z,
+        block.values.z,
         reading,
         machine.offsets.z(),
         machine.point.z,
@@ -167,15 +212,26 @@ fn end_of(asked: &Asked, machine: &Machine) -> Result<Point, Fault>
     Ok(Point { x, y, z })
 }
 
-/// Where a line takes the machine; E3 where a length that it computes is beyond the range.
-pub fn goal_of(asked: &Asked, machine: &Machine) -> Result<Goal, Fault>
-    ensures { result ≡ goal_of asked.now machine.now }
+/// Whether a motion is G0 or G1.
+#[inline]
+fn is_straight(motion: Option<Motion>) -> bool
+    ensures { result ≡ is_straight motion }
 {
-    let feed_per_min = feed_of(asked, machine)?;
-    let point = end_of(asked, machine)?;
-    Ok(Goal {
-        motion: motion_of(asked, &machine.modes),
-        feed_per_min,
-        point,
-    })
+    match motion {
+        Some(Motion::Traverse) | Some(Motion::Feed) => true,
+        _ => false,
+    }
+}
+
+/// Where a line's motion goes, with the feed after the line.
+pub fn path_of(block: &Block, machine: &Machine, feed_per_min: Len) -> Result<Path, Fault>
+    ensures { result ≡ path_of block.now machine.now feed_per_min }
+{
+    if !is_straight(block.motion) {
+        return Ok(Path::Still);
+    }
+    let end = end_of(block, machine)?;
+    let mode = feed_mode_after(block, &machine.modes);
+    let pace = pace_by(block.motion, mode, feed_per_min, block.values.f);
+    Ok(Path::moving_at(pace, machine.point, end))
 }

@@ -7,21 +7,20 @@
 //! state, and writes the text of the commands as they come; its contract says exactly which text, for every reader
 //! and writer. The crate stands on the reader of lines, the parameter table and the canonical text below it.
 //!
-//! Built are block delete, block numbers, G0 G1 G20 G21 G90 G91, M2 M30, F, X, Y, Z. Every other code of the
-//! language, S and T are refused as left out (B3).
+//! Built are straight moves, both feed modes, spindle, tools, coolant, dwells, planes, units, modes that are only recorded, and
+//! all stops. What a line asks for, and whether it may, is `ng_modal`'s; the codes that it accepts and that aren't built here
+//! (G10, G28, G30, G43, G49, G53 to G59.3, G92 and its others, arcs, cycles) are refused behind it (B3).
 #![tactic(auto)]
 
-mod asked;
-mod codes;
 mod commands;
 mod dry_run;
 mod effect;
 mod ending;
+mod ends;
 mod faults;
 mod goal;
 pub mod laws;
 mod machine;
-mod modes;
 mod output;
 mod path;
 mod percent;
@@ -34,6 +33,7 @@ mod session;
 mod state;
 mod steps;
 mod switches;
+mod tasks;
 mod terms;
 mod tools;
 
@@ -42,7 +42,7 @@ pub use dry_run::{READS, dry};
 pub use effect::{CHANGES, Changes, Effect, Stop};
 pub use ending::{DryFault, Ended};
 pub use machine::{KeptWords, Machine, Offsets};
-pub use modes::{Distance, FeedMode, Modes, Motion, PathMode, Retract};
+pub use ng_modal::{Distance, FeedMode, Modes, Motion, PathMode, Retract};
 pub use output::put_canon;
 pub use percent::{first_kind, missing_end, percent_at};
 pub use places::{Places, execute};

@@ -1,10 +1,8 @@
 //! The path of a block's motion, and its segments one at a time.
 ghost use Rattle.std.specs.Prelude.{◌≡◌, ◌∷◌, [], MatchOption};
-ghost use Rattle.ng_block.specs.Paths.{straight, feed_path, path_of, path_segments, pace_command, spindle_command, command_of};
+ghost use Rattle.ng_block.specs.Paths.{moving_at, point_after, path_segments, pace_command, spindle_command, command_of};
 
-use crate::goal::Goal;
-use crate::modes::Motion;
-use ng_canon::{Arc, ArcFeed, Command, Pace, Rate, Segment, Spindle, StraightMove};
+use ng_canon::{Arc, ArcFeed, Command, Pace, Segment, Spindle, StraightMove};
 use ng_num::Point;
 use std::marker::Model;
 
@@ -13,7 +11,34 @@ use std::marker::Model;
 pub enum Path {
     /// The machine stays where it is.
     Still,
+    /// A move whose feed or time is missing: its block is refused (X1).
+    WithoutFeed,
     Straight(StraightMove),
+}
+
+impl Path {
+    /// A straight path at a pace.
+    #[inline]
+    pub fn moving_at(pace: Option<Pace>, start: Point, end: Point) -> Path
+        ensures { result ≡ moving_at pace start end }
+    {
+        match pace {
+            Some(pace) => Path::Straight(StraightMove { start, end, pace }),
+            None => Path::WithoutFeed,
+        }
+    }
+
+    /// Where the machine stands behind it, from where it stood before.
+    #[inline]
+    pub fn point_after(&self, start: Point) -> Point
+        ensures { result ≡ point_after self.now start }
+    {
+        match self {
+            Path::Straight(line) => line.end,
+            Path::Still => start,
+            Path::WithoutFeed => start,
+        }
+    }
 }
 
 /// The segments that are left of a path.
@@ -46,6 +71,7 @@ impl Moves {
     {
         match path {
             Path::Still => Moves { left: None },
+            Path::WithoutFeed => Moves { left: None },
             Path::Straight(line) => Moves {
                 left: Some(Segment::Line(*line)),
             },
@@ -59,34 +85,6 @@ impl Moves {
         let next = self.left;
         self.left = None;
         next
-    }
-}
-
-/// A straight path.
-fn straight(pace: Pace, start: Point, end: Point) -> Path
-    ensures { result ≡ straight pace start end }
-{
-    Path::Straight(StraightMove { start, end, pace })
-}
-
-/// The path of a feed move.
-fn feed_path(rate: Option<Rate>, start: Point, end: Point) -> Path
-    ensures { result ≡ feed_path rate start end }
-{
-    match rate {
-        Some(rate) => straight(Pace::Feed(rate), start, end),
-        None => Path::Still,
-    }
-}
-
-/// The path of a block from where the machine stands.
-pub fn path_of(goal: &Goal, start: Point) -> Path
-    ensures { result ≡ path_of goal.now start }
-{
-    match goal.motion {
-        Some(Motion::Traverse) => straight(Pace::Traverse, start, goal.point),
-        Some(Motion::Feed) => feed_path(Rate::of(goal.feed_per_min), start, goal.point),
-        _ => Path::Still,
     }
 }
 
@@ -115,7 +113,7 @@ fn arc_command(arc: &Arc) -> Command
 }
 
 /// The command of a spindle that is switched.
-fn spindle_command(spindle: Spindle) -> Command
+pub fn spindle_command(spindle: Spindle) -> Command
     ensures { result ≡ spindle_command spindle }
 {
     match spindle {

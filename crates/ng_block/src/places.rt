@@ -8,10 +8,8 @@ ghost use Rattle.ng_block.specs.Remarks.{remark_of};
 ghost use Rattle.ng_block.specs.Dry.{deleted, executed_unless_deleted};
 ghost use Rattle.ng_block.specs.Parts.{executed_behind};
 
-use crate::asked::asked_of;
 use crate::effect::{Effect, Stop};
-use crate::faults::{block_fault, motion_fault};
-use crate::goal::goal_of;
+use crate::faults::path_fault;
 use crate::machine::Machine;
 use crate::percent::percent_at;
 use crate::state::State;
@@ -19,6 +17,7 @@ use crate::terms::Terms;
 use crate::tools::Tools;
 use ng_canon::Geometry;
 use ng_expr::Values;
+use ng_modal::Sorted;
 use ng_num::Fault;
 use ng_words::{Kind, Line, is_deletable, is_too_long};
 use std::alloc::Allocator;
@@ -29,6 +28,7 @@ use std::alloc::Allocator;
 pub struct Places {
     line: Line,
     values: Values,
+    sorted: Sorted,
     /// What the last line did that was lawful; after a fault it may hold anything.
     pub effect: Effect,
 }
@@ -39,22 +39,24 @@ fn execute_values<A: Allocator + Copy + Drop>(
     state: &State<A>,
     comment: Option<&[u8]>,
     values: &Values,
+    tools: &Tools,
     geometry: &Geometry,
+    sorted: &mut Sorted,
     effect: &mut Effect,
 ) -> Result<(), Fault>
     requires short { IfSome comment (λ text. length text.now ≤ 256) }
-    ensures { MatchResult result (λ _. executed_values state.now (remark_of (option_map (λ text. text.now) comment.entry)) (settled_of values.now) geometry.now ≡ Ok (in_state state.now effect.new)) (λ f. executed_values state.now (remark_of (option_map (λ text. text.now) comment.entry)) (settled_of values.now) geometry.now ≡ Err f) }
+    ensures { MatchResult result (λ _. executed_values state.now (remark_of (option_map (λ text. text.now) comment.entry)) (settled_of values.now) tools.now geometry.now ≡ Ok (in_state state.now effect.new)) (λ f. executed_values state.now (remark_of (option_map (λ text. text.now) comment.entry)) (settled_of values.now) tools.now geometry.now ≡ Err f) }
 {
-    let asked = asked_of(values.words.as_slice());
-    if let Some(fault) = block_fault(&asked, &state.machine.modes) {
+    sorted.check(values, &state.machine.modes, tools.slots() as u8)?;
+    let block = &sorted.block;
+    if block.is_later() {
+        return Err(Fault::LeftOutCode);
+    }
+    effect.find_goal(state, block, values.settings.as_slice())?;
+    if let Some(fault) = path_fault(&effect.plan.path, geometry) {
         return Err(fault);
     }
-    let goal = goal_of(&asked, &state.machine)?;
-    if let Some(fault) = motion_fault(&goal, geometry) {
-        return Err(fault);
-    }
-    let settings = values.settings.as_slice();
-    effect.take_block(state, &asked, &goal, settings, comment);
+    effect.take_block(state, block, comment);
     Ok(())
 }
 
@@ -64,14 +66,24 @@ fn execute_values<A: Allocator + Copy + Drop>(
 fn execute_pieces<A: Allocator + Copy + Drop>(
     state: &State<A>,
     line: &Line,
+    tools: &Tools,
     geometry: &Geometry,
     values: &mut Values,
+    sorted: &mut Sorted,
     effect: &mut Effect,
 ) -> Result<(), Fault>
-    ensures { MatchResult result (λ _. executed_pieces state.now (pieces_by line.now.places) geometry.now ≡ Ok (in_state state.now effect.new)) (λ f. executed_pieces state.now (pieces_by line.now.places) geometry.now ≡ Err f) }
+    ensures { MatchResult result (λ _. executed_pieces state.now (pieces_by line.now.places) tools.now geometry.now ≡ Ok (in_state state.now effect.new)) (λ f. executed_pieces state.now (pieces_by line.now.places) tools.now geometry.now ≡ Err f) }
 {
     match values.evaluate_into(line, &state.params) {
-        Ok(()) => execute_values(state, line.last_comment(), values, geometry, effect),
+        Ok(()) => execute_values(
+            state,
+            line.last_comment(),
+            values,
+            tools,
+            geometry,
+            sorted,
+            effect,
+        ),
         Err(fault) => Err(fault),
     }
 }
@@ -103,6 +115,7 @@ impl Places {
         Places {
             line: Line::new(),
             values: Values::new(),
+            sorted: Sorted::nothing(),
             effect: Effect::none(machine),
         }
     }
@@ -119,13 +132,14 @@ impl Places {
     ) -> Result<(), Fault>
         ensures { MatchResult result (λ _. executed state.now tools.now geometry.now text.now ≡ Ok (in_state state.now self.new.effect)) (λ f. executed state.now tools.now geometry.now text.now ≡ Err f) }
     {
-        let _ = tools;
         match self.line.read(text) {
             Ok(()) => execute_pieces(
                 state,
                 &self.line,
+                tools,
                 geometry,
                 &mut self.values,
+                &mut self.sorted,
                 &mut self.effect,
             ),
             Err(fault) => Err(fault),

@@ -2,12 +2,13 @@
 ghost use Rattle.std.specs.Prelude.{◌≡◌, ◌∷◌, [], MatchOption};
 ghost use Rattle.ng_block.specs.Effects.{plan_by, segments_by};
 ghost use Rattle.ng_block.specs.Order.{outputs_through, segments_at};
+ghost use Rattle.ng_block.specs.Tasks.{tasks_in};
 ghost use Rattle.ng_block.specs.Segments.{ahead_of, rest_segments, outputs_with};
 
 use crate::effect::Effect;
 use crate::path::Moves;
 use crate::steps::{ORDER, Step};
-use crate::switches::{outputs_through, switch_at};
+use crate::switches::{outputs_through, segment_at};
 use ng_canon::{Outputs, Segment};
 use std::marker::Model;
 
@@ -78,7 +79,7 @@ impl<'a> SegmentsLeft<'a> {
         ensures effect { self.new.effect ≡ self.old.effect }
         ensures steps { self.new.steps ≡ self.old.steps }
         ensures now { self.new.now ≡ self.old.now }
-        ensures behind { self.new.behind ≡ outputs_through self.old.effect.now.plan.tasks self.old.behind step }
+        ensures behind { self.new.behind ≡ outputs_through (tasks_in self.old.effect.now.plan.tasks) self.old.behind step }
         ensures next { MatchOption result ((segments_at (plan_by self.old.effect.now) self.new.behind step ≡ []) × (self.new.moves ≡ [])) (λ segment. segments_at (plan_by self.old.effect.now) self.new.behind step ≡ segment ∷ self.new.moves) }
     {
         self.behind = outputs_through(&self.effect.plan.tasks, self.behind, step);
@@ -87,7 +88,7 @@ impl<'a> SegmentsLeft<'a> {
                 self.moves = Moves::of(&self.effect.plan.path);
                 self.moves.next()
             }
-            _ => switch_at(&self.effect.plan.tasks, self.behind, step),
+            _ => segment_at(&self.effect.plan.tasks, self.behind, step),
         }
     }
 

@@ -1,21 +1,75 @@
-//! The outputs behind each step of a block, and its switches.
+//! The outputs behind each step of a block, its switches and its dwell.
 ghost use Rattle.std.specs.Prelude.{◌≡◌, ◌∷◌, [], MatchOption};
-ghost use Rattle.ng_block.specs.Order.{end_outputs, outputs_through, outputs_behind, switches_at};
+ghost use Rattle.ng_block.specs.Tasks.{tasks_in};
+ghost use Rattle.ng_block.specs.Order.{speed_outputs, selected_outputs, changed_outputs, spindle_outputs, coolant_outputs, stop_outputs, outputs_through, outputs_behind, switch_where, task_segments};
 ghost use Rattle.ng_block.specs.Steps.{order};
 
-use crate::asked::End;
-use crate::plan::Tasks;
+use crate::ends::ends;
 use crate::steps::Step;
+use crate::tasks::Tasks;
 use ng_canon::{Outputs, Segment, Spindle};
+use ng_modal::{Coolant, Stop as StopWord};
+use ng_num::Num;
 
-/// The outputs behind a program's end.
-fn end_outputs(end: Option<End>, outputs: Outputs) -> Outputs
-    ensures { result ≡ end_outputs end outputs }
+fn speed_outputs(speed: Option<Num>, outputs: Outputs) -> Outputs
+    ensures { result ≡ speed_outputs speed outputs }
 {
-    match end {
+    match speed {
         None => outputs,
-        Some(_) => Outputs {
+        Some(speed) => Outputs { speed, ..outputs },
+    }
+}
+
+fn selected_outputs(slot: Option<u8>, outputs: Outputs) -> Outputs
+    ensures { result ≡ selected_outputs slot outputs }
+{
+    match slot {
+        None => outputs,
+        Some(selected_slot) => Outputs {
+            selected_slot,
+            ..outputs
+        },
+    }
+}
+
+/// The outputs behind a change of the tool, which stops the spindle (own).
+fn changed_outputs(slot: Option<u8>, outputs: Outputs) -> Outputs
+    ensures { result ≡ changed_outputs slot outputs }
+{
+    match slot {
+        None => outputs,
+        Some(spindle_slot) => Outputs {
             spindle: Spindle::Stopped,
+            spindle_slot,
+            ..outputs
+        },
+    }
+}
+
+fn spindle_outputs(spindle: Option<Spindle>, outputs: Outputs) -> Outputs
+    ensures { result ≡ spindle_outputs spindle outputs }
+{
+    match spindle {
+        None => outputs,
+        Some(spindle) => Outputs { spindle, ..outputs },
+    }
+}
+
+/// The outputs behind a coolant word: mist and flood may both be on.
+fn coolant_outputs(coolant: Option<Coolant>, outputs: Outputs) -> Outputs
+    ensures { result ≡ coolant_outputs coolant outputs }
+{
+    match coolant {
+        None => outputs,
+        Some(Coolant::Mist) => Outputs {
+            mist: true,
+            ..outputs
+        },
+        Some(Coolant::Flood) => Outputs {
+            flood: true,
+            ..outputs
+        },
+        Some(Coolant::Off) => Outputs {
             mist: false,
             flood: false,
             ..outputs
@@ -23,32 +77,78 @@ fn end_outputs(end: Option<End>, outputs: Outputs) -> Outputs
     }
 }
 
-/// The outputs behind a step.
-pub fn outputs_through(tasks: &Tasks, outputs: Outputs, step: Step) -> Outputs
-    ensures { result ≡ outputs_through tasks.now outputs step }
+/// The outputs behind a stop: the program's end stops the spindle and the coolant.
+fn stop_outputs(word: Option<StopWord>, outputs: Outputs) -> Outputs
+    ensures { result ≡ stop_outputs word outputs }
 {
+    if ends(word) {
+        Outputs {
+            spindle: Spindle::Stopped,
+            mist: false,
+            flood: false,
+            ..outputs
+        }
+    } else {
+        outputs
+    }
+}
+
+/// The outputs behind a step.
+pub fn outputs_through(tasks: &Option<Tasks>, outputs: Outputs, step: Step) -> Outputs
+    ensures { result ≡ outputs_through (tasks_in tasks.now) outputs step }
+{
+    let Some(tasks) = tasks else { return outputs };
     match step {
-        Step::Stop => end_outputs(tasks.end, outputs),
+        Step::SpindleSpeed => speed_outputs(tasks.speed, outputs),
+        Step::SelectTool => selected_outputs(tasks.selected_slot, outputs),
+        Step::ChangeTool => changed_outputs(tasks.changed_slot, outputs),
+        Step::Spindle => spindle_outputs(tasks.spindle, outputs),
+        Step::Coolant => coolant_outputs(tasks.coolant, outputs),
+        Step::Stop => stop_outputs(tasks.stop, outputs),
         _ => outputs,
     }
 }
 
 /// The outputs behind all steps.
-pub fn outputs_after(tasks: &Tasks, outputs: Outputs) -> Outputs
-    ensures { result ≡ outputs_behind tasks.now outputs order }
+pub fn outputs_after(tasks: &Option<Tasks>, before: Outputs) -> Outputs
+    ensures { result ≡ outputs_behind (tasks_in tasks.now) before order }
 {
-    end_outputs(tasks.end, outputs)
+    let Some(tasks) = tasks else { return before };
+    let turning = speed_outputs(tasks.speed, before);
+    let selected = selected_outputs(tasks.selected_slot, turning);
+    let changed = changed_outputs(tasks.changed_slot, selected);
+    let spun = spindle_outputs(tasks.spindle, changed);
+    let cooled = coolant_outputs(tasks.coolant, spun);
+    stop_outputs(tasks.stop, cooled)
 }
 
-/// The switch of a step, by the outputs behind it.
-pub fn switch_at(tasks: &Tasks, now: Outputs, step: Step) -> Option<Segment>
-    ensures { MatchOption result (switches_at tasks.now now step ≡ []) (λ segment. switches_at tasks.now now step ≡ segment ∷ []) }
+/// A switch to outputs, where a word asks for one.
+fn switch_where(there: bool, now: Outputs) -> Option<Segment>
+    ensures { MatchOption result (switch_where there now ≡ []) (λ segment. switch_where there now ≡ segment ∷ []) }
 {
+    if there {
+        Some(Segment::Switch(now))
+    } else {
+        None
+    }
+}
+
+/// The switch of a step, by the outputs behind it, or its dwell.
+pub fn segment_at(tasks: &Option<Tasks>, now: Outputs, step: Step) -> Option<Segment>
+    ensures { MatchOption result (task_segments (tasks_in tasks.now) now step ≡ []) (λ segment. task_segments (tasks_in tasks.now) now step ≡ segment ∷ []) }
+{
+    let Some(tasks) = tasks else { return None };
     match step {
-        Step::Stop => match tasks.end {
-            Some(_) => Some(Segment::Switch(now)),
+        Step::SpindleSpeed => switch_where(tasks.speed.is_some(), now),
+        Step::SelectTool => switch_where(tasks.selected_slot.is_some(), now),
+        Step::ChangeTool => switch_where(tasks.changed_slot.is_some(), now),
+        Step::Spindle => switch_where(tasks.spindle.is_some(), now),
+        Step::Coolant => switch_where(tasks.coolant.is_some(), now),
+        Step::Dwell => match tasks.dwell {
+            Some(seconds) => Some(Segment::Dwell(seconds)),
             None => None,
         },
+        Step::Stop => switch_where(ends(tasks.stop), now),
         _ => None,
     }
 }

@@ -7,7 +7,7 @@ use std::marker::Model;
 pub struct Terms<'a> {
     /// Whether lines that begin with a slash are deleted.
     pub block_delete: bool,
-    /// The tool table; no code that is built reads it yet.
+    /// The tool table.
     pub tools: &'a Tools,
     pub geometry: &'a Geometry,
 }

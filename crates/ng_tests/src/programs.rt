@@ -3,6 +3,7 @@ mod bad_input;
 mod blocks;
 mod grammar;
 mod memory;
+mod modal;
 mod program;
 mod rows;
 mod streams;

@@ -1,0 +1,91 @@
+//! What a block's words give its steps to do, but for its remark and its motion.
+ghost use Rattle.std.specs.Prelude.{◌≡◌};
+ghost use Rattle.ng_block.specs.Tasks.{tasks_of, tasks_in, gives_nothing};
+
+use crate::goal::{feed_word, time_word};
+use ng_canon::{Outputs, Plane, Spindle};
+use ng_modal::{Block, Coolant, FeedMode, NonModal, Stop as StopWord};
+use ng_num::{Len, Num, Unit};
+
+/// What words give the steps of a block to do.
+#[derive(Clone, Copy, Debug, PartialEq, Eq)]
+pub struct Tasks {
+    /// The feed after the line, where its F sets it.
+    pub feed: Option<Len>,
+    /// S: revolutions a minute.
+    pub speed: Option<Num>,
+    /// The slot that T selects.
+    pub selected_slot: Option<u8>,
+    /// The slot that M6 puts into the spindle.
+    pub changed_slot: Option<u8>,
+    pub spindle: Option<Spindle>,
+    pub coolant: Option<Coolant>,
+    /// The seconds of G4.
+    pub dwell: Option<Num>,
+    pub plane: Option<Plane>,
+    pub unit: Option<Unit>,
+    /// F, where it is the time of the move.
+    pub time: Option<Num>,
+    pub stop: Option<StopWord>,
+}
+
+/// Whether no word of a block gives something to do.
+#[inline]
+fn gives_nothing(block: &Block) -> bool
+    ensures { result ≡ gives_nothing block.now }
+{
+    !(block.values.f.is_some()
+        || block.values.s.is_some()
+        || block.values.t.is_some()
+        || block.m.tool_change
+        || block.m.spindle.is_some()
+        || block.m.coolant.is_some()
+        || block.g.non_modal.is_some()
+        || block.g.plane.is_some()
+        || block.g.unit.is_some()
+        || block.m.stop.is_some())
+}
+
+impl Tasks {
+    /// What a block's words give to do, with the feed after it and the outputs before it.
+    fn of(block: &Block, mode: FeedMode, feed_per_min: Len, before: &Outputs) -> Tasks
+        ensures { result ≡ tasks_of block.now mode feed_per_min before.now }
+    {
+        let selected_slot = block.selected_slot();
+        Tasks {
+            feed: match feed_word(mode, block.values.f) {
+                Some(_) => Some(feed_per_min),
+                None => None,
+            },
+            speed: block.values.s,
+            selected_slot,
+            changed_slot: if block.m.tool_change {
+                Some(selected_slot.unwrap_or(before.selected_slot))
+            } else {
+                None
+            },
+            spindle: block.m.spindle,
+            coolant: block.m.coolant,
+            dwell: match block.g.non_modal {
+                Some(NonModal::Dwell) => block.values.p,
+                _ => None,
+            },
+            plane: block.g.plane,
+            unit: block.g.unit,
+            time: time_word(mode, block.motion, block.values.f),
+            stop: block.m.stop,
+        }
+    }
+}
+
+/// The same; none where there is nothing to do. Most lines only move, so this is looked at first.
+#[inline]
+pub fn tasks_of(block: &Block, mode: FeedMode, feed_per_min: Len, before: &Outputs) -> Option<Tasks>
+    ensures { tasks_in result ≡ tasks_of block.now mode feed_per_min before.now }
+{
+    if gives_nothing(block) {
+        None
+    } else {
+        Some(Tasks::of(block, mode, feed_per_min, before))
+    }
+}

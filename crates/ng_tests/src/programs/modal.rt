@@ -1,0 +1,252 @@
+//! Modal groups: what each code of a line prints, in the order of the steps, and which fault refuses a line alone. All of it is
+//! worked out by hand from the language.
+use super::dry_text;
+use ng_block::{State, Stop, Tools, execute};
+use ng_canon::{Geometry, Outputs, Segment, Spindle};
+use ng_num::{Len, Num};
+use std::alloc::Global;
+use std::test::Fail;
+
+/// Programs of one line and what they write in front of the refusal that their end is missing.
+const PRINTED: [(&str, &str); 27] = [
+    (
+        "G4 P0.5 M3 S1000",
+        "SET_SPINDLE_SPEED(1000.000000)\nSTART_SPINDLE_CLOCKWISE()\nDWELL(0.500000)\n",
+    ),
+    (
+        "M4 M6 S100 T1",
+        "SET_SPINDLE_SPEED(100.000000)\nSELECT_TOOL(1)\nCHANGE_TOOL(1)\nSTART_SPINDLE_COUNTERCLOCKWISE()\n",
+    ),
+    (
+        "G20 F10 G1 X1",
+        "SET_FEED_RATE(10.000000)\nUSE_LENGTH_UNITS(INCHES)\nSTRAIGHT_FEED(25.400000, 0.000000, 0.000000)\n",
+    ),
+    (
+        "G93 G1 X1 F2",
+        "INVERSE_TIME(2.000000)\nSTRAIGHT_FEED(1.000000, 0.000000, 0.000000)\n",
+    ),
+    (
+        "G93 G1 X1 F0.000001 M3 G18",
+        "START_SPINDLE_CLOCKWISE()\nSELECT_PLANE(XZ)\nINVERSE_TIME(0.000001)\nSTRAIGHT_FEED(1.000000, 0.000000, 0.000000)\n",
+    ),
+    ("G93 F2", ""),
+    (
+        "G93 G0 X1 F2",
+        "STRAIGHT_TRAVERSE(1.000000, 0.000000, 0.000000)\n",
+    ),
+    ("G94 F0", "SET_FEED_RATE(0.000000)\n"),
+    ("M60", "PALLET_SHUTTLE()\nPROGRAM_STOP()\n"),
+    ("M0", "PROGRAM_STOP()\n"),
+    ("M1", "OPTIONAL_PROGRAM_STOP()\n"),
+    ("M3", "START_SPINDLE_CLOCKWISE()\n"),
+    ("M5", "STOP_SPINDLE_TURNING()\n"),
+    ("M6", "CHANGE_TOOL(0)\n"),
+    ("M7", "MIST_ON()\n"),
+    ("M8", "FLOOD_ON()\n"),
+    ("M9", "MIST_OFF()\nFLOOD_OFF()\n"),
+    ("G17", "SELECT_PLANE(XY)\n"),
+    ("G19", "SELECT_PLANE(YZ)\n"),
+    ("G21", "USE_LENGTH_UNITS(MM)\n"),
+    ("T-0.00005", "SELECT_TOOL(0)\n"),
+    ("G4 P0", "DWELL(0.000000)\n"),
+    (
+        "G80 F0 S0",
+        "SET_FEED_RATE(0.000000)\nSET_SPINDLE_SPEED(0.000000)\n",
+    ),
+    (
+        "G17 G21 G40 G64 G80 G90 G94 G98",
+        "SELECT_PLANE(XY)\nUSE_LENGTH_UNITS(MM)\n",
+    ),
+    ("G61 G99 M49", ""),
+    ("G61.1 G91 M48", ""),
+    (
+        "M0 M6 M3 M7 (four)",
+        "COMMENT(four)\nCHANGE_TOOL(0)\nSTART_SPINDLE_CLOCKWISE()\nMIST_ON()\nPROGRAM_STOP()\n",
+    ),
+];
+
+/// Lines and the fault that refuses each of them alone, by a program of one line.
+const REFUSED: [(&str, &str); 36] = [
+    ("F1 F1", "B1 RepeatedLetter"),
+    ("G21.1", "B2 UnknownCode"),
+    ("M1.5", "B2 UnknownCode"),
+    ("G41", "B3 LeftOutCode"),
+    ("A1", "B3 LeftOutCode"),
+    ("M7 M8", "B4 GroupTwice"),
+    ("G90 G91", "B4 GroupTwice"),
+    ("M0 M6 M3 M7 M48", "B5 TooManyM"),
+    ("G1 G92 X1", "B6 AxisTakenTwice"),
+    ("X1", "B7 AxisUnused"),
+    ("G0", "B8 NoAxis"),
+    ("G92", "B9 NothingToSet"),
+    ("G53", "B10 BadG53"),
+    ("G2 X1 R1", "B11 RadiusArc"),
+    ("G2 X1 K1", "B12 UnusedWord"),
+    ("G1 X1 Q1", "B12 UnusedWord"),
+    ("S-1", "B13 Negative"),
+    ("G4 P-1", "B13 Negative"),
+    ("T2", "B14 BadSlot"),
+    ("T0.5", "B14 BadSlot"),
+    ("G10 L3 P1", "B15 BadL"),
+    ("G81 X1 L0", "B15 BadL"),
+    ("G10 L2 P10", "B16 BadSystem"),
+    ("G4", "B17 NoDwell"),
+    ("G43", "B18 NoH"),
+    ("G18 G81 X1", "B19 CyclePlane"),
+    // codes that aren't built, behind all of these, and in front of what the block comes to
+    ("G2 X1 J1", "B3 LeftOutCode"),
+    ("G53 G0 X1", "B3 LeftOutCode"),
+    ("G10 L2 P9 X1", "B3 LeftOutCode"),
+    ("G43 H1", "B3 LeftOutCode"),
+    ("G83 X0 Z-2 R1 Q2 L3 F100", "B3 LeftOutCode"),
+    ("G54 G20 G0 X1000000", "B3 LeftOutCode"),
+    ("G1 X1", "X1 NoFeed"),
+    ("G93 G1 X1", "X1 NoFeed"),
+    ("G93 G1 X2000 F0", "X1 NoFeed"),
+    ("G93 G1 X2000 F1", "X2 OutsideTravel"),
+];
+
+/// Whether a program writes a text and then its refusal in a line.
+fn is_refused(
+    alloc: Global,
+    program: &str,
+    text: &str,
+    line: &str,
+    name: &str,
+) -> Result<bool, Fail> {
+    let (written, _) = dry_text(alloc, program.as_bytes(), false);
+    let wanted = format!(in alloc; "{text}REFUSED line {line}: {name}\n")?;
+    Ok(written.as_slice() == wanted.as_bytes())
+}
+
+#[test]
+fn codes_print_in_the_order_of_the_steps(rt: HostRuntime) -> Result<(), Fail> {
+    for (line, text) in PRINTED {
+        assert!(rt;
+            is_refused(rt.alloc(), line, text, "2", "X3 NoProgramEnd")?,
+            "{line:?}"
+        );
+    }
+    Ok(())
+}
+
+#[test]
+fn each_fault_of_a_block_refuses_a_line_alone(rt: HostRuntime) -> Result<(), Fail> {
+    for (line, name) in REFUSED {
+        assert!(rt; is_refused(rt.alloc(), line, "", "1", name)?, "{line:?}");
+    }
+    Ok(())
+}
+
+#[test]
+fn modes_last_from_line_to_line(rt: HostRuntime) -> Result<(), Fail> {
+    for (program, text, line, name) in [
+        // a time holds for its line alone, and the feed stays behind it
+        (
+            "F60 G1 X1\nG93 X2 F3\nG94 X3\nG93\nX4",
+            "SET_FEED_RATE(60.000000)\nSTRAIGHT_FEED(1.000000, 0.000000, 0.000000)\nINVERSE_TIME(3.000000)\nSTRAIGHT_FEED(2.000000, 0.000000, 0.000000)\nSTRAIGHT_FEED(3.000000, 0.000000, 0.000000)\n",
+            "5",
+            "X1 NoFeed",
+        ),
+        // G80 ends the motion, and the distance mode stays
+        (
+            "G91 G0 X1\nX1\nG80\nX1",
+            "STRAIGHT_TRAVERSE(1.000000, 0.000000, 0.000000)\nSTRAIGHT_TRAVERSE(2.000000, 0.000000, 0.000000)\n",
+            "4",
+            "B7 AxisUnused",
+        ),
+        // the plane holds for a cycle in a later line
+        (
+            "G18\nG81 X1 Z-1 R1",
+            "SELECT_PLANE(XZ)\n",
+            "2",
+            "B19 CyclePlane",
+        ),
+        // the selected slot is that of a line before
+        (
+            "T1\nM6\nT0 M6",
+            "SELECT_TOOL(1)\nCHANGE_TOOL(1)\nSELECT_TOOL(0)\nCHANGE_TOOL(0)\n",
+            "4",
+            "X3 NoProgramEnd",
+        ),
+    ] {
+        assert!(rt;
+            is_refused(rt.alloc(), program, text, line, name)?,
+            "{program:?}"
+        );
+    }
+    Ok(())
+}
+
+#[test]
+fn a_whole_line_has_its_segments_in_the_order_of_the_steps(rt: HostRuntime) -> Result<(), Fail> {
+    let mut tools = Tools::new();
+    tools.push(Len::zero());
+    let line = b"F1 S1 T1 M6 M3 M9 G4 P1 G1 X1 M30";
+    let mut state = State::fresh(rt.alloc())?;
+    state.machine.outputs.mist = true;
+    state.machine.outputs.spindle = Spindle::Counterclockwise;
+    let effect = execute(&state, line, &tools, &Geometry::standard())?;
+    let speed = Outputs {
+        speed: Num::of(1_000_000)?,
+        ..state.machine.outputs
+    };
+    let selected = Outputs {
+        selected_slot: 1,
+        ..speed
+    };
+    let changed = Outputs {
+        spindle: Spindle::Stopped,
+        spindle_slot: 1,
+        ..selected
+    };
+    let turning = Outputs {
+        spindle: Spindle::Clockwise,
+        ..changed
+    };
+    let dry = Outputs {
+        mist: false,
+        flood: false,
+        ..turning
+    };
+    let ended = Outputs {
+        spindle: Spindle::Stopped,
+        ..dry
+    };
+    let mut segments = effect.segments();
+    for outputs in [speed, selected, changed, turning, dry] {
+        assert_eq!(rt; segments.next(), Some(Segment::Switch(outputs)));
+        assert_eq!(rt; segments.outputs(), outputs);
+    }
+    assert_eq!(rt; segments.next(), Some(Segment::Dwell(Num::of(1_000_000)?)));
+    assert!(rt; matches!(segments.next(), Some(Segment::Line(_))));
+    assert_eq!(rt; segments.outputs(), dry);
+    assert_eq!(rt; segments.next(), Some(Segment::Switch(ended)));
+    assert_eq!(rt; segments.next(), None);
+    assert_eq!(rt; effect.machine.outputs, ended);
+    let (text, _) = dry_text(rt.alloc(), line, false);
+    let wanted =
+        "SET_FEED_RATE(1.000000)\nSET_SPINDLE_SPEED(1.000000)\nSELECT_TOOL(1)\nCHANGE_TOOL(1)\nSTART_SPINDLE_CLOCKWISE()\nMIST_OFF()\nFLOOD_OFF()\nDWELL(1.000000)\nSTRAIGHT_FEED(1.000000, 0.000000, 0.000000)\nSET_ORIGIN_OFFSETS(0.000000, 0.000000, 0.000000)\nSELECT_PLANE(XY)\nSTOP_SPINDLE_TURNING()\nMIST_OFF()\nFLOOD_OFF()\nPALLET_SHUTTLE()\nPROGRAM_END()\n";
+    assert!(rt; text.as_slice() == wanted.as_bytes());
+    Ok(())
+}
+
+#[test]
+fn coolants_add_up_and_stops_are_told_apart(rt: HostRuntime) -> Result<(), Fail> {
+    let mut state = State::fresh(rt.alloc())?;
+    for (line, mist, flood, stop) in [
+        (&b"M7"[..], true, false, Stop::GoesOn),
+        (b"M8 M0", true, true, Stop::Stops),
+        (b"M7 M60", true, true, Stop::Stops),
+        (b"M9 M1", false, false, Stop::StopsIfWanted),
+        (b"M8", false, true, Stop::GoesOn),
+        (b"M7 M30", false, false, Stop::Ends),
+    ] {
+        let effect = execute(&state, line, &Tools::new(), &Geometry::standard())?;
+        assert_eq!(rt; effect.machine.outputs.mist, mist);
+        assert_eq!(rt; effect.machine.outputs.flood, flood);
+        assert_eq!(rt; effect.stop, stop);
+        state.apply(&effect);
+    }
+    Ok(())
+}
