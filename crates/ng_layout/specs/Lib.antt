@@ -1,0 +1,4 @@
+pub mod Codes
+pub mod Fields
+pub mod StateField
+pub mod Stored

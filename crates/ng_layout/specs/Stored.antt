@@ -1,0 +1,22 @@
+-- What is stored of a controller (own).
+use Rattle.std.specs.Prelude.{ℕ, List, Option}
+use Rattle.ng_num.specs.declared.point.Point.{Point}
+use Rattle.ng_block.specs.Setup.{Setup}
+use Rattle.ng_layout.specs.declared.half.Source.{Source}
+use Rattle.ng_layout.specs.declared.half.Opened.{Opened}
+
+-- a block that was begun and isn't done
+pub record HalfDone : Type 0 where
+  pub text : List ℕ
+  pub source : Source
+  pub index : ℕ
+  pub at : Option Point
+  pub opened : Option Opened
+
+-- all but the program's text
+pub record Saved : Type 0 where
+  pub entries : ℕ
+  pub setup : Setup
+  pub place : ℕ
+  pub length : ℕ
+  pub half : Option HalfDone
