@@ -1,4 +1,6 @@
 pub mod Codes
 pub mod Fields
+pub mod Limits
+pub mod Report
 pub mod StateField
 pub mod Stored

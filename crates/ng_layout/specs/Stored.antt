@@ -2,6 +2,7 @@
 use Rattle.std.specs.Prelude.{ℕ, List, Option}
 use Rattle.ng_num.specs.declared.point.Point.{Point}
 use Rattle.ng_block.specs.Setup.{Setup}
+use Rattle.ng_block.specs.declared.machine.Machine.{Machine}
 use Rattle.ng_layout.specs.declared.half.Source.{Source}
 use Rattle.ng_layout.specs.declared.half.Opened.{Opened}
 
@@ -12,6 +13,13 @@ pub record HalfDone : Type 0 where
   pub index : ℕ
   pub at : Option Point
   pub opened : Option Opened
+
+-- what a state field says: all but the parameters and the program
+pub record Report : Type 0 where
+  pub entries : ℕ
+  pub place : ℕ
+  pub machine : Machine
+  pub half : Option HalfDone
 
 -- all but the program's text
 pub record Saved : Type 0 where

@@ -2,10 +2,13 @@
 #![tactic(auto)]
 
 mod bytes;
+mod codes;
 mod field;
 mod half;
+mod report;
 mod stored;
 
 pub use field::{CodeField, FIELD, HalfField, KeptField, StateField, Triple};
 pub use half::{Half, Opened, Source, TEXT, text_of};
+pub use report::{GREATEST_COUNT, Reported};
 pub use stored::Stored;
