@@ -7,6 +7,7 @@ mod field;
 mod half;
 mod report;
 mod stored;
+mod writing;
 
 pub use field::{CodeField, FIELD, HalfField, KeptField, StateField, Triple};
 pub use half::{Half, Opened, Source, TEXT, text_of};
