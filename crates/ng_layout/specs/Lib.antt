@@ -1,7 +1,9 @@
 pub mod Codes
 pub mod Fields
+pub mod Header
 pub mod Limits
 pub mod Report
+pub mod Sectors
 pub mod StateField
 pub mod Storable
 pub mod Stored

@@ -5,11 +5,15 @@ mod bytes;
 mod codes;
 mod field;
 mod half;
+mod header;
 mod report;
+mod sectors;
 mod stored;
 mod writing;
 
 pub use field::{CodeField, FIELD, HalfField, KeptField, StateField, Triple};
 pub use half::{Half, Opened, Source, TEXT, text_of};
+pub use header::{Header, LONGEST_PROGRAM};
 pub use report::{GREATEST_COUNT, Reported};
+pub use sectors::{BYTES, PARAMETERS, VALUES, text_sector, values_sector};
 pub use stored::Stored;

@@ -1,0 +1,51 @@
+//! Sectors of parameters and of a program's text.
+ghost use Rattle.std.specs.Prelude.{◌≡◌, ◌≤◌, ◌<◌, ◌+◌, ◌*◌, ◌-◌, ◌++◌, length, replicate};
+ghost use Rattle.ng_layout.specs.Sectors.{HoldsValues, HoldsText};
+
+use crate::bytes::put_i64;
+use ng_params::{Index, Params};
+use std::alloc::Allocator;
+
+/// How many parameters a sector holds.
+pub const VALUES: usize = 64;
+
+/// How many bytes a sector has.
+pub const BYTES: usize = 512;
+
+/// How many parameters there are.
+pub const PARAMETERS: usize = 5399;
+
+/// The sector of 64 parameters, the first of them at this index of the table, counted from 0.
+pub fn values_sector<A: Allocator + Copy + Drop>(table: &Params<A>, first: usize) -> [u8; BYTES]
+    requires { first ≤ 5399 }
+    ensures { HoldsValues table.now first result }
+{
+    let mut sector = [0; BYTES];
+    for k in 0..VALUES {
+        if first + k < PARAMETERS {
+            let value = table.get(Index::known((first + k) as u16 + 1));
+            put_i64(&mut sector, 8 * k, value.count());
+        }
+    }
+    sector
+}
+
+/// The sector that begins with these bytes and goes on with zeros.
+fn padded(bytes: &[u8]) -> [u8; BYTES]
+    requires { length bytes.now ≤ 512 }
+    ensures { result ≡ bytes.now ++ replicate (512 - length bytes.now) 0 }
+{
+    let mut sector = [0; BYTES];
+    sector[..bytes.len()].copy_from_slice(bytes);
+    sector
+}
+
+/// The sector of 512 bytes of a text, the first of them at this index; zeros past the text's end.
+pub fn text_sector(text: &[u8], first: usize) -> [u8; BYTES]
+    requires within { first ≤ length text.now }
+    requires small { length text.now ≤ 131_072 }
+    ensures { HoldsText text.now first result }
+{
+    let end = text.len().min(first + BYTES);
+    padded(&text[first..end])
+}
