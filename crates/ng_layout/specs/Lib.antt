@@ -2,8 +2,10 @@ pub mod Codes
 pub mod Fields
 pub mod Header
 pub mod Limits
+pub mod Log
 pub mod Report
 pub mod Sectors
+pub mod Stands
 pub mod StateField
 pub mod Storable
 pub mod Stored

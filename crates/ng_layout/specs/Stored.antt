@@ -28,3 +28,8 @@ pub record Saved : Type 0 where
   pub place : ℕ
   pub length : ℕ
   pub half : Option HalfDone
+
+-- all of it
+pub record Standing : Type 0 where
+  pub saved : Saved
+  pub program : List ℕ
