@@ -1,3 +1,4 @@
+pub mod Images
 pub mod Places
 pub mod Rows
 pub mod SaysAgain
