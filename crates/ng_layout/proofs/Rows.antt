@@ -4,6 +4,7 @@ use Rattle.std.proofs.lemmas.Bool.{cases_eq}
 use Rattle.std.proofs.lemmas.List.{drop-replicate, get_or-take, get_or-drop, get_or_append_left, get_or-append_right, get_or_past, length-take-le}
 use Rattle.std.proofs.Common.{length-drop}
 use Rattle.byteorder.specs.Endian.{little_number, little_from}
+use Rattle.ng_num.specs.Range.{IsCount, greatest}
 use Rattle.ng_layout.specs.Fields.{number_at, signed_at, SameBelow, SameFrom, Puts}
 use Rattle.ng_layout.specs.Sectors.{HoldsValues, HoldsText}
 use Rattle.ng_layout.proofs.Places.{signed-below, signed-from, from-more, from-further, number-from}
@@ -29,15 +30,20 @@ signed-zeros at n = rw (number-zeros 8 at n) refl
 pub record ValuesTo (table : List ℤ) (first k : ℕ) (sector : List ℕ) : Type 0 where
   pub each : (j : ℕ) → j < k → first + j < 5399 → signed_at (8 * j) sector ≡ get_or table (first + j) (pos 0)
   pub past : (j : ℕ) → j < k → 5399 ≤ first + j → signed_at (8 * j) sector ≡ pos 0
+  pub counts : (j : ℕ) → j < k → first + j < 5399 → IsCount (signed_at (8 * j) sector)
   pub rest : SameFrom (8 * k) (replicate 512 0) sector
 
-pub values-more : (table : List ℤ) (first k : ℕ) (old new : List ℕ) (value : ℤ) → ValuesTo table first k old → first + k < 5399 → Puts (signed_at (8 * k)) (8 * k) (8 * k + 8) value old new → value ≡ get_or table (first + k) (pos 0) → ValuesTo table first (k + 1) new
-values-more table first k old new value so_far here put is = record {
+pub values-more : (table : List ℤ) (first k : ℕ) (old new : List ℕ) (value : ℤ) → ValuesTo table first k old → first + k < 5399 → Puts (signed_at (8 * k)) (8 * k) (8 * k + 8) value old new → value ≡ get_or table (first + k) (pos 0) → IsCount value → ValuesTo table first (k + 1) new
+values-more table first k old new value so_far here put is small = record {
   each = λ j lt within. elim (cases_eq j k) [
     | inl same ↦ subst (λ (x : ℕ). signed_at (8 * x) new ≡ get_or table (first + x) (pos 0)) (sym same) (put.written ∙ is)
     | inr other ↦ signed-below (8 * j) (8 * k) old new put.below (omega arith) ∙ so_far.each j (omega arith) within
   ];
   past = λ j lt beyond. signed-below (8 * j) (8 * k) old new put.below (omega arith) ∙ so_far.past j (omega arith) beyond;
+  counts = λ j lt within. elim (cases_eq j k) [
+    | inl same ↦ subst (λ (x : ℕ). IsCount (signed_at (8 * x) new)) (sym same) (subst IsCount (sym put.written) small)
+    | inr other ↦ subst IsCount (sym (signed-below (8 * j) (8 * k) old new put.below (omega arith))) (so_far.counts j (omega arith) within)
+  ];
   rest = from-further (8 * k + 8) (8 * (k + 1)) (replicate 512 0) new (from-more (8 * k) (8 * k + 8) (replicate 512 0) old new so_far.rest put.beyond (omega arith)) (omega arith);
 }
 
@@ -48,6 +54,7 @@ values-past table first k sector so_far beyond = record {
     | inl same ↦ signed-from (8 * k) (8 * j) (replicate 512 0) sector so_far.rest (omega arith) ∙ signed-zeros (8 * j) 512
     | inr other ↦ so_far.past j (omega arith) later
   ];
+  counts = λ j lt within. so_far.counts j (omega arith) within;
   rest = from-further (8 * k) (8 * (k + 1)) (replicate 512 0) sector so_far.rest (omega arith);
 }
 
@@ -65,3 +72,10 @@ holds_text text sector first end within is bytes =
         | inr past ↦ ap (λ (l : List ℕ). slice_index l k) bytes ∙ get_or-append_right part zeros (end - first) k 0 long past ∙ zero_at (512 - length part) (k - (end - first)) ∙ sym (get_or_past text (first + k) 0 (omega arith))
       ];
     }
+
+-- the first k values of a sector are taken over
+pub record TakenTo (old new : List ℤ) (first k : ℕ) (sector : List ℕ) : Type 0 where
+  pub here : (j : ℕ) → j < k → first + j < 5399 → first + j < length old → get_or new (first + j) (pos 0) ≡ signed_at (8 * j) sector
+  pub counts : (j : ℕ) → j < k → first + j < 5399 → IsCount (signed_at (8 * j) sector)
+  pub before : (p : ℕ) → p < first → get_or new p (pos 0) ≡ get_or old p (pos 0)
+  pub long : length new ≡ length old

@@ -1,8 +1,10 @@
 //! Sectors of parameters and of a program's text.
 ghost use Rattle.std.specs.Prelude.{◌≡◌, ◌≤◌, ◌<◌, ◌+◌, ◌*◌, ◌-◌, ◌++◌, length, replicate};
-ghost use Rattle.ng_layout.specs.Sectors.{HoldsValues, HoldsText};
+ghost use Rattle.std.specs.Bool.{OnTrue, OnFalse};
+ghost use Rattle.ng_layout.specs.Sectors.{HoldsValues, TakesValues, IsBeyond, HoldsText};
 
-use crate::bytes::put_i64;
+use crate::bytes::{get_i64, put_i64};
+use ng_num::Num;
 use ng_params::{Index, Params};
 use std::alloc::Allocator;
 
@@ -28,6 +30,28 @@ pub fn values_sector<A: Allocator + Copy + Drop>(table: &Params<A>, first: usize
         }
     }
     sector
+}
+
+/// Takes over the values of a sector, the first of them for this index; false where one is beyond the range, and
+/// those before it were taken over.
+pub fn take_values<A: Allocator + Copy + Drop>(
+    table: &mut Params<A>,
+    first: usize,
+    sector: &[u8; BYTES],
+) -> bool
+    requires { first ≤ 5399 }
+    ensures taken { OnTrue result (TakesValues table.old table.new first sector.now) }
+    ensures beyond { OnFalse result (IsBeyond first sector.now) }
+{
+    for k in 0..VALUES {
+        if first + k < PARAMETERS {
+            match Num::of(i128::from(get_i64(sector, 8 * k))) {
+                Ok(value) => table.set(Index::known((first + k) as u16 + 1), value),
+                Err(_) => return false,
+            }
+        }
+    }
+    true
 }
 
 /// The sector that begins with these bytes and goes on with zeros.
