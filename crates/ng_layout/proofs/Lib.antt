@@ -2,3 +2,4 @@ pub mod Images
 pub mod Places
 pub mod Rows
 pub mod SaysAgain
+pub mod Snapshots

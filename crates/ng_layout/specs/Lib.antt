@@ -5,6 +5,7 @@ pub mod Limits
 pub mod Log
 pub mod Report
 pub mod Sectors
+pub mod Snapshot
 pub mod Spare
 pub mod Stands
 pub mod StateField
