@@ -3,3 +3,4 @@ pub mod Places
 pub mod Rows
 pub mod SaysAgain
 pub mod Snapshots
+pub mod Soundness

@@ -6,6 +6,7 @@ pub mod Log
 pub mod Report
 pub mod Sectors
 pub mod Snapshot
+pub mod Sound
 pub mod Spare
 pub mod Stands
 pub mod StateField

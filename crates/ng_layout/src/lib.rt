@@ -15,5 +15,5 @@ pub use field::{CodeField, FIELD, HalfField, KeptField, StateField, Triple};
 pub use half::{Half, Opened, Source, TEXT, text_of};
 pub use header::{Header, LONGEST_PROGRAM};
 pub use report::{GREATEST_COUNT, Reported};
-pub use sectors::{BYTES, PARAMETERS, VALUES, text_sector, values_sector};
+pub use sectors::{BYTES, take_values, text_sector};
 pub use stored::Stored;

@@ -1,5 +1,6 @@
 //! What the numbers of a state field say.
-ghost use Rattle.std.specs.Prelude.{◌≡◌, ℕ, true, false, pos};
+ghost use Rattle.std.specs.Prelude.{◌≡◌, ℕ, true, false, pos, IfSome};
+ghost use Rattle.ng_layout.specs.Sound.{IsSound};
 ghost use Rattle.ng_layout.specs.Report.{count_of, point_of, modes_of, outputs_of, offsets_of, word_of, kept_of};
 ghost use Rattle.ng_layout.specs.Report.{machine_of, known_point, half_by, half_of, report_of, up_to};
 
@@ -209,20 +210,27 @@ fn half_of(field: &HalfField) -> Option<Option<Half>>
     }
 }
 
+#[tactic(auto, unfolding(crate::specs::Report::report_of))]
+fn report_of(field: &StateField, length: u64) -> Option<Reported>
+    ensures { result ≡ report_of length field.now }
+{
+    if field.entries > GREATEST_COUNT || field.place > length {
+        return None;
+    }
+    Some(Reported {
+        entries: field.entries,
+        place: field.place,
+        machine: machine_of(field)?,
+        half: half_of(&field.half)?,
+    })
+}
+
 impl StateField {
     /// What it says beside a program of this length; none where a number of it is out of its range.
-    #[tactic(auto, unfolding(crate::specs::Report::report_of))]
     pub fn report(&self, length: u64) -> Option<Reported>
-        ensures { result ≡ report_of length self.now }
+        ensures value { result ≡ report_of length self.now }
+        ensures sound { IfSome result (IsSound length) }
     {
-        if self.entries > GREATEST_COUNT || self.place > length {
-            return None;
-        }
-        Some(Reported {
-            entries: self.entries,
-            place: self.place,
-            machine: machine_of(self)?,
-            half: half_of(&self.half)?,
-        })
+        report_of(self, length)
     }
 }

@@ -9,16 +9,19 @@ use ng_params::{Index, Params};
 use std::alloc::Allocator;
 
 /// How many parameters a sector holds.
-pub const VALUES: usize = 64;
+pub(crate) const VALUES: usize = 64;
 
 /// How many bytes a sector has.
 pub const BYTES: usize = 512;
 
 /// How many parameters there are.
-pub const PARAMETERS: usize = 5399;
+pub(crate) const PARAMETERS: usize = 5399;
 
 /// The sector of 64 parameters, the first of them at this index of the table, counted from 0.
-pub fn values_sector<A: Allocator + Copy + Drop>(table: &Params<A>, first: usize) -> [u8; BYTES]
+pub(crate) fn values_sector<A: Allocator + Copy + Drop>(
+    table: &Params<A>,
+    first: usize,
+) -> [u8; BYTES]
     requires { first ≤ 5399 }
     ensures { HoldsValues table.now first result }
 {
@@ -52,6 +55,18 @@ pub fn take_values<A: Allocator + Copy + Drop>(
         }
     }
     true
+}
+
+/// Makes one table equal to another, in place.
+pub(crate) fn copy_table<A: Allocator + Copy + Drop>(into: &mut Params<A>, from: &Params<A>)
+    requires into { length into.old ≡ 5399 }
+    requires from { length from.now ≡ 5399 }
+    ensures { into.new ≡ from.now }
+{
+    for k in 0..PARAMETERS {
+        let index = Index::known(k as u16 + 1);
+        into.set(index, from.get(index));
+    }
 }
 
 /// The sector that begins with these bytes and goes on with zeros.

@@ -1,5 +1,6 @@
 //! What is stored of a controller.
-ghost use Rattle.std.specs.Prelude.{◌≡◌, ◌≤◌, ◌<◌, drop, replicate};
+ghost use Rattle.std.specs.Prelude.{◌≡◌, ◌≤◌, ◌<◌, drop, replicate, length, IfOk};
+ghost use Rattle.std.specs.Option.{option_map};
 ghost use Rattle.ng_layout.specs.Fields.{number_at};
 ghost use Rattle.ng_layout.specs.StateField.{field_at};
 ghost use Rattle.ng_layout.specs.Storable.{IsStorable};
@@ -7,9 +8,10 @@ ghost use Rattle.ng_layout.specs.Snapshot.{HoldsPart};
 
 use crate::field::StateField;
 use crate::half::Half;
-use crate::sectors::{BYTES, VALUES, values_sector};
+use crate::report::Reported;
+use crate::sectors::{BYTES, VALUES, copy_table, values_sector};
 use ng_block::State;
-use std::alloc::Allocator;
+use std::alloc::{AllocError, Allocator};
 use std::marker::Model;
 
 /// What is stored beside the program's text (own). Contracts see a `Saved`.
@@ -34,6 +36,62 @@ impl<A: Allocator> Model for Stored<A> {
 }
 
 impl<A: Allocator + Copy + Drop> Stored<A> {
+    ghost use Rattle.ng_layout.specs.Stored.{fresh, with_report};
+    ghost use Rattle.ng_layout.specs.Stands.{closed};
+
+    /// Of a fresh controller, with no program. `AllocError` where the table found no memory.
+    pub fn fresh(alloc: A) -> Result<Stored<A>, AllocError>
+        ensures { IfOk result (λ s. s ≡ fresh) }
+    {
+        Ok(Stored {
+            entries: 0,
+            state: State::fresh(alloc)?,
+            place: 0,
+            length: 0,
+            half: None,
+        })
+    }
+
+    /// Takes over what a state field says beside a program of this length; the parameters stay.
+    pub fn take_report(&mut self, report: Reported, length: u64)
+        ensures { self.new ≡ with_report self.old report length }
+    {
+        self.entries = report.entries;
+        self.state.machine = report.machine;
+        self.place = report.place;
+        self.length = length;
+        self.half = report.half;
+    }
+
+    /// Nothing is open any more: where something was, it isn't known where the machine stands.
+    pub fn close(&mut self)
+        ensures { self.new ≡ record self.old { half = option_map closed self.old.half } }
+    {
+        if let Some(half) = &mut self.half {
+            if half.opened.is_some() {
+                half.opened = None;
+                half.at = None;
+            }
+        }
+    }
+
+    /// Takes over all of another. It takes no memory.
+    pub fn take_over(&mut self, other: &Stored<A>)
+        requires own { length self.old.setup.params ≡ 5399 }
+        requires other { length other.now.setup.params ≡ 5399 }
+        ensures { self.new ≡ other.now }
+    {
+        copy_table(&mut self.state.params, &other.state.params);
+        self.state.machine = other.state.machine;
+        self.entries = other.entries;
+        self.place = other.place;
+        self.length = other.length;
+        self.half = match &other.half {
+            Some(half) => Some(half.copy()),
+            None => None,
+        };
+    }
+
     /// The sector of a snapshot that holds this part of it: the state field first, then the parameters.
     pub fn sector(&self, part: usize) -> [u8; BYTES]
         requires part { part < 86 }
