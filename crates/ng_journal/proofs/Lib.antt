@@ -1,1 +1,2 @@
 pub mod Renewing
+pub mod TableReading

@@ -3,4 +3,5 @@
 #![tactic(auto)]
 
 mod checkpoint;
+mod reading;
 mod sectors;
