@@ -1,5 +1,5 @@
 //! The header of an epoch: what names the snapshot and the program in force.
-ghost use Rattle.std.specs.Prelude.{◌≡◌, ◌≤◌, ◌<◌, ◌+◌, ◌%◌, true, Some, drop, replicate};
+ghost use Rattle.std.specs.Prelude.{◌≡◌, ◌≤◌, ◌<◌, ◌+◌, ◌%◌, true, Some, drop, replicate, IfSome};
 ghost use Rattle.ng_layout.specs.Fields.{number_at};
 
 use crate::bytes::{get_u32, get_u64, put_u32, put_u64};
@@ -25,12 +25,13 @@ pub struct Header {
 }
 
 impl Header {
-    ghost use Rattle.ng_layout.specs.Header.{header_at, is_marked, is_within, header_in};
+    ghost use Rattle.ng_layout.specs.Header.{header_at, is_marked, is_within, header_in, IsLawful};
 
     /// The header that sector `k` holds; none where it isn't valid.
     #[tactic(auto, unfolding(crate::specs::Header::header_in, crate::specs::Header::header_at, crate::specs::Header::is_marked))]
     pub fn read(k: u64, sector: &[u8; 512]) -> Option<Header>
-        ensures { result ≡ header_in k sector.now }
+        ensures value { result ≡ header_in k sector.now }
+        ensures lawful { IfSome result IsLawful }
     {
         let is_marked = get_u64(sector, 0) == get_u64(MARK, 0) && get_u32(sector, 8) == FORMAT;
         let header = Header {

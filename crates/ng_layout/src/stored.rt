@@ -65,7 +65,8 @@ impl<A: Allocator + Copy + Drop> Stored<A> {
 
     /// Nothing is open any more: where something was, it isn't known where the machine stands.
     pub fn close(&mut self)
-        ensures { self.new ≡ record self.old { half = option_map closed self.old.half } }
+        ensures value { self.new ≡ record self.old { half = option_map closed self.old.half } }
+        ensures storable { IsStorable self.old → IsStorable self.new }
     {
         if let Some(half) = &mut self.half {
             if half.opened.is_some() {
