@@ -1,2 +1,3 @@
 pub mod Renewing
+pub mod SnapshotReading
 pub mod TableReading

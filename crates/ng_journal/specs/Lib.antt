@@ -1,3 +1,4 @@
 pub mod Area
 pub mod AtRest
 pub mod Reading
+pub mod Recovery

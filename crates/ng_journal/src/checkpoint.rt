@@ -3,13 +3,13 @@ ghost use Rattle.std.specs.Prelude.{◌≡◌, ◌≤◌, ◌<◌, ◌+◌, ◌%
 ghost use Rattle.ng_rig.specs.Life.{reads};
 ghost use Rattle.ng_rig.specs.Calls.{Promises, Counts};
 ghost use Rattle.ng_layout.specs.Storable.{IsStorable};
-ghost use Rattle.ng_layout.specs.Stands.{IsWritten, snapshot_first};
+ghost use Rattle.ng_layout.specs.Stands.{IsWritten};
 ghost use Rattle.ng_layout.specs.Header.{header_in};
 ghost use Rattle.ng_layout.specs.declared.header.Header.{Header};
 ghost use Rattle.ng_journal.specs.Area.{WritesArea};
 ghost use Rattle.ng_journal.specs.AtRest.{IsHeaded, Checkpoints};
 
-use crate::sectors::SNAPSHOT;
+use crate::sectors::{SNAPSHOT, snapshot_first};
 use ng_layout::{Header, Stored};
 use ng_rig::{Failed, Rig};
 use std::alloc::Allocator;
@@ -44,14 +44,6 @@ fn header_sector(header: Header) -> [u8; 512]
     ensures { header_in (header.epoch % 2) result ≡ Some header }
 {
     header.write()
-}
-
-/// The first sector of the snapshot area of an epoch.
-fn snapshot_first(epoch: u64) -> usize
-    ensures is { result ≡ snapshot_first epoch }
-    ensures small { result ≤ 88 }
-{
-    2 + SNAPSHOT * (epoch % 2) as usize
 }
 
 /// Writes what is stored under the next epoch, with its program in this area.

@@ -3,16 +3,16 @@ ghost use Rattle.std.specs.Prelude.{◌≡◌, ◌≤◌, ◌<◌, ◌+◌, ◌*
 ghost use Rattle.std.specs.Bool.{OnTrue};
 ghost use Rattle.ng_rig.specs.Life.{reads};
 ghost use Rattle.ng_rig.specs.Calls.{Promises, Counts};
-ghost use Rattle.ng_layout.specs.Header.{header_in};
+ghost use Rattle.ng_layout.specs.Header.{header_in, IsLawful};
 ghost use Rattle.ng_layout.specs.Report.{report_of};
 ghost use Rattle.ng_layout.specs.StateField.{field_at};
 ghost use Rattle.ng_layout.specs.Sound.{IsSound};
-ghost use Rattle.ng_layout.specs.Stands.{in_force, newer};
+ghost use Rattle.ng_layout.specs.Stands.{in_force, newer, snapshot_first};
 ghost use Rattle.ng_layout.specs.Storable.{IsStorable};
 ghost use Rattle.ng_journal.specs.Reading.{Reads, IsTableOf, IsSnapshotOf, has_record};
 
-use crate::sectors::SNAPSHOT;
-use ng_layout::{BYTES, Header, Reported, StateField, epoch_of_part, take_values};
+use crate::sectors::{SNAPSHOT, snapshot_first};
+use ng_layout::{BYTES, Header, Reported, StateField, Stored, epoch_of_part, take_values};
 use ng_params::Params;
 use ng_rig::{Failed, Rig};
 use std::alloc::Allocator;
@@ -34,6 +34,7 @@ fn read_header<R: Rig>(rig: &mut R, k: u64) -> Result<Option<Header>, Failed>
     requires room { 1710 ≤ R.sectors rig.old }
     requires header { k < 2 }
     ensures read { Promises (R.honest rig.old) (R.honest rig.new) (Reads result (λ image header. header ≡ header_in k (image k)) (R.life rig.old) (R.life rig.new)) }
+    ensures lawful { IfOk result (λ header. IfSome header IsLawful) }
     ensures size { R.sectors rig.new ≡ R.sectors rig.old }
     ensures failures { Counts result (R.failed rig.old) (R.failed rig.new) }
 {
@@ -43,7 +44,10 @@ fn read_header<R: Rig>(rig: &mut R, k: u64) -> Result<Option<Header>, Failed>
 
 /// Of two valid headers that of the greater epoch.
 fn newer(a: Option<Header>, b: Option<Header>) -> Option<Header>
-    ensures { result ≡ newer a b }
+    requires a { IfSome a IsLawful }
+    requires b { IfSome b IsLawful }
+    ensures value { result ≡ newer a b }
+    ensures lawful { IfSome result IsLawful }
 {
     match (a, b) {
         (None, b) => b,
@@ -57,6 +61,7 @@ fn newer(a: Option<Header>, b: Option<Header>) -> Option<Header>
 pub(crate) fn header_in_force<R: Rig>(rig: &mut R) -> Result<Option<Header>, Failed>
     requires { 1710 ≤ R.sectors rig.old }
     ensures read { Promises (R.honest rig.old) (R.honest rig.new) (Reads result (λ image header. header ≡ in_force image) (R.life rig.old) (R.life rig.new)) }
+    ensures lawful { IfOk result (λ header. IfSome header IsLawful) }
     ensures size { R.sectors rig.new ≡ R.sectors rig.old }
     ensures failures { Counts result (R.failed rig.old) (R.failed rig.new) }
 {
@@ -111,4 +116,33 @@ fn read_table<R: Rig, A: Allocator + Copy + Drop>(
         }
     }
     Ok(true)
+}
+
+/// Takes over the snapshot of a header; false where it is damaged.
+pub(crate) fn read_snapshot<R: Rig, A: Allocator + Copy + Drop>(
+    rig: &mut R,
+    header: Header,
+    stored: &mut Stored<A>,
+) -> Result<bool, Failed>
+    requires room { 1710 ≤ R.sectors rig.old }
+    requires lawful { IsLawful header }
+    requires long { length stored.old.setup.params ≡ 5399 }
+    ensures read { Promises (R.honest rig.old) (R.honest rig.new) (Reads result (IsSnapshotOf (snapshot_first header.epoch) header.length stored.new) (R.life rig.old) (R.life rig.new)) }
+    // without honesty too
+    ensures storable { IfOk result (λ is_whole. OnTrue is_whole (IsStorable stored.new)) }
+    ensures count { IfOk result (λ is_whole. OnTrue is_whole (stored.new.entries ≤ 1_000_000_000_000)) }
+    ensures size { R.sectors rig.new ≡ R.sectors rig.old }
+    ensures failures { Counts result (R.failed rig.old) (R.failed rig.new) }
+{
+    let first = snapshot_first(header.epoch);
+    match read_report(rig, first, header.length)? {
+        None => Ok(false),
+        Some(report) => {
+            let is_whole = read_table(rig, first, &mut stored.state.params)?;
+            if is_whole {
+                stored.take_report(report, header.length);
+            }
+            Ok(is_whole)
+        }
+    }
 }
