@@ -1,3 +1,5 @@
+pub mod Finding
 pub mod Renewing
+pub mod Restoring
 pub mod SnapshotReading
 pub mod TableReading

@@ -9,7 +9,7 @@ use Rattle.ng_layout.specs.Fields.{number_at}
 use Rattle.ng_layout.specs.Limits.{greatest_count}
 use Rattle.ng_layout.specs.Stands.{in_force, stands, recovered, log_first, IsWritten}
 use Rattle.ng_layout.specs.Stored.{Saved, Standing}
-use Rattle.ng_journal.specs.AtRest.{IsAt, IsEither}
+use Rattle.ng_journal.specs.AtRest.{IsAt, IsEither, beside}
 
 -- the recovered of what stands, where something does
 abbrev pub recovered_of : Result Standing Fault → Result Standing Fault
@@ -36,6 +36,17 @@ HasCause NotFormatted image = stands image ≡ Err NotFormatted
 HasCause Damaged image = (stands image ≡ Err Damaged) ⊎ HasRecord image
 HasCause CountersUsed image = IsUsedUp image
 HasCause _ image = ⊥
+
+-- under this header, this stands with its program
+pub record StandsUnder (header : Header) (saved : Saved) (image : Image) : Type 0 where
+  pub force : in_force image ≡ Some header
+  pub state : stands image ≡ Ok (beside saved header.area image)
+  pub long : saved.length ≡ header.length
+
+-- what the reads found
+abbrev pub IsRead : Saved → Image → Result Header Fault → Type 0
+IsRead saved image (Ok header) = StandsUnder header saved image
+IsRead saved image (Err fault) = HasCause fault image
 
 -- this is the recovered of what stands
 pub record IsFound (saved : Saved) (image : Image) : Type 0 where

@@ -4,4 +4,5 @@
 
 mod checkpoint;
 mod reading;
+mod recovery;
 mod sectors;
