@@ -23,16 +23,7 @@ use Rattle.ng_layout.specs.Stored.{Saved, Standing}
 use Rattle.ng_layout.proofs.Images.{force-same, force-next, stretch-same, stretch-at, stands-frame, written-frame, stands-snapshot, none-of-new, written-new}
 use Rattle.ng_layout.proofs.Snapshots.{snapshot-new}
 use Rattle.ng_journal.specs.Area.{WritesArea}
-use Rattle.ng_journal.specs.AtRest.{IsHeaded, IsAt, IsEither, beside, next_header, Checkpoints}
-
--- one image under this header, with no record of an epoch to come
-pub record IsOwn (life : Life) (header : Header) : Type 0 where
-  pub synced : IsSynced life
-  pub force : in_force (reads life) ≡ Some header
-  pub written : IsWritten (reads life)
-
-pub own : {life : Life} {header : Header} → IsHeaded life header → IsWritten (reads life) → IsOwn life header
-own h w = record { synced = h.synced; force = h.force; written = w }
+use Rattle.ng_journal.specs.AtRest.{IsOwn, IsAt, IsEither, beside, next_header, Checkpoints}
 
 abbrev In : ℕ → ℕ → List ℕ → Type 0
 In first n c = IsAmong first snapshot_size n

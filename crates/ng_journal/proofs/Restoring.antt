@@ -5,13 +5,13 @@ use Rattle.ng_num.specs.declared.fault.Fault.{Fault}
 use Rattle.ng_num.specs.declared.fault.Fault.TheVariants.{CountersUsed}
 use Rattle.ng_canon.specs.declared.item.Item.{Item}
 use Rattle.ng_rig.specs.Life.{Image, Life, Synced, reads, items}
-use Rattle.ng_rig.specs.Onward.{Onward}
-use Rattle.ng_rig.proofs.Running.{joined, weaker, on_sync}
+use Rattle.ng_rig.specs.Onward.{Onward, IsSynced}
+use Rattle.ng_rig.proofs.Running.{joined, weaker, on_sync, is_synced}
 use Rattle.ng_layout.specs.declared.header.Header.{Header}
 use Rattle.ng_layout.specs.Limits.{greatest_count}
 use Rattle.ng_layout.specs.Stands.{stands, closed, recovered, IsWritten}
 use Rattle.ng_layout.specs.Stored.{Saved, Standing}
-use Rattle.ng_journal.specs.AtRest.{IsAt, IsEither, beside, next_header, Checkpoints}
+use Rattle.ng_journal.specs.AtRest.{IsOwn, IsAt, IsEither, beside, next_header, Checkpoints}
 use Rattle.ng_journal.specs.Recovery.{recovered_of, HasCause, StandsUnder, IsRead, IsReady, Restores}
 
 abbrev Same : Life → Image → List Item → Type 0
@@ -69,20 +69,20 @@ through result header found saved old mid new is u closed_is written c =
       handed_is = p.handed_is ∙ ap items is;
     }))
 
-written_on : (old mid : Life) → mid ≡ Synced old → IsWritten (reads old) → IsWritten (reads mid)
-written_on old mid is written = subst (λ (l : Life). IsWritten (reads l)) (sym is) written
+own_on : (header : Header) (found : Saved) (old mid : Life) → mid ≡ Synced old → StandsUnder header found (reads mid) → IsWritten (reads old) → IsOwn mid header
+own_on header found old mid is u written = record { synced = subst IsSynced (sym is) (is_synced old); force = u.force; written = subst (λ (l : Life). IsWritten (reads l)) (sym is) written }
 
-pub exit_within : {T E F : Type 0} (e : E) (result : Result T F) (answer : Result Header Fault) (header : Header) (found saved : Saved) (old mid now new : Life) → answer ≡ Ok header → mid ≡ Synced old → now ≡ mid → IsRead found (reads mid) answer → saved ≡ closed_of found → (IsWritten (reads now) → Checkpoints result header header.area saved now new) → Restores (Err e) saved old new
+pub exit_within : {T E F : Type 0} (e : E) (result : Result T F) (answer : Result Header Fault) (header : Header) (found saved : Saved) (old mid now new : Life) → answer ≡ Ok header → mid ≡ Synced old → now ≡ mid → IsRead found (reads mid) answer → saved ≡ closed_of found → (IsOwn now header → Checkpoints result header header.area saved now new) → Restores (Err e) saved old new
 exit_within e result answer header found saved old mid now new sound is same read closed_is c =
     let u = under answer header found (reads now) sound (subst (λ (l : Life). IsRead found (reads l) answer) (sym same) read) in
     record {
       outcome = tt;
       kept = λ written.
-          let d = c (written_on old now (same ∙ is) written) in
+          let d = c (own_on header found old now (same ∙ is) u written) in
           record { stops = through result header found saved old now new (same ∙ is) u closed_is written d; items_are = d.items_are ∙ ap items (same ∙ is); ready = tt };
     }
 
-pub exit_restored : {T F : Type 0} (v : T) (answer : Result Header Fault) (header : Header) (found saved : Saved) (old mid now new : Life) → answer ≡ Ok header → mid ≡ Synced old → now ≡ mid → IsRead found (reads mid) answer → saved ≡ closed_of found → (IsWritten (reads now) → Checkpoints {E = F} (Ok v) header header.area saved now new) → Restores {E = F} (Ok (Ok (next_header header header.area header.length))) saved old new
+pub exit_restored : {T F : Type 0} (v : T) (answer : Result Header Fault) (header : Header) (found saved : Saved) (old mid now new : Life) → answer ≡ Ok header → mid ≡ Synced old → now ≡ mid → IsRead found (reads mid) answer → saved ≡ closed_of found → (IsOwn now header → Checkpoints {E = F} (Ok v) header header.area saved now new) → Restores {E = F} (Ok (Ok (next_header header header.area header.length))) saved old new
 exit_restored {F = F} v answer header found saved old mid now new sound is same read closed_is c =
     let ok : Result _ F = Ok v in
     let u = under answer header found (reads now) sound (subst (λ (l : Life). IsRead found (reads l) answer) (sym same) read) in
@@ -91,7 +91,7 @@ exit_restored {F = F} v answer header found saved old mid now new sound is same 
     record {
       outcome = record { program = (beside saved header.area (reads now)).program; is = after };
       kept = λ written.
-          let d = c (written_on old now (same ∙ is) written) in
+          let d = c (own_on header found old now (same ∙ is) u written) in
           record {
             stops = through ok header found saved old now new (same ∙ is) u closed_is written d;
             items_are = d.items_are ∙ ap items (same ∙ is);

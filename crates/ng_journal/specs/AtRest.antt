@@ -9,10 +9,11 @@ use Rattle.ng_layout.specs.Sectors.{text_of}
 use Rattle.ng_layout.specs.Stands.{program_first, program_size, stretch, in_force, stands, IsWritten}
 use Rattle.ng_layout.specs.Stored.{Saved, Standing}
 
--- one image, under this header
-pub record IsHeaded (life : Life) (header : Header) : Type 0 where
+-- one image, under this header, with no record of an epoch to come
+pub record IsOwn (life : Life) (header : Header) : Type 0 where
   pub synced : IsSynced life
   pub force : in_force (reads life) ≡ Some header
+  pub written : IsWritten (reads life)
 
 -- one image, under this header, that stands for this, and no record of an epoch to come
 pub record IsAt (life : Life) (header : Header) (standing : Standing) : Type 0 where

@@ -1,13 +1,11 @@
 //! A whole state written under the next epoch.
 ghost use Rattle.std.specs.Prelude.{◌≡◌, ◌≤◌, ◌<◌, ◌+◌, ◌%◌, true, Some};
-ghost use Rattle.ng_rig.specs.Life.{reads};
 ghost use Rattle.ng_rig.specs.Calls.{Promises, Counts};
 ghost use Rattle.ng_layout.specs.Storable.{IsStorable};
-ghost use Rattle.ng_layout.specs.Stands.{IsWritten};
 ghost use Rattle.ng_layout.specs.Header.{header_in};
 ghost use Rattle.ng_layout.specs.declared.header.Header.{Header};
 ghost use Rattle.ng_journal.specs.Area.{WritesArea};
-ghost use Rattle.ng_journal.specs.AtRest.{IsHeaded, Checkpoints};
+ghost use Rattle.ng_journal.specs.AtRest.{IsOwn, Checkpoints};
 
 use crate::sectors::{SNAPSHOT, snapshot_first};
 use ng_layout::{Header, Stored};
@@ -58,8 +56,7 @@ pub(crate) fn checkpoint<R: Rig, A: Allocator + Copy + Drop>(
     requires area { area ≤ 1 }
     requires count { stored.now.entries ≤ 1_000_000_000_000 }
     requires storable { IsStorable stored.now }
-    requires at { R.honest rig.old → IsHeaded (R.life rig.old) header }
-    ensures stops { Promises (R.honest rig.old) (R.honest rig.new) (IsWritten (reads (R.life rig.old)) → Checkpoints result header area stored.now (R.life rig.old) (R.life rig.new)) }
+    ensures stops { Promises (R.honest rig.old) (R.honest rig.new) (IsOwn (R.life rig.old) header → Checkpoints result header area stored.now (R.life rig.old) (R.life rig.new)) }
     ensures size { R.sectors rig.new ≡ R.sectors rig.old }
     ensures failures { Counts result (R.failed rig.old) (R.failed rig.new) }
 {

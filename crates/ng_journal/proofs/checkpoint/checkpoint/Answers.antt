@@ -2,7 +2,7 @@ use Rattle.std.proofs.Common.{◌≡◌, ◌+◌, ◌%◌, Some, refl, ◌∙◌
 use Rattle.std.proofs.lemmas.Result.{err_from_is_err_and}
 use Rattle.ng_layout.specs.declared.header.Header.{Header}
 use Rattle.ng_layout.specs.Stored.{Saved}
-use Rattle.ng_journal.proofs.Renewing.{own, exit_area, exit_sync, exit_header, ready, finished}
+use Rattle.ng_journal.proofs.Renewing.{exit_area, exit_sync, exit_header, ready, finished}
 use Rattle.ng_journal.proofs.checkpoint.checkpoint.Goals as goal
 
 pub returns-in_err-write_snapshot-clause-stops : goal.returns-in_err-write_snapshot-clause-stops
@@ -12,7 +12,7 @@ returns-in_err-write_snapshot-clause-stops g c =
     rw p.1 (record {
       keeps = area.keeps;
       back = area.back;
-      holds = λ h w. exit_area p.0 c.write_snapshot.result _ _ c.snapshot_first.result c.args.header c.args.area c.args.stored.now (own (c.requires.at h) w) c.snapshot_first.ensures.is (area.holds h);
+      holds = λ h w. exit_area p.0 c.write_snapshot.result _ _ c.snapshot_first.result c.args.header c.args.area c.args.stored.now w c.snapshot_first.ensures.is (area.holds h);
     })
 
 pub returns-in_err-sync-clause-stops : goal.returns-in_err-sync-clause-stops
@@ -23,7 +23,7 @@ returns-in_err-sync-clause-stops g c =
     rw p.1 (record {
       keeps = λ h. sync.keeps (area.keeps h);
       back = λ h. area.back (sync.back h);
-      holds = λ h w. exit_sync p.0 c.write_snapshot.result _ _ _ c.snapshot_first.result c.args.header c.args.area c.args.stored.now (own (c.requires.at h) w) c.snapshot_first.ensures.is (area.holds h) (sync.holds (area.keeps h));
+      holds = λ h w. exit_sync p.0 c.write_snapshot.result _ _ _ c.snapshot_first.result c.args.header c.args.area c.args.stored.now w c.snapshot_first.ensures.is (area.holds h) (sync.holds (area.keeps h));
     })
 
 pub returns-in_err-write-clause-stops : goal.returns-in_err-write-clause-stops
@@ -39,7 +39,7 @@ returns-in_err-write-clause-stops g c =
       keeps = λ h. write.keeps (sync.keeps (area.keeps h));
       back = λ h. area.back (sync.back (write.back h));
       holds = λ h w.
-          let r = ready _ _ _ c.snapshot_first.result c.args.header new stored c.header_sector.result (own (c.requires.at h) w) c.snapshot_first.ensures.is (area.holds h) c.requires.storable.table written refl refl in
+          let r = ready _ _ _ c.snapshot_first.result c.args.header new stored c.header_sector.result w c.snapshot_first.ensures.is (area.holds h) c.requires.storable.table written refl refl in
           exit_header p.0 c.write.result _ _ _ _ c.args.header new stored c.header_sector.result r (sync.holds (area.keeps h)) (write.holds (sync.keeps (area.keeps h)));
     })
 
@@ -56,6 +56,6 @@ returns-clause-stops g c =
       keeps = λ h. last.keeps (write.keeps (sync.keeps (area.keeps h)));
       back = λ h. area.back (sync.back (write.back (last.back h)));
       holds = λ h w.
-          let r = ready _ _ _ c.snapshot_first.result c.args.header new stored c.header_sector.result (own (c.requires.at h) w) c.snapshot_first.ensures.is (area.holds h) c.requires.storable.table written refl refl in
+          let r = ready _ _ _ c.snapshot_first.result c.args.header new stored c.header_sector.result w c.snapshot_first.ensures.is (area.holds h) c.requires.storable.table written refl refl in
           finished c.sync-2.result _ _ _ _ _ c.args.header new stored c.header_sector.result r refl (sync.holds (area.keeps h)) (write.holds (sync.keeps (area.keeps h))) (last.holds (write.keeps (sync.keeps (area.keeps h))));
     }
