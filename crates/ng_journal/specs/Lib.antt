@@ -1,4 +1,5 @@
 pub mod Area
 pub mod AtRest
+pub mod Journal
 pub mod Reading
 pub mod Recovery

@@ -3,6 +3,9 @@
 #![tactic(auto)]
 
 mod checkpoint;
+mod journal;
 mod reading;
 mod recovery;
 mod sectors;
+
+pub use journal::Journal;
