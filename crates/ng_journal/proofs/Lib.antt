@@ -1,4 +1,5 @@
 pub mod Finding
+pub mod Moving
 pub mod Renewing
 pub mod Restoring
 pub mod SnapshotReading

@@ -1,5 +1,5 @@
 -- A journal as its callers see it, and what its calls leave (own).
-use Rattle.std.specs.Prelude.{◌≡◌, ◌≤◌, ◌+◌, ◌%◌, ◌^◌, ℕ, Bool, List, Result, Ok, Err, OnOk, length}
+use Rattle.std.specs.Prelude.{◌≡◌, ◌≤◌, ◌+◌, ◌%◌, ◌^◌, ℕ, Bool, true, false, List, Result, Ok, Err, OnOk, length}
 use Rattle.ng_num.specs.declared.fault.Fault.{Fault}
 use Rattle.ng_num.specs.declared.fault.Fault.TheVariants.{DeviceFailed}
 use Rattle.ng_rig.specs.Life.{Life, reads, items}
@@ -43,3 +43,9 @@ abbrev pub Tells : {T : Type 0} → Result T Fault → ℕ → ℕ → Type 0
 Tells (Err DeviceFailed) old new = new ≡ (old + 1) % 2 ^ 64
 Tells (Err _) old new = new ≡ old
 Tells (Ok _) old new = new ≡ old
+
+-- A journal is broken exactly where the device failed.
+abbrev pub IsBrokenBy : {T : Type 0} → Result T Fault → Bool → Type 0
+IsBrokenBy (Err DeviceFailed) broken = broken ≡ true
+IsBrokenBy (Err _) broken = broken ≡ false
+IsBrokenBy (Ok _) broken = broken ≡ false

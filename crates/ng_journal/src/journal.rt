@@ -1,10 +1,14 @@
 //! The journal of a device.
-ghost use Rattle.std.specs.Prelude.{◌≡◌, ◌≤◌, ◌<◌, false, true, MatchResult, OnOk};
-ghost use Rattle.ng_num.specs.declared.fault.Fault.TheVariants.{DeviceFailed};
-ghost use Rattle.ng_rig.specs.Calls.{Promises, Counts};
+ghost use Rattle.std.specs.Prelude.{◌≡◌, ◌≤◌, ◌<◌, ◌⊎◌, ◌↔◌, false, true, Some, MatchResult, OnOk, IfErr, IsErrOf};
+ghost use Rattle.ng_num.specs.declared.fault.Fault.TheVariants.{DeviceFailed, CountersUsed};
+ghost use Rattle.ng_rig.specs.Calls.{Promises, Counts, Hands};
+ghost use Rattle.ng_layout.specs.Limits.{greatest_count};
+ghost use Rattle.ng_layout.specs.Storable.{CanWait, IsStorable};
+ghost use Rattle.ng_layout.specs.Stored.{Standing};
 ghost use Rattle.ng_journal.specs.AtRest.{IsOwn, Checkpoints, next_header};
 
 use crate::checkpoint::checkpoint;
+use ng_canon::Item;
 use ng_layout::{GREATEST_COUNT, Half, Header, Stored};
 use ng_num::Fault;
 use ng_rig::{Failed, Rig};
@@ -31,7 +35,7 @@ impl<R: Rig, A: Allocator + Copy + Drop> Model for Journal<R, A> {
 }
 
 impl<R: Rig, A: Allocator + Copy + Drop> Journal<R, A> {
-    ghost use Rattle.ng_journal.specs.Journal.{Logbook, RestsAt, Moves, Tells};
+    ghost use Rattle.ng_journal.specs.Journal.{Logbook, RestsAt, Moves, Tells, IsBrokenBy};
 
     /// The device as it is, with no call to it.
     pub fn into_rig(self) -> R
@@ -51,6 +55,72 @@ impl<R: Rig, A: Allocator + Copy + Drop> Journal<R, A> {
         ensures { result ≡ self.now.broken }
     {
         self.broken
+    }
+
+    /// Stores an entry: what is stored from now on, beside the same program.
+    ///
+    /// J4 where the entry count or the epoch would be beyond its limit; then nothing is changed. J1 where the device
+    /// failed: the journal is broken then, and the device stands for what stood before or for the new. It takes no
+    /// memory.
+    pub fn commit(&mut self, stored: &Stored<A>) -> Result<(), Fault>
+        requires whole { self.old.broken ≡ false }
+        requires storable { IsStorable stored.now }
+        requires program { stored.now.length ≡ self.old.saved.length }
+        ensures stops { Promises (R.honest self.old.rig) (R.honest self.new.rig) ((before : Standing) → RestsAt (R.life self.old.rig) self.old before
+            → Moves result self.new before (record before { saved = stored.now }) (R.life self.old.rig) (R.life self.new.rig)) }
+        ensures saved { OnOk result (self.new.saved ≡ stored.now) }
+        ensures broken { IsBrokenBy result self.new.broken }
+        ensures used_up { IsErrOf result CountersUsed ↔ (greatest_count ≤ self.old.header.epoch ⊎ greatest_count < stored.now.entries) }
+        ensures unchanged { IsErrOf result CountersUsed → self.new ≡ self.old }
+        ensures failures { Tells result (R.failed self.old.rig) (R.failed self.new.rig) }
+    {
+        if self.header.epoch >= GREATEST_COUNT || stored.entries > GREATEST_COUNT {
+            return Err(Fault::CountersUsed);
+        }
+        self.stored.take_over(stored);
+        self.renew()
+    }
+
+    /// Stores that a segment or an approach of a half-done block is open; the entry count stays.
+    ///
+    /// J4 where the epoch would be beyond its limit; then nothing is changed. J1 as for `commit`. It takes no
+    /// memory.
+    pub fn open_segment(&mut self, half: &Half) -> Result<(), Fault>
+        requires whole { self.old.broken ≡ false }
+        requires half { CanWait half.now }
+        ensures stops { Promises (R.honest self.old.rig) (R.honest self.new.rig) ((before : Standing) → RestsAt (R.life self.old.rig) self.old before
+            → Moves result self.new before (record before { saved = record self.old.saved { half = Some half.now } }) (R.life self.old.rig) (R.life self.new.rig)) }
+        ensures saved { OnOk result (self.new.saved ≡ record self.old.saved { half = Some half.now }) }
+        ensures broken { IsBrokenBy result self.new.broken }
+        ensures used_up { IsErrOf result CountersUsed ↔ (greatest_count ≤ self.old.header.epoch) }
+        ensures unchanged { IsErrOf result CountersUsed → self.new ≡ self.old }
+        ensures failures { Tells result (R.failed self.old.rig) (R.failed self.new.rig) }
+    {
+        if self.header.epoch >= GREATEST_COUNT {
+            return Err(Fault::CountersUsed);
+        }
+        self.stored.take_half(half);
+        self.renew()
+    }
+
+    /// Hands an item out. J1 where the device failed: the journal is broken then, and the item or nothing was
+    /// handed out. It takes no memory.
+    pub fn hand_out(&mut self, item: Item) -> Result<(), Fault>
+        requires whole { self.old.broken ≡ false }
+        ensures hands { Promises (R.honest self.old.rig) (R.honest self.new.rig) (Hands result item (R.life self.old.rig) (R.life self.new.rig)) }
+        ensures rests { R.honest self.old.rig → (standing : Standing) → RestsAt (R.life self.old.rig) self.old standing → RestsAt (R.life self.new.rig) self.new standing }
+        ensures saved { self.new.saved ≡ self.old.saved }
+        ensures broken { IsBrokenBy result self.new.broken }
+        ensures errors { IfErr result (λ e. e ≡ DeviceFailed) }
+        ensures failures { Tells result (R.failed self.old.rig) (R.failed self.new.rig) }
+    {
+        match self.rig.hand_out(item) {
+            Ok(()) => Ok(()),
+            Err(Failed) => {
+                self.broken = true;
+                Err(Fault::DeviceFailed)
+            }
+        }
     }
 
     /// Writes what is stored under the next epoch, in the same program area.

@@ -1,5 +1,5 @@
 //! What is stored of a controller.
-ghost use Rattle.std.specs.Prelude.{◌≡◌, ◌≤◌, ◌<◌, drop, replicate, length, IfOk};
+ghost use Rattle.std.specs.Prelude.{◌≡◌, ◌≤◌, ◌<◌, drop, replicate, length, Some, IfOk};
 ghost use Rattle.std.specs.Option.{option_map};
 ghost use Rattle.ng_layout.specs.Fields.{number_at};
 ghost use Rattle.ng_layout.specs.StateField.{field_at};
@@ -74,6 +74,13 @@ impl<A: Allocator + Copy + Drop> Stored<A> {
                 half.at = None;
             }
         }
+    }
+
+    /// Takes over a half-done block; all else stays. It takes no memory.
+    pub fn take_half(&mut self, half: &Half)
+        ensures { self.new ≡ record self.old { half = Some half.now } }
+    {
+        self.half = Some(half.copy());
     }
 
     /// Takes over all of another. It takes no memory.
