@@ -1,5 +1,6 @@
 pub mod Finding
 pub mod Moving
+pub mod Recovering
 pub mod Renewing
 pub mod Restoring
 pub mod SnapshotReading

@@ -2,4 +2,5 @@ pub mod Area
 pub mod AtRest
 pub mod Journal
 pub mod Reading
+pub mod Recover
 pub mod Recovery

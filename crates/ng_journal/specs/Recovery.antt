@@ -11,6 +11,10 @@ use Rattle.ng_layout.specs.Stands.{in_force, stands, recovered, log_first, IsWri
 use Rattle.ng_layout.specs.Stored.{Saved, Standing}
 use Rattle.ng_journal.specs.AtRest.{IsAt, IsEither, beside}
 
+-- the faults of what a device holds
+abbrev pub IsRefusal : Fault → Type 0
+IsRefusal fault = (fault ≡ NotFormatted) ⊎ ((fault ≡ Damaged) ⊎ (fault ≡ CountersUsed))
+
 -- the recovered of what stands, where something does
 abbrev pub recovered_of : Result Standing Fault → Result Standing Fault
 recovered_of (Ok s) = Ok (recovered s)

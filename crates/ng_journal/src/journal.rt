@@ -1,18 +1,22 @@
 //! The journal of a device.
-ghost use Rattle.std.specs.Prelude.{◌≡◌, ◌≤◌, ◌<◌, ◌⊎◌, ◌↔◌, false, true, Some, MatchResult, OnOk, IfErr, IsErrOf};
-ghost use Rattle.ng_num.specs.declared.fault.Fault.TheVariants.{DeviceFailed, CountersUsed};
+ghost use Rattle.std.specs.Prelude.{◌≡◌, ◌≤◌, ◌<◌, ◌⊎◌, ◌↔◌, false, true, Some, length, MatchResult, OnOk, IfOk, IfErr, IsErrOf, IsErrAnd};
+ghost use Rattle.ng_num.specs.declared.fault.Fault.TheVariants.{DeviceFailed, NotFormatted, CountersUsed, OutOfMemory};
 ghost use Rattle.ng_rig.specs.Calls.{Promises, Counts, Hands};
 ghost use Rattle.ng_layout.specs.Limits.{greatest_count};
 ghost use Rattle.ng_layout.specs.Storable.{CanWait, IsStorable};
 ghost use Rattle.ng_layout.specs.Stored.{Standing};
+ghost use Rattle.ng_journal.specs.Recover.{Recovers, rig_of, fault_of};
+ghost use Rattle.ng_journal.specs.Journal.{Tells};
 ghost use Rattle.ng_journal.specs.AtRest.{IsOwn, Checkpoints, next_header};
 
 use crate::checkpoint::checkpoint;
+use crate::recovery::restore;
+use crate::sectors::LEAST;
 use ng_canon::Item;
 use ng_layout::{GREATEST_COUNT, Half, Header, Stored};
 use ng_num::Fault;
 use ng_rig::{Failed, Rig};
-use std::alloc::Allocator;
+use std::alloc::{AllocError, Allocator};
 use std::marker::Model;
 
 /// What is stored of a controller, on a device. After a call of the device failed it is broken. Contracts see a
@@ -34,8 +38,53 @@ impl<R: Rig, A: Allocator + Copy + Drop> Model for Journal<R, A> {
     ghost invariant = { λ j. IsSteady (R.sectors j.rig) j.header j.stored };
 }
 
+/// Powers on: finds what the device stands for, and writes it again under the next epoch with nothing open.
+///
+/// J2 for fewer than 1,710 sectors, with no call of the device, and where no header is valid; J3 where what stands is
+/// damaged; J4 where the epoch would be beyond its limit: all before any write. J1 where the device failed. M1 where
+/// memory is wanted, before any call of the device. The device is handed back with each of them.
+pub fn recover<R: Rig, A: Allocator + Copy + Drop>(
+    alloc: A,
+    mut rig: R,
+) -> Result<(Journal<R, A>, Stored<A>), (Fault, R)>
+    ensures recovers { let after = rig_of result in 1710 ≤ R.sectors rig → Promises (R.honest rig) (R.honest after) (Recovers result (R.life rig) (R.life after)) }
+    ensures journal { IfOk result (λ x. (x.0.broken ≡ false) × (x.0.saved ≡ x.1) × IsStorable x.1) }
+    ensures small { R.sectors rig < 1710 → IsErrAnd result (λ e. (e.0 ≡ NotFormatted) × (e.1 ≡ rig)) }
+    ensures memory { IfErr result (λ e. e.0 ≡ OutOfMemory → e.1 ≡ rig) }
+    ensures failures { let after = rig_of result in Tells (fault_of result) (R.failed rig) (R.failed after) }
+{
+    if rig.size() < LEAST {
+        return Err((Fault::NotFormatted, rig));
+    }
+    let (mut stored, mut kept) = match two_fresh(alloc) {
+        Ok(both) => both,
+        Err(_) => return Err((Fault::OutOfMemory, rig)),
+    };
+    match restore(&mut rig, &mut stored) {
+        Err(Failed) => Err((Fault::DeviceFailed, rig)),
+        Ok(Err(fault)) => Err((fault, rig)),
+        Ok(Ok(header)) => {
+            kept.take_over(&stored);
+            let journal = Journal {
+                rig,
+                header,
+                stored: kept,
+                broken: false,
+            };
+            Ok((journal, stored))
+        }
+    }
+}
+
+/// Two of what is stored of a fresh controller: one for the journal and one for its caller.
+fn two_fresh<A: Allocator + Copy + Drop>(alloc: A) -> Result<(Stored<A>, Stored<A>), AllocError>
+    ensures { IfOk result (λ x. (length x.0.setup.params ≡ 5399) × (length x.1.setup.params ≡ 5399)) }
+{
+    Ok((Stored::fresh(alloc)?, Stored::fresh(alloc)?))
+}
+
 impl<R: Rig, A: Allocator + Copy + Drop> Journal<R, A> {
-    ghost use Rattle.ng_journal.specs.Journal.{Logbook, RestsAt, Moves, Tells, IsBrokenBy};
+    ghost use Rattle.ng_journal.specs.Journal.{Logbook, RestsAt, Moves, IsBrokenBy};
 
     /// The device as it is, with no call to it.
     pub fn into_rig(self) -> R

@@ -8,4 +8,4 @@ mod reading;
 mod recovery;
 mod sectors;
 
-pub use journal::Journal;
+pub use journal::{Journal, recover};

@@ -131,6 +131,7 @@ pub(crate) fn read_snapshot<R: Rig, A: Allocator + Copy + Drop>(
     // without honesty too
     ensures storable { IfOk result (λ is_whole. OnTrue is_whole (IsStorable stored.new)) }
     ensures count { IfOk result (λ is_whole. OnTrue is_whole (stored.new.entries ≤ 1_000_000_000_000)) }
+    ensures long { IfOk result (λ is_whole. OnTrue is_whole (stored.new.length ≡ header.length)) }
     ensures size { R.sectors rig.new ≡ R.sectors rig.old }
     ensures failures { Counts result (R.failed rig.old) (R.failed rig.new) }
 {

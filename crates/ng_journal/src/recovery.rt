@@ -1,10 +1,10 @@
 //! Power on: what the device holds, written again under the next epoch with nothing open.
-ghost use Rattle.std.specs.Prelude.{◌≡◌, ◌≤◌, ◌<◌, ◌+◌, length, IfOk, OnOk};
+ghost use Rattle.std.specs.Prelude.{◌≡◌, ◌≤◌, ◌<◌, ◌+◌, length, IfOk, IfErr, OnOk};
 ghost use Rattle.ng_rig.specs.Calls.{Promises, Counts};
 ghost use Rattle.ng_layout.specs.Header.{IsLawful};
 ghost use Rattle.ng_layout.specs.Storable.{IsStorable};
 ghost use Rattle.ng_journal.specs.Reading.{Reads};
-ghost use Rattle.ng_journal.specs.Recovery.{IsRead, Restores};
+ghost use Rattle.ng_journal.specs.Recovery.{IsRead, IsRefusal, Restores};
 
 use crate::checkpoint::checkpoint;
 use crate::reading::{header_in_force, log_has, read_snapshot};
@@ -25,6 +25,8 @@ fn found<R: Rig, A: Allocator + Copy + Drop>(
     ensures lawful { IfOk result (λ answer. IfOk answer IsLawful) }
     ensures storable { IfOk result (λ answer. OnOk answer (IsStorable stored.new)) }
     ensures count { IfOk result (λ answer. OnOk answer (stored.new.entries ≤ 1_000_000_000_000)) }
+    ensures long { IfOk result (λ answer. IfOk answer (λ header. stored.new.length ≡ header.length)) }
+    ensures faults { IfOk result (λ answer. IfErr answer IsRefusal) }
     ensures size { R.sectors rig.new ≡ R.sectors rig.old }
     ensures failures { Counts result (R.failed rig.old) (R.failed rig.new) }
 {
@@ -57,6 +59,8 @@ pub(crate) fn restore<R: Rig, A: Allocator + Copy + Drop>(
     ensures lawful { IfOk result (λ answer. IfOk answer IsLawful) }
     ensures storable { IfOk result (λ answer. OnOk answer (IsStorable stored.new)) }
     ensures count { IfOk result (λ answer. OnOk answer (stored.new.entries ≤ 1_000_000_000_000)) }
+    ensures long { IfOk result (λ answer. IfOk answer (λ header. stored.new.length ≡ header.length)) }
+    ensures faults { IfOk result (λ answer. IfErr answer IsRefusal) }
     ensures size { R.sectors rig.new ≡ R.sectors rig.old }
     ensures failures { Counts result (R.failed rig.old) (R.failed rig.new) }
 {

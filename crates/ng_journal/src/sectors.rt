@@ -2,6 +2,9 @@
 ghost use Rattle.std.specs.Prelude.{◌≡◌, ◌≤◌};
 ghost use Rattle.ng_layout.specs.Stands.{snapshot_first};
 
+/// How many sectors a device needs.
+pub(crate) const LEAST: usize = 1710;
+
 /// How many sectors a snapshot area has.
 pub(crate) const SNAPSHOT: usize = 86;
 

@@ -41,7 +41,8 @@ impl<A: Allocator + Copy + Drop> Stored<A> {
 
     /// Of a fresh controller, with no program. `AllocError` where the table found no memory.
     pub fn fresh(alloc: A) -> Result<Stored<A>, AllocError>
-        ensures { IfOk result (λ s. s ≡ fresh) }
+        ensures value { IfOk result (λ s. s ≡ fresh) }
+        ensures table { IfOk result (λ s. length s.setup.params ≡ 5399) }
     {
         Ok(Stored {
             entries: 0,
