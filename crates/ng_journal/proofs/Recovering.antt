@@ -1,0 +1,24 @@
+-- What `recover` hands back.
+use Rattle.std.proofs.Common.{◌≡◌, Result, Ok, sym, ◌∙◌, subst}
+use Rattle.ng_rig.specs.Life.{Life}
+use Rattle.ng_layout.specs.declared.header.Header.{Header}
+use Rattle.ng_layout.specs.Stored.{Saved}
+use Rattle.ng_journal.specs.AtRest.{IsAt}
+use Rattle.ng_journal.specs.Journal.{Logbook, RestsAt}
+use Rattle.ng_journal.specs.Recover.{Recovers, IsRecovered}
+use Rattle.ng_journal.specs.Recovery.{IsReady, Restores}
+
+ready-rests : {R : Type 0} (journal : Logbook R) (header : Header) (saved : Saved) (old new : Life) → journal.header ≡ header → journal.saved ≡ saved → IsReady header saved old new → IsRecovered journal old new
+ready-rests journal header saved old new same held r = record {
+  standing = r.standing;
+  rests = record { at = subst (λ (h : Header). IsAt new h r.standing) (sym same) r.at; saved_is = sym r.saved_is ∙ sym held };
+  is = r.is;
+}
+
+pub recovered_all : {R E : Type 0} (journal : Logbook R) (header : Header) (saved : Saved) (old new : Life) → journal.header ≡ header → journal.saved ≡ saved → Restores {E = E} (Ok (Ok header)) saved old new → Recovers (Ok (journal, saved)) old new
+recovered_all journal header saved old new same held r = record {
+  finds = r.outcome;
+  kept = λ written.
+      let k = r.kept written in
+      record { stops = k.stops; items_are = k.items_are; ready = ready-rests journal header saved old new same held k.ready };
+}

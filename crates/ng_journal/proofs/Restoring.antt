@@ -1,0 +1,105 @@
+-- The exits of power on: a sync, what is found, a checkpoint of its recovered.
+use Rattle.std.proofs.Common.{◌≡◌, ◌⊎◌, inl, inr, ⊎_elim, ℕ, ◌+◌, ◌≤◌, List, Option, Some, Result, Ok, Err, refl, sym, ◌∙◌, ap, subst}
+use Rattle.std.specs.Option.{option_map}
+use Rattle.ng_num.specs.declared.fault.Fault.{Fault}
+use Rattle.ng_num.specs.declared.fault.Fault.TheVariants.{CountersUsed}
+use Rattle.ng_canon.specs.declared.item.Item.{Item}
+use Rattle.ng_rig.specs.Life.{Image, Life, Synced, reads, items}
+use Rattle.ng_rig.specs.Onward.{Onward, IsSynced}
+use Rattle.ng_rig.proofs.Running.{joined, weaker, on_sync, is_synced}
+use Rattle.ng_layout.specs.declared.header.Header.{Header}
+use Rattle.ng_layout.specs.Limits.{greatest_count}
+use Rattle.ng_layout.specs.Stands.{stands, closed, recovered, IsWritten}
+use Rattle.ng_layout.specs.Stored.{Saved, Standing}
+use Rattle.ng_journal.specs.AtRest.{IsOwn, IsAt, IsEither, beside, next_header, Checkpoints}
+use Rattle.ng_journal.specs.Recovery.{recovered_of, HasCause, StandsUnder, IsRead, IsReady, Restores}
+
+abbrev Same : Life → Image → List Item → Type 0
+Same old = IsEither (stands (reads old)) (recovered_of (stands (reads old))) (items old)
+
+synced_stops : (old : Life) → IsWritten (reads old) → Onward old (Synced old) (Same old)
+synced_stops old written = on_sync old (Same old) (λ image handed s.
+    let same : image ≡ reads old = λ i n. s.0 n i in
+    record { state = inl (ap stands same); written = subst IsWritten (sym same) written; handed_is = s.1 })
+
+-- nothing but the sync was done, and a read failed
+pub exit_failed : {E : Type 0} (e : E) (saved : Saved) (old new : Life) → new ≡ Synced old → Restores (Err e) saved old new
+exit_failed e saved old new is = record {
+  outcome = tt;
+  kept = λ written. record { stops = subst (λ (l : Life). Onward old l (Same old)) (sym is) (synced_stops old written); items_are = ap items is; ready = tt };
+}
+
+-- or there is a reason to recover nothing
+pub exit_refused : {E : Type 0} (fault : Fault) (saved : Saved) (old new : Life) → new ≡ Synced old → HasCause fault (reads old) → Restores {E = E} (Ok (Err fault)) saved old new
+exit_refused fault saved old new is cause = record {
+  outcome = cause;
+  kept = λ written. record { stops = subst (λ (l : Life). Onward old l (Same old)) (sym is) (synced_stops old written); items_are = ap items is; ready = tt };
+}
+
+pub exit_found : {E : Type 0} (answer : Result Header Fault) (fault : Fault) (saved : Saved) (old mid new : Life) → answer ≡ Err fault → mid ≡ Synced old → new ≡ mid → IsRead saved (reads mid) answer → Restores {E = E} (Ok (Err fault)) saved old new
+exit_found answer fault saved old mid new refused is same read =
+    exit_refused fault saved old new (same ∙ is) (subst (λ (l : Life). HasCause fault (reads l)) is (subst (λ (a : Result Header Fault). IsRead saved (reads mid) a) refused read))
+
+under : (answer : Result Header Fault) (header : Header) (saved : Saved) (image : Image) → answer ≡ Ok header → IsRead saved image answer → StandsUnder header saved image
+under answer header saved image is read = subst (λ (a : Result Header Fault). IsRead saved image a) is read
+
+pub exit_used : {E : Type 0} (answer : Result Header Fault) (header : Header) (saved : Saved) (old mid new : Life) → answer ≡ Ok header → mid ≡ Synced old → new ≡ mid → IsRead saved (reads mid) answer → greatest_count ≤ header.epoch → Restores {E = E} (Ok (Err CountersUsed)) saved old new
+exit_used answer header saved old mid new sound is same read last =
+    let u = under answer header saved (reads mid) sound read in
+    exit_refused CountersUsed saved old new (same ∙ is) (subst (λ (l : Life). HasCause CountersUsed (reads l)) is (record { header = header; force = u.force; last = last; standing = beside saved header.area (reads mid); sound = u.state }))
+
+abbrev closed_of : Saved → Saved
+closed_of s = record s { half = option_map closed s.half }
+
+-- a checkpoint of the recovered
+recovered_is : (header : Header) (found saved : Saved) (old mid : Life) → mid ≡ Synced old → StandsUnder header found (reads mid) → saved ≡ closed_of found → recovered_of (stands (reads old)) ≡ Ok (beside saved header.area (reads mid))
+recovered_is header found saved old mid is u closed_is =
+    ap (λ (l : Life). recovered_of (stands (reads l))) (sym is)
+    ∙ ap recovered_of u.state
+    ∙ ap (λ (s : Saved). Ok (beside s header.area (reads mid))) (sym closed_is)
+
+through : {T E : Type 0} (result : Result T E) (header : Header) (found saved : Saved) (old mid new : Life) → mid ≡ Synced old → StandsUnder header found (reads mid) → saved ≡ closed_of found → IsWritten (reads old) → Checkpoints result header header.area saved mid new → Onward old new (Same old)
+through result header found saved old mid new is u closed_is written c =
+    let after = recovered_is header found saved old mid is u closed_is in
+    joined old mid new (Same old) (subst (λ (l : Life). Onward old l (Same old)) (sym is) (synced_stops old written))
+    (weaker mid new (IsEither (stands (reads mid)) (Ok (beside saved header.area (reads mid))) (items mid)) (Same old) c.stops
+    (λ image handed p. record {
+      state = ⊎_elim (λ before. inl (before ∙ ap (λ (l : Life). stands (reads l)) is)) (λ made. inr (made ∙ sym after)) p.state;
+      written = p.written;
+      handed_is = p.handed_is ∙ ap items is;
+    }))
+
+own_on : (header : Header) (found : Saved) (old mid : Life) → mid ≡ Synced old → StandsUnder header found (reads mid) → IsWritten (reads old) → IsOwn mid header
+own_on header found old mid is u written = record { synced = subst IsSynced (sym is) (is_synced old); force = u.force; written = subst (λ (l : Life). IsWritten (reads l)) (sym is) written }
+
+pub exit_within : {T E F : Type 0} (e : E) (result : Result T F) (answer : Result Header Fault) (header : Header) (found saved : Saved) (old mid now new : Life) → answer ≡ Ok header → mid ≡ Synced old → now ≡ mid → IsRead found (reads mid) answer → saved ≡ closed_of found → (IsOwn now header → Checkpoints result header header.area saved now new) → Restores (Err e) saved old new
+exit_within e result answer header found saved old mid now new sound is same read closed_is c =
+    let u = under answer header found (reads now) sound (subst (λ (l : Life). IsRead found (reads l) answer) (sym same) read) in
+    record {
+      outcome = tt;
+      kept = λ written.
+          let d = c (own_on header found old now (same ∙ is) u written) in
+          record { stops = through result header found saved old now new (same ∙ is) u closed_is written d; items_are = d.items_are ∙ ap items (same ∙ is); ready = tt };
+    }
+
+pub exit_restored : {T F : Type 0} (v : T) (answer : Result Header Fault) (header : Header) (found saved : Saved) (old mid now new : Life) → answer ≡ Ok header → mid ≡ Synced old → now ≡ mid → IsRead found (reads mid) answer → saved ≡ closed_of found → (IsOwn now header → Checkpoints {E = F} (Ok v) header header.area saved now new) → Restores {E = F} (Ok (Ok (next_header header header.area header.length))) saved old new
+exit_restored {F = F} v answer header found saved old mid now new sound is same read closed_is c =
+    let ok : Result _ F = Ok v in
+    let u = under answer header found (reads now) sound (subst (λ (l : Life). IsRead found (reads l) answer) (sym same) read) in
+    let after = recovered_is header found saved old now (same ∙ is) u closed_is in
+    let long : saved.length ≡ header.length = ap (λ (s : Saved). s.length) closed_is ∙ u.long in
+    record {
+      outcome = record { program = (beside saved header.area (reads now)).program; is = after };
+      kept = λ written.
+          let d = c (own_on header found old now (same ∙ is) u written) in
+          record {
+            stops = through ok header found saved old now new (same ∙ is) u closed_is written d;
+            items_are = d.items_are ∙ ap items (same ∙ is);
+            ready = record {
+              standing = beside saved header.area (reads now);
+              at = subst (λ (n : ℕ). IsAt new (next_header header header.area n) (beside saved header.area (reads now))) long d.at;
+              is = after;
+              saved_is = refl;
+            };
+          };
+    }

@@ -1,0 +1,42 @@
+-- A device at rest, and what a stop of it stands for (own).
+use Rattle.std.specs.Prelude.{◌≡◌, ◌⊎◌, ◌+◌, ℕ, List, Option, Some, Result, Ok, OnOk}
+use Rattle.ng_num.specs.declared.fault.Fault.{Fault}
+use Rattle.ng_canon.specs.declared.item.Item.{Item}
+use Rattle.ng_rig.specs.Life.{Image, Life, reads, items}
+use Rattle.ng_rig.specs.Onward.{Onward, IsSynced}
+use Rattle.ng_layout.specs.declared.header.Header.{Header}
+use Rattle.ng_layout.specs.Sectors.{text_of}
+use Rattle.ng_layout.specs.Stands.{program_first, program_size, stretch, in_force, stands, IsWritten}
+use Rattle.ng_layout.specs.Stored.{Saved, Standing}
+
+-- one image, under this header, with no record of an epoch to come
+pub record IsOwn (life : Life) (header : Header) : Type 0 where
+  pub synced : IsSynced life
+  pub force : in_force (reads life) ≡ Some header
+  pub written : IsWritten (reads life)
+
+-- one image, under this header, that stands for this, and no record of an epoch to come
+pub record IsAt (life : Life) (header : Header) (standing : Standing) : Type 0 where
+  pub synced : IsSynced life
+  pub force : in_force (reads life) ≡ Some header
+  pub stands_for : stands (reads life) ≡ Ok standing
+  pub written : IsWritten (reads life)
+
+-- An image stands for one of the two and has no record of an epoch to come; nothing was handed out.
+pub record IsEither (before after : Result Standing Fault) (given : List Item) (image : Image) (handed : List Item) : Type 0 where
+  pub state : (stands image ≡ before) ⊎ (stands image ≡ after)
+  pub written : IsWritten image
+  pub handed_is : handed ≡ given
+
+-- what is stored with a program that lies in an area of an image
+abbrev pub beside : Saved → ℕ → Image → Standing
+beside saved area image = record { saved = saved; program = text_of saved.length (stretch (program_first area) program_size image) }
+
+abbrev pub next_header : Header → ℕ → ℕ → Header
+next_header header area length = record { epoch = header.epoch + 1; area = area; length = length }
+
+-- Each stop since stands for what stood before or for the new, after Ok for that alone.
+pub record Checkpoints {T E : Type 0} (result : Result T E) (header : Header) (area : ℕ) (saved : Saved) (old new : Life) : Type 0 where
+  pub stops : Onward old new (IsEither (stands (reads old)) (Ok (beside saved area (reads old))) (items old))
+  pub items_are : items new ≡ items old
+  pub at : OnOk result (IsAt new (next_header header area saved.length) (beside saved area (reads old)))

@@ -1,0 +1,51 @@
+-- A journal as its callers see it, and what its calls leave (own).
+use Rattle.std.specs.Prelude.{◌≡◌, ◌≤◌, ◌+◌, ◌%◌, ◌^◌, ℕ, Bool, true, false, List, Result, Ok, Err, OnOk, length}
+use Rattle.ng_num.specs.declared.fault.Fault.{Fault}
+use Rattle.ng_num.specs.declared.fault.Fault.TheVariants.{DeviceFailed}
+use Rattle.ng_rig.specs.Life.{Life, reads, items}
+use Rattle.ng_rig.specs.Onward.{Onward}
+use Rattle.ng_layout.specs.declared.header.Header.{Header}
+use Rattle.ng_layout.specs.Header.{IsLawful}
+use Rattle.ng_layout.specs.Limits.{greatest_count}
+use Rattle.ng_layout.specs.Stands.{least_size}
+use Rattle.ng_layout.specs.Storable.{IsStorable}
+use Rattle.ng_layout.specs.Stored.{Saved, Standing}
+use Rattle.ng_journal.specs.AtRest.{IsAt, IsEither}
+
+-- the device, the header in force, what is stored, and whether a call of the device failed
+pub record Logbook (R : Type 0) : Type 0 where
+  pub rig : R
+  pub header : Header
+  pub saved : Saved
+  pub broken : Bool
+
+-- What holds of every journal, whatever its device does.
+pub record IsSteady (sectors : ℕ) (header : Header) (saved : Saved) : Type 0 where
+  pub room : least_size ≤ sectors
+  pub lawful : IsLawful header
+  pub storable : IsStorable saved
+  pub count : saved.entries ≤ greatest_count
+  pub long : saved.length ≡ header.length
+
+-- The device has one image, which stands for this.
+pub record RestsAt {R : Type 0} (life : Life) (journal : Logbook R) (standing : Standing) : Type 0 where
+  pub at : IsAt life journal.header standing
+  pub saved_is : standing.saved ≡ journal.saved
+
+-- Each stop since stands for the one or for the other, after Ok for the other alone; nothing is handed out.
+pub record Moves {R T E : Type 0} (result : Result T E) (journal : Logbook R) (before after : Standing) (old new : Life) : Type 0 where
+  pub stops : Onward old new (IsEither (Ok before) (Ok after) (items old))
+  pub items_are : items new ≡ items old
+  pub at : OnOk result (RestsAt new journal after)
+
+-- The device failed in that call exactly where that is the fault.
+abbrev pub Tells : {T : Type 0} → Result T Fault → ℕ → ℕ → Type 0
+Tells (Err DeviceFailed) old new = new ≡ (old + 1) % 2 ^ 64
+Tells (Err _) old new = new ≡ old
+Tells (Ok _) old new = new ≡ old
+
+-- A journal is broken exactly where the device failed.
+abbrev pub IsBrokenBy : {T : Type 0} → Result T Fault → Bool → Type 0
+IsBrokenBy (Err DeviceFailed) broken = broken ≡ true
+IsBrokenBy (Err _) broken = broken ≡ false
+IsBrokenBy (Ok _) broken = broken ≡ false

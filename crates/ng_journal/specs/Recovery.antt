@@ -1,0 +1,80 @@
+-- What power on finds and leaves (own).
+use Rattle.std.specs.Prelude.{◌≡◌, ◌⊎◌, ◌≤◌, ℕ, List, Option, Some, None, Result, Ok, Err, IfOk}
+use Rattle.ng_num.specs.declared.fault.Fault.{Fault}
+use Rattle.ng_num.specs.declared.fault.Fault.TheVariants.{NotFormatted, Damaged, CountersUsed}
+use Rattle.ng_rig.specs.Life.{Image, Life, reads, items}
+use Rattle.ng_rig.specs.Onward.{Onward}
+use Rattle.ng_layout.specs.declared.header.Header.{Header}
+use Rattle.ng_layout.specs.Fields.{number_at}
+use Rattle.ng_layout.specs.Limits.{greatest_count}
+use Rattle.ng_layout.specs.Stands.{in_force, stands, recovered, log_first, IsWritten}
+use Rattle.ng_layout.specs.Stored.{Saved, Standing}
+use Rattle.ng_journal.specs.AtRest.{IsAt, IsEither, beside}
+
+-- the faults of what a device holds
+abbrev pub IsRefusal : Fault → Type 0
+IsRefusal fault = (fault ≡ NotFormatted) ⊎ ((fault ≡ Damaged) ⊎ (fault ≡ CountersUsed))
+
+-- the recovered of what stands, where something does
+abbrev pub recovered_of : Result Standing Fault → Result Standing Fault
+recovered_of (Ok s) = Ok (recovered s)
+recovered_of (Err e) = Err e
+
+-- the log begins with a part of the epoch in force
+pub record HasRecord (image : Image) : Type 0 where
+  pub header : Header
+  pub force : in_force image ≡ Some header
+  pub there : number_at 8 0 (image log_first) ≡ header.epoch
+
+-- the epoch in force is the last
+pub record IsUsedUp (image : Image) : Type 0 where
+  pub header : Header
+  pub force : in_force image ≡ Some header
+  pub last : greatest_count ≤ header.epoch
+  pub standing : Standing
+  pub sound : stands image ≡ Ok standing
+
+-- Why nothing is recovered. No log is read yet: a device whose log has begun counts as damaged.
+abbrev pub HasCause : Fault → Image → Type 0
+HasCause NotFormatted image = stands image ≡ Err NotFormatted
+HasCause Damaged image = (stands image ≡ Err Damaged) ⊎ HasRecord image
+HasCause CountersUsed image = IsUsedUp image
+HasCause _ image = ⊥
+
+-- under this header, this stands with its program
+pub record StandsUnder (header : Header) (saved : Saved) (image : Image) : Type 0 where
+  pub force : in_force image ≡ Some header
+  pub state : stands image ≡ Ok (beside saved header.area image)
+  pub long : saved.length ≡ header.length
+
+-- what the reads found
+abbrev pub IsRead : Saved → Image → Result Header Fault → Type 0
+IsRead saved image (Ok header) = StandsUnder header saved image
+IsRead saved image (Err fault) = HasCause fault image
+
+-- this is the recovered of what stands
+pub record IsFound (saved : Saved) (image : Image) : Type 0 where
+  pub program : List ℕ
+  pub is : recovered_of (stands image) ≡ Ok (record { saved = saved; program = program })
+
+abbrev pub Outcome : Result Header Fault → Saved → Image → Type 0
+Outcome (Ok header) saved image = IsFound saved image
+Outcome (Err fault) saved image = HasCause fault image
+
+-- at rest, under this header, with the recovered of what stood
+pub record IsReady (header : Header) (saved : Saved) (old new : Life) : Type 0 where
+  pub standing : Standing
+  pub at : IsAt new header standing
+  pub is : recovered_of (stands (reads old)) ≡ Ok standing
+  pub saved_is : saved ≡ standing.saved
+
+-- Each stop since stands for what stood before or for its recovered.
+pub record KeepsStanding {E : Type 0} (result : Result (Result Header Fault) E) (saved : Saved) (old new : Life) : Type 0 where
+  pub stops : Onward old new (IsEither (stands (reads old)) (recovered_of (stands (reads old))) (items old))
+  pub items_are : items new ≡ items old
+  pub ready : IfOk result (λ answer. IfOk answer (λ header. IsReady header saved old new))
+
+-- What is found, or why nothing is, over any image; what stops leave over one that only this journal wrote.
+pub record Restores {E : Type 0} (result : Result (Result Header Fault) E) (saved : Saved) (old new : Life) : Type 0 where
+  pub outcome : IfOk result (λ answer. Outcome answer saved (reads old))
+  pub kept : IsWritten (reads old) → KeepsStanding result saved old new

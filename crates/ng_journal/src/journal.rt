@@ -1,0 +1,197 @@
+//! The journal of a device.
+ghost use Rattle.std.specs.Prelude.{◌≡◌, ◌≤◌, ◌<◌, ◌⊎◌, ◌↔◌, false, true, Some, length, MatchResult, OnOk, IfOk, IfErr, IsErrOf, IsErrAnd};
+ghost use Rattle.ng_num.specs.declared.fault.Fault.TheVariants.{DeviceFailed, NotFormatted, CountersUsed, OutOfMemory};
+ghost use Rattle.ng_rig.specs.Calls.{Promises, Counts, Hands};
+ghost use Rattle.ng_layout.specs.Limits.{greatest_count};
+ghost use Rattle.ng_layout.specs.Storable.{CanWait, IsStorable};
+ghost use Rattle.ng_layout.specs.Stored.{Standing};
+ghost use Rattle.ng_journal.specs.Recover.{Recovers, rig_of, fault_of};
+ghost use Rattle.ng_journal.specs.Journal.{Tells};
+ghost use Rattle.ng_journal.specs.AtRest.{IsOwn, Checkpoints, next_header};
+
+use crate::checkpoint::checkpoint;
+use crate::recovery::restore;
+use crate::sectors::LEAST;
+use ng_canon::Item;
+use ng_layout::{GREATEST_COUNT, Half, Header, Stored};
+use ng_num::Fault;
+use ng_rig::{Failed, Rig};
+use std::alloc::{AllocError, Allocator};
+use std::marker::Model;
+
+/// What is stored of a controller, on a device. After a call of the device failed it is broken. Contracts see a
+/// `Logbook`.
+pub struct Journal<R: Rig, A: Allocator + Copy + Drop> {
+    rig: R,
+    header: Header,
+    stored: Stored<A>,
+    broken: bool,
+}
+
+impl<R: Rig, A: Allocator + Copy + Drop> Model for Journal<R, A> {
+    ghost use Rattle.ng_journal.specs.Journal.{Logbook, IsSteady};
+
+    ghost Value = { Logbook R };
+
+    ghost view = { λ j. record { rig = j.rig; header = j.header; saved = j.stored; broken = j.broken } };
+
+    ghost invariant = { λ j. IsSteady (R.sectors j.rig) j.header j.stored };
+}
+
+/// Powers on: finds what the device stands for, and writes it again under the next epoch with nothing open.
+///
+/// J2 for fewer than 1,710 sectors, with no call of the device, and where no header is valid; J3 where what stands is
+/// damaged; J4 where the epoch would be beyond its limit: all before any write. J1 where the device failed. M1 where
+/// memory is wanted, before any call of the device. The device is handed back with each of them.
+pub fn recover<R: Rig, A: Allocator + Copy + Drop>(
+    alloc: A,
+    mut rig: R,
+) -> Result<(Journal<R, A>, Stored<A>), (Fault, R)>
+    ensures recovers { let after = rig_of result in 1710 ≤ R.sectors rig → Promises (R.honest rig) (R.honest after) (Recovers result (R.life rig) (R.life after)) }
+    ensures journal { IfOk result (λ x. (x.0.broken ≡ false) × (x.0.saved ≡ x.1) × IsStorable x.1) }
+    ensures small { R.sectors rig < 1710 → IsErrAnd result (λ e. (e.0 ≡ NotFormatted) × (e.1 ≡ rig)) }
+    ensures memory { IfErr result (λ e. e.0 ≡ OutOfMemory → e.1 ≡ rig) }
+    ensures failures { let after = rig_of result in Tells (fault_of result) (R.failed rig) (R.failed after) }
+{
+    if rig.size() < LEAST {
+        return Err((Fault::NotFormatted, rig));
+    }
+    let (mut stored, mut kept) = match two_fresh(alloc) {
+        Ok(both) => both,
+        Err(_) => return Err((Fault::OutOfMemory, rig)),
+    };
+    match restore(&mut rig, &mut stored) {
+        Err(Failed) => Err((Fault::DeviceFailed, rig)),
+        Ok(Err(fault)) => Err((fault, rig)),
+        Ok(Ok(header)) => {
+            kept.take_over(&stored);
+            let journal = Journal {
+                rig,
+                header,
+                stored: kept,
+                broken: false,
+            };
+            Ok((journal, stored))
+        }
+    }
+}
+
+/// Two of what is stored of a fresh controller: one for the journal and one for its caller.
+fn two_fresh<A: Allocator + Copy + Drop>(alloc: A) -> Result<(Stored<A>, Stored<A>), AllocError>
+    ensures { IfOk result (λ x. (length x.0.setup.params ≡ 5399) × (length x.1.setup.params ≡ 5399)) }
+{
+    Ok((Stored::fresh(alloc)?, Stored::fresh(alloc)?))
+}
+
+impl<R: Rig, A: Allocator + Copy + Drop> Journal<R, A> {
+    ghost use Rattle.ng_journal.specs.Journal.{Logbook, RestsAt, Moves, IsBrokenBy};
+
+    /// The device as it is, with no call to it.
+    pub fn into_rig(self) -> R
+        ensures { result ≡ self.rig }
+    {
+        let Journal {
+            rig,
+            header: _,
+            stored: _,
+            broken: _,
+        } = self;
+        rig
+    }
+
+    /// Whether a call of the device failed.
+    pub fn broken(&self) -> bool
+        ensures { result ≡ self.now.broken }
+    {
+        self.broken
+    }
+
+    /// Stores an entry: what is stored from now on, beside the same program.
+    ///
+    /// J4 where the entry count or the epoch would be beyond its limit; then nothing is changed. J1 where the device
+    /// failed: the journal is broken then, and the device stands for what stood before or for the new. It takes no
+    /// memory.
+    pub fn commit(&mut self, stored: &Stored<A>) -> Result<(), Fault>
+        requires whole { self.old.broken ≡ false }
+        requires storable { IsStorable stored.now }
+        requires program { stored.now.length ≡ self.old.saved.length }
+        ensures stops { Promises (R.honest self.old.rig) (R.honest self.new.rig) ((before : Standing) → RestsAt (R.life self.old.rig) self.old before
+            → Moves result self.new before (record before { saved = stored.now }) (R.life self.old.rig) (R.life self.new.rig)) }
+        ensures saved { OnOk result (self.new.saved ≡ stored.now) }
+        ensures broken { IsBrokenBy result self.new.broken }
+        ensures used_up { IsErrOf result CountersUsed ↔ (greatest_count ≤ self.old.header.epoch ⊎ greatest_count < stored.now.entries) }
+        ensures unchanged { IsErrOf result CountersUsed → self.new ≡ self.old }
+        ensures failures { Tells result (R.failed self.old.rig) (R.failed self.new.rig) }
+    {
+        if self.header.epoch >= GREATEST_COUNT || stored.entries > GREATEST_COUNT {
+            return Err(Fault::CountersUsed);
+        }
+        self.stored.take_over(stored);
+        self.renew()
+    }
+
+    /// Stores that a segment or an approach of a half-done block is open; the entry count stays.
+    ///
+    /// J4 where the epoch would be beyond its limit; then nothing is changed. J1 as for `commit`. It takes no
+    /// memory.
+    pub fn open_segment(&mut self, half: &Half) -> Result<(), Fault>
+        requires whole { self.old.broken ≡ false }
+        requires half { CanWait half.now }
+        ensures stops { Promises (R.honest self.old.rig) (R.honest self.new.rig) ((before : Standing) → RestsAt (R.life self.old.rig) self.old before
+            → Moves result self.new before (record before { saved = record self.old.saved { half = Some half.now } }) (R.life self.old.rig) (R.life self.new.rig)) }
+        ensures saved { OnOk result (self.new.saved ≡ record self.old.saved { half = Some half.now }) }
+        ensures broken { IsBrokenBy result self.new.broken }
+        ensures used_up { IsErrOf result CountersUsed ↔ (greatest_count ≤ self.old.header.epoch) }
+        ensures unchanged { IsErrOf result CountersUsed → self.new ≡ self.old }
+        ensures failures { Tells result (R.failed self.old.rig) (R.failed self.new.rig) }
+    {
+        if self.header.epoch >= GREATEST_COUNT {
+            return Err(Fault::CountersUsed);
+        }
+        self.stored.take_half(half);
+        self.renew()
+    }
+
+    /// Hands an item out. J1 where the device failed: the journal is broken then, and the item or nothing was
+    /// handed out. It takes no memory.
+    pub fn hand_out(&mut self, item: Item) -> Result<(), Fault>
+        requires whole { self.old.broken ≡ false }
+        ensures hands { Promises (R.honest self.old.rig) (R.honest self.new.rig) (Hands result item (R.life self.old.rig) (R.life self.new.rig)) }
+        ensures rests { R.honest self.old.rig → (standing : Standing) → RestsAt (R.life self.old.rig) self.old standing → RestsAt (R.life self.new.rig) self.new standing }
+        ensures saved { self.new.saved ≡ self.old.saved }
+        ensures broken { IsBrokenBy result self.new.broken }
+        ensures errors { IfErr result (λ e. e ≡ DeviceFailed) }
+        ensures failures { Tells result (R.failed self.old.rig) (R.failed self.new.rig) }
+    {
+        match self.rig.hand_out(item) {
+            Ok(()) => Ok(()),
+            Err(Failed) => {
+                self.broken = true;
+                Err(Fault::DeviceFailed)
+            }
+        }
+    }
+
+    /// Writes what is stored under the next epoch, in the same program area.
+    fn renew(&mut self) -> Result<(), Fault>
+        requires { self.old.header.epoch < 1_000_000_000_000 }
+        ensures stops { Promises (R.honest self.old.rig) (R.honest self.new.rig) (IsOwn (R.life self.old.rig) self.old.header
+            → Checkpoints result self.old.header self.old.header.area self.old.saved (R.life self.old.rig) (R.life self.new.rig)) }
+        ensures saved { self.new.saved ≡ self.old.saved }
+        ensures ok { OnOk result (self.new.header ≡ next_header self.old.header self.old.header.area self.old.saved.length) }
+        ensures broken { MatchResult result (λ _. self.new.broken ≡ self.old.broken) (λ e. (e ≡ DeviceFailed) × (self.new.broken ≡ true)) }
+        ensures failures { Counts result (R.failed self.old.rig) (R.failed self.new.rig) }
+    {
+        let area = self.header.area;
+        match checkpoint(&mut self.rig, self.header, area, &self.stored) {
+            Ok(()) => {
+                self.header.epoch += 1;
+                Ok(())
+            }
+            Err(Failed) => {
+                self.broken = true;
+                Err(Fault::DeviceFailed)
+            }
+        }
+    }
+}

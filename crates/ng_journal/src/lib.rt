@@ -1,0 +1,11 @@
+//! The journal: what is stored of a controller on a device of sectors, so that a cut of power loses nothing that
+//! was acknowledged.
+#![tactic(auto)]
+
+mod checkpoint;
+mod journal;
+mod reading;
+mod recovery;
+mod sectors;
+
+pub use journal::{Journal, recover};

@@ -1,0 +1,149 @@
+//! What a device holds: the header in force and its snapshot.
+ghost use Rattle.std.specs.Prelude.{◌≡◌, ◌≤◌, ◌<◌, ◌+◌, ◌*◌, ◌%◌, true, length, IfOk, IfSome};
+ghost use Rattle.std.specs.Bool.{OnTrue};
+ghost use Rattle.ng_rig.specs.Life.{reads};
+ghost use Rattle.ng_rig.specs.Calls.{Promises, Counts};
+ghost use Rattle.ng_layout.specs.Header.{header_in, IsLawful};
+ghost use Rattle.ng_layout.specs.Report.{report_of};
+ghost use Rattle.ng_layout.specs.StateField.{field_at};
+ghost use Rattle.ng_layout.specs.Sound.{IsSound};
+ghost use Rattle.ng_layout.specs.Stands.{in_force, newer, snapshot_first};
+ghost use Rattle.ng_layout.specs.Storable.{IsStorable};
+ghost use Rattle.ng_journal.specs.Reading.{Reads, IsTableOf, IsSnapshotOf, has_record};
+
+use crate::sectors::{SNAPSHOT, snapshot_first};
+use ng_layout::{BYTES, Header, Reported, StateField, Stored, epoch_of_part, take_values};
+use ng_params::Params;
+use ng_rig::{Failed, Rig};
+use std::alloc::Allocator;
+
+/// A sector's bytes.
+fn read_sector<R: Rig>(rig: &mut R, sector: usize) -> Result<[u8; BYTES], Failed>
+    requires { sector < R.sectors rig.old }
+    ensures read { Promises (R.honest rig.old) (R.honest rig.new) (Reads result (λ image bytes. bytes ≡ image sector) (R.life rig.old) (R.life rig.new)) }
+    ensures size { R.sectors rig.new ≡ R.sectors rig.old }
+    ensures failures { Counts result (R.failed rig.old) (R.failed rig.new) }
+{
+    let mut bytes = [0; BYTES];
+    rig.read(sector, &mut bytes)?;
+    Ok(bytes)
+}
+
+/// The valid header of sector `k`.
+fn read_header<R: Rig>(rig: &mut R, k: u64) -> Result<Option<Header>, Failed>
+    requires room { 1710 ≤ R.sectors rig.old }
+    requires header { k < 2 }
+    ensures read { Promises (R.honest rig.old) (R.honest rig.new) (Reads result (λ image header. header ≡ header_in k (image k)) (R.life rig.old) (R.life rig.new)) }
+    ensures lawful { IfOk result (λ header. IfSome header IsLawful) }
+    ensures size { R.sectors rig.new ≡ R.sectors rig.old }
+    ensures failures { Counts result (R.failed rig.old) (R.failed rig.new) }
+{
+    let bytes = read_sector(rig, k as usize)?;
+    Ok(Header::read(k, &bytes))
+}
+
+/// Of two valid headers that of the greater epoch.
+fn newer(a: Option<Header>, b: Option<Header>) -> Option<Header>
+    requires a { IfSome a IsLawful }
+    requires b { IfSome b IsLawful }
+    ensures value { result ≡ newer a b }
+    ensures lawful { IfSome result IsLawful }
+{
+    match (a, b) {
+        (None, b) => b,
+        (Some(a), None) => Some(a),
+        (Some(a), Some(b)) => Some(if a.epoch < b.epoch { b } else { a }),
+    }
+}
+
+/// The header in force.
+#[tactic(auto, unfolding(ng_layout::specs::Stands::in_force))]
+pub(crate) fn header_in_force<R: Rig>(rig: &mut R) -> Result<Option<Header>, Failed>
+    requires { 1710 ≤ R.sectors rig.old }
+    ensures read { Promises (R.honest rig.old) (R.honest rig.new) (Reads result (λ image header. header ≡ in_force image) (R.life rig.old) (R.life rig.new)) }
+    ensures lawful { IfOk result (λ header. IfSome header IsLawful) }
+    ensures size { R.sectors rig.new ≡ R.sectors rig.old }
+    ensures failures { Counts result (R.failed rig.old) (R.failed rig.new) }
+{
+    let even = read_header(rig, 0)?;
+    let odd = read_header(rig, 1)?;
+    Ok(newer(even, odd))
+}
+
+/// Whether the log begins with a part of this epoch.
+pub(crate) fn log_has<R: Rig>(rig: &mut R, epoch: u64) -> Result<bool, Failed>
+    requires { 1710 ≤ R.sectors rig.old }
+    ensures read { Promises (R.honest rig.old) (R.honest rig.new) (Reads result (λ image has. has ≡ has_record epoch image) (R.life rig.old) (R.life rig.new)) }
+    ensures size { R.sectors rig.new ≡ R.sectors rig.old }
+    ensures failures { Counts result (R.failed rig.old) (R.failed rig.new) }
+{
+    let bytes = read_sector(rig, 686)?;
+    Ok(epoch_of_part(&bytes) == epoch)
+}
+
+/// What the state field of a sector says.
+#[tactic(auto)]
+fn read_report<R: Rig>(rig: &mut R, sector: usize, length: u64) -> Result<Option<Reported>, Failed>
+    requires { sector < R.sectors rig.old }
+    ensures read { Promises (R.honest rig.old) (R.honest rig.new) (Reads result (λ image report. report ≡ report_of length (field_at (image sector))) (R.life rig.old) (R.life rig.new)) }
+    ensures sound { IfOk result (λ report. IfSome report (IsSound length)) }
+    ensures size { R.sectors rig.new ≡ R.sectors rig.old }
+    ensures failures { Counts result (R.failed rig.old) (R.failed rig.new) }
+{
+    let bytes = read_sector(rig, sector)?;
+    Ok(StateField::read(&bytes).report(length))
+}
+
+/// Takes over the parameters of a snapshot area; false where one is beyond the range.
+fn read_table<R: Rig, A: Allocator + Copy + Drop>(
+    rig: &mut R,
+    first: usize,
+    table: &mut Params<A>,
+) -> Result<bool, Failed>
+    requires room { first + 86 ≤ R.sectors rig.old }
+    requires small { first ≤ 88 }
+    requires long { length table.old ≡ 5399 }
+    ensures read { Promises (R.honest rig.old) (R.honest rig.new) (Reads result (IsTableOf first table.new) (R.life rig.old) (R.life rig.new)) }
+    // without honesty too
+    ensures long { IfOk result (λ is_whole. OnTrue is_whole (length table.new ≡ 5399)) }
+    ensures size { R.sectors rig.new ≡ R.sectors rig.old }
+    ensures failures { Counts result (R.failed rig.old) (R.failed rig.new) }
+{
+    for n in 0..SNAPSHOT - 1 {
+        let sector = read_sector(rig, first + 1 + n)?;
+        if !take_values(table, 64 * n, &sector) {
+            return Ok(false);
+        }
+    }
+    Ok(true)
+}
+
+/// Takes over the snapshot of a header; false where it is damaged.
+pub(crate) fn read_snapshot<R: Rig, A: Allocator + Copy + Drop>(
+    rig: &mut R,
+    header: Header,
+    stored: &mut Stored<A>,
+) -> Result<bool, Failed>
+    requires room { 1710 ≤ R.sectors rig.old }
+    requires lawful { IsLawful header }
+    requires long { length stored.old.setup.params ≡ 5399 }
+    ensures read { Promises (R.honest rig.old) (R.honest rig.new) (Reads result (IsSnapshotOf (snapshot_first header.epoch) header.length stored.new) (R.life rig.old) (R.life rig.new)) }
+    // without honesty too
+    ensures storable { IfOk result (λ is_whole. OnTrue is_whole (IsStorable stored.new)) }
+    ensures count { IfOk result (λ is_whole. OnTrue is_whole (stored.new.entries ≤ 1_000_000_000_000)) }
+    ensures long { IfOk result (λ is_whole. OnTrue is_whole (stored.new.length ≡ header.length)) }
+    ensures size { R.sectors rig.new ≡ R.sectors rig.old }
+    ensures failures { Counts result (R.failed rig.old) (R.failed rig.new) }
+{
+    let first = snapshot_first(header.epoch);
+    match read_report(rig, first, header.length)? {
+        None => Ok(false),
+        Some(report) => {
+            let is_whole = read_table(rig, first, &mut stored.state.params)?;
+            if is_whole {
+                stored.take_report(report, header.length);
+            }
+            Ok(is_whole)
+        }
+    }
+}

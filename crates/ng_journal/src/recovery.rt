@@ -1,0 +1,83 @@
+//! Power on: what the device holds, written again under the next epoch with nothing open.
+ghost use Rattle.std.specs.Prelude.{◌≡◌, ◌≤◌, ◌<◌, ◌+◌, length, IfOk, IfErr, OnOk};
+ghost use Rattle.ng_rig.specs.Calls.{Promises, Counts};
+ghost use Rattle.ng_layout.specs.Header.{IsLawful};
+ghost use Rattle.ng_layout.specs.Storable.{IsStorable};
+ghost use Rattle.ng_journal.specs.Reading.{Reads};
+ghost use Rattle.ng_journal.specs.Recovery.{IsRead, IsRefusal, Restores};
+
+use crate::checkpoint::checkpoint;
+use crate::reading::{header_in_force, log_has, read_snapshot};
+use ng_layout::{GREATEST_COUNT, Header, Stored};
+use ng_num::Fault;
+use ng_rig::{Failed, Rig};
+use std::alloc::Allocator;
+
+/// What the device stands for, with its header, or why that can't be recovered.
+fn found<R: Rig, A: Allocator + Copy + Drop>(
+    rig: &mut R,
+    stored: &mut Stored<A>,
+) -> Result<Result<Header, Fault>, Failed>
+    requires room { 1710 ≤ R.sectors rig.old }
+    requires long { length stored.old.setup.params ≡ 5399 }
+    ensures read { Promises (R.honest rig.old) (R.honest rig.new) (Reads result (IsRead stored.new) (R.life rig.old) (R.life rig.new)) }
+    // without honesty too
+    ensures lawful { IfOk result (λ answer. IfOk answer IsLawful) }
+    ensures storable { IfOk result (λ answer. OnOk answer (IsStorable stored.new)) }
+    ensures count { IfOk result (λ answer. OnOk answer (stored.new.entries ≤ 1_000_000_000_000)) }
+    ensures long { IfOk result (λ answer. IfOk answer (λ header. stored.new.length ≡ header.length)) }
+    ensures faults { IfOk result (λ answer. IfErr answer IsRefusal) }
+    ensures size { R.sectors rig.new ≡ R.sectors rig.old }
+    ensures failures { Counts result (R.failed rig.old) (R.failed rig.new) }
+{
+    match header_in_force(rig)? {
+        None => Ok(Err(Fault::NotFormatted)),
+        Some(header) => {
+            let has_log = log_has(rig, header.epoch)?;
+            if has_log {
+                return Ok(Err(Fault::Damaged));
+            }
+            let is_whole = read_snapshot(rig, header, stored)?;
+            if !is_whole {
+                return Ok(Err(Fault::Damaged));
+            }
+            Ok(Ok(header))
+        }
+    }
+}
+
+/// Writes again, under the next epoch and with nothing open, what the device stands for. `Err` where the device
+/// failed; else the new header, or why nothing was recovered: before any write.
+pub(crate) fn restore<R: Rig, A: Allocator + Copy + Drop>(
+    rig: &mut R,
+    stored: &mut Stored<A>,
+) -> Result<Result<Header, Fault>, Failed>
+    requires room { 1710 ≤ R.sectors rig.old }
+    requires long { length stored.old.setup.params ≡ 5399 }
+    ensures restores { Promises (R.honest rig.old) (R.honest rig.new) (Restores result stored.new (R.life rig.old) (R.life rig.new)) }
+    // without honesty too
+    ensures lawful { IfOk result (λ answer. IfOk answer IsLawful) }
+    ensures storable { IfOk result (λ answer. OnOk answer (IsStorable stored.new)) }
+    ensures count { IfOk result (λ answer. OnOk answer (stored.new.entries ≤ 1_000_000_000_000)) }
+    ensures long { IfOk result (λ answer. IfOk answer (λ header. stored.new.length ≡ header.length)) }
+    ensures faults { IfOk result (λ answer. IfErr answer IsRefusal) }
+    ensures size { R.sectors rig.new ≡ R.sectors rig.old }
+    ensures failures { Counts result (R.failed rig.old) (R.failed rig.new) }
+{
+    rig.sync()?;
+    match found(rig, stored)? {
+        Err(fault) => Ok(Err(fault)),
+        Ok(header) => {
+            if header.epoch >= GREATEST_COUNT {
+                return Ok(Err(Fault::CountersUsed));
+            }
+            stored.close();
+            checkpoint(rig, header, header.area, stored)?;
+            Ok(Ok(Header {
+                epoch: header.epoch + 1,
+                area: header.area,
+                length: header.length,
+            }))
+        }
+    }
+}

@@ -1,0 +1,240 @@
+-- What images stand for, where they agree on the sectors that matter, and under a new header.
+use Rattle.std.proofs.Common.{◌≡◌, ◌≢◌, ◌⊎◌, inl, inr, ⊎_elim, ℕ, zero, suc, ◌+◌, ◌-◌, ◌*◌, ◌%◌, ◌<◌, ◌≤◌, ◌==◌, ◌&&◌, nat_lt, nat_le, Bool, true, false, if◌then◌else◌, List, [], Option, Some, None, Result, Ok, Err, refl, sym, ◌∙◌, ap, subst, arith}
+use Rattle.std.proofs.lemmas.Bool.{cases_eq}
+use Rattle.std.proofs.lemmas.Bool.Decides.{nat_tests}
+use Rattle.ng_num.specs.declared.fault.Fault.{Fault}
+use Rattle.ng_num.specs.declared.fault.Fault.TheVariants.{NotFormatted, Damaged}
+use Rattle.ng_layout.specs.Fields.{number_at}
+use Rattle.ng_layout.specs.Limits.{greatest_count, longest_program}
+use Rattle.ng_layout.specs.declared.header.Header.{Header}
+use Rattle.ng_layout.specs.Header.{header_at, is_marked, is_within, header_in}
+use Rattle.ng_layout.specs.Log.{Label, Found, Place, is_part, parts_stand, parts_for, with_record, next, after_step, run, log_size}
+use Rattle.ng_layout.specs.Spare.{IsAmong, IsSpare, SameButSpare}
+use Rattle.ng_layout.specs.Report.{and_then, report_of}
+use Rattle.ng_layout.specs.Sectors.{values, text_of}
+use Rattle.ng_layout.specs.Stands.{snapshot_first, snapshot_size, program_first, program_size, log_first, stretch, newer, in_force, snapshot, standing, standing_of, by_header, stands, epoch_in_force, IsWritten}
+use Rattle.ng_layout.specs.Stored.{Standing, Saved, Report}
+
+abbrev Image : Type 0
+Image = ℕ → List ℕ
+
+-- What a valid header says is within its limits.
+pub record IsWithin (k : ℕ) (h : Header) : Type 0 where
+  pub counted : 1 ≤ h.epoch
+  pub few : h.epoch ≤ greatest_count
+  pub area : h.area ≤ 1
+  pub length : h.length ≤ longest_program
+  pub here : h.epoch % 2 ≡ k
+
+choice : {X : Type 0} (b : Bool) (x y : X) → (if b then Some x else None) ≡ Some y → (b ≡ true) × (x ≡ y)
+choice true x y is = (refl, cc)
+choice false x y is = absurd (cc)
+
+within_parts : (k e a l : ℕ) (marked : Bool) → (marked && (nat_le 1 e && nat_le e greatest_count && nat_le a 1 && nat_le l longest_program) && (e % 2 == k)) ≡ true → (1 ≤ e) × (e ≤ greatest_count) × (a ≤ 1) × (l ≤ longest_program) × (e % 2 ≡ k)
+within_parts k e a l marked is = (grind (arith, nat_tests), grind (arith, nat_tests), grind (arith, nat_tests), grind (arith, nat_tests), grind (arith, nat_tests))
+
+pub header-within : (k : ℕ) (sector : List ℕ) (h : Header) → header_in k sector ≡ Some h → IsWithin k h
+unfolding header_in
+header-within k sector h is =
+    let c = choice _ (header_at sector) h is in
+    let p = within_parts k (header_at sector).epoch (header_at sector).area (header_at sector).length (is_marked sector) c.0 in
+    subst (λ (x : Header). IsWithin k x) c.1 (record { counted = p.0; few = p.1; area = p.2; length = p.3; here = p.4 })
+
+-- the header in force is one of the two, and the other's epoch isn't above its own
+pub record IsForce (a b : Option Header) (h : Header) : Type 0 where
+  pub one : (a ≡ Some h) ⊎ (b ≡ Some h)
+  pub first : (x : Header) → a ≡ Some x → x.epoch ≤ h.epoch
+  pub second : (x : Header) → b ≡ Some x → x.epoch ≤ h.epoch
+
+newer_cases : (x y h : Header) → (if nat_lt x.epoch y.epoch then Some y else Some x) ≡ Some h → ((y ≡ h) × (x.epoch ≤ y.epoch)) ⊎ ((x ≡ h) × (y.epoch ≤ x.epoch))
+newer_cases x y h is = elim (cases_lt x.epoch y.epoch) [
+  | inl lt ↦ let e : (if nat_lt x.epoch y.epoch then Some y else Some x) ≡ Some y = grind (arith, nat_tests) in inl (inner (sym e ∙ is), omega arith)
+  | inr le ↦ let e : (if nat_lt x.epoch y.epoch then Some y else Some x) ≡ Some x = grind (arith, nat_tests) in inr (inner (sym e ∙ is), le)
+]
+  where
+    cases_lt : (m n : ℕ) → (m < n) ⊎ (n ≤ m)
+    cases_lt m n = grind arith
+
+    inner : {v w : Header} → Some v ≡ Some w → v ≡ w
+    inner p = cc
+
+pub some-is : {x y : Header} → Some x ≡ Some y → x ≡ y
+some-is p = cc
+
+pub newer-force : (a b : Option Header) (h : Header) → newer a b ≡ Some h → IsForce a b h
+newer-force None b h is = record { one = inr is; first = λ x none. absurd (cc); second = λ x some. let e : x ≡ h = some-is (sym some ∙ is) in omega (arith, ap (λ (y : Header). y.epoch) e) }
+newer-force (Some a) None h is = record { one = inl is; first = λ x some. let e : x ≡ h = some-is (sym some ∙ is) in omega (arith, ap (λ (y : Header). y.epoch) e); second = λ x none. absurd (cc) }
+newer-force (Some a) (Some b) h is = ⊎_elim
+    (λ w. record {
+      one = inr (ap (λ (y : Header). Some y) w.0);
+      first = λ x some. let e = some-is some in omega (arith, w.1, ap (λ (y : Header). y.epoch) e, ap (λ (y : Header). y.epoch) w.0);
+      second = λ x some. let e = some-is some in omega (arith, ap (λ (y : Header). y.epoch) e, ap (λ (y : Header). y.epoch) w.0);
+    })
+    (λ w. record {
+      one = inl (ap (λ (y : Header). Some y) w.0);
+      first = λ x some. let e = some-is some in omega (arith, ap (λ (y : Header). y.epoch) e, ap (λ (y : Header). y.epoch) w.0);
+      second = λ x some. let e = some-is some in omega (arith, w.1, ap (λ (y : Header). y.epoch) e, ap (λ (y : Header). y.epoch) w.0);
+    })
+    (newer_cases a b h is)
+
+pub force-within : (image : Image) (h : Header) → in_force image ≡ Some h → IsWithin (h.epoch % 2) h
+unfolding in_force
+force-within image h is = ⊎_elim (λ p. again 0 (header-within 0 (image 0) h p)) (λ p. again 1 (header-within 1 (image 1) h p)) (newer-force (header_in 0 (image 0)) (header_in 1 (image 1)) h is).one
+  where
+    again : (k : ℕ) → IsWithin k h → IsWithin (h.epoch % 2) h
+    again k w = record { counted = w.counted; few = w.few; area = w.area; length = w.length; here = refl }
+
+pub force-same : (image base : Image) → image 0 ≡ base 0 → image 1 ≡ base 1 → in_force image ≡ in_force base
+unfolding in_force
+force-same image base zero_is one_is = λ i. newer (header_in 0 (zero_is i)) (header_in 1 (one_is i))
+
+newest-second : (a : Option Header) (new : Header) → ((x : Header) → a ≡ Some x → x.epoch < new.epoch) → newer a (Some new) ≡ Some new
+newest-second None new lower = refl
+newest-second (Some a) new lower = let lt = lower a refl in grind (arith, nat_tests)
+
+newest-first : (b : Option Header) (new : Header) → ((x : Header) → b ≡ Some x → x.epoch < new.epoch) → newer (Some new) b ≡ Some new
+newest-first None new lower = refl
+newest-first (Some b) new lower = let lt = lower b refl in grind (arith, nat_tests)
+
+-- a newer header is in force
+pub force-next : (image base : Image) (h new : Header) → in_force base ≡ Some h → new.epoch ≡ h.epoch + 1 → header_in (new.epoch % 2) (image (new.epoch % 2)) ≡ Some new → ((k : ℕ) → k < 2 → k ≢ new.epoch % 2 → image k ≡ base k) → in_force image ≡ Some new
+unfolding in_force
+force-next image base h new is next_epoch written others =
+    let f = newer-force (header_in 0 (base 0)) (header_in 1 (base 1)) h is in
+    elim (cases_eq (new.epoch % 2) 0) [
+      | inl even ↦
+          let there : header_in 0 (image 0) ≡ Some new = subst (λ (k : ℕ). header_in k (image k) ≡ Some new) even written in
+          let other : image 1 ≡ base 1 = others 1 (omega arith) (λ e. omega arith) in
+          (λ i. newer (there i) (header_in 1 (other i)))
+          ∙ newest-first (header_in 1 (base 1)) new (λ x some. omega (arith, f.second x some))
+      | inr odd ↦
+          let one : new.epoch % 2 ≡ 1 = omega arith in
+          let there : header_in 1 (image 1) ≡ Some new = subst (λ (k : ℕ). header_in k (image k) ≡ Some new) one written in
+          let other : image 0 ≡ base 0 = others 0 (omega arith) (λ e. omega arith) in
+          (λ i. newer (header_in 0 (other i)) (there i))
+          ∙ newest-second (header_in 0 (base 0)) new (λ x some. omega (arith, f.first x some))
+    ]
+
+-- A stretch is the same where its sectors are.
+pub stretch-same : (first size : ℕ) (image base : Image) → ((j : ℕ) → j < size → image (first + j) ≡ base (first + j)) → stretch first size image ≡ stretch first size base
+unfolding stretch
+stretch-same first size image base same = λ i n. one n i
+  where
+    one : (n : ℕ) → (if nat_lt n size then image (first + n) else []) ≡ (if nat_lt n size then base (first + n) else [])
+    one n = elim (cases_lt n size) [
+      | inl lt ↦ λ i. if nat_lt n size then same n lt i else []
+      | inr le ↦ let e : nat_lt n size ≡ false = grind (arith, nat_tests) in rw e refl
+    ]
+      where
+        cases_lt : (m k : ℕ) → (m < k) ⊎ (k ≤ m)
+        cases_lt m k = grind arith
+
+pub stretch-at : (first size : ℕ) (image : Image) (n : ℕ) → n < size → stretch first size image n ≡ image (first + n)
+unfolding stretch
+stretch-at first size image n lt = let e : nat_lt n size ≡ true = grind (arith, nat_tests) in rw e refl
+
+-- The sectors that decide aren't spare.
+header_decides : (h : Header) (n : ℕ) → n < 2 → IsSpare h n → ⊥
+header_decides h n lt spare = ⊎_elim (λ s. omega (arith, s.from)) (λ s. omega (arith, s.from)) spare
+
+snapshot_decides : (h : Header) (j : ℕ) → j < 86 → IsSpare h (snapshot_first h.epoch + j) → ⊥
+snapshot_decides h j lt spare = ⊎_elim
+    (λ s. elim (cases_eq (h.epoch % 2) 0) [ inl even ↦ omega (arith, s.from, s.to) | inr odd ↦ omega (arith, s.from, s.to) ])
+    (λ s. omega (arith, s.from)) spare
+
+program_decides : (h : Header) (j : ℕ) → h.area ≤ 1 → j < 256 → IsSpare h (program_first h.area + j) → ⊥
+program_decides h j area lt spare = ⊎_elim (λ s. omega (arith, s.to)) (λ s. omega (arith, s.from, s.to)) spare
+
+log_decides : (h : Header) (j : ℕ) → j < 1024 → IsSpare h (log_first + j) → ⊥
+log_decides h j lt spare = ⊎_elim (λ s. omega (arith, s.to)) (λ s. omega (arith, s.to)) spare
+
+pub same-at : (h : Header) (image base : Image) → SameButSpare h image base → (n : ℕ) → (IsSpare h n → ⊥) → image n ≡ base n
+same-at h image base same n decides = ⊎_elim (λ spare. absurd (decides spare)) (λ e. e) (same.each n)
+
+pub force-frame : (h : Header) (image base : Image) → SameButSpare h image base → in_force image ≡ in_force base
+force-frame h image base same = force-same image base (same-at h image base same 0 (header_decides h 0 (omega arith))) (same-at h image base same 1 (header_decides h 1 (omega arith)))
+
+pub log-frame : (h : Header) (image base : Image) → SameButSpare h image base → (m : ℕ) → m < log_size → image (log_first + m) ≡ base (log_first + m)
+log-frame h image base same m lt = same-at h image base same (log_first + m) (log_decides h m lt)
+
+pub program-frame : (h : Header) (image base : Image) → h.area ≤ 1 → SameButSpare h image base → (m : ℕ) → m < program_size → image (program_first h.area + m) ≡ base (program_first h.area + m)
+program-frame h image base area same m lt = same-at h image base same (program_first h.area + m) (program_decides h m area lt)
+
+-- Where images agree on all sectors but the spare ones, they stand for the same.
+pub stands-frame : (h : Header) (image base : Image) → in_force base ≡ Some h → SameButSpare h image base → stands image ≡ stands base
+unfolding stands
+stands-frame h image base is same =
+    let within = force-within base h is in
+    let force = force-frame h image base same ∙ is in
+    let area = stretch-same (snapshot_first h.epoch) snapshot_size image base (λ j lt. same-at h image base same (snapshot_first h.epoch + j) (snapshot_decides h j lt)) in
+    let text = stretch-same (program_first h.area) program_size image base (program-frame h image base within.area same) in
+    let log = stretch-same log_first log_size image base (log-frame h image base same) in
+    (λ i. by_header (force i) (λ x. standing_of x (stretch (snapshot_first x.epoch) snapshot_size image) (stretch (program_first x.area) program_size image) (stretch log_first log_size image)))
+    ∙ (λ i. standing_of h (area i) (text i) (log i))
+    ∙ sym (λ i. by_header (is i) (λ x. standing_of x (stretch (snapshot_first x.epoch) snapshot_size base) (stretch (program_first x.area) program_size base) (stretch log_first log_size base)))
+
+pub written-frame : (h : Header) (image base : Image) → SameButSpare h image base → IsWritten base → IsWritten image
+written-frame h image base same written = record {
+  past = λ m lt. subst (λ (e : ℕ). number_at 8 0 (image (log_first + m)) ≤ e) (sym (ap epoch_in_force (force-frame h image base same))) (subst (λ (s : List ℕ). number_at 8 0 s ≤ epoch_in_force (in_force base)) (sym (log-frame h image base same m lt)) (written.past m lt));
+}
+
+-- A log whose first part is of another epoch holds no record of this one.
+first_part : (row : Image) (at : ℕ) (l : Label) (n : ℕ) → number_at 8 0 (row (at + 0)) ≢ l.epoch → parts_stand row at l (suc n) ≡ false
+unfolding parts_stand is_part
+first_part row at l zero other = let e : (number_at 8 0 (row (at + 0)) == l.epoch) ≡ false = grind (arith, nat_tests) in rw e refl
+first_part row at l (suc n) other = let e = first_part row at l n other in rw e (no _)
+  where
+    no : (b : Bool) → (b && false) ≡ false
+    no true = refl
+    no false = refl
+
+no_record : (parts p : ℕ) (a b : Bool) (q : Place) → b ≡ false → (if (parts == p) && a && b then Some q else None) ≡ None
+no_record parts p a b q is = grind (arith, nat_tests)
+
+pub no-next : (length : ℕ) (row : Image) (epoch : ℕ) (p : Place) → p.at ≡ 0 → number_at 8 0 (row 0) ≢ epoch → next length row epoch p ≡ None
+unfolding next
+no-next length row epoch p start other =
+    let parts = number_at 2 18 (row p.at) in
+    let changes = number_at 2 20 (row p.at) in
+    let q : Place = record { at = p.at + parts; number = p.number + 1; found = and_then p.found (λ before. with_record length row p.at changes before) } in
+    let stand = parts_stand row p.at (record { epoch = epoch; number = p.number; part = 0; parts = parts; changes = changes }) parts in
+    elim (cases_eq parts 0) [
+      | inl none ↦ no_parts parts changes (nat_le (p.at + parts) log_size) stand q none
+      | inr some ↦ no_record parts (parts_for changes) (nat_le (p.at + parts) log_size) stand q (absent parts some)
+    ]
+  where
+    no_parts : (parts changes : ℕ) (a b : Bool) (q : Place) → parts ≡ 0 → (if (parts == parts_for changes) && a && b then Some q else None) ≡ None
+    no_parts parts changes a b q is = grind (arith, nat_tests)
+
+    absent : (parts : ℕ) → parts ≢ 0 → parts_stand row p.at (record { epoch = epoch; number = p.number; part = 0; parts = number_at 2 18 (row p.at); changes = number_at 2 20 (row p.at) }) parts ≡ false
+    absent zero some = absurd (some refl)
+    absent (suc n) some = first_part row p.at _ n (subst (λ (k : ℕ). number_at 8 0 (row (k + 0)) ≢ epoch) (sym start) other)
+
+-- With no record in it, the snapshot and the program are what stands.
+pub standing-none : (h : Header) (area text log : Image) → number_at 8 0 (log 0) ≢ h.epoch → standing_of h area text log ≡ standing (snapshot h.length area) (text_of h.length text) h.length
+unfolding standing_of run
+standing-none h area text log other =
+    let start : Place = record { at = 0; number = 0; found = snapshot h.length area } in
+    let none = no-next h.length log h.epoch start refl other in
+    λ i. standing (after_step (none i) (λ q. run 1023 h.length log h.epoch q) start).found (text_of h.length text) h.length
+
+-- An image under this header that has no record of its epoch.
+pub stands-snapshot : (image : Image) (h : Header) → in_force image ≡ Some h → number_at 8 0 (image log_first) ≢ h.epoch → stands image ≡ standing (snapshot h.length (stretch (snapshot_first h.epoch) snapshot_size image)) (text_of h.length (stretch (program_first h.area) program_size image)) h.length
+unfolding stands
+stands-snapshot image h is other =
+    let first : stretch log_first log_size image 0 ≡ image (log_first + 0) = stretch-at log_first log_size image 0 (omega arith) in
+    (λ i. by_header (is i) (λ x. standing_of x (stretch (snapshot_first x.epoch) snapshot_size image) (stretch (program_first x.area) program_size image) (stretch log_first log_size image)))
+    ∙ standing-none h (stretch (snapshot_first h.epoch) snapshot_size image) (stretch (program_first h.area) program_size image) (stretch log_first log_size image) (λ e. other (ap (number_at 8 0) (sym first) ∙ e))
+
+-- Over an image that has no part of an epoch still to come, a newer header finds none of its own.
+pub none-of-new : (base : Image) (h : Header) → in_force base ≡ Some h → IsWritten base → (m : ℕ) → m < log_size → number_at 8 0 (base (log_first + m)) ≤ h.epoch
+none-of-new base h is written m lt = subst (λ (e : ℕ). number_at 8 0 (base (log_first + m)) ≤ e) (ap epoch_in_force is) (written.past m lt)
+
+-- and there is none of one to come after it
+pub written-new : (image base : Image) (h new : Header) → in_force base ≡ Some h → in_force image ≡ Some new → h.epoch ≤ new.epoch → IsWritten base → ((m : ℕ) → m < log_size → image (log_first + m) ≡ base (log_first + m)) → IsWritten image
+written-new image base h new is now later written same = record {
+  past = λ m lt.
+      let e : number_at 8 0 (image (log_first + m)) ≡ number_at 8 0 (base (log_first + m)) = ap (number_at 8 0) (same m lt) in
+      let below = none-of-new base h is written m lt in
+      subst (λ (x : ℕ). number_at 8 0 (image (log_first + m)) ≤ x) (sym (ap epoch_in_force now)) (omega arith);
+}

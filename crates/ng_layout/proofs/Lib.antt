@@ -1,0 +1,6 @@
+pub mod Images
+pub mod Places
+pub mod Rows
+pub mod SaysAgain
+pub mod Snapshots
+pub mod Soundness

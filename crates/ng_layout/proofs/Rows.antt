@@ -1,0 +1,81 @@
+-- Sectors of values and of a text.
+use Rattle.std.proofs.Common.{◌≡◌, ◌⊎◌, inl, inr, ℕ, zero, suc, ◌+◌, ◌-◌, ◌*◌, ◌<◌, ◌≤◌, min, List, ◌++◌, ℤ, pos, get_or, slice_index, length, take, drop, replicate, refl, sym, ◌∙◌, ap, subst, arith}
+use Rattle.std.proofs.lemmas.Bool.{cases_eq}
+use Rattle.std.proofs.lemmas.List.{drop-replicate, get_or-take, get_or-drop, get_or_append_left, get_or-append_right, get_or_past, length-take-le}
+use Rattle.std.proofs.Common.{length-drop}
+use Rattle.byteorder.specs.Endian.{little_number, little_from}
+use Rattle.ng_num.specs.Range.{IsCount, greatest}
+use Rattle.ng_layout.specs.Fields.{number_at, signed_at, SameBelow, SameFrom, Puts}
+use Rattle.ng_layout.specs.Sectors.{HoldsValues, HoldsText}
+use Rattle.ng_layout.proofs.Places.{signed-below, signed-from, from-more, from-further, number-from}
+
+pub zero_at : (n i : ℕ) → ◌≡◌ {A = ℕ} (get_or (replicate n 0) i 0) 0
+zero_at zero i = refl
+zero_at (suc n) zero = refl
+zero_at (suc n) (suc i) = zero_at n i
+
+little_from-zeros : (i w n : ℕ) → little_from i w (replicate n 0) ≡ 0
+little_from-zeros i zero n = refl
+little_from-zeros i (suc w) n = let a = zero_at n i in let b = little_from-zeros (suc i) w n in omega (arith, a, b)
+
+pub number-zeros : (w at n : ℕ) → number_at w at (replicate n 0) ≡ 0
+unfolding number_at
+number-zeros w at n = ap (little_number w) (drop-replicate at n 0) ∙ little_from-zeros 0 w (n - at)
+
+pub signed-zeros : (at n : ℕ) → signed_at at (replicate n 0) ≡ pos 0
+unfolding signed_at
+signed-zeros at n = rw (number-zeros 8 at n) refl
+
+-- the first k values stand, and zeros behind them
+pub record ValuesTo (table : List ℤ) (first k : ℕ) (sector : List ℕ) : Type 0 where
+  pub each : (j : ℕ) → j < k → first + j < 5399 → signed_at (8 * j) sector ≡ get_or table (first + j) (pos 0)
+  pub past : (j : ℕ) → j < k → 5399 ≤ first + j → signed_at (8 * j) sector ≡ pos 0
+  pub counts : (j : ℕ) → j < k → first + j < 5399 → IsCount (signed_at (8 * j) sector)
+  pub rest : SameFrom (8 * k) (replicate 512 0) sector
+
+pub values-more : (table : List ℤ) (first k : ℕ) (old new : List ℕ) (value : ℤ) → ValuesTo table first k old → first + k < 5399 → Puts (signed_at (8 * k)) (8 * k) (8 * k + 8) value old new → value ≡ get_or table (first + k) (pos 0) → IsCount value → ValuesTo table first (k + 1) new
+values-more table first k old new value so_far here put is small = record {
+  each = λ j lt within. elim (cases_eq j k) [
+    | inl same ↦ subst (λ (x : ℕ). signed_at (8 * x) new ≡ get_or table (first + x) (pos 0)) (sym same) (put.written ∙ is)
+    | inr other ↦ signed-below (8 * j) (8 * k) old new put.below (omega arith) ∙ so_far.each j (omega arith) within
+  ];
+  past = λ j lt beyond. signed-below (8 * j) (8 * k) old new put.below (omega arith) ∙ so_far.past j (omega arith) beyond;
+  counts = λ j lt within. elim (cases_eq j k) [
+    | inl same ↦ subst (λ (x : ℕ). IsCount (signed_at (8 * x) new)) (sym same) (subst IsCount (sym put.written) small)
+    | inr other ↦ subst IsCount (sym (signed-below (8 * j) (8 * k) old new put.below (omega arith))) (so_far.counts j (omega arith) within)
+  ];
+  rest = from-further (8 * k + 8) (8 * (k + 1)) (replicate 512 0) new (from-more (8 * k) (8 * k + 8) (replicate 512 0) old new so_far.rest put.beyond (omega arith)) (omega arith);
+}
+
+pub values-past : (table : List ℤ) (first k : ℕ) (sector : List ℕ) → ValuesTo table first k sector → 5399 ≤ first + k → ValuesTo table first (k + 1) sector
+values-past table first k sector so_far beyond = record {
+  each = λ j lt within. so_far.each j (omega arith) within;
+  past = λ j lt later. elim (cases_eq j k) [
+    | inl same ↦ signed-from (8 * k) (8 * j) (replicate 512 0) sector so_far.rest (omega arith) ∙ signed-zeros (8 * j) 512
+    | inr other ↦ so_far.past j (omega arith) later
+  ];
+  counts = λ j lt within. so_far.counts j (omega arith) within;
+  rest = from-further (8 * k) (8 * (k + 1)) (replicate 512 0) sector so_far.rest (omega arith);
+}
+
+lt_cases : (k n : ℕ) → (k < n) ⊎ (n ≤ k)
+lt_cases k n = grind arith
+
+pub holds_text : (text sector : List ℕ) (first end : ℕ) → first ≤ length text → end ≡ min (length text) (first + 512) → sector ≡ take (end - first) (drop first text) ++ replicate (512 - length (take (end - first) (drop first text))) 0 → HoldsText text first sector
+holds_text text sector first end within is bytes =
+    let part = take (end - first) (drop first text) in
+    let zeros = replicate (512 - length part) 0 in
+    let long : length part ≡ end - first = length-take-le (end - first) (drop first text) (omega (arith, length-drop first text)) in
+    record {
+      each = λ k lt. elim (lt_cases k (end - first)) [
+        | inl here ↦ ap (λ (l : List ℕ). slice_index l k) bytes ∙ get_or_append_left part zeros 0 k (omega arith) ∙ get_or-take (end - first) (drop first text) k 0 here ∙ get_or-drop first text k 0
+        | inr past ↦ ap (λ (l : List ℕ). slice_index l k) bytes ∙ get_or-append_right part zeros (end - first) k 0 long past ∙ zero_at (512 - length part) (k - (end - first)) ∙ sym (get_or_past text (first + k) 0 (omega arith))
+      ];
+    }
+
+-- the first k values of a sector are taken over
+pub record TakenTo (old new : List ℤ) (first k : ℕ) (sector : List ℕ) : Type 0 where
+  pub here : (j : ℕ) → j < k → first + j < 5399 → first + j < length old → get_or new (first + j) (pos 0) ≡ signed_at (8 * j) sector
+  pub counts : (j : ℕ) → j < k → first + j < 5399 → IsCount (signed_at (8 * j) sector)
+  pub before : (p : ℕ) → p < first → get_or new p (pos 0) ≡ get_or old p (pos 0)
+  pub long : length new ≡ length old

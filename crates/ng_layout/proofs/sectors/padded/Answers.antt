@@ -1,0 +1,6 @@
+use Rattle.std.proofs.Common.{◌≡◌, ◌-◌, ℕ, List, ◌++◌, length, replicate, drop, refl, ◌∙◌, ap}
+use Rattle.std.proofs.lemmas.List.{drop-replicate}
+use Rattle.ng_layout.proofs.sectors.padded.Goals as goal
+
+pub returns : goal.returns
+returns c = rw c.copy_from_slice.ensures.after (ap (λ (l : List ℕ). c.args.bytes.now ++ l) (drop-replicate (length c.args.bytes.now) 512 0))

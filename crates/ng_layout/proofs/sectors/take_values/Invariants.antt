@@ -1,0 +1,5 @@
+use Rattle.ng_layout.proofs.Rows.{TakenTo}
+use Rattle.ng_layout.proofs.sectors.take_values.Given as goal
+
+abbrev pub invariant-loop-k : goal.invariant-loop-k
+invariant-loop-k g l = TakenTo l.initial.table l.table l.first l.k l.sector

@@ -1,0 +1,27 @@
+-- The header of an epoch, where a sector holds a valid one (own).
+use Rattle.std.specs.Prelude.{ℕ, ◌≤◌, ◌%◌, ◌==◌, ◌&&◌, Bool, nat_le, List, Option, Some, None, if◌then◌else◌, codes}
+use Rattle.ng_layout.specs.Fields.{number_at}
+use Rattle.ng_layout.specs.declared.header.Header.{Header}
+use Rattle.ng_layout.specs.Limits.{greatest_count, longest_program}
+
+-- its fields, whether it is valid or not
+unfoldable pub header_at : List ℕ → Header
+header_at sector = record { epoch = number_at 8 16 sector; area = number_at 8 24 sector; length = number_at 8 32 sector }
+
+-- the text that it begins with, and the format
+unfoldable pub is_marked : List ℕ → Bool
+is_marked sector = (number_at 8 0 sector == number_at 8 0 (codes "RS274NGC")) && (number_at 4 8 sector == 1)
+
+abbrev pub is_within : Header → Bool
+is_within h = nat_le 1 h.epoch && nat_le h.epoch greatest_count && nat_le h.area 1 && nat_le h.length longest_program
+
+-- the valid header of sector k: it stands in the sector of its epoch
+unfoldable pub header_in : ℕ → List ℕ → Option Header
+header_in k sector = if is_marked sector && is_within (header_at sector) && (header_at sector).epoch % 2 == k then Some (header_at sector) else None
+
+-- its numbers are within their limits
+pub record IsLawful (h : Header) : Type 0 where
+  pub counted : 1 ≤ h.epoch
+  pub few : h.epoch ≤ greatest_count
+  pub area : h.area ≤ 1
+  pub length : h.length ≤ longest_program

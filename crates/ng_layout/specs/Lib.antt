@@ -1,0 +1,15 @@
+pub mod Codes
+pub mod Fields
+pub mod Header
+pub mod Limits
+pub mod Log
+pub mod Report
+pub mod Sectors
+pub mod Snapshot
+pub mod Sound
+pub mod Spare
+pub mod Stands
+pub mod StateField
+pub mod Storable
+pub mod Stored
+pub mod Writing

@@ -1,0 +1,76 @@
+-- The log: records of several parts behind a snapshot, and the longest run of complete ones (own).
+use Rattle.std.specs.Prelude.{ℕ, zero, suc, ◌+◌, ◌*◌, ◌/◌, ◌%◌, ◌==◌, ◌&&◌, ◌++◌, Bool, true, nat_le, List, [], ◌∷◌, drop, ℤ, pos, Option, Some, None, if◌then◌else◌}
+use Rattle.ng_params.specs.Numbers.{index_of}
+use Rattle.ng_params.specs.Changes.{with_changes}
+use Rattle.ng_params.specs.declared.change.Change.{Change}
+use Rattle.ng_layout.specs.Fields.{number_at, signed_at}
+use Rattle.ng_layout.specs.StateField.{field_at}
+use Rattle.ng_layout.specs.Report.{and_then, count_of, report_of}
+use Rattle.ng_layout.specs.Stored.{Report}
+
+-- what a part says of itself
+pub record Label : Type 0 where
+  pub epoch : ℕ
+  pub number : ℕ
+  pub part : ℕ
+  pub parts : ℕ
+  pub changes : ℕ
+
+unfoldable pub is_part : Label → List ℕ → Bool
+is_part l sector = (number_at 8 0 sector == l.epoch) && (number_at 8 8 sector == l.number) && (number_at 2 16 sector == l.part) && (number_at 2 18 sector == l.parts) && (number_at 2 20 sector == l.changes)
+
+-- the first n parts of a record stand from this sector on
+unfoldable pub parts_stand : (ℕ → List ℕ) → ℕ → Label → ℕ → Bool
+parts_stand row at l zero = true
+parts_stand row at l (suc n) = is_part (record l { part = n }) (row (at + n)) && parts_stand row at l n
+
+-- the n-th change of a record; nothing where its index or its value is out of range
+abbrev pub change_at : List ℕ → ℕ → Option Change
+change_at sector at = and_then (index_of (pos (number_at 2 at sector))) (λ index. and_then (count_of (signed_at (at + 2) sector)) (λ value. Some (record { index = index; value = value })))
+
+-- the first n changes of the record that begins at this sector, 48 in each part but its first
+unfoldable pub changes_of : (ℕ → List ℕ) → ℕ → ℕ → Option (List Change)
+changes_of row at zero = Some []
+changes_of row at (suc n) = and_then (changes_of row at n) (λ earlier. and_then (change_at (row (at + 1 + n / 48)) (32 + 10 * (n % 48))) (λ change. Some (earlier ++ change ∷ [])))
+
+-- a report with the parameters beside it
+pub record Found : Type 0 where
+  pub report : Report
+  pub params : List ℤ
+
+-- where a record begins, its number, and what was found before it; nothing where that is damaged
+pub record Place : Type 0 where
+  pub at : ℕ
+  pub number : ℕ
+  pub found : Option Found
+
+-- what is found with a record: its state field, and the parameters with its changes
+abbrev pub with_record : ℕ → (ℕ → List ℕ) → ℕ → ℕ → Found → Option Found
+with_record length row at changes before =
+    and_then (report_of length (field_at (drop 32 (row at)))) (λ report. and_then (changes_of row at changes) (λ made. Some (record { report = report; params = with_changes before.params made })))
+
+-- how many parts a record of so many changes has
+abbrev pub parts_for : ℕ → ℕ
+parts_for changes = 1 + (changes + 47) / 48
+
+-- how many sectors the log has
+abbrev pub log_size : ℕ
+log_size = 1024
+
+-- the place behind the record that begins here, where it is complete and within the log
+unfoldable pub next : ℕ → (ℕ → List ℕ) → ℕ → Place → Option Place
+next length row epoch p =
+    let parts = number_at 2 18 (row p.at) in
+    let changes = number_at 2 20 (row p.at) in
+    if (parts == parts_for changes) && nat_le (p.at + parts) log_size && parts_stand row p.at (record { epoch = epoch; number = p.number; part = 0; parts = parts; changes = changes }) parts
+    then Some (record { at = p.at + parts; number = p.number + 1; found = and_then p.found (λ before. with_record length row p.at changes before) })
+    else None
+
+abbrev pub after_step : Option Place → (Place → Place) → Place → Place
+after_step None go p = p
+after_step (Some q) go p = go q
+
+-- the place behind at most so many complete records
+unfoldable pub run : ℕ → ℕ → (ℕ → List ℕ) → ℕ → Place → Place
+run zero length row epoch p = p
+run (suc n) length row epoch p = after_step (next length row epoch p) (λ q. run n length row epoch q) p

@@ -1,0 +1,95 @@
+-- What an image of a device stands for (own).
+use Rattle.std.specs.Prelude.{◌≡◌, ◌⊎◌, ℕ, ◌+◌, ◌-◌, ◌*◌, ◌%◌, ◌<◌, ◌≤◌, nat_lt, nat_le, List, [], ℤ, unsigned_abs, Option, Some, None, is_some, Result, Ok, Err, if◌then◌else◌}
+use Rattle.std.specs.Option.{option_map}
+use Rattle.std.specs.List.{list_all}
+use Rattle.ng_num.specs.Range.{greatest}
+use Rattle.ng_num.specs.declared.fault.Fault.{Fault}
+use Rattle.ng_num.specs.declared.fault.Fault.TheVariants.{NotFormatted, Damaged}
+use Rattle.ng_layout.specs.Fields.{number_at}
+use Rattle.ng_layout.specs.StateField.{field_at}
+use Rattle.ng_layout.specs.declared.header.Header.{Header}
+use Rattle.ng_layout.specs.Header.{header_in}
+use Rattle.ng_layout.specs.Report.{and_then, report_of}
+use Rattle.ng_layout.specs.Sectors.{values, text_of}
+use Rattle.ng_layout.specs.Log.{Found, Place, run, log_size}
+use Rattle.ng_layout.specs.Stored.{HalfDone, Report, Saved, Standing}
+
+-- The sectors: 0 and 1 headers, then two snapshot areas, two program areas, the log.
+abbrev pub snapshot_size : ℕ
+snapshot_size = 86
+
+abbrev pub program_size : ℕ
+program_size = 256
+
+-- the first sector of the snapshot area of an epoch
+abbrev pub snapshot_first : ℕ → ℕ
+snapshot_first epoch = 2 + 86 * (epoch % 2)
+
+-- the first sector of a program area, 0 or 1
+abbrev pub program_first : ℕ → ℕ
+program_first area = 174 + 256 * area
+
+abbrev pub log_first : ℕ
+log_first = 686
+
+-- how many sectors a device needs
+abbrev pub least_size : ℕ
+least_size = 1710
+
+-- so many sectors of an image from the first on, and nothing past them
+unfoldable pub stretch : ℕ → ℕ → (ℕ → List ℕ) → ℕ → List ℕ
+stretch first size image n = if nat_lt n size then image (first + n) else []
+
+-- of two valid headers that of the greater epoch
+abbrev pub newer : Option Header → Option Header → Option Header
+newer None b = b
+newer (Some a) None = Some a
+newer (Some a) (Some b) = if nat_lt a.epoch b.epoch then Some b else Some a
+
+-- the header in force
+unfoldable pub in_force : (ℕ → List ℕ) → Option Header
+in_force image = newer (header_in 0 (image 0)) (header_in 1 (image 1))
+
+-- these values, where each is within the range
+abbrev pub all_counts : List ℤ → Option (List ℤ)
+all_counts params = if list_all (λ n. nat_le (unsigned_abs n) greatest) params then Some params else None
+
+-- what a snapshot says
+unfoldable pub snapshot : ℕ → (ℕ → List ℕ) → Option Found
+snapshot length row = and_then (report_of length (field_at (row 0))) (λ report. and_then (all_counts (values 5399 row)) (λ params. Some (record { report = report; params = params })))
+
+-- what was found, with the program
+abbrev pub standing : Option Found → List ℕ → ℕ → Result Standing Fault
+standing None program length = Err Damaged
+standing (Some f) program length = Ok (record {
+  saved = record { entries = f.report.entries; setup = record { params = f.params; machine = f.report.machine }; place = f.report.place; length = length; half = f.report.half };
+  program = program;
+})
+
+-- what a header, its snapshot, its program and the log stand for
+unfoldable pub standing_of : Header → (ℕ → List ℕ) → (ℕ → List ℕ) → (ℕ → List ℕ) → Result Standing Fault
+standing_of h area text log = standing (run log_size h.length log h.epoch (record { at = 0; number = 0; found = snapshot h.length area })).found (text_of h.length text) h.length
+
+abbrev pub by_header : Option Header → (Header → Result Standing Fault) → Result Standing Fault
+by_header None f = Err NotFormatted
+by_header (Some h) f = f h
+
+unfoldable pub stands : (ℕ → List ℕ) → Result Standing Fault
+stands image = by_header (in_force image) (λ h. standing_of h (stretch (snapshot_first h.epoch) snapshot_size image) (stretch (program_first h.area) program_size image) (stretch log_first log_size image))
+
+-- the epoch in force, 0 where none is
+abbrev pub epoch_in_force : Option Header → ℕ
+epoch_in_force None = 0
+epoch_in_force (Some h) = h.epoch
+
+-- No part in the log is of an epoch that is still to come. Each image that the journal leaves is such.
+pub record IsWritten (image : ℕ → List ℕ) : Type 0 where
+  pub past : (m : ℕ) → m < log_size → number_at 8 0 (image (log_first + m)) ≤ epoch_in_force (in_force image)
+
+-- nothing open: where something was, it isn't known where the machine stands
+abbrev pub closed : HalfDone → HalfDone
+closed half = record half { at = if is_some half.opened then None else half.at; opened = None }
+
+-- what power on makes of what an image stands for
+abbrev pub recovered : Standing → Standing
+recovered s = record s { saved = record s.saved { half = option_map closed s.saved.half } }

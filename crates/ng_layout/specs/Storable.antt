@@ -1,0 +1,24 @@
+-- What can be stored: the states that an interpreter reaches (own).
+use Rattle.std.specs.Prelude.{◌≡◌, ◌≤◌, ℕ, ◌≤ℤ◌, pos, length, IsSome, IsNone, IfSome}
+use Rattle.ng_block.specs.declared.machine.Machine.{Machine}
+use Rattle.ng_layout.specs.Limits.{greatest_slot, longest_text, longest_program}
+use Rattle.ng_layout.specs.Stored.{HalfDone, Saved}
+
+-- feed and speed aren't negative, and slots have their numbers
+pub record CanStand (machine : Machine) : Type 0 where
+  pub feed : pos 0 ≤ℤ machine.feed_per_min
+  pub speed : pos 0 ≤ℤ machine.outputs.speed
+  pub selected : machine.outputs.selected_slot ≤ greatest_slot
+  pub held : machine.outputs.spindle_slot ≤ greatest_slot
+
+-- while something is open, where the machine stands isn't known
+pub record CanWait (half : HalfDone) : Type 0 where
+  pub unknown : IsSome half.opened → IsNone half.at
+  pub text : length half.text ≤ longest_text
+
+pub record IsStorable (saved : Saved) : Type 0 where
+  pub table : length saved.setup.params ≡ 5399
+  pub machine : CanStand saved.setup.machine
+  pub half : IfSome saved.half CanWait
+  pub place : saved.place ≤ saved.length
+  pub program : saved.length ≤ longest_program

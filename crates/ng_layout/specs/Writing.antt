@@ -1,0 +1,71 @@
+-- How what is stored stands in the numbers of a state field (own). What isn't known or kept is written as 0.
+use Rattle.std.specs.Prelude.{ℕ, ◌+◌, ◌-◌, ◌++◌, ℤ, pos, unsigned_abs, length, replicate, Option, Some, None, is_some, unwrap_or, if◌then◌else◌}
+use Rattle.ng_num.specs.Points.{origin}
+use Rattle.ng_num.specs.declared.point.Point.{Point}
+use Rattle.ng_block.specs.declared.machine.Machine.{Machine}
+use Rattle.ng_block.specs.declared.machine.KeptWords.{KeptWords}
+use Rattle.ng_layout.specs.Codes.{code_of_motion, code_of_plane, code_of_distance, code_of_feed_mode, code_of_unit, code_of_retract, code_of_path, code_of_spindle, code_of_truth, code_of_source, code_of_opened}
+use Rattle.ng_layout.specs.Limits.{longest_text}
+use Rattle.ng_layout.specs.Stored.{HalfDone, Report}
+use Rattle.ng_layout.specs.declared.field.Triple.{Triple}
+use Rattle.ng_layout.specs.declared.field.KeptField.{KeptField}
+use Rattle.ng_layout.specs.declared.field.CodeField.{CodeField}
+use Rattle.ng_layout.specs.declared.field.HalfField.{HalfField}
+use Rattle.ng_layout.specs.declared.field.StateField.{StateField}
+
+abbrev pub triple_of : Point → Triple
+triple_of p = record { x = p.x; y = p.y; z = p.z }
+
+abbrev pub kept_field : KeptWords → KeptField
+kept_field k = record { r = unwrap_or k.r (pos 0); z = unwrap_or k.z (pos 0); p = unwrap_or k.p (pos 0); q = unwrap_or k.q (pos 0) }
+
+-- a bit for each of R, Z, P, Q
+abbrev pub kept_bits : KeptWords → ℕ
+kept_bits k = (if is_some k.r then 1 else 0) + (if is_some k.z then 2 else 0) + (if is_some k.p then 4 else 0) + (if is_some k.q then 8 else 0)
+
+abbrev pub codes_of : Machine → CodeField
+codes_of m = record {
+  motion = code_of_motion m.modes.motion;
+  plane = code_of_plane m.modes.plane;
+  distance = code_of_distance m.modes.distance;
+  feed_mode = code_of_feed_mode m.modes.feed_mode;
+  unit = code_of_unit m.modes.unit;
+  retract = code_of_retract m.modes.retract;
+  system = m.modes.system;
+  path = code_of_path m.modes.path;
+  spindle = code_of_spindle m.outputs.spindle;
+  mist = code_of_truth m.outputs.mist;
+  flood = code_of_truth m.outputs.flood;
+  overrides = code_of_truth m.modes.overrides;
+  place_known = code_of_truth m.place_known;
+  kept = kept_bits m.kept;
+}
+
+abbrev pub half_field : Option HalfDone → HalfField
+half_field None = record { source = 0; opened = 0; at_known = 0; length = 0; index = 0; at = triple_of origin; text = replicate longest_text 0 }
+half_field (Some half) = record {
+  source = code_of_source half.source;
+  opened = code_of_opened half.opened;
+  at_known = code_of_truth (is_some half.at);
+  length = length half.text;
+  index = half.index;
+  at = triple_of (unwrap_or half.at origin);
+  text = half.text ++ replicate (longest_text - length half.text) 0;
+}
+
+unfoldable pub field_of : Report → StateField
+field_of r = record {
+  entries = r.entries;
+  place = r.place;
+  point = triple_of r.machine.point;
+  feed = unsigned_abs r.machine.feed_per_min;
+  speed = unsigned_abs r.machine.outputs.speed;
+  g92 = triple_of r.machine.offsets.g92;
+  origin = triple_of r.machine.offsets.origin;
+  tool_length = r.machine.offsets.tool_length;
+  kept = kept_field r.machine.kept;
+  codes = codes_of r.machine;
+  selected_slot = r.machine.outputs.selected_slot;
+  spindle_slot = r.machine.outputs.spindle_slot;
+  half = half_field r.half;
+}

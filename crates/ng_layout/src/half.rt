@@ -1,0 +1,75 @@
+//! A half-done block, as it is stored.
+ghost use Rattle.std.specs.Prelude.{◌≡◌, ◌≤◌, length};
+
+use arrayvec::ArrayVec;
+use ng_num::Point;
+use std::marker::Model;
+
+/// Where the line of a half-done block came from (own).
+#[derive(Clone, Copy, Debug, PartialEq, Eq)]
+pub enum Source {
+    Program,
+    Mdi,
+}
+
+/// What of a half-done block is open: it may have been handed out in part (own).
+#[derive(Clone, Copy, Debug, PartialEq, Eq)]
+pub enum Opened {
+    /// The segment of its index.
+    Segment,
+    /// The way back to where that segment begins.
+    Approach,
+}
+
+/// The most bytes of its text.
+pub const TEXT: usize = 256;
+
+/// The text of these bytes.
+pub fn text_of(bytes: &[u8]) -> ArrayVec<u8, TEXT>
+    requires { length bytes.now ≤ 256 }
+    ensures { result.items ≡ bytes.now }
+{
+    let mut text = ArrayVec::new();
+    for byte in bytes {
+        text.push(*byte);
+    }
+    text
+}
+
+/// A block that was begun and isn't done (own). Contracts see a `HalfDone`.
+#[derive(Debug, Drop)]
+pub struct Half {
+    /// Its line, without the line's end.
+    pub text: ArrayVec<u8, TEXT>,
+    pub source: Source,
+    /// The segment that is open or comes next, counted from 0.
+    pub index: u64,
+    /// Where the machine stands, in machine coordinates, if that is known.
+    pub at: Option<Point>,
+    pub opened: Option<Opened>,
+}
+
+impl Model for Half {
+    ghost use Rattle.ng_layout.specs.Stored.{HalfDone};
+
+    ghost Value = { HalfDone };
+
+    ghost view = { λ h. record { text = h.text.items; source = h.source; index = h.index; at = h.at; opened = h.opened } };
+}
+
+impl Half {
+    ghost use Rattle.std.specs.Prelude.{◌≡◌};
+
+    /// One equal to it.
+    pub fn copy(&self) -> Half
+        ensures { result ≡ self.now }
+    {
+        Half {
+            text: text_of(self.text.as_slice()),
+            source: self.source,
+            index: self.index,
+            at: self.at,
+            opened: self.opened,
+        }
+    }
+}

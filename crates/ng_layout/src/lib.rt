@@ -1,0 +1,21 @@
+//! Where what the journal stores stands in the sectors of a device, and what such sectors stand for.
+#![tactic(auto)]
+
+mod bytes;
+mod codes;
+mod field;
+mod half;
+mod header;
+mod part;
+mod report;
+mod sectors;
+mod stored;
+mod writing;
+
+pub use field::{CodeField, FIELD, HalfField, KeptField, StateField, Triple};
+pub use half::{Half, Opened, Source, TEXT, text_of};
+pub use header::{Header, LONGEST_PROGRAM};
+pub use part::epoch_of_part;
+pub use report::{GREATEST_COUNT, Reported};
+pub use sectors::{BYTES, take_values, text_sector};
+pub use stored::Stored;

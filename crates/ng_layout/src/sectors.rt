@@ -1,0 +1,90 @@
+//! Sectors of parameters and of a program's text.
+ghost use Rattle.std.specs.Prelude.{◌≡◌, ◌≤◌, ◌<◌, ◌+◌, ◌*◌, ◌-◌, ◌++◌, length, replicate};
+ghost use Rattle.std.specs.Bool.{OnTrue, OnFalse};
+ghost use Rattle.ng_layout.specs.Sectors.{HoldsValues, TakesValues, IsBeyond, HoldsText};
+
+use crate::bytes::{get_i64, put_i64};
+use ng_num::Num;
+use ng_params::{Index, Params};
+use std::alloc::Allocator;
+
+/// How many parameters a sector holds.
+pub(crate) const VALUES: usize = 64;
+
+/// How many bytes a sector has.
+pub const BYTES: usize = 512;
+
+/// How many parameters there are.
+pub(crate) const PARAMETERS: usize = 5399;
+
+/// The sector of 64 parameters, the first of them at this index of the table, counted from 0.
+pub(crate) fn values_sector<A: Allocator + Copy + Drop>(
+    table: &Params<A>,
+    first: usize,
+) -> [u8; BYTES]
+    requires { first ≤ 5399 }
+    ensures { HoldsValues table.now first result }
+{
+    let mut sector = [0; BYTES];
+    for k in 0..VALUES {
+        if first + k < PARAMETERS {
+            let value = table.get(Index::known((first + k) as u16 + 1));
+            put_i64(&mut sector, 8 * k, value.count());
+        }
+    }
+    sector
+}
+
+/// Takes over the values of a sector, the first of them for this index; false where one is beyond the range, and
+/// those before it were taken over.
+pub fn take_values<A: Allocator + Copy + Drop>(
+    table: &mut Params<A>,
+    first: usize,
+    sector: &[u8; BYTES],
+) -> bool
+    requires { first ≤ 5399 }
+    ensures taken { OnTrue result (TakesValues table.old table.new first sector.now) }
+    ensures beyond { OnFalse result (IsBeyond first sector.now) }
+{
+    for k in 0..VALUES {
+        if first + k < PARAMETERS {
+            match Num::of(i128::from(get_i64(sector, 8 * k))) {
+                Ok(value) => table.set(Index::known((first + k) as u16 + 1), value),
+                Err(_) => return false,
+            }
+        }
+    }
+    true
+}
+
+/// Makes one table equal to another, in place.
+pub(crate) fn copy_table<A: Allocator + Copy + Drop>(into: &mut Params<A>, from: &Params<A>)
+    requires into { length into.old ≡ 5399 }
+    requires from { length from.now ≡ 5399 }
+    ensures { into.new ≡ from.now }
+{
+    for k in 0..PARAMETERS {
+        let index = Index::known(k as u16 + 1);
+        into.set(index, from.get(index));
+    }
+}
+
+/// The sector that begins with these bytes and goes on with zeros.
+fn padded(bytes: &[u8]) -> [u8; BYTES]
+    requires { length bytes.now ≤ 512 }
+    ensures { result ≡ bytes.now ++ replicate (512 - length bytes.now) 0 }
+{
+    let mut sector = [0; BYTES];
+    sector[..bytes.len()].copy_from_slice(bytes);
+    sector
+}
+
+/// The sector of 512 bytes of a text, the first of them at this index; zeros past the text's end.
+pub fn text_sector(text: &[u8], first: usize) -> [u8; BYTES]
+    requires within { first ≤ length text.now }
+    requires small { length text.now ≤ 131_072 }
+    ensures { HoldsText text.now first result }
+{
+    let end = text.len().min(first + BYTES);
+    padded(&text[first..end])
+}

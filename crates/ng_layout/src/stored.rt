@@ -1,0 +1,130 @@
+//! What is stored of a controller.
+ghost use Rattle.std.specs.Prelude.{◌≡◌, ◌≤◌, ◌<◌, drop, replicate, length, Some, IfOk};
+ghost use Rattle.std.specs.Option.{option_map};
+ghost use Rattle.ng_layout.specs.Fields.{number_at};
+ghost use Rattle.ng_layout.specs.StateField.{field_at};
+ghost use Rattle.ng_layout.specs.Storable.{IsStorable};
+ghost use Rattle.ng_layout.specs.Snapshot.{HoldsPart};
+
+use crate::field::StateField;
+use crate::half::Half;
+use crate::report::Reported;
+use crate::sectors::{BYTES, VALUES, copy_table, values_sector};
+use ng_block::State;
+use std::alloc::{AllocError, Allocator};
+use std::marker::Model;
+
+/// What is stored beside the program's text (own). Contracts see a `Saved`.
+#[derive(Drop)]
+pub struct Stored<A: Allocator> {
+    /// The number of entries that were committed.
+    pub entries: u64,
+    pub state: State<A>,
+    /// The byte of the program at which the next line begins.
+    pub place: u64,
+    /// The number of bytes of the program.
+    pub length: u64,
+    pub half: Option<Half>,
+}
+
+impl<A: Allocator> Model for Stored<A> {
+    ghost use Rattle.ng_layout.specs.Stored.{Saved};
+
+    ghost Value = { Saved };
+
+    ghost view = { λ s. record { entries = s.entries; setup = s.state; place = s.place; length = s.length; half = s.half } };
+}
+
+impl<A: Allocator + Copy + Drop> Stored<A> {
+    ghost use Rattle.ng_layout.specs.Stored.{fresh, with_report};
+    ghost use Rattle.ng_layout.specs.Stands.{closed};
+
+    /// Of a fresh controller, with no program. `AllocError` where the table found no memory.
+    pub fn fresh(alloc: A) -> Result<Stored<A>, AllocError>
+        ensures value { IfOk result (λ s. s ≡ fresh) }
+        ensures table { IfOk result (λ s. length s.setup.params ≡ 5399) }
+    {
+        Ok(Stored {
+            entries: 0,
+            state: State::fresh(alloc)?,
+            place: 0,
+            length: 0,
+            half: None,
+        })
+    }
+
+    /// Takes over what a state field says beside a program of this length; the parameters stay.
+    pub fn take_report(&mut self, report: Reported, length: u64)
+        ensures { self.new ≡ with_report self.old report length }
+    {
+        self.entries = report.entries;
+        self.state.machine = report.machine;
+        self.place = report.place;
+        self.length = length;
+        self.half = report.half;
+    }
+
+    /// Nothing is open any more: where something was, it isn't known where the machine stands.
+    pub fn close(&mut self)
+        ensures value { self.new ≡ record self.old { half = option_map closed self.old.half } }
+        ensures storable { IsStorable self.old → IsStorable self.new }
+    {
+        if let Some(half) = &mut self.half {
+            if half.opened.is_some() {
+                half.opened = None;
+                half.at = None;
+            }
+        }
+    }
+
+    /// Takes over a half-done block; all else stays. It takes no memory.
+    pub fn take_half(&mut self, half: &Half)
+        ensures { self.new ≡ record self.old { half = Some half.now } }
+    {
+        self.half = Some(half.copy());
+    }
+
+    /// Takes over all of another. It takes no memory.
+    pub fn take_over(&mut self, other: &Stored<A>)
+        requires own { length self.old.setup.params ≡ 5399 }
+        requires other { length other.now.setup.params ≡ 5399 }
+        ensures { self.new ≡ other.now }
+    {
+        copy_table(&mut self.state.params, &other.state.params);
+        self.state.machine = other.state.machine;
+        self.entries = other.entries;
+        self.place = other.place;
+        self.length = other.length;
+        self.half = match &other.half {
+            Some(half) => Some(half.copy()),
+            None => None,
+        };
+    }
+
+    /// The sector of a snapshot that holds this part of it: the state field first, then the parameters.
+    pub fn sector(&self, part: usize) -> [u8; BYTES]
+        requires part { part < 86 }
+        requires count { self.now.entries ≤ 1_000_000_000_000 }
+        requires storable { IsStorable self.now }
+        ensures { HoldsPart self.now part result }
+    {
+        if part == 0 {
+            let half = self.half.as_ref();
+            let field = StateField::of(self.entries, self.place, &self.state.machine, half);
+            state_sector(&field)
+        } else {
+            values_sector(&self.state.params, VALUES * (part - 1))
+        }
+    }
+}
+
+/// The sector that holds a state field, in which all else is 0.
+fn state_sector(field: &StateField) -> [u8; BYTES]
+    ensures field { field_at result ≡ field.now }
+    ensures gap { number_at 1 165 result ≡ 0 }
+    ensures rest { drop 456 result ≡ replicate 56 0 }
+{
+    let mut sector = [0; BYTES];
+    field.write(&mut sector);
+    sector
+}

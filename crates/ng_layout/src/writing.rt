@@ -1,0 +1,175 @@
+//! The numbers of a state field that say what is stored.
+ghost use Rattle.std.specs.Prelude.{◌≡◌, ◌≤◌, ◌≤ℤ◌, ◌++◌, ◌-◌, ℕ, pos, true, false, length, replicate, unsigned_abs, unwrap_or, IfSome, Some, None};
+ghost use Rattle.std.specs.Option.{option_copied};
+ghost use Rattle.ng_num.specs.Range.{IsCount};
+ghost use Rattle.ng_layout.specs.Report.{count_of, point_of, modes_of, outputs_of, offsets_of, kept_of, machine_of, half_of, report_of};
+ghost use Rattle.ng_layout.specs.Writing.{triple_of, kept_field, kept_bits, codes_of, half_field, field_of};
+ghost use Rattle.ng_layout.specs.Storable.{CanStand, CanWait};
+
+use crate::codes::{
+    code_of_distance, code_of_feed_mode, code_of_motion, code_of_opened, code_of_path,
+    code_of_plane, code_of_retract, code_of_source, code_of_spindle, code_of_truth, code_of_unit,
+};
+use crate::field::{CodeField, HalfField, KeptField, StateField, Triple};
+use crate::half::{Half, TEXT};
+use ng_block::{KeptWords, Machine};
+use ng_num::{Len, Num, Point};
+
+fn triple_of(point: Point) -> Triple
+    ensures is { result ≡ triple_of point }
+    ensures means { point_of result ≡ Some point }
+{
+    Triple {
+        x: point.x.nm(),
+        y: point.y.nm(),
+        z: point.z.nm(),
+    }
+}
+
+fn len_or_0(len: Option<Len>) -> i64
+    ensures is { result ≡ unwrap_or len (pos 0) }
+    ensures range { IsCount result }
+{
+    match len {
+        Some(len) => len.nm(),
+        None => 0,
+    }
+}
+
+fn num_or_0(num: Option<Num>) -> i64
+    ensures is { result ≡ unwrap_or num (pos 0) }
+    ensures range { IsCount result }
+{
+    match num {
+        Some(num) => num.count(),
+        None => 0,
+    }
+}
+
+fn kept_field(kept: KeptWords) -> KeptField
+    ensures is { result ≡ kept_field kept }
+    ensures means { kept_of (kept_bits kept) result ≡ Some kept }
+{
+    KeptField {
+        r: len_or_0(kept.r),
+        z: len_or_0(kept.z),
+        p: num_or_0(kept.p),
+        q: len_or_0(kept.q),
+    }
+}
+
+fn kept_bits(kept: KeptWords) -> u8
+    ensures { result ≡ kept_bits kept }
+{
+    let r = if kept.r.is_some() { 1 } else { 0 };
+    let z = if kept.z.is_some() { 2 } else { 0 };
+    let p = if kept.p.is_some() { 4 } else { 0 };
+    let q = if kept.q.is_some() { 8 } else { 0 };
+    r + z + p + q
+}
+
+fn codes_of(machine: &Machine) -> CodeField
+    ensures is { result ≡ codes_of machine.now }
+    ensures modes { modes_of result ≡ Some machine.now.modes }
+{
+    let modes = machine.modes;
+    let outputs = machine.outputs;
+    CodeField {
+        motion: code_of_motion(modes.motion),
+        plane: code_of_plane(modes.plane),
+        distance: code_of_distance(modes.distance),
+        feed_mode: code_of_feed_mode(modes.feed_mode),
+        unit: code_of_unit(modes.unit),
+        retract: code_of_retract(modes.retract),
+        system: modes.system.number(),
+        path: code_of_path(modes.path),
+        spindle: code_of_spindle(outputs.spindle),
+        mist: code_of_truth(outputs.mist),
+        flood: code_of_truth(outputs.flood),
+        overrides: code_of_truth(modes.overrides),
+        place_known: code_of_truth(machine.place_known),
+        kept: kept_bits(machine.kept),
+    }
+}
+
+fn text_field(text: &[u8]) -> [u8; TEXT]
+    requires { length text.now ≤ 256 }
+    ensures { result ≡ text.now ++ replicate (256 - length text.now) 0 }
+{
+    let mut field = [0; TEXT];
+    field[..text.len()].copy_from_slice(text);
+    field
+}
+
+fn half_field(half: &Half) -> HalfField
+    requires { CanWait half.now }
+    ensures is { result ≡ half_field (Some half.now) }
+    ensures means { half_of result ≡ Some (Some half.now) }
+{
+    HalfField {
+        source: code_of_source(half.source),
+        opened: code_of_opened(half.opened),
+        at_known: code_of_truth(half.at.is_some()),
+        length: half.text.len() as u16,
+        index: half.index,
+        at: triple_of(half.at.unwrap_or(Point::zero())),
+        text: text_field(half.text.as_slice()),
+    }
+}
+
+/// Where there is no half-done block.
+fn no_half_field() -> HalfField
+    ensures is { result ≡ half_field None }
+    ensures means { half_of result ≡ Some None }
+{
+    HalfField {
+        source: 0,
+        opened: 0,
+        at_known: 0,
+        length: 0,
+        index: 0,
+        at: triple_of(Point::zero()),
+        text: [0; TEXT],
+    }
+}
+
+fn half_field_of(half: Option<&Half>) -> HalfField
+    requires { IfSome half (λ h. CanWait h.now) }
+    ensures is { result ≡ half_field (option_copied half.entry) }
+    ensures means { half_of result ≡ Some (option_copied half.entry) }
+{
+    match half {
+        Some(half) => half_field(half),
+        None => no_half_field(),
+    }
+}
+
+impl StateField {
+    /// The state field of what is stored: it says that, beside any program that the place lies in.
+    pub fn of(entries: u64, place: u64, machine: &Machine, half: Option<&Half>) -> StateField
+        requires count { entries ≤ 1_000_000_000_000 }
+        requires machine { CanStand machine.now }
+        requires half { IfSome half (λ h. CanWait h.now) }
+        ensures is { result ≡ field_of (record { entries = entries; place = place; machine = machine.now; half = option_copied half.entry }) }
+        ensures means { (length : ℕ) → place ≤ length → report_of length result
+            ≡ Some (record { entries = entries; place = place; machine = machine.now; half = option_copied half.entry }) }
+    {
+        let offsets = machine.offsets;
+        let outputs = machine.outputs;
+        StateField {
+            entries,
+            place,
+            point: triple_of(machine.point),
+            feed: machine.feed_per_min.nm().unsigned_abs(),
+            speed: outputs.speed.count().unsigned_abs(),
+            g92: triple_of(offsets.g92),
+            origin: triple_of(offsets.origin),
+            tool_length: offsets.tool_length.nm(),
+            kept: kept_field(machine.kept),
+            codes: codes_of(machine),
+            selected_slot: u16::from(outputs.selected_slot),
+            spindle_slot: u16::from(outputs.spindle_slot),
+            half: half_field_of(half),
+        }
+    }
+}
