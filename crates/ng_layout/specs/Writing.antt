@@ -1,6 +1,6 @@
 -- How what is stored stands in the numbers of a state field (own). What isn't known or kept is written as 0.
 use Rattle.std.specs.Prelude.{ℕ, ◌+◌, ◌-◌, ◌++◌, ℤ, pos, unsigned_abs, length, replicate, Option, Some, None, is_some, unwrap_or, if◌then◌else◌}
-use Rattle.ng_num.specs.Points.{origin}
+use Rattle.ng_num.specs.Points.{zero_point}
 use Rattle.ng_num.specs.declared.point.Point.{Point}
 use Rattle.ng_block.specs.declared.machine.Machine.{Machine}
 use Rattle.ng_block.specs.declared.machine.KeptWords.{KeptWords}
@@ -42,14 +42,14 @@ codes_of m = record {
 }
 
 abbrev pub half_field : Option HalfDone → HalfField
-half_field None = record { source = 0; opened = 0; at_known = 0; length = 0; index = 0; at = triple_of origin; text = replicate longest_text 0 }
+half_field None = record { source = 0; opened = 0; at_known = 0; length = 0; index = 0; at = triple_of zero_point; text = replicate longest_text 0 }
 half_field (Some half) = record {
   source = code_of_source half.source;
   opened = code_of_opened half.opened;
   at_known = code_of_truth (is_some half.at);
   length = length half.text;
   index = half.index;
-  at = triple_of (unwrap_or half.at origin);
+  at = triple_of (unwrap_or half.at zero_point);
   text = half.text ++ replicate (longest_text - length half.text) 0;
 }
 
