@@ -1,5 +1,5 @@
 -- Percent programs: the fold by the kind of the first line is the fold by the lines before.
-use Rattle.std.proofs.Common.{◌≡◌, ℕ, ◌+◌, List, [], ◌∷◌, ◌++◌, length, Bool, true, false, cond, Result, Ok, Err, refl, sym, ap, ◌∙◌, arith, length-append}
+use Rattle.std.proofs.Common.{◌≡◌, ℕ, ◌+◌, List, [], ◌∷◌, ◌++◌, length, cond, Result, Ok, Err, refl, ap, ◌∙◌, arith, length-append}
 use Rattle.ng_num.specs.declared.fault.Fault.{Fault}
 use Rattle.ng_words.specs.Kinds.{kind_of}
 use Rattle.ng_words.specs.declared.start.Kind.{Kind}

@@ -1,10 +1,11 @@
 //! Blocks: what a line of a program does, and the dry run of a whole program.
 //!
-//! `execute` answers what a line does in a state: the new machine, the parameters that change, the segments and the
-//! canonical commands in their order, or the first fault that refuses it. `dry` folds that over the lines of a
-//! program as they are read, from the fresh state, and writes the text of the commands; its contract says exactly
-//! which text, for every reader and writer. Both stand on the reader of lines, the parameter table and the
-//! canonical text of the crates below.
+//! `execute` answers what a line does in a state, or the first fault that refuses it: the new machine, the parameters
+//! that change, and the plan of the block, whose commands and segments come one at a time, in the order of its steps,
+//! through cursors whose models are the lists. `Places::execute` is the one way for a line: `dry` runs it in places
+//! that it keeps, `execute` in new ones. `dry` folds it over the lines of a program as they are read, from the fresh
+//! state, and writes the text of the commands as they come; its contract says exactly which text, for every reader
+//! and writer. The crate stands on the reader of lines, the parameter table and the canonical text below it.
 //!
 //! Built are straight moves, both feed modes, spindle, tools, coolant, dwells, planes, units, modes that are only recorded, and
 //! all stops. What a line asks for, and whether it may, is `ng_modal`'s; the codes that it accepts and that aren't built here

@@ -1,7 +1,6 @@
 //! Writing what a run has made.
 ghost use Rattle.std.specs.Prelude.{◌≡◌, ◌++◌, ◌∷◌, [], map, OnOk, OnErr, codes};
 ghost use Rattle.std.specs.Fmt.{decimal};
-ghost use Rattle.std.specs.Io.KnownBytes.{Appends};
 ghost use Rattle.ng_canon.specs.Text.{StaysWithin, canonical, canonical_text, command_text, numeric};
 ghost use Rattle.ng_block.specs.Dry.{commands_text, refusal_text};
 ghost use Rattle.ng_block.specs.Parts.{Writes, Wrote, Drains};

@@ -1,5 +1,5 @@
 //! A dry run between two lines.
-ghost use Rattle.std.specs.Prelude.{◌≡◌, ◌+◌, ◌<◌, ◌≤◌, ◌^◌, ◌∷◌, ◌++◌, [], Ok, Err, IfOk, MatchResult};
+ghost use Rattle.std.specs.Prelude.{◌≡◌, ◌+◌, ◌<◌, ◌≤◌, ◌^◌, ◌∷◌, [], Ok, Err, IfOk};
 ghost use Rattle.ng_block.specs.Dry.{is_end, Finishes, onto, refused};
 ghost use Rattle.ng_block.specs.Parts.{due, begun, Stepped, Wrote};
 

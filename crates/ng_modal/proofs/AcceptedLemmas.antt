@@ -1,7 +1,7 @@
 -- Where no cause holds, words are as they have to be.
 use Rattle.std.proofs.Common.{◌≡◌, ◌≤◌, arith, rules, ℕ, ℤ, pos, negsuc, Bool, true, false, List, Option, Some, None, refl, subst}
 use Rattle.std.specs.Prelude.{not, ◌||◌, ◌&&◌, nat_lt, nat_le, ◌≤ℤ◌, ◌≢◌, max, IsSome, IfSome, Result, Ok, Err, MatchResult, OnOk}
-use Rattle.std.specs.Option.{is_some, is_none, option_and_then}
+use Rattle.std.specs.Option.{is_none, option_and_then}
 use Rattle.std.proofs.lemmas.Bool.{ltb-false}
 use Rattle.ng_num.specs.Whole.{whole_of}
 use Rattle.ng_num.specs.declared.fault.Fault.{Fault}
@@ -14,11 +14,9 @@ use Rattle.ng_modal.specs.Lines.{takes_axes, motion_by, plane_after, is_cycle, m
 use Rattle.ng_modal.specs.Blocks.{block_of}
 use Rattle.ng_modal.specs.Causes.{is_idle, is_dwell, is_set_origin, is_of_slot, is_whole_within, is_within, is_negative, is_positive, is_along_z}
 use Rattle.ng_modal.specs.Check.{faults, checked, first_fault, unless, NoneHolds}
-use Rattle.ng_modal.specs.Accepted.{slot_of, slot_on, repeats_by, repeats_on, system_on, IsSlot, IsFromZero, IsAccepted}
+use Rattle.ng_modal.specs.Accepted.{slot_of, repeats_by, repeats_on, IsSlot, IsFromZero, IsAccepted}
 use Rattle.ng_modal.specs.declared.asks.NonModal.{NonModal}
-use Rattle.ng_modal.specs.declared.asks.NonModal.TheVariants.{Dwell, SetOrigin}
 use Rattle.ng_modal.specs.declared.asks.ToolLength.{ToolLength}
-use Rattle.ng_modal.specs.declared.asks.ToolLength.TheVariants.{OfSlot}
 use Rattle.ng_modal.specs.declared.block.Block.{Block}
 use Rattle.ng_modal.specs.declared.modes.Modes.{Modes}
 use Rattle.ng_modal.specs.declared.modes.Motion.{Motion}

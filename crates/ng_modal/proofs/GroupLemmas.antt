@@ -1,6 +1,6 @@
 -- A word of a group is there where a code of the group is.
 use Rattle.std.proofs.Common.{◌≡◌, ℕ, Bool, true, false, List, [], ◌∷◌, refl}
-use Rattle.std.specs.Prelude.{◌==◌, if◌then◌else◌, Option, Some, None}
+use Rattle.std.specs.Prelude.{◌==◌, if◌then◌else◌, Option}
 use Rattle.std.specs.Option.{is_some, option_and_then}
 use Rattle.ng_modal.specs.Groups.{number, m_number, group_of, m_group_of}
 use Rattle.ng_modal.specs.Words.{first, in_group, in_m_group, of_group, of_m_group}

@@ -1,5 +1,5 @@
 -- A straight move that asks for nothing that may be refused is lawful.
-use Rattle.std.proofs.Common.{◌≡◌, ◌≤◌, arith, ℕ, ℤ, Bool, true, false, List, [], ◌∷◌, Option, Some, None, refl, ap, ◌∙◌, length}
+use Rattle.std.proofs.Common.{◌≡◌, ◌≤◌, arith, ℕ, ℤ, Bool, true, false, List, [], ◌∷◌, Option, Some, None, refl, length}
 use Rattle.std.specs.Prelude.{not, ◌||◌, ◌&&◌, nat_lt, min, unwrap_or}
 use Rattle.std.specs.Option.{is_some, option_and_then}
 use Rattle.std.proofs.lemmas.Bool.{ltb-false, le-ltb}
@@ -8,14 +8,13 @@ use Rattle.ng_words.specs.declared.letter.Letter.TheVariants.{M}
 use Rattle.ng_expr.specs.declared.word.Word.{Word}
 use Rattle.ng_modal.specs.Words.{of_letter}
 use Rattle.ng_modal.specs.ByLetter.{has_axis}
-use Rattle.ng_modal.specs.Lines.{takes_axes, moving, motion_by, motion_after, plane_after, is_straight, is_arc, is_cycle}
+use Rattle.ng_modal.specs.Lines.{takes_axes, moving, motion_by, motion_after, is_straight, is_cycle}
 use Rattle.ng_modal.specs.Blocks.{block_of}
-use Rattle.ng_modal.specs.WordCauses.{is_repeated, has_unknown, has_left_out, has_group_twice, has_many_m, count_of_m}
-use Rattle.ng_modal.specs.Causes.{is_off, is_negative, is_along_z, takes_axes_twice, leaves_axis_unused, moves_no_axis, sets_nothing, has_bad_g53, has_radius_arc, leaves_word_unused, has_negative, has_bad_slot, has_bad_l, has_bad_system, has_no_dwell, has_no_h, has_cycle_plane}
+use Rattle.ng_modal.specs.WordCauses.{is_repeated, has_unknown, has_left_out, has_group_twice, has_many_m}
+use Rattle.ng_modal.specs.Causes.{is_off, is_negative, takes_axes_twice, leaves_axis_unused, moves_no_axis, sets_nothing, has_bad_g53, has_radius_arc, leaves_word_unused, has_negative, has_bad_slot, has_bad_l, has_bad_system, has_no_dwell, has_no_h, has_cycle_plane}
 use Rattle.ng_modal.specs.Check.{first_fault, faults, faults_of, NoneHolds}
 use Rattle.ng_modal.specs.Sorted.{sorted_in, is_marked, has_others, is_plain}
 use Rattle.ng_modal.specs.declared.block.Block.{Block}
-use Rattle.ng_modal.specs.declared.by_letter.ByLetter.{ByLetter}
 use Rattle.ng_modal.specs.declared.modes.Modes.{Modes}
 use Rattle.ng_modal.specs.declared.modes.Motion.{Motion}
 use Rattle.ng_modal.specs.declared.modes.Motion.TheVariants.{Traverse, Feed, Off}

@@ -1,9 +1,9 @@
 -- One word more in front of those taken.
-use Rattle.std.proofs.Common.{◌≡◌, ℕ, ℤ, Bool, true, false, List, ◌∷◌, Option, Some, None, refl}
+use Rattle.std.proofs.Common.{◌≡◌, ℕ, ℤ, Bool, true, false, List, ◌∷◌, Some, None, refl}
 use Rattle.std.specs.Prelude.{◌||◌, ◌&&◌}
 use Rattle.std.specs.Option.{is_some}
 use Rattle.ng_words.specs.declared.letter.Letter.{Letter}
-use Rattle.ng_words.specs.declared.letter.Letter.TheVariants.{G, M, A}
+use Rattle.ng_words.specs.declared.letter.Letter.TheVariants.{G, M}
 use Rattle.ng_expr.specs.declared.word.Word.{Word}
 use Rattle.ng_modal.specs.Codes.{g_word, m_word}
 use Rattle.ng_modal.specs.Groups.{group_of, m_group_of}

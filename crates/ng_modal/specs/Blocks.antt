@@ -1,5 +1,5 @@
 -- What a line's words ask for in the modes that they meet.
-use Rattle.std.specs.Prelude.{List, None}
+use Rattle.std.specs.Prelude.{List}
 use Rattle.ng_expr.specs.declared.word.Word.{Word}
 use Rattle.ng_modal.specs.Words.{g_codes_of, m_codes_of}
 use Rattle.ng_modal.specs.ByLetter.{by_letter}

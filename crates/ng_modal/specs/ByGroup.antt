@@ -1,5 +1,5 @@
 -- What the codes of a line ask for, by modal group (NISTIR 6556, 3.4).
-use Rattle.std.specs.Prelude.{Bool, List, Option}
+use Rattle.std.specs.Prelude.{Bool, List}
 use Rattle.std.specs.Option.{is_some, option_and_then}
 use Rattle.ng_modal.specs.Words.{first, of_group, of_m_group}
 use Rattle.ng_modal.specs.Meanings.{non_modal_of, motion_of, plane_of, distance_of, feed_mode_of, unit_of, tool_length_of, retract_of, system_of_code, path_of, stop_of, spindle_of, coolant_of, overrides_of}

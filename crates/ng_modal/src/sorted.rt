@@ -15,8 +15,9 @@ use ng_expr::Word;
 use ng_num::Num;
 use ng_words::Letter;
 
-/// Places for what the words of a line say together. They serve any number of lines, one after the other.
-#[derive(Clone, Copy, Debug, PartialEq, Eq)]
+/// Places for what the words of a line say together. They serve any number of lines, one after the other; what is kept beside
+/// the block is of use within a pass alone.
+#[derive(Clone, Copy)]
 pub struct Sorted {
     /// What the line asks for.
     pub block: Block,

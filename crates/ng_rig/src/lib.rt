@@ -22,6 +22,3 @@ pub use fail::FailRig;
 pub use fuse::FuseRig;
 pub use memory::MemoryRig;
 pub use rig::{Failed, Rig};
-
-#[cfg(test)]
-mod tests;

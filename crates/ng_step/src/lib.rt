@@ -23,8 +23,6 @@ mod rounding;
 mod spread;
 mod stepper;
 mod steps;
-#[cfg(test)]
-mod tests;
 mod timing;
 mod walk;
 mod wide;

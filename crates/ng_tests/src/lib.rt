@@ -8,6 +8,8 @@
 #[cfg(test)]
 mod commands;
 #[cfg(test)]
+mod device;
+#[cfg(test)]
 mod faults;
 #[cfg(test)]
 mod lines;
@@ -19,5 +21,7 @@ mod parameters;
 mod printing;
 #[cfg(test)]
 mod programs;
+#[cfg(test)]
+mod stepping;
 #[cfg(test)]
 mod values;

@@ -53,28 +53,57 @@ fn reads_the_words(rt: HostRuntime) -> Result<(), Fail> {
     Ok(())
 }
 
+/// How help begins, of the program and of `dry`; how the text of wrong words begins.
+const HELP: &str = "A controller for three-axis milling machines\n\nUsage: ngc <COMMAND>\n";
+
+const DRY_HELP: &str =
+    "Run a program without a machine and print its canonical text\n\nUsage: ngc dry [OPTIONS] <PROGRAM>\n";
+
+const WRONG: &str = "error: ";
+
 #[test]
 fn answers_wrong_words_and_help_with_text(rt: HostRuntime) -> Result<(), Fail> {
-    let wrong: [&[&str]; 14] = [
-        &["ngc"],
-        &["ngc", "--help"],
-        &["ngc", "dry"],
-        &["ngc", "dry", "--help"],
-        &["ngc", "dry", "a.ngc", "b.ngc"],
-        &["ngc", "wet", "a.ngc"],
-        &["ngc", "dry", "a.ngc", "--block-delete", "--block-delete"],
-        &["ngc", "dry", "--block-delete", "a.ngc", "--block-delete"],
-        &["ngc", "dry", "--block-delete"],
-        &["ngc", "dry", "a.ngc", "--block-delete=true"],
-        &["ngc", "dry", "a.ngc", "--block-deletes"],
-        &["ngc", "dry", "a.ngc", "--block"],
-        &["ngc", "dry", "a.ngc", "-b"],
-        &["ngc", "--block-delete", "dry", "a.ngc"],
+    let rows: [(&[&str], &str); 18] = [
+        (&["ngc"], HELP),
+        (&["ngc", "--help"], HELP),
+        (&["ngc", "help"], HELP),
+        (&["ngc", "--version"], "ngc 0.1.0\n"),
+        (&["ngc", "dry", "--help"], DRY_HELP),
+        (&["ngc", "help", "dry"], DRY_HELP),
+        (&["ngc", "dry"], WRONG),
+        (&["ngc", "help", "wet"], WRONG),
+        (&["ngc", "dry", "a.ngc", "b.ngc"], WRONG),
+        (&["ngc", "wet", "a.ngc"], WRONG),
+        (
+            &["ngc", "dry", "a.ngc", "--block-delete", "--block-delete"],
+            WRONG,
+        ),
+        (
+            &["ngc", "dry", "--block-delete", "a.ngc", "--block-delete"],
+            WRONG,
+        ),
+        (&["ngc", "dry", "--block-delete"], WRONG),
+        (&["ngc", "dry", "a.ngc", "--block-delete=true"], WRONG),
+        (&["ngc", "dry", "a.ngc", "--block-deletes"], WRONG),
+        (&["ngc", "dry", "a.ngc", "--block"], WRONG),
+        (&["ngc", "dry", "a.ngc", "-b"], WRONG),
+        (&["ngc", "--block-delete", "dry", "a.ngc"], WRONG),
     ];
-    for given in wrong {
+    for (given, beginning) in rows {
         let mut text = Vec::new(rt.alloc());
         assert!(rt; ngc(&rt, given, &mut text) == 2, "{given:?}");
-        assert!(rt; text.len() > 20, "{given:?}");
+        assert!(rt;
+            text.as_slice().starts_with(beginning.as_bytes()),
+            "{given:?}"
+        );
+        // help says what an exit status means
+        let says = text
+            .as_slice()
+            .ends_with(b"A file that can't be read prints nothing.\n");
+        assert!(rt;
+            says == (beginning == HELP || beginning == DRY_HELP),
+            "{given:?}"
+        );
     }
     Ok(())
 }

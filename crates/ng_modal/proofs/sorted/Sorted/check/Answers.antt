@@ -1,7 +1,4 @@
-use Rattle.std.proofs.Common.{◌≡◌, ◌≤◌, arith}
-use Rattle.std.specs.Prelude.{Result, Ok, Err, MatchResult}
-use Rattle.ng_num.specs.declared.fault.Fault.{Fault}
-use Rattle.ng_modal.specs.Check.{checked, faults, NoneHolds, IsLeast}
+use Rattle.std.proofs.Common.{◌≤◌, arith}
 use Rattle.ng_modal.proofs.LeastLemmas.{least_by}
 use Rattle.ng_modal.proofs.AcceptedLemmas.{accepted_by}
 use Rattle.ng_modal.proofs.sorted.Sorted.check.Goals as goal

@@ -1,4 +1,4 @@
-use Rattle.std.proofs.Common.{◌≡◌, ◌∙◌, Option, Some}
+use Rattle.std.proofs.Common.{◌≡◌, Some}
 use Rattle.ng_modal.specs.Codes.{g_word}
 use Rattle.ng_modal.proofs.SortedLemmas.{sorted_with_g}
 use Rattle.ng_modal.proofs.sorted.Sorted.take_g.Goals as goal

@@ -1,4 +1,4 @@
-use Rattle.std.proofs.Common.{◌≡◌, ◌∙◌, Option, Some}
+use Rattle.std.proofs.Common.{◌≡◌, Some}
 use Rattle.ng_modal.specs.Codes.{m_word}
 use Rattle.ng_modal.proofs.SortedLemmas.{sorted_with_m}
 use Rattle.ng_modal.proofs.sorted.Sorted.take_m.Goals as goal

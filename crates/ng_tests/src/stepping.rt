@@ -1,9 +1,9 @@
-use crate::Stepper;
 use ng_canon::{
     Arc, Axis, Geometry, InverseTime, Item, Outputs, Pace, Plane, Pulse, Rate, Segment, Step,
     StraightMove, Turn,
 };
 use ng_num::{Len, Num, Point};
+use ng_step::Stepper;
 use std::alloc::Global;
 use std::test::Fail;
 

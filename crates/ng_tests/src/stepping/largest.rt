@@ -1,7 +1,7 @@
 use super::{len, point, steps_of};
-use crate::Stepper;
 use ng_canon::{Arc, Geometry, InverseTime, Item, Pace, Plane, Segment, Step, Turn};
 use ng_num::{Num, Point};
+use ng_step::Stepper;
 use std::test::Fail;
 use std::time::Instant;
 

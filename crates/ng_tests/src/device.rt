@@ -1,9 +1,9 @@
 ghost use Rattle.std.specs.Prelude.{◌≡◌, ◌<◌, ◌+◌};
 ghost use Rattle.ng_rig.specs.MemoryRig.{sector_count};
 
-use crate::{FailRig, Failed, FuseRig, MemoryRig, Rig};
 use linked_list_allocator::LocalHeap;
 use ng_canon::{Item, Outputs, Pulse, Step};
+use ng_rig::{FailRig, Failed, FuseRig, MemoryRig, Rig};
 use std::alloc::{AllocError, Allocator};
 use std::test::Fail;
 

@@ -1,8 +1,8 @@
 ghost use Rattle.ng_rig.specs.Life.{Began};
 ghost use Rattle.std.specs.Prelude.{[]};
 
-use crate::{Failed, Rig};
 use ng_canon::Item;
+use ng_rig::{Failed, Rig};
 
 /// A device of one sector on which each call fails, and that promises nothing of what it holds.
 #[derive(Drop)]
