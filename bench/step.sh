@@ -1,7 +1,11 @@
 #!/bin/sh
-# Pulses of a long line and of full circles by the stepper, beside a C loop of the same rules: what each counted,
-# which must agree, and milliseconds. The line has 100,000,000 pulses, the circles 80,000,000.
+# Pulses of a long line (100,000,000) and of a full circle (80,000,000) by the stepper, beside a C loop of the same rules:
+# what each counted, which must agree, and milliseconds. Then a thousand steppers of each made: the sum of their first
+# pulses, and microseconds, which are nanoseconds for each; C has nothing to begin. `--rounds N` runs both N times and
+# takes the best: time is the clock's, so other work on the machine shows.
 set -e
+rounds=1
+if [ "$1" = --rounds ]; then rounds=$2; fi
 here=$(cd "$(dirname "$0")" && pwd)
 work=$(mktemp -d)
 trap 'rm -rf "$work"' EXIT
@@ -9,19 +13,35 @@ mkdir "$work/crates"
 for crate in ng_num ng_canon ng_step; do
     cp -r "$here/../crates/$crate" "$work/crates/"
 done
-mkdir -p "$work/crates/step_bench/src" "$work/crates/step_bench/proofs/all_steps"
-# The gate reads every source file of the repository, so these two carry another ending here.
+# The gate reads every source file of the repository, so these carry another ending here.
+mkdir -p "$work/crates/step_bench/src"
 cp "$here/step/main.txt" "$work/crates/step_bench/src/main.rt"
-cp "$here/step/all_steps_invariants.txt" "$work/crates/step_bench/proofs/all_steps/Invariants.antt"
+for function in line_steps circle_steps; do
+    mkdir -p "$work/crates/step_bench/proofs/$function"
+    sed "s/FUNCTION/$function/" "$here/step/invariants.txt" > "$work/crates/step_bench/proofs/$function/Invariants.antt"
+done
 grep -E '^ng_(num|canon|step):' "$here/../crates.txt" > "$work/crates.txt"
 echo 'step_bench: ng_step ng_canon ng_num' >> "$work/crates.txt"
-echo 'the stepper:'
 if ! (cd "$work/crates/step_bench" && rt run) > "$work/log" 2>&1; then
     cat "$work/log"
     exit 1
 fi
-grep -E '^(line|circles) ' "$work/log"
-echo 'C:'
 cc=$(command -v clang || command -v gcc || command -v cc)
 "$cc" -O2 -o "$work/rule" "$here/step/rule.c"
-"$work/rule"
+for round in $(seq "$rounds"); do
+    "$work/crates/step_bench/out/step_bench" | sed 's/^/stepper /'
+    "$work/rule" | sed 's/^/C /'
+done > "$work/times"
+cat "$work/times"
+# the best of the rounds, which other work on the machine disturbs least
+awk '
+    { key = $1 " " $2; if (!(key in best) || $4 < best[key]) best[key] = $4; sum[key] = $3 }
+    END {
+        split("line circle", parts)
+        for (i = 1; i <= 2; i++) {
+            part = parts[i]
+            if (sum["stepper " part] != sum["C " part]) { print part ": the sums differ"; exit 1 }
+            printf "%s: %d ms, C %d ms: %d %% of its rate\n", part, best["stepper " part], best["C " part], 100 * best["C " part] / best["stepper " part]
+        }
+        printf "new: a line %d ns, a circle %d ns\n", best["stepper begin_lines"], best["stepper begin_circles"]
+    }' "$work/times"

@@ -1,4 +1,4 @@
-// The same line and circles by the same rules, in C: error accumulators, and f by differences.
+// The same line and circle by the same rules, in C: error accumulators, and f by differences.
 #include <stdint.h>
 #include <stdio.h>
 #include <time.h>
@@ -57,11 +57,8 @@ int main(void) {
     uint64_t all = line(100000000, 61803398, 31415926);
     printf("line %llu %.0f\n", (unsigned long long)all, now_ms() - start);
     start = now_ms();
-    all = 0;
-    for (int k = 0; k < 100; k++) {
-        volatile int64_t r = 100000000;
-        all += circle(r, 1000);
-    }
-    printf("circles %llu %.0f\n", (unsigned long long)all, now_ms() - start);
+    volatile int64_t r = 10000000000;
+    all = circle(r, 1000);
+    printf("circle %llu %.0f\n", (unsigned long long)all, now_ms() - start);
     return 0;
 }

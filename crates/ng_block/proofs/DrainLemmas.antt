@@ -39,3 +39,23 @@ Drains-piece a b c all here piece rest left (Err fault) p q = (
 -- what waited, written otherwise
 pub Drains-from : {T : Type 0} (a b : Option (List ℕ)) (waiting before left : List ℕ) (r : Result T DryFault) → before ≡ waiting → Drains a b waiting left r → Drains a b before left r
 Drains-from a b waiting before left r e w = subst (λ l. Drains a b l left r) (sym e) w
+
+-- a piece printed behind what was printed before
+pub Drains-after : {T U : Type 0} (a b c : Option (List ℕ)) (all first here piece left : List ℕ) (x : T) (r : Result U DryFault)
+    → all ≡ first ++ piece → Drains a b first here (Ok x) → Drains b c (here ++ piece) left r → Drains a c all left r
+Drains-after a b c all first here piece left x (Ok y) e p q = (
+  p.0 ++ q.0,
+  Appends-trans a b c p.0 q.0 p.1 q.1,
+  e ∙ ap (λ l. l ++ piece) p.2 ∙ append_assoc p.0 here piece ∙ ap (λ l. p.0 ++ l) q.2 ∙ sym (append_assoc p.0 q.0 left),
+)
+Drains-after a b c all first here piece left x (Err fault) e p q = (
+  p.0 ++ q.0,
+  q.1,
+  Appends-trans a b c p.0 q.0 p.1 q.2,
+  e ∙ ap (λ l. l ++ piece) p.2 ∙ append_assoc p.0 here piece ∙ ap (λ l. p.0 ++ l) q.3 ∙ sym (append_assoc p.0 q.0 q.1),
+)
+
+-- where printing broke off before a piece
+pub Drains-short : (T U : Type 0) (a b : Option (List ℕ)) (all first piece left : List ℕ) (fault : DryFault)
+    → all ≡ first ++ piece → Drains {T = T} a b first left (Err fault) → Drains {T = U} a b all left (Err fault)
+Drains-short T U a b all first piece left fault e w = (w.0, w.1 ++ piece, w.2, e ∙ ap (λ l. l ++ piece) w.3 ∙ append_assoc w.0 w.1 piece)

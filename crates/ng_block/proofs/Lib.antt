@@ -6,3 +6,4 @@ pub mod StepLemmas
 pub mod DrainLemmas
 pub mod CloseLemmas
 pub mod TaskLemmas
+pub mod ModeLemmas

@@ -1,5 +1,5 @@
 -- The state after a block, one equation for each field (NISTIR 6556, 3.5, 3.6, 3.8; the program's end 3.6.1).
-use Rattle.std.specs.Prelude.{◌||◌, unwrap_or, if◌then◌else◌}
+use Rattle.std.specs.Prelude.{Bool, not, ◌||◌, unwrap_or, if◌then◌else◌}
 use Rattle.std.specs.Option.{is_some}
 use Rattle.ng_canon.specs.declared.plane.Plane.TheVariants.{Xy}
 use Rattle.ng_modal.specs.Lines.{motion_after, plane_after}
@@ -32,6 +32,12 @@ modes_after b m = record {
   path = unwrap_or b.g.path m.path;
   overrides = ends b.m.stop || unwrap_or b.m.overrides m.overrides;
 }
+
+-- no word of a block changes a mode but the motion
+abbrev pub keeps_modes : Block → Bool
+keeps_modes b =
+    not (is_some b.g.plane || is_some b.g.distance || is_some b.g.feed_mode || is_some b.g.unit || is_some b.g.retract || is_some b.g.path
+    || is_some b.m.overrides || is_some b.m.stop)
 
 -- another motion and the program's end drop the words that a cycle keeps
 abbrev pub kept_after : Block → KeptWords → KeptWords

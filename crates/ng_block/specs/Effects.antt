@@ -24,7 +24,7 @@ use Rattle.ng_block.specs.Blocks.{feed_mode_after}
 use Rattle.ng_block.specs.Ends.{stop_of}
 use Rattle.ng_block.specs.Goals.{Goal, goal_of}
 use Rattle.ng_block.specs.Faults.{path_faults}
-use Rattle.ng_block.specs.Tasks.{tasks_of, tasks_in}
+use Rattle.ng_block.specs.Tasks.{feed_set, tasks_of, tasks_in}
 use Rattle.ng_block.specs.After.{machine_after}
 use Rattle.ng_block.specs.Order.{Plan, commands_of, segments_of}
 
@@ -38,7 +38,7 @@ pub record Done : Type 0 where
 
 -- what is kept of a line
 abbrev pub plan_by : Effect → Plan
-plan_by e = record { remark = said_by e.plan.remark; tasks = tasks_in e.plan.tasks; path = e.plan.path; origin = e.machine.offsets.origin; before = e.plan.before }
+plan_by e = record { remark = said_by e.plan.remark; feed = e.plan.feed; tasks = tasks_in e.plan.tasks; path = e.plan.path; origin = e.machine.offsets.origin; before = e.plan.before }
 
 abbrev pub commands_by : Effect → List Canonical
 commands_by e = commands_of (plan_by e)
@@ -57,14 +57,15 @@ abbrev pub lawful : {X : Type 0} → Option Fault → Result X Fault → Result 
 lawful None answer = answer
 lawful (Some fault) answer = Err fault
 
-abbrev pub plan_of : List Canonical → Tasks → Goal → Machine → Plan
-plan_of remark tasks goal m = record { remark = remark; tasks = tasks; path = goal.path; origin = goal.offsets.origin; before = m.outputs }
+abbrev pub plan_of : List Canonical → Option ℤ → Tasks → Goal → Machine → Plan
+plan_of remark feed tasks goal m = record { remark = remark; feed = feed; tasks = tasks; path = goal.path; origin = goal.offsets.origin; before = m.outputs }
 
 -- what a lawful block does
 abbrev pub block_done : Block → Goal → List Canonical → Setup → Done
 block_done b goal remark s =
-    let tasks = tasks_of b (feed_mode_after b s.machine.modes) goal.feed_per_min s.machine.outputs in
-    let plan = plan_of remark tasks goal s.machine in
+    let mode = feed_mode_after b s.machine.modes in
+    let tasks = tasks_of b mode s.machine.outputs in
+    let plan = plan_of remark (feed_set b mode goal.feed_per_min) tasks goal s.machine in
     record { setup = changed s (machine_after b goal tasks s.machine) goal.changes; before = plan.before; segments = segments_of plan; commands = commands_of plan; stop = stop_of b.m.stop }
 
 -- what the values of a line do. It is refused by B1 to B19 of its words, then for a code that isn't built (B3), then for a computed

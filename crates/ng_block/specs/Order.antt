@@ -25,9 +25,11 @@ use Rattle.ng_block.specs.Ends.{ends}
 use Rattle.ng_block.specs.Paths.{path_segments, path_commands, spindle_command}
 use Rattle.ng_block.specs.Steps.{order}
 
--- what a block says, what its steps do, where its motion goes, the origin after it, and the outputs before it
+-- what a block says, the feed that its F sets, what its other words give to do, where its motion goes, the origin after it, and
+-- the outputs before it
 pub record Plan : Type 0 where
   pub remark : List Canonical
+  pub feed : Option ℤ
   pub tasks : Tasks
   pub path : Path
   pub origin : Point
@@ -56,7 +58,6 @@ stop_commands (Some word.EndWithShuttle) origin = command.OriginOffsets origin �
 
 -- what a step prints that has at most one command; nothing where none of its words has a command, and where its codes aren't built
 abbrev pub command_at : Tasks → Step → List Command
-command_at t step.Feed = command_for command.FeedRate t.feed
 command_at t step.SpindleSpeed = command_for command.SpindleSpeed t.speed
 command_at t step.SelectTool = command_for command.SelectTool t.selected_slot
 command_at t step.ChangeTool = command_for command.ChangeTool t.changed_slot
@@ -67,7 +68,7 @@ command_at t step.Units = command_for command.LengthUnits t.unit
 command_at t step.Motion = command_for command.InverseTime t.time
 command_at t _ = []
 
--- what a step but the remark prints, but for its moves
+-- what a step but the remark and the feed prints, but for its moves
 abbrev pub task_commands : Tasks → Point → Step → List Command
 task_commands t origin step.Coolant = coolant_commands t.coolant
 task_commands t origin step.Stop = stop_commands t.stop origin
@@ -75,6 +76,7 @@ task_commands t origin s = command_at t s
 
 -- the time of a move stands right before it
 abbrev pub numeric_at : Plan → Step → List Command
+numeric_at p step.Feed = command_for command.FeedRate p.feed
 numeric_at p step.Motion = command_at p.tasks step.Motion ++ path_commands p.path
 numeric_at p s = task_commands p.tasks p.origin s
 

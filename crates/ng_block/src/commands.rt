@@ -1,11 +1,11 @@
 //! A block's commands, one at a time.
-ghost use Rattle.std.specs.Prelude.{◌≡◌, ◌∷◌, [], map, MatchOption, IfSome};
+ghost use Rattle.std.specs.Prelude.{◌≡◌, ◌∷◌, ◌++◌, [], map, MatchOption, IfSome};
 ghost use Rattle.ng_canon.specs.Text.{canonical, numeric};
 ghost use Rattle.ng_block.specs.Commands.{begun_commands, rest_commands};
 ghost use Rattle.ng_block.specs.Effects.{plan_by, commands_by};
 ghost use Rattle.ng_block.specs.Paths.{pace_command};
 ghost use Rattle.ng_block.specs.Tasks.{tasks_in};
-ghost use Rattle.ng_block.specs.Order.{commands_at, numeric_at, command_at, task_commands, coolant_commands, stop_commands};
+ghost use Rattle.ng_block.specs.Order.{commands_at, numeric_at, command_for, command_at, task_commands, coolant_commands, stop_commands};
 
 use crate::effect::Effect;
 use crate::path::{Moves, Path, command_of, spindle_command};
@@ -14,7 +14,7 @@ use crate::tasks::Tasks;
 use arrayvec::ArrayVec;
 use ng_canon::{Canon, Command, Plane, StraightMove};
 use ng_modal::{Coolant, Stop as StopWord};
-use ng_num::Point;
+use ng_num::{Len, Point};
 use std::marker::Model;
 
 /// The most commands of a step but the motion.
@@ -22,12 +22,20 @@ const MOST: usize = 8;
 
 type OfStep = ArrayVec<Command, MOST>;
 
+fn put_feed(feed_per_min: Option<Len>, commands: &mut OfStep)
+    requires { commands.old.items ≡ [] }
+    ensures { commands.new.items ≡ command_for Command.FeedRate feed_per_min }
+{
+    if let Some(feed_per_min) = feed_per_min {
+        commands.push(Command::FeedRate(feed_per_min));
+    }
+}
+
 /// The command of a step that has at most one.
 fn command_at(tasks: &Tasks, step: Step) -> Option<Command>
     ensures { MatchOption result (command_at tasks.now step ≡ []) (λ command. command_at tasks.now step ≡ command ∷ []) }
 {
     let command = match step {
-        Step::Feed => Command::FeedRate(tasks.feed?),
         Step::SpindleSpeed => Command::SpindleSpeed(tasks.speed?),
         Step::SelectTool => Command::SelectTool(tasks.selected_slot?),
         Step::ChangeTool => Command::ChangeTool(tasks.changed_slot?),
@@ -152,10 +160,10 @@ impl Effect {
         }
     }
 
-    /// The one move of a block that only goes straight and says nothing; none of any other.
+    /// The one move of a block that only goes straight, behind the feed that it sets; none of any other.
     #[inline]
     pub(crate) fn only_move(&self) -> Option<&StraightMove>
-        ensures { IfSome result (λ move. commands_by self.now ≡ numeric (pace_command move.now.pace move.now.end) ∷ []) }
+        ensures { IfSome result (λ move. commands_by self.now ≡ map numeric (command_for Command.FeedRate self.now.plan.feed ++ pace_command move.now.pace move.now.end ∷ [])) }
     {
         if self.plan.tasks.is_some() || self.plan.remark.manner.is_some() {
             return None;
@@ -195,10 +203,15 @@ impl<'a> CommandsLeft<'a> {
     {
         self.waiting.clear();
         self.taken = 0;
+        let plan = &self.effect.plan;
+        if let Step::Feed = step {
+            put_feed(plan.feed, &mut self.waiting);
+            return;
+        }
         let origin = self.effect.machine.offsets.origin;
-        put_tasks(&self.effect.plan.tasks, origin, step, &mut self.waiting);
+        put_tasks(&plan.tasks, origin, step, &mut self.waiting);
         if let Step::Motion = step {
-            self.moves = Moves::of(&self.effect.plan.path);
+            self.moves = Moves::of(&plan.path);
         }
     }
 

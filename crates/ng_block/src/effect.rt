@@ -4,7 +4,7 @@ ghost use Rattle.std.specs.Prelude.{◌≡◌, ◌≤◌, [], Ok, Err, length, I
 ghost use Rattle.std.specs.Option.{option_map};
 ghost use Rattle.ng_params.specs.Points.{origin_of};
 ghost use Rattle.ng_params.specs.Changes.{with_changes};
-ghost use Rattle.ng_block.specs.After.{modes_after, kept_after};
+ghost use Rattle.ng_block.specs.After.{keeps_modes, modes_after, kept_after};
 ghost use Rattle.ng_block.specs.Goals.{offsets_after, changes_of, goal_of, goal_by};
 ghost use Rattle.ng_block.specs.Effects.{block_done, segments_by, commands_by, in_state};
 ghost use Rattle.ng_block.specs.Remarks.{remark_of};
@@ -19,7 +19,7 @@ use crate::plan::Plan;
 use crate::remark::Remark;
 use crate::state::State;
 use crate::switches::outputs_after;
-use crate::tasks::tasks_of;
+use crate::tasks::{feed_set, tasks_of};
 use arrayvec::ArrayVec;
 use ng_canon::Plane;
 use ng_modal::{Block, Distance, FeedMode, Modes, Motion};
@@ -55,8 +55,39 @@ pub struct Effect {
     pub(crate) plan: Plan,
 }
 
-/// The modes after a block.
+/// Whether no word of a block changes a mode but the motion.
+#[inline]
+fn keeps_modes(block: &Block) -> bool
+    ensures { result ≡ keeps_modes block.now }
+{
+    let words = &block.g;
+    !(words.plane.is_some()
+        | words.distance.is_some()
+        | words.feed_mode.is_some()
+        | words.unit.is_some()
+        | words.retract.is_some()
+        | words.path.is_some()
+        | block.m.overrides.is_some()
+        | block.m.stop.is_some())
+}
+
+/// The modes after a block. Most lines change none but the motion, so this is looked at first.
+#[inline]
 fn modes_after(block: &Block, modes: &Modes) -> Modes
+    ensures { result ≡ modes_after block.now modes.now }
+{
+    if keeps_modes(block) {
+        Modes {
+            motion: block.motion_after(modes),
+            ..*modes
+        }
+    } else {
+        modes_by(block, modes)
+    }
+}
+
+/// The same, mode by mode.
+fn modes_by(block: &Block, modes: &Modes) -> Modes
     ensures { result ≡ modes_after block.now modes.now }
 {
     let words = &block.g;
@@ -157,6 +188,7 @@ impl Effect {
             stop: Stop::GoesOn,
             plan: Plan {
                 remark: Remark::none(),
+                feed: None,
                 tasks: None,
                 path: Path::Still,
                 before: machine.outputs,
@@ -172,6 +204,7 @@ impl Effect {
         self.changes.clear();
         self.stop = stop;
         self.plan.remark.clear();
+        self.plan.feed = None;
         self.plan.tasks = None;
         self.plan.path = Path::Still;
         self.plan.before = state.machine.outputs;
@@ -210,7 +243,7 @@ impl Effect {
         let machine = &state.machine;
         let before = machine.outputs;
         let mode = feed_mode_after(block, &machine.modes);
-        let tasks = tasks_of(block, mode, self.machine.feed_per_min, &before);
+        let tasks = tasks_of(block, mode, &before);
         self.machine.outputs = outputs_after(&tasks, before);
         self.machine.modes = modes_after(block, &machine.modes);
         self.machine.kept = kept_after(block, machine.kept);
@@ -218,6 +251,7 @@ impl Effect {
         self.machine.place_known = machine.place_known;
         self.stop = stop_of(block.m.stop);
         self.plan.remark.take(comment);
+        self.plan.feed = feed_set(block, mode, self.machine.feed_per_min);
         self.plan.tasks = tasks;
         self.plan.before = before;
     }

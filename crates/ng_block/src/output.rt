@@ -1,17 +1,19 @@
 //! Writing what a run has made.
-ghost use Rattle.std.specs.Prelude.{◌≡◌, ◌++◌, [], OnOk, OnErr, codes};
+ghost use Rattle.std.specs.Prelude.{◌≡◌, ◌++◌, ◌∷◌, [], map, OnOk, OnErr, codes};
 ghost use Rattle.std.specs.Fmt.{decimal};
-ghost use Rattle.ng_canon.specs.Text.{StaysWithin, canonical, canonical_text, command_text};
+ghost use Rattle.ng_canon.specs.Text.{StaysWithin, canonical, canonical_text, command_text, numeric};
 ghost use Rattle.ng_block.specs.Dry.{commands_text, refusal_text};
 ghost use Rattle.ng_block.specs.Parts.{Writes, Wrote, Drains};
 ghost use Rattle.ng_block.specs.Effects.{commands_by};
+ghost use Rattle.ng_block.specs.Order.{command_for};
+ghost use Rattle.ng_block.specs.Paths.{pace_command};
 
 use crate::commands::Commands;
 use crate::effect::Effect;
 use crate::ending::DryFault;
 use crate::path::pace_command;
-use ng_canon::{Canon, Command, print, print_command};
-use ng_num::{Fault, print_whole};
+use ng_canon::{Canon, Command, StraightMove, print, print_command};
+use ng_num::{Fault, Len, print_whole};
 use std::alloc::{AllocError, Allocator};
 use std::io::Write;
 
@@ -152,6 +154,25 @@ fn push_line<A: Allocator + Copy + Drop>(
     text.extend_from_slice(b"\n")
 }
 
+/// Prints the feed that a line sets, and its move, likewise.
+#[inline]
+fn put_move<W: Write, A: Allocator + Copy + Drop>(
+    text: &mut Vec<u8, A>,
+    writer: &mut W,
+    feed_per_min: Option<Len>,
+    line: &StraightMove,
+) -> Result<(), DryFault>
+    ensures { Drains (W.contents writer.old) (W.contents writer.new) (text.old.items ++ commands_text (map numeric (command_for Command.FeedRate feed_per_min ++ pace_command line.now.pace line.now.end ∷ []))) text.new.items result }
+{
+    match feed_per_min {
+        None => put_command(text, writer, &pace_command(line.pace, line.end)),
+        Some(feed_per_min) => match put_command(text, writer, &Command::FeedRate(feed_per_min)) {
+            Ok(()) => put_command(text, writer, &pace_command(line.pace, line.end)),
+            Err(fault) => Err(fault),
+        },
+    }
+}
+
 /// Prints all commands of a line, likewise.
 fn put_all<W: Write, A: Allocator + Copy + Drop>(
     text: &mut Vec<u8, A>,
@@ -172,7 +193,7 @@ pub fn put_effect<W: Write, A: Allocator + Copy + Drop>(
     ensures { Drains (W.contents writer.old) (W.contents writer.new) (text.old.items ++ commands_text (commands_by effect.now)) text.new.items result }
 {
     match effect.only_move() {
-        Some(line) => put_command(text, writer, &pace_command(line.pace, line.end)),
+        Some(line) => put_move(text, writer, effect.plan.feed, line),
         None => put_all(text, writer, effect),
     }
 }

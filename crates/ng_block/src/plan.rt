@@ -3,12 +3,15 @@ use crate::path::Path;
 use crate::remark::Remark;
 use crate::tasks::Tasks;
 use ng_canon::Outputs;
+use ng_num::Len;
 
 /// A block that was found lawful.
 #[derive(Debug, Drop)]
 pub struct Plan {
     pub remark: Remark,
-    /// None where its words give nothing to do but to say and to move.
+    /// The feed that its F sets.
+    pub feed: Option<Len>,
+    /// None where its words give nothing else to do but to say and to move.
     pub tasks: Option<Tasks>,
     pub path: Path,
     /// The outputs before the block.

@@ -1,6 +1,8 @@
-//! What a block's words give its steps to do, but for its remark and its motion.
+//! What a block's words give its steps to do, but for its remark and its motion; the feed that its F sets stands apart, since
+//! most lines that do more than move set a feed and move.
 ghost use Rattle.std.specs.Prelude.{◌≡◌};
-ghost use Rattle.ng_block.specs.Tasks.{tasks_of, tasks_in, gives_nothing};
+ghost use Rattle.ng_block.specs.Blocks.{is_inverse};
+ghost use Rattle.ng_block.specs.Tasks.{feed_set, tasks_of, tasks_in, gives_nothing};
 
 use crate::goal::{feed_word, time_word};
 use ng_canon::{Outputs, Plane, Spindle};
@@ -10,8 +12,6 @@ use ng_num::{Len, Num, Unit};
 /// What words give the steps of a block to do.
 #[derive(Clone, Copy, Debug, PartialEq, Eq)]
 pub struct Tasks {
-    /// The feed after the line, where its F sets it.
-    pub feed: Option<Len>,
     /// S: revolutions a minute.
     pub speed: Option<Num>,
     /// The slot that T selects.
@@ -29,34 +29,51 @@ pub struct Tasks {
     pub stop: Option<StopWord>,
 }
 
-/// Whether no word of a block gives something to do.
-#[inline]
-fn gives_nothing(block: &Block) -> bool
-    ensures { result ≡ gives_nothing block.now }
+fn is_inverse(mode: FeedMode) -> bool
+    ensures { result ≡ is_inverse mode }
 {
-    !(block.values.f.is_some()
-        || block.values.s.is_some()
-        || block.values.t.is_some()
-        || block.m.tool_change
-        || block.m.spindle.is_some()
-        || block.m.coolant.is_some()
-        || block.g.non_modal.is_some()
-        || block.g.plane.is_some()
-        || block.g.unit.is_some()
-        || block.m.stop.is_some())
+    match mode {
+        FeedMode::PerMinute => false,
+        FeedMode::InverseTime => true,
+    }
+}
+
+/// The feed that F prints: that after the line.
+#[inline]
+pub fn feed_set(block: &Block, mode: FeedMode, feed_per_min: Len) -> Option<Len>
+    ensures { result ≡ feed_set block.now mode feed_per_min }
+{
+    match feed_word(mode, block.values.f) {
+        Some(_) => Some(feed_per_min),
+        None => None,
+    }
+}
+
+/// Whether no word of a block gives something to do but to set a feed and to move.
+#[inline]
+fn gives_nothing(block: &Block, mode: FeedMode) -> bool
+    ensures { result ≡ gives_nothing block.now mode }
+{
+    let m = &block.m;
+    !(is_inverse(mode)
+        | block.values.s.is_some()
+        | block.values.t.is_some()
+        | m.tool_change
+        | m.spindle.is_some()
+        | m.coolant.is_some()
+        | block.g.non_modal.is_some()
+        | block.g.plane.is_some()
+        | block.g.unit.is_some()
+        | m.stop.is_some())
 }
 
 impl Tasks {
-    /// What a block's words give to do, with the feed after it and the outputs before it.
-    fn of(block: &Block, mode: FeedMode, feed_per_min: Len, before: &Outputs) -> Tasks
-        ensures { result ≡ tasks_of block.now mode feed_per_min before.now }
+    /// What a block's words give to do, with the outputs before it.
+    fn of(block: &Block, mode: FeedMode, before: &Outputs) -> Tasks
+        ensures { result ≡ tasks_of block.now mode before.now }
     {
         let selected_slot = block.selected_slot();
         Tasks {
-            feed: match feed_word(mode, block.values.f) {
-                Some(_) => Some(feed_per_min),
-                None => None,
-            },
             speed: block.values.s,
             selected_slot,
             changed_slot: if block.m.tool_change {
@@ -80,12 +97,12 @@ impl Tasks {
 
 /// The same; none where there is nothing to do. Most lines only move, so this is looked at first.
 #[inline]
-pub fn tasks_of(block: &Block, mode: FeedMode, feed_per_min: Len, before: &Outputs) -> Option<Tasks>
-    ensures { tasks_in result ≡ tasks_of block.now mode feed_per_min before.now }
+pub fn tasks_of(block: &Block, mode: FeedMode, before: &Outputs) -> Option<Tasks>
+    ensures { tasks_in result ≡ tasks_of block.now mode before.now }
 {
-    if gives_nothing(block) {
+    if gives_nothing(block, mode) {
         None
     } else {
-        Some(Tasks::of(block, mode, feed_per_min, before))
+        Some(Tasks::of(block, mode, before))
     }
 }

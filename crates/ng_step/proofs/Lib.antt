@@ -7,6 +7,7 @@ pub mod LineLemmas
 pub mod WalkLemmas
 pub mod CountLemmas
 pub mod LeapLemmas
+pub mod StopLemmas
 pub mod BeginLemmas
 pub mod PulseLemmas
 pub mod PeriodLemmas
@@ -16,6 +17,7 @@ pub mod LengthLemmas
 pub mod HandLemmas
 pub mod EndLemmas
 pub mod PromiseLemmas
+pub mod SpotLemmas
 pub mod PathLemmas
 pub mod CentreLemmas
 pub mod WalkableLemmas

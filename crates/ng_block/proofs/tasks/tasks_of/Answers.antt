@@ -4,4 +4,4 @@ use Rattle.ng_block.proofs.tasks.tasks_of.Goals as goal
 
 pub returns-then-gives_nothing : goal.returns-then-gives_nothing
 returns-then-gives_nothing c =
-    no_tasks-nothing c.args.block.now c.args.mode c.args.feed_per_min c.args.before.now (sym c.gives_nothing.ensures ∙ c.if-gives_nothing.true)
+    no_tasks-nothing c.args.block.now c.args.mode c.args.before.now (sym c.gives_nothing.ensures ∙ c.if-gives_nothing.true)

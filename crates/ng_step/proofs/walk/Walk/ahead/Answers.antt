@@ -5,7 +5,7 @@ use mir.Val.{SFits}
 use Rattle.std.proofs.lemmas.Int.{to_z-of_z}
 use Rattle.ng_step.specs.declared.quadrant.Spot.{Spot}
 use Rattle.ng_step.specs.Turned.{turned}
-use Rattle.ng_step.proofs.LeapLemmas.{never, ahead_is}
+use Rattle.ng_step.proofs.StopLemmas.{never, ahead_is}
 use Rattle.ng_step.proofs.walk.Walk.ahead.Goals as goal
 
 pub returns-then-end-le0 : goal.returns-then-end-le0

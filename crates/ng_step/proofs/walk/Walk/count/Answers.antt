@@ -5,7 +5,7 @@ use Rattle.ng_step.specs.Arcs.{net_a, net_b}
 use Rattle.ng_step.specs.Turned.{spot_of, place}
 use Rattle.ng_step.specs.Leaps.{WalkLeads, Ends}
 use Rattle.ng_step.proofs.RoundLemmas.{stored}
-use Rattle.ng_step.proofs.LeapLemmas.{goes_on_before, reached_more, reached_end, few_steps}
+use Rattle.ng_step.proofs.StopLemmas.{goes_on_before, reached_more, reached_end, few_steps}
 use Rattle.ng_step.proofs.walk.Walk.count.Goals as goal
 
 leads : (c : goal.After-struct_known-1) → WalkLeads c.args.end c.quadrants.walk c.quadrants.left c.across-leap.result.walk (c.quadrants.left - 1) c.across-leap.result.steps

@@ -1,4 +1,4 @@
-use Rattle.ng_step.proofs.LeapLemmas.{Reached}
+use Rattle.ng_step.proofs.StopLemmas.{Reached}
 use Rattle.ng_step.proofs.walk.Walk.count.Given as goal
 
 abbrev pub invariant-quadrants : goal.invariant-quadrants

@@ -1,5 +1,5 @@
 use Rattle.ng_step.specs.Passages.{inner_at, outer_at}
-use Rattle.ng_step.proofs.LeapLemmas.{before_of, goes_on_up_to}
+use Rattle.ng_step.proofs.StopLemmas.{before_of, goes_on_up_to}
 use Rattle.ng_step.proofs.walk.Walk.stop.Goals as goal
 
 pub first_past-requires-clause-enters : goal.first_past-requires-clause-enters

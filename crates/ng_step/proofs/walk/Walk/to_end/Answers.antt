@@ -3,7 +3,7 @@ use Rattle.ng_step.specs.Arcs.{stops}
 use Rattle.ng_step.specs.Turned.{spot_of}
 use Rattle.ng_step.specs.Passages.{inner_at, outer_at}
 use Rattle.ng_step.specs.Leaps.{GoesOn}
-use Rattle.ng_step.proofs.LeapLemmas.{last_left, stands_ends, stop_ends, across_ends}
+use Rattle.ng_step.proofs.StopLemmas.{last_left, stands_ends, stop_ends, across_ends}
 use Rattle.ng_step.proofs.walk.Walk.to_end.Goals as goal
 
 pub returns-then-stops-clause-ends : goal.returns-then-stops-clause-ends
