@@ -1,4 +1,4 @@
-use Rattle.std.proofs.Common.{◌≡◌, ◌∙◌, ap, sym}
+use Rattle.std.proofs.Common.{◌∙◌, ap, sym}
 use Rattle.ng_modal.specs.declared.modes.Motion.{Motion}
 use Rattle.ng_modal.specs.declared.modes.Modes.{Modes}
 use Rattle.ng_block.proofs.ModeLemmas.{modes_after-kept}
