@@ -1,5 +1,5 @@
 -- A block whose words change no mode but the motion.
-use Rattle.std.proofs.Common.{◌≡◌, ℕ, Bool, true, false, Option, Some, None, refl}
+use Rattle.std.proofs.Common.{◌≡◌, Bool, true, Option, Some, None, refl}
 use Rattle.std.specs.Prelude.{not, ◌||◌}
 use Rattle.std.specs.Option.{is_some}
 use Rattle.ng_num.specs.declared.unit.Unit.{Unit as LengthUnit}

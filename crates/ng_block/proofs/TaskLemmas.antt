@@ -1,13 +1,11 @@
 -- A block whose words give nothing to do.
-use Rattle.std.proofs.Common.{◌≡◌, ℕ, ℤ, Bool, true, false, Option, Some, None, refl, sym}
-use Rattle.std.specs.Prelude.{not, ◌||◌, if◌then◌else◌}
-use Rattle.std.specs.Option.{is_some, option_map}
+use Rattle.std.proofs.Common.{◌≡◌, ℤ, Bool, true, false, Option, Some, None, refl}
+use Rattle.std.specs.Prelude.{not, ◌||◌}
+use Rattle.std.specs.Option.{is_some}
 use Rattle.ng_num.specs.declared.unit.Unit.{Unit as LengthUnit}
 use Rattle.ng_canon.specs.declared.outputs.Outputs.{Outputs}
 use Rattle.ng_canon.specs.declared.outputs.Spindle.{Spindle}
 use Rattle.ng_canon.specs.declared.plane.Plane.{Plane}
-use Rattle.ng_modal.specs.Accepted.{slot_on}
-use Rattle.ng_modal.specs.Causes.{is_dwell}
 use Rattle.ng_modal.specs.declared.asks.Coolant.{Coolant}
 use Rattle.ng_modal.specs.declared.asks.NonModal.{NonModal}
 use Rattle.ng_modal.specs.declared.asks.Stop.{Stop as StopWord}

@@ -2,9 +2,7 @@
 use Rattle.std.specs.Prelude.{ℕ, ℤ, List, [], ◌∷◌, ◌++◌, Bool, true, false, Option, Some, None, flat_map, fold, map, if◌then◌else◌}
 use Rattle.std.specs.Option.{is_some}
 use Rattle.ng_num.specs.declared.point.Point.{Point}
-use Rattle.ng_num.specs.declared.unit.Unit.{Unit as LengthUnit}
 use Rattle.ng_canon.specs.Text.{Canonical, numeric}
-use Rattle.ng_canon.specs.declared.plane.Plane.{Plane}
 use Rattle.ng_canon.specs.declared.plane.Plane.TheVariants.{Xy}
 use Rattle.ng_canon.specs.declared.command.Command.{Command}
 use Rattle.ng_canon.specs.declared.command.Command.TheVariants as command

@@ -1,5 +1,5 @@
 -- What a block's words give its steps to do, but for its remark, its feed and its motion (NISTIR 6556, 3.5 to 3.7).
-use Rattle.std.specs.Prelude.{ℤ, ℕ, Bool, true, false, not, ◌||◌, Option, Some, None, unwrap_or, if◌then◌else◌}
+use Rattle.std.specs.Prelude.{ℤ, Bool, not, ◌||◌, Option, Some, None, unwrap_or, if◌then◌else◌}
 use Rattle.std.specs.Option.{is_some, option_map}
 use Rattle.ng_canon.specs.declared.outputs.Outputs.{Outputs}
 use Rattle.ng_modal.specs.Accepted.{slot_on}

@@ -4,16 +4,16 @@ ghost use Rattle.std.specs.Prelude.{◌≡◌, ◌≤◌, [], Ok, Err, length, I
 ghost use Rattle.std.specs.Option.{option_map};
 ghost use Rattle.ng_params.specs.Points.{origin_of};
 ghost use Rattle.ng_params.specs.Changes.{with_changes};
-ghost use Rattle.ng_block.specs.After.{keeps_modes, modes_after, kept_after};
 ghost use Rattle.ng_block.specs.Goals.{offsets_after, changes_of, goal_of, goal_by};
 ghost use Rattle.ng_block.specs.Effects.{block_done, segments_by, commands_by, in_state};
 ghost use Rattle.ng_block.specs.Remarks.{remark_of};
 ghost use Rattle.ng_block.specs.Dry.{idle};
 ghost use Rattle.ng_block.specs.declared.effect.Stop.TheVariants.{GoesOn};
 
+use crate::after::{kept_after, modes_after};
 use crate::ends::{ends, stop_of};
 use crate::goal::{feed_mode_after, feed_of, path_of};
-use crate::machine::{KeptWords, Machine, Offsets};
+use crate::machine::{Machine, Offsets};
 use crate::path::Path;
 use crate::plan::Plan;
 use crate::remark::Remark;
@@ -21,8 +21,7 @@ use crate::state::State;
 use crate::switches::outputs_after;
 use crate::tasks::{feed_set, tasks_of};
 use arrayvec::ArrayVec;
-use ng_canon::Plane;
-use ng_modal::{Block, Distance, FeedMode, Modes, Motion};
+use ng_modal::Block;
 use ng_num::{Fault, Point};
 use ng_params::{Change, Params, System};
 use std::alloc::Allocator;
@@ -53,79 +52,6 @@ pub struct Effect {
     pub changes: Changes,
     pub stop: Stop,
     pub(crate) plan: Plan,
-}
-
-/// Whether no word of a block changes a mode but the motion.
-#[inline]
-fn keeps_modes(block: &Block) -> bool
-    ensures { result ≡ keeps_modes block.now }
-{
-    let words = &block.g;
-    !(words.plane.is_some()
-        | words.distance.is_some()
-        | words.feed_mode.is_some()
-        | words.unit.is_some()
-        | words.retract.is_some()
-        | words.path.is_some()
-        | block.m.overrides.is_some()
-        | block.m.stop.is_some())
-}
-
-/// The modes after a block. Most lines change none but the motion, so this is looked at first.
-#[inline]
-fn modes_after(block: &Block, modes: &Modes) -> Modes
-    ensures { result ≡ modes_after block.now modes.now }
-{
-    if keeps_modes(block) {
-        Modes {
-            motion: block.motion_after(modes),
-            ..*modes
-        }
-    } else {
-        modes_by(block, modes)
-    }
-}
-
-/// The same, mode by mode.
-fn modes_by(block: &Block, modes: &Modes) -> Modes
-    ensures { result ≡ modes_after block.now modes.now }
-{
-    let words = &block.g;
-    let after = Modes {
-        motion: block.motion_after(modes),
-        plane: block.plane_after(modes),
-        distance: words.distance.unwrap_or(modes.distance),
-        feed_mode: feed_mode_after(block, modes),
-        unit: words.unit.unwrap_or(modes.unit),
-        retract: words.retract.unwrap_or(modes.retract),
-        system: modes.system,
-        path: words.path.unwrap_or(modes.path),
-        overrides: block.m.overrides.unwrap_or(modes.overrides),
-    };
-    if ends(block.m.stop) {
-        Modes {
-            motion: Motion::Feed,
-            plane: Plane::Xy,
-            distance: Distance::Absolute,
-            feed_mode: FeedMode::PerMinute,
-            system: System::first(),
-            overrides: true,
-            ..after
-        }
-    } else {
-        after
-    }
-}
-
-/// The words that a cycle keeps, after a block.
-fn kept_after(block: &Block, kept: KeptWords) -> KeptWords
-    ensures { result ≡ kept_after block.now kept }
-{
-    if block.g.motion.is_some() || ends(block.m.stop) {
-        KeptWords::none()
-    } else {
-        kept
-    }
 }
 
 /// The origin of system 1 in the table that settings leave.

@@ -12,6 +12,7 @@
 //! (G10, G28, G30, G43, G49, G53 to G59.3, G92 and its others, arcs, cycles) are refused behind it (B3).
 #![tactic(auto)]
 
+mod after;
 mod commands;
 mod dry_run;
 mod effect;

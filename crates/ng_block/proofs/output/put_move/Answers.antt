@@ -1,4 +1,4 @@
-use Rattle.std.proofs.Common.{◌≡◌, ℕ, ℤ, List, [], ◌∷◌, ◌++◌, map, Option, Some, None, Ok, ◌∙◌, ap, sym, refl, append-nil, append_assoc}
+use Rattle.std.proofs.Common.{◌≡◌, ℕ, ℤ, List, [], ◌∷◌, ◌++◌, map, Option, Some, None, ◌∙◌, ap, sym, refl, append-nil, append_assoc}
 use Rattle.ng_canon.specs.Text.{Canonical, numeric, canonical_text, command_text}
 use Rattle.ng_canon.specs.declared.command.Command.{Command}
 use Rattle.ng_canon.specs.declared.command.Command.TheVariants.{FeedRate}

@@ -1,8 +1,8 @@
-use Rattle.std.proofs.Common.{◌≡◌, ◌∙◌, ap, sym}
+use Rattle.std.proofs.Common.{◌∙◌, ap, sym}
 use Rattle.ng_modal.specs.declared.modes.Motion.{Motion}
 use Rattle.ng_modal.specs.declared.modes.Modes.{Modes}
 use Rattle.ng_block.proofs.ModeLemmas.{modes_after-kept}
-use Rattle.ng_block.proofs.effect.modes_after.Goals as goal
+use Rattle.ng_block.proofs.after.modes_after.Goals as goal
 
 pub returns-then-keeps_modes : goal.returns-then-keeps_modes
 returns-then-keeps_modes c =

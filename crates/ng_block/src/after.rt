@@ -1,0 +1,84 @@
+//! The modes after a block, and the words that a cycle keeps.
+ghost use Rattle.std.specs.Prelude.{◌≡◌};
+ghost use Rattle.ng_block.specs.After.{keeps_modes, modes_after, kept_after};
+
+use crate::ends::ends;
+use crate::goal::feed_mode_after;
+use crate::machine::KeptWords;
+use ng_canon::Plane;
+use ng_modal::{Block, Distance, FeedMode, Modes, Motion};
+use ng_params::System;
+
+/// Whether no word of a block changes a mode but the motion.
+#[inline]
+fn keeps_modes(block: &Block) -> bool
+    ensures { result ≡ keeps_modes block.now }
+{
+    let words = &block.g;
+    !(words.plane.is_some()
+        | words.distance.is_some()
+        | words.feed_mode.is_some()
+        | words.unit.is_some()
+        | words.retract.is_some()
+        | words.path.is_some()
+        | block.m.overrides.is_some()
+        | block.m.stop.is_some())
+}
+
+/// The modes after a block. Most lines change none but the motion, so this is looked at first.
+#[inline]
+pub fn modes_after(block: &Block, modes: &Modes) -> Modes
+    ensures { result ≡ modes_after block.now modes.now }
+{
+    if keeps_modes(block) {
+        Modes {
+            motion: block.motion_after(modes),
+            ..*modes
+        }
+    } else {
+        modes_by(block, modes)
+    }
+}
+
+/// The same, mode by mode.
+fn modes_by(block: &Block, modes: &Modes) -> Modes
+    ensures { result ≡ modes_after block.now modes.now }
+{
+    let words = &block.g;
+    let after = Modes {
+        motion: block.motion_after(modes),
+        plane: block.plane_after(modes),
+        distance: words.distance.unwrap_or(modes.distance),
+        feed_mode: feed_mode_after(block, modes),
+        unit: words.unit.unwrap_or(modes.unit),
+        retract: words.retract.unwrap_or(modes.retract),
+        system: modes.system,
+        path: words.path.unwrap_or(modes.path),
+        overrides: block.m.overrides.unwrap_or(modes.overrides),
+    };
+    if ends(block.m.stop) {
+        Modes {
+            motion: Motion::Feed,
+            plane: Plane::Xy,
+            distance: Distance::Absolute,
+            feed_mode: FeedMode::PerMinute,
+            system: System::first(),
+            overrides: true,
+            ..after
+        }
+    } else {
+        after
+    }
+}
+
+/// The words that a cycle keeps, after a block: another motion and the program's end drop them.
+#[inline]
+pub fn kept_after(block: &Block, kept: KeptWords) -> KeptWords
+    ensures { result ≡ kept_after block.now kept }
+{
+    if block.g.motion.is_some() || ends(block.m.stop) {
+        KeptWords::none()
+    } else {
+        kept
+    }
+}
