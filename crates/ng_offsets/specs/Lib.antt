@@ -1,0 +1,4 @@
+pub mod Tools
+pub mod Points
+pub mod Named
+pub mod Origins
