@@ -1,0 +1,45 @@
+use Rattle.std.proofs.Common.{◌≡◌, ◌<◌, ◌+◌, pos, length, sym, rules, arith, append_assoc, length-append, to_z, of_z, w64, ◌∙◌}
+use Rattle.ng_settings.proofs.BoundLemmas.{head_within}
+use Rattle.ng_settings.proofs.LengthLemmas.{numbers_from, with_number, with_other}
+use Rattle.ng_settings.proofs.making.tools_of.Goals as goal
+use Rattle.ng_settings.proofs.making.tools_of.Goals.{in-Some+else-slots-eq-SLOTS, in_default}
+
+pub tool_length-requires : goal.tool_length-requires
+tool_length-requires c =
+    let vs = c.args.lengths.now.items in
+    let i = c.loop-value.value-index in
+    let n = c.in-Some.nm in
+    let lt : i < length vs = omega arith in
+    let here = with_number vs i c.value-item.result n lt (rw c.deref-value-items.ensures.value at c.value-item.is) (sym c.in-Some.ensures) in
+    let within = head_within (pos 0) (pos 1_000_000_000) n (numbers_from (i + 1) vs) (rw here at c.loop-value.invariant.within) in
+    let same : to_z w64 (of_z w64 n) ≡ n = search rules in
+    rw same within.0
+
+pub loop-value-preserved : goal.loop-value-preserved
+loop-value-preserved c =
+    let vs = c.args.lengths.now.items in
+    let i = c.loop-value.value-index in
+    let lt : i < length vs = omega arith in
+    let at = rw c.deref-value-items.ensures.value at c.value-item.is in
+    let before = c.loop-value.invariant in
+    elim c.match-as_integer.branch [
+      | in-Some+else-slots-eq-SLOTS w ↦
+          (let n = w.in-Some.nm in
+          let here = with_number vs i c.value-item.result n lt at (sym w.in-Some.ensures) in
+          let pushed : w.tool_length.result ≡ n = search rules in
+          let room : length c.loop-value.tools < 64 = omega arith in
+          rw (w.tools-is, w.push.ensures, pushed)
+          (record {
+            within = (head_within (pos 0) (pos 1_000_000_000) n (numbers_from (i + 1) vs) (rw here at before.within)).1;
+            so_far = before.so_far ∙ rw (here, append_assoc);
+            room = simp length-append (omega arith);
+          }))
+      | in_default w ↦
+          (let here = with_other vs i c.value-item.result lt at (sym w.in_default.ensures) in
+          rw w.tools-is
+          (record {
+            within = rw (← here) before.within;
+            so_far = rw (← here) before.so_far;
+            room = before.room;
+          }))
+    ]
