@@ -2,9 +2,7 @@
 //! commands and segments.
 ghost use Rattle.std.specs.Prelude.{◌≡◌, ◌≤◌, [], Ok, Err, length, IfSome, MatchResult, None};
 ghost use Rattle.std.specs.Option.{option_map};
-ghost use Rattle.ng_params.specs.Points.{origin_of};
-ghost use Rattle.ng_params.specs.Changes.{with_changes};
-ghost use Rattle.ng_block.specs.Goals.{offsets_after, changes_of, goal_of, goal_by};
+ghost use Rattle.ng_block.specs.Goals.{goal_by};
 ghost use Rattle.ng_block.specs.Effects.{block_done, segments_by, commands_by, in_state};
 ghost use Rattle.ng_block.specs.Remarks.{remark_of};
 ghost use Rattle.ng_block.specs.Dry.{idle};
@@ -12,7 +10,7 @@ ghost use Rattle.ng_block.specs.declared.effect.Stop.TheVariants.{GoesOn};
 
 use crate::after::{kept_after, modes_after};
 use crate::ends::{ends, stop_of};
-use crate::goal::{feed_mode_after, feed_of, path_of};
+use crate::goal::feed_mode_after;
 use crate::machine::Machine;
 use crate::path::Path;
 use crate::plan::Plan;
@@ -22,9 +20,7 @@ use crate::switches::outputs_after;
 use crate::tasks::{feed_set, tasks_of};
 use arrayvec::ArrayVec;
 use ng_modal::Block;
-use ng_num::{Fault, Point};
-use ng_offsets::Offsets;
-use ng_params::{Change, Params, System};
+use ng_params::Change;
 use std::alloc::Allocator;
 
 /// The most changes of parameters that a line makes: a setting for each of its pieces, and those of its words.
@@ -55,50 +51,6 @@ pub struct Effect {
     pub(crate) plan: Plan,
 }
 
-/// The origin of system 1 in the table that settings leave.
-fn first_origin<A: Allocator + Copy + Drop>(params: &Params<A>, settings: &[Change]) -> Point
-    ensures { result ≡ origin_of (with_changes params.now settings.now) 1 }
-{
-    match settings {
-        [] => params.origin(System::first()),
-        _ => params.origin_after(System::first(), settings),
-    }
-}
-
-/// The offsets after a block, in the table that the line's settings leave.
-fn offsets_after<A: Allocator + Copy + Drop>(
-    block: &Block,
-    params: &Params<A>,
-    settings: &[Change],
-    offsets: Offsets,
-) -> Offsets
-    ensures { result ≡ offsets_after block.now (origin_of (with_changes params.now settings.now) 1) offsets }
-{
-    if ends(block.m.stop) {
-        Offsets {
-            origin: first_origin(params, settings),
-            g92: Point::zero(),
-            tool_length: offsets.tool_length,
-        }
-    } else {
-        offsets
-    }
-}
-
-/// Lists the changes of parameters that a block makes.
-fn changes_of(block: &Block, settings: &[Change], changes: &mut Changes)
-    requires { length settings.now ≤ 128 }
-    ensures { changes.new.items ≡ changes_of block.now settings.now }
-{
-    changes.clear();
-    for setting in settings {
-        changes.push(*setting);
-    }
-    if ends(block.m.stop) {
-        changes.push(System::first().selection());
-    }
-}
-
 impl Effect {
     /// No effect on a machine.
     pub fn none(machine: Machine) -> Effect
@@ -117,6 +69,7 @@ impl Effect {
                 remark: Remark::none(),
                 feed: None,
                 tasks: None,
+                shown: None,
                 path: Path::Still,
                 before: machine.outputs,
             },
@@ -133,28 +86,9 @@ impl Effect {
         self.plan.remark.clear();
         self.plan.feed = None;
         self.plan.tasks = None;
+        self.plan.shown = None;
         self.plan.path = Path::Still;
         self.plan.before = state.machine.outputs;
-    }
-
-    /// Finds all lengths that a block's words come to in a state: the feed and the offsets after it, the parameters that it
-    /// sets, and its path. E3 where one of them is beyond the range.
-    pub(crate) fn find_goal<A: Allocator + Copy + Drop>(
-        &mut self,
-        state: &State<A>,
-        block: &Block,
-        settings: &[Change],
-    ) -> Result<(), Fault>
-        requires { length settings.now ≤ 128 }
-        ensures { MatchResult result (λ _. goal_of block.now settings.now state.now ≡ Ok (goal_by self.new)) (λ fault. goal_of block.now settings.now state.now ≡ Err fault) }
-    {
-        let machine = &state.machine;
-        let feed_per_min = feed_of(block, machine)?;
-        self.plan.path = path_of(block, machine, feed_per_min)?;
-        self.machine.feed_per_min = feed_per_min;
-        self.machine.offsets = offsets_after(block, &state.params, settings, machine.offsets);
-        changes_of(block, settings, &mut self.changes);
-        Ok(())
     }
 
     /// Becomes that of a lawful block in a state, whose goal it has.

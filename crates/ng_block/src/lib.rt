@@ -13,6 +13,8 @@
 #![tactic(auto)]
 
 mod after;
+mod axis_data;
+mod bearings;
 mod commands;
 mod dry_run;
 mod effect;
@@ -20,6 +22,7 @@ mod ending;
 mod ends;
 mod faults;
 mod goal;
+mod homes;
 pub mod laws;
 mod machine;
 mod output;
@@ -31,6 +34,7 @@ mod remark;
 mod run;
 mod segments;
 mod session;
+mod shifts;
 mod state;
 mod steps;
 mod switches;

@@ -52,7 +52,7 @@ fn execute_values<A: Allocator + Copy + Drop>(
     if block.is_later() {
         return Err(Fault::LeftOutCode);
     }
-    effect.find_goal(state, block, values.settings.as_slice())?;
+    effect.find_goal(state, block, values.settings.as_slice(), tools)?;
     if let Some(fault) = path_fault(&effect.plan.path, geometry) {
         return Err(fault);
     }
