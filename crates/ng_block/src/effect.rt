@@ -10,7 +10,7 @@ ghost use Rattle.ng_block.specs.Remarks.{remark_of};
 ghost use Rattle.ng_block.specs.Dry.{idle};
 ghost use Rattle.ng_block.specs.declared.effect.Stop.TheVariants.{GoesOn};
 
-use crate::after::{kept_after, modes_after};
+use crate::after::{put_kept_after, put_modes_after};
 use crate::ends::{ends, stop_of};
 use crate::goal::{feed_mode_after, feed_of, path_of};
 use crate::machine::{Machine, Offsets};
@@ -18,8 +18,8 @@ use crate::path::Path;
 use crate::plan::Plan;
 use crate::remark::Remark;
 use crate::state::State;
-use crate::switches::outputs_after;
-use crate::tasks::{feed_set, tasks_of};
+use crate::switches::put_outputs_after;
+use crate::tasks::{feed_set, put_tasks};
 use arrayvec::ArrayVec;
 use ng_modal::Block;
 use ng_num::{Fault, Point};
@@ -64,23 +64,21 @@ fn first_origin<A: Allocator + Copy + Drop>(params: &Params<A>, settings: &[Chan
     }
 }
 
-/// The offsets after a block, in the table that the line's settings leave.
-fn offsets_after<A: Allocator + Copy + Drop>(
+/// Puts the offsets after a block into a place, in the table that the line's settings leave.
+#[inline]
+fn put_offsets_after<A: Allocator + Copy + Drop>(
     block: &Block,
     params: &Params<A>,
     settings: &[Change],
-    offsets: Offsets,
-) -> Offsets
-    ensures { result ≡ offsets_after block.now (origin_of (with_changes params.now settings.now) 1) offsets }
+    offsets: &Offsets,
+    place: &mut Offsets,
+)
+    ensures { place.new ≡ offsets_after block.now (origin_of (with_changes params.now settings.now) 1) offsets.now }
 {
+    *place = *offsets;
     if ends(block.m.stop) {
-        Offsets {
-            origin: first_origin(params, settings),
-            g92: Point::zero(),
-            tool_length: offsets.tool_length,
-        }
-    } else {
-        offsets
+        place.origin = first_origin(params, settings);
+        place.g92 = Point::zero();
     }
 }
 
@@ -151,7 +149,13 @@ impl Effect {
         let feed_per_min = feed_of(block, machine)?;
         self.plan.path = path_of(block, machine, feed_per_min)?;
         self.machine.feed_per_min = feed_per_min;
-        self.machine.offsets = offsets_after(block, &state.params, settings, machine.offsets);
+        put_offsets_after(
+            block,
+            &state.params,
+            settings,
+            &machine.offsets,
+            &mut self.machine.offsets,
+        );
         changes_of(block, settings, &mut self.changes);
         Ok(())
     }
@@ -167,18 +171,16 @@ impl Effect {
         ensures { in_state state.now self.new ≡ block_done block.now (goal_by self.old) (remark_of (option_map (λ text. text.now) comment.entry)) state.now }
     {
         let machine = &state.machine;
-        let before = machine.outputs;
         let mode = feed_mode_after(block, &machine.modes);
-        let tasks = tasks_of(block, mode, &before);
-        self.machine.outputs = outputs_after(&tasks, before);
-        self.machine.modes = modes_after(block, &machine.modes);
-        self.machine.kept = kept_after(block, machine.kept);
+        put_tasks(block, mode, &machine.outputs, &mut self.plan.tasks);
+        put_outputs_after(&self.plan.tasks, &machine.outputs, &mut self.machine.outputs);
+        put_modes_after(block, &machine.modes, &mut self.machine.modes);
+        put_kept_after(block, &machine.kept, &mut self.machine.kept);
         self.machine.point = self.plan.path.point_after(machine.point);
         self.machine.place_known = machine.place_known;
         self.stop = stop_of(block.m.stop);
         self.plan.remark.take(comment);
         self.plan.feed = feed_set(block, mode, self.machine.feed_per_min);
-        self.plan.tasks = tasks;
-        self.plan.before = before;
+        self.plan.before = machine.outputs;
     }
 }
