@@ -6,9 +6,9 @@ use crate::ending::{DryFault, Ended};
 use crate::run::Run;
 use crate::session::Session;
 use crate::terms::Terms;
-use crate::tools::Tools;
 use arrayvec::ArrayVec;
 use ng_canon::Geometry;
+use ng_offsets::Tools;
 use std::alloc::Allocator;
 use std::io::{Read, Write};
 

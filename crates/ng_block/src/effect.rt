@@ -13,7 +13,7 @@ ghost use Rattle.ng_block.specs.declared.effect.Stop.TheVariants.{GoesOn};
 use crate::after::{put_kept_after, put_modes_after};
 use crate::ends::{ends, stop_of};
 use crate::goal::{feed_mode_after, feed_of, path_of};
-use crate::machine::{Machine, Offsets};
+use crate::machine::Machine;
 use crate::path::Path;
 use crate::plan::Plan;
 use crate::remark::Remark;
@@ -23,6 +23,7 @@ use crate::tasks::{feed_set, put_tasks};
 use arrayvec::ArrayVec;
 use ng_modal::Block;
 use ng_num::{Fault, Point};
+use ng_offsets::Offsets;
 use ng_params::{Change, Params, System};
 use std::alloc::Allocator;
 

@@ -1,15 +1,15 @@
 //! What a line does to motion: its feed, its pace and where it goes (NISTIR 6556, 3.5.1, 3.5.2, 3.5.17, 3.5.19). E3 where a
 //! length that it computes is beyond the range.
-ghost use Rattle.std.specs.Prelude.{◌≡◌, ◌≤◌, ◌<◌, ◌^◌, ◌+ℤ◌, ◌-ℤ◌, unsigned_abs};
-ghost use Rattle.ng_num.specs.Range.{IsCount, in_range};
+ghost use Rattle.std.specs.Prelude.{◌≡◌, ◌-ℤ◌};
 ghost use Rattle.ng_modal.specs.Lines.{is_straight};
-ghost use Rattle.ng_block.specs.Blocks.{feed_mode_after, is_fed, feed_word, time_word, feed_of, fed_pace, pace_by, offset_x, offset_y, offset_z, program_coordinate, coordinate, end_of, path_of};
+ghost use Rattle.ng_block.specs.Blocks.{feed_mode_after, is_fed, feed_word, time_word, feed_of, fed_pace, pace_by, program_coordinate, coordinate, end_of, path_of};
 
-use crate::machine::{Machine, Offsets};
+use crate::machine::Machine;
 use crate::path::Path;
 use ng_canon::{InverseTime, Pace, Rate};
 use ng_modal::{Block, Distance, FeedMode, Modes, Motion};
 use ng_num::{Fault, Len, Num, Point, Unit, nm_of};
+use ng_offsets::Shift;
 
 /// What a line's axis words are read by.
 #[derive(Clone, Copy, Debug, PartialEq, Eq)]
@@ -104,81 +104,35 @@ fn pace_by(
     }
 }
 
-impl Offsets {
-    fn x(&self) -> i64
-        ensures value { result ≡ offset_x self.now }
-        ensures small { unsigned_abs result < 2 ^ 50 }
-    {
-        self.origin.x.nm() + self.g92.x.nm()
-    }
-
-    fn y(&self) -> i64
-        ensures value { result ≡ offset_y self.now }
-        ensures small { unsigned_abs result < 2 ^ 50 }
-    {
-        self.origin.y.nm() + self.g92.y.nm()
-    }
-
-    fn z(&self) -> i64
-        ensures value { result ≡ offset_z self.now }
-        ensures small { unsigned_abs result < 2 ^ 50 }
-    {
-        self.origin.z.nm() + self.g92.z.nm() + self.tool_length.nm()
-    }
-}
-
-/// The length of a sum.
-fn sum(length: Len, other: i64) -> Result<Len, Fault>
-    requires { unsigned_abs other < 2 ^ 50 }
-    ensures { result ≡ in_range (length +ℤ other) }
-{
-    Len::of_nm((length.nm() + other) as i128)
-}
-
-/// A difference of nanometres.
-fn nm_between(nm: i64, other: i64) -> i128
-    ensures { result ≡ nm -ℤ other }
-{
-    nm as i128 - other as i128
-}
-
-/// The length of a difference.
-fn difference(length: Len, other: i64) -> Result<Len, Fault>
-    ensures { result ≡ in_range (length -ℤ other) }
-{
-    Len::of_nm(nm_between(length.nm(), other))
-}
-
 /// The program coordinate that a length names.
+#[inline]
 fn program_coordinate(
     distance: Distance,
     machine: Len,
-    offset: i64,
+    shift: Shift,
     length: Len,
 ) -> Result<Len, Fault>
-    requires { unsigned_abs offset < 2 ^ 50 }
-    ensures { result ≡ program_coordinate distance (machine -ℤ offset) length }
+    ensures { result ≡ program_coordinate distance (machine -ℤ shift) length }
 {
     match distance {
         Distance::Absolute => Ok(length),
         Distance::Incremental => {
-            let current = difference(machine, offset)?;
-            sum(current, length.nm())
+            let current = shift.to_program(machine)?;
+            current.add(length)
         }
     }
 }
 
 /// The machine coordinate of an axis after a move.
-fn coordinate(word: Option<Num>, reading: Reading, offset: i64, machine: Len) -> Result<Len, Fault>
-    requires { unsigned_abs offset < 2 ^ 50 }
-    ensures { result ≡ coordinate word reading.unit reading.distance offset machine }
+fn coordinate(word: Option<Num>, reading: Reading, shift: Shift, machine: Len) -> Result<Len, Fault>
+    ensures { result ≡ coordinate word reading.unit reading.distance shift machine }
 {
     match word {
         None => Ok(machine),
         Some(number) => {
             let length = nm_of(number, reading.unit)?;
-            let program = program_coordinate(reading.distance, machine, offset, length)?;
-            sum(program, offset)
+            let program = program_coordinate(reading.distance, machine, shift, length)?;
+            shift.to_machine(program)
         }
     }
 }

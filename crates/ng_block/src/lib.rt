@@ -5,7 +5,7 @@
 //! through cursors whose models are the lists. `Places::execute` is the one way for a line: `dry` runs it in places
 //! that it keeps, `execute` in new ones. `dry` folds it over the lines of a program as they are read, from the fresh
 //! state, and writes the text of the commands as they come; its contract says exactly which text, for every reader
-//! and writer. The crate stands on the reader of lines, the parameter table and the canonical text below it.
+//! and writer. The crate stands on the reader of lines, the parameter table, the offsets and the canonical text below it.
 //!
 //! Built are straight moves, both feed modes, spindle, tools, coolant, dwells, planes, units, modes that are only recorded, and
 //! all stops. What a line asks for, and whether it may, is `ng_modal`'s; the codes that it accepts and that aren't built here
@@ -36,18 +36,17 @@ mod steps;
 mod switches;
 mod tasks;
 mod terms;
-mod tools;
 
 pub use commands::Commands;
 pub use dry_run::{READS, dry};
 pub use effect::{CHANGES, Changes, Effect, Stop};
 pub use ending::{DryFault, Ended};
-pub use machine::{KeptWords, Machine, Offsets};
+pub use machine::{KeptWords, Machine};
 pub use ng_modal::{Distance, FeedMode, Modes, Motion, PathMode, Retract};
+pub use ng_offsets::{Offsets, SLOTS, Tools};
 pub use output::put_canon;
 pub use percent::{first_kind, missing_end, percent_at};
 pub use places::{Places, execute};
 pub use segments::Segments;
 pub use state::State;
 pub use steps::{ORDER, Step};
-pub use tools::{SLOTS, Tools};

@@ -14,11 +14,11 @@ use crate::machine::Machine;
 use crate::percent::percent_at;
 use crate::state::State;
 use crate::terms::Terms;
-use crate::tools::Tools;
 use ng_canon::Geometry;
 use ng_expr::Values;
 use ng_modal::Sorted;
 use ng_num::Fault;
+use ng_offsets::Tools;
 use ng_words::{Kind, Line, is_deletable, is_too_long};
 use std::alloc::Allocator;
 

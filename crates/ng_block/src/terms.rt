@@ -1,5 +1,5 @@
-use crate::tools::Tools;
 use ng_canon::Geometry;
+use ng_offsets::Tools;
 use std::marker::Model;
 
 /// What a dry run is run with.

@@ -29,6 +29,7 @@ impl Offsets {
     }
 
     /// What stands between program and machine on X.
+    #[inline]
     pub fn x(&self) -> Shift
         ensures { result ≡ shift_x self.now }
     {
@@ -36,6 +37,7 @@ impl Offsets {
     }
 
     /// What stands between program and machine on Y.
+    #[inline]
     pub fn y(&self) -> Shift
         ensures { result ≡ shift_y self.now }
     {
@@ -43,6 +45,7 @@ impl Offsets {
     }
 
     /// What stands between program and machine on Z, the tool length too.
+    #[inline]
     pub fn z(&self) -> Shift
         ensures { result ≡ shift_z self.now }
     {

@@ -25,6 +25,7 @@ impl Model for Shift {
 
 impl Shift {
     /// The sum of two lengths.
+    #[inline]
     pub(crate) fn of(origin: Len, g92: Len) -> Shift
         ensures { result ≡ origin +ℤ g92 }
     {
@@ -34,6 +35,7 @@ impl Shift {
     }
 
     /// The sum of three lengths.
+    #[inline]
     pub(crate) fn of_three(origin: Len, g92: Len, tool_length: Len) -> Shift
         ensures { result ≡ origin +ℤ g92 +ℤ tool_length }
     {
@@ -50,6 +52,7 @@ impl Shift {
     }
 
     /// The machine coordinate of a program coordinate; E3 where it is beyond the range.
+    #[inline]
     pub fn to_machine(self, program: Len) -> Result<Len, Fault>
         ensures value { result ≡ in_range (program +ℤ self) }
         ensures undone { IfOk result (λ machine. in_range (machine -ℤ self) ≡ Ok program) }
@@ -58,6 +61,7 @@ impl Shift {
     }
 
     /// The program coordinate of a machine coordinate; E3 where it is beyond the range.
+    #[inline]
     pub fn to_program(self, machine: Len) -> Result<Len, Fault>
         ensures value { result ≡ in_range (machine -ℤ self) }
         ensures undone { IfOk result (λ program. in_range (program +ℤ self) ≡ Ok machine) }
