@@ -11,8 +11,7 @@ ghost use Rattle.ng_block.specs.Paths.{pace_command};
 use crate::commands::Commands;
 use crate::effect::Effect;
 use crate::ending::DryFault;
-use crate::path::pace_command;
-use ng_canon::{Canon, Command, StraightMove, print, print_command};
+use ng_canon::{Canon, Command, Pace, StraightMove, print, print_command};
 use ng_num::{Fault, Len, print_whole};
 use std::alloc::{AllocError, Allocator};
 use std::io::Write;
@@ -154,6 +153,22 @@ fn push_line<A: Allocator + Copy + Drop>(
     text.extend_from_slice(b"\n")
 }
 
+/// Prints a straight move, likewise.
+#[inline]
+fn put_straight<W: Write, A: Allocator + Copy + Drop>(
+    text: &mut Vec<u8, A>,
+    writer: &mut W,
+    line: &StraightMove,
+) -> Result<(), DryFault>
+    ensures { Drains (W.contents writer.old) (W.contents writer.new) (text.old.items ++ command_text (pace_command line.now.pace line.now.end)) text.new.items result }
+{
+    match line.pace {
+        Pace::Traverse => put_command(text, writer, &Command::Traverse(line.end)),
+        Pace::Feed(_) => put_command(text, writer, &Command::Feed(line.end)),
+        Pace::InverseTime(_) => put_command(text, writer, &Command::Feed(line.end)),
+    }
+}
+
 /// Prints the feed that a line sets, and its move, likewise.
 #[inline]
 fn put_move<W: Write, A: Allocator + Copy + Drop>(
@@ -165,9 +180,9 @@ fn put_move<W: Write, A: Allocator + Copy + Drop>(
     ensures { Drains (W.contents writer.old) (W.contents writer.new) (text.old.items ++ commands_text (map numeric (command_for Command.FeedRate feed_per_min ++ pace_command line.now.pace line.now.end ∷ []))) text.new.items result }
 {
     match feed_per_min {
-        None => put_command(text, writer, &pace_command(line.pace, line.end)),
+        None => put_straight(text, writer, line),
         Some(feed_per_min) => match put_command(text, writer, &Command::FeedRate(feed_per_min)) {
-            Ok(()) => put_command(text, writer, &pace_command(line.pace, line.end)),
+            Ok(()) => put_straight(text, writer, line),
             Err(fault) => Err(fault),
         },
     }
