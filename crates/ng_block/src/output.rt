@@ -11,7 +11,9 @@ ghost use Rattle.ng_block.specs.Paths.{pace_command};
 use crate::commands::Commands;
 use crate::effect::Effect;
 use crate::ending::DryFault;
-use ng_canon::{Canon, Command, Pace, StraightMove, print, print_command};
+use ng_canon::{
+    Canon, Command, Pace, StraightMove, print, print_command, print_feed, print_traverse,
+};
 use ng_num::{Fault, Len, print_whole};
 use std::alloc::{AllocError, Allocator};
 use std::io::Write;
@@ -153,7 +155,23 @@ fn push_line<A: Allocator + Copy + Drop>(
     text.extend_from_slice(b"\n")
 }
 
-/// Prints a straight move, likewise.
+/// Appends the command of a straight move. A refused growth leaves the text as it was.
+#[inline]
+fn print_straight<A: Allocator + Copy + Drop>(
+    text: &mut Vec<u8, A>,
+    line: &StraightMove,
+) -> Result<(), AllocError>
+    ensures ok { OnOk result (text.new.items ≡ text.old.items ++ command_text (pace_command line.now.pace line.now.end)) }
+    ensures err { OnErr result (text.new.items ≡ text.old.items) }
+{
+    match line.pace {
+        Pace::Traverse => print_traverse(text, line.end),
+        Pace::Feed(_) => print_feed(text, line.end),
+        Pace::InverseTime(_) => print_feed(text, line.end),
+    }
+}
+
+/// Prints a straight move, likewise, without a command of it.
 #[inline]
 fn put_straight<W: Write, A: Allocator + Copy + Drop>(
     text: &mut Vec<u8, A>,
@@ -162,10 +180,9 @@ fn put_straight<W: Write, A: Allocator + Copy + Drop>(
 ) -> Result<(), DryFault>
     ensures { Drains (W.contents writer.old) (W.contents writer.new) (text.old.items ++ command_text (pace_command line.now.pace line.now.end)) text.new.items result }
 {
-    match line.pace {
-        Pace::Traverse => put_command(text, writer, &Command::Traverse(line.end)),
-        Pace::Feed(_) => put_command(text, writer, &Command::Feed(line.end)),
-        Pace::InverseTime(_) => put_command(text, writer, &Command::Feed(line.end)),
+    match print_straight(text, line) {
+        Ok(()) => relieve(text, writer),
+        Err(_) => Err(break_off(text, writer, DryFault::Memory)),
     }
 }
 
