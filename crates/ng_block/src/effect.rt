@@ -174,10 +174,16 @@ impl Effect {
         let machine = &state.machine;
         let mode = feed_mode_after(block, &machine.modes);
         put_tasks(block, mode, &machine.outputs, &mut self.plan.tasks);
-        put_outputs_after(&self.plan.tasks, &machine.outputs, &mut self.machine.outputs);
+        put_outputs_after(
+            &self.plan.tasks,
+            &machine.outputs,
+            &mut self.machine.outputs,
+        );
         put_modes_after(block, &machine.modes, &mut self.machine.modes);
         put_kept_after(block, &machine.kept, &mut self.machine.kept);
-        self.machine.point = self.plan.path.point_after(machine.point);
+        self.plan
+            .path
+            .put_point_after(&machine.point, &mut self.machine.point);
         self.machine.place_known = machine.place_known;
         self.stop = stop_of(block.m.stop);
         self.plan.remark.take(comment);
