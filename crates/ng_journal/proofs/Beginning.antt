@@ -1,7 +1,9 @@
 -- A format: sectors written one after the other, and what stands when the header of the first epoch is synced.
-use Rattle.std.proofs.Common.{◌≡◌, ◌≢◌, ◌⊎◌, inl, inr, ⊎_elim, ℕ, ◌+◌, ◌*◌, ◌%◌, ◌<◌, ◌≤◌, ◌==◌, ◌&&◌, Bool, true, false, if◌then◌else◌, List, [], Option, Some, None, Result, Ok, Err, length, refl, sym, ◌∙◌, ap, subst, arith, codes}
+use Rattle.std.proofs.Common.{◌≡◌, ◌≢◌, ◌⊎◌, inl, inr, ⊎_elim, ℕ, ◌+◌, ◌*◌, ◌%◌, ◌<◌, ◌≤◌, ◌==◌, ◌&&◌, Bool, true, false, if◌then◌else◌, List, [], ℤ, pos, set, replicate, Option, Some, None, Result, Ok, Err, length, refl, sym, ◌∙◌, ap, subst, arith, codes}
 use Rattle.std.proofs.lemmas.Bool.{cases_eq}
 use Rattle.std.proofs.lemmas.Bool.Decides.{nat_tests}
+use Rattle.std.proofs.lemmas.List.{length-replicate}
+use Rattle.std.proofs.Math.ListN.{length-set}
 use Rattle.std.specs.Prelude.{OnOk}
 use Rattle.ng_rig.specs.Life.{Image, Life, Wrote, Perhaps, Synced, reads}
 use Rattle.ng_rig.specs.Calls.{Writes, Syncs}
@@ -29,49 +31,6 @@ there n bytes life = grind (arith, nat_tests)
 
 elsewhere : (m n : ℕ) (bytes : List ℕ) (life : Life) → m ≢ n → reads (Wrote n bytes life) m ≡ reads life m
 elsewhere m n bytes life other = grind (arith, nat_tests)
-
--- One sector after the other.
-pub begun : (first size : ℕ) (IsRight : ℕ → List ℕ → Type 0) (life : Life) → OverwritesTo 0 first size IsRight life life
-begun first size IsRight life = record { writes = only_none Anything life; outside = λ m out. refl; parts = λ j lt. absurd (omega arith) }
-
-among : (n first size : ℕ) → n < size → IsAmong first size (first + n)
-among n first size lt = record { from = omega arith; to = omega arith }
-
-pub one_more : {T E : Type 0} (v : T) (n first size : ℕ) (IsRight : ℕ → List ℕ → Type 0) (old mid new : Life) (bytes : List ℕ) → n < size → OverwritesTo n first size IsRight old mid → Writes {E = E} (Ok v) (first + n) bytes mid new → IsRight n bytes → OverwritesTo (n + 1) first size IsRight old new
-one_more {E = E} v n first size IsRight old mid new bytes lt so_far is right = subst (λ (l : Life). OverwritesTo (n + 1) first size IsRight old l) (sym is) (record {
-  writes = let ok : Result _ E = Ok v in only_more Anything old mid (Wrote (first + n) bytes mid) so_far.writes (only_write Anything ok (first + n) bytes mid (Wrote (first + n) bytes mid) tt refl);
-  outside = λ m out. elsewhere m (first + n) bytes mid (λ e. out (subst (IsAmong first size) (sym e) (among n first size lt))) ∙ so_far.outside m out;
-  parts = λ j below. elim (cases_eq j n) [
-    | inl same ↦ subst (λ (k : ℕ). IsRight k (reads (Wrote (first + n) bytes mid) (first + k))) (sym same) (subst (IsRight n) (sym (there (first + n) bytes mid)) right)
-    | inr other ↦ subst (IsRight j) (sym (elsewhere (first + j) (first + n) bytes mid (λ e. other (omega arith)))) (so_far.parts j (omega arith))
-  ];
-})
-
-failed_reads : (n m : ℕ) (bytes : List ℕ) (old new : Life) → (new ≡ old) ⊎ ((new ≡ Wrote n bytes old) ⊎ (new ≡ Perhaps n bytes old)) → m ≢ n → reads new m ≡ reads old m
-failed_reads n m bytes old new (inl none) other = ap (λ (l : Life). reads l m) none
-failed_reads n m bytes old new (inr (inl is)) other = ap (λ (l : Life). reads l m) is ∙ elsewhere m n bytes old other
-failed_reads n m bytes old new (inr (inr is)) other = ap (λ (l : Life). reads l m) is
-
-pub not_written : {T E F : Type 0} (e : E) (f : F) (n first size : ℕ) (IsRight : ℕ → List ℕ → Type 0) (old mid new : Life) (bytes : List ℕ) → n < size → OverwritesTo n first size IsRight old mid → Writes {T = T} (Err e) (first + n) bytes mid new → Overwrites {T = T} (Err f) first size IsRight old new
-not_written {T = T} e f n first size IsRight old mid new bytes lt so_far is = record {
-  writes = let err : Result T _ = Err e in only_more Anything old mid new so_far.writes (only_write Anything err (first + n) bytes mid new tt is);
-  outside = λ m out. failed_reads (first + n) m bytes mid new is (λ e. out (subst (IsAmong first size) (sym e) (among n first size lt))) ∙ so_far.outside m out;
-  parts = tt;
-}
-
--- a sync changes no read
-pub and_synced : {T E : Type 0} (v : T) (n first size : ℕ) (IsRight : ℕ → List ℕ → Type 0) (old mid new : Life) → OverwritesTo n first size IsRight old mid → Syncs {E = E} (Ok v) mid new → OverwritesTo n first size IsRight old new
-and_synced {E = E} v n first size IsRight old mid new so_far is = subst (λ (l : Life). OverwritesTo n first size IsRight old l) (sym is) (record {
-  writes = let ok : Result _ E = Ok v in only_syncs Anything ok old mid (Synced mid) so_far.writes refl;
-  outside = so_far.outside;
-  parts = so_far.parts;
-})
-
-pub not_synced : {T E F : Type 0} (e : E) (f : F) (n first size : ℕ) (IsRight : ℕ → List ℕ → Type 0) (old mid new : Life) → OverwritesTo n first size IsRight old mid → Syncs {T = T} (Err e) mid new → Overwrites {T = T} (Err f) first size IsRight old new
-not_synced {T = T} e f n first size IsRight old mid new so_far is = subst (λ (l : Life). Overwrites {T = T} (Err f) first size IsRight old l) (sym is) (record { writes = so_far.writes; outside = so_far.outside; parts = tt })
-
-pub all_written : {T E : Type 0} (v : T) (n first size : ℕ) (IsRight : ℕ → List ℕ → Type 0) (old new : Life) → size ≤ n → OverwritesTo n first size IsRight old new → Overwrites {E = E} (Ok v) first size IsRight old new
-all_written v n first size IsRight old new all so_far = record { writes = so_far.writes; outside = so_far.outside; parts = λ j lt. so_far.parts j (omega arith) }
 
 -- No header and no part in a sector that begins with zeros.
 no_mark : (bytes : List ℕ) → number_at 8 0 bytes ≡ 0 → is_marked bytes ≡ false
@@ -137,18 +96,16 @@ made saved old a b c bytes s is = record {
   log = λ m lt. ap (number_at 8 0) (elsewhere (log_first + m) 1 bytes (Synced c) (λ e. omega (arith, e))) ∙ s.log m lt;
 }
 
+-- a table in which all values but one are 0
+pub table_long : (n p : ℕ) (v : ℤ) → length (set (replicate n (pos 0)) p v) ≡ n
+table_long n p v = length-set (replicate n (pos 0)) p v ∙ length-replicate n (pos 0)
+
 -- What is made, whatever is stored.
 pub record Begins {T E : Type 0} (result : Result T E) (saved : Saved) (old new : Life) : Type 0 where
   pub writes : WritesOnly Anything old new
   pub at : OnOk result (IsAt new first_header (record { saved = saved; program = [] }))
 
--- The exits.
-pub gave_up : {T E F : Type 0} (e : E) (f : F) (n : ℕ) (bytes : List ℕ) (old mid synced last : Life) → WritesOnly Anything old mid → (synced ≡ Synced mid) → Writes {T = T} (Err e) n bytes synced last → Formats {T = T} (Err f) old last
-gave_up {T = T} e f n bytes old mid synced last w is wrote =
-    let err : Result T _ = Err e in
-    let upto : WritesOnly Anything old synced = subst (λ (l : Life). WritesOnly Anything old l) (sym is) (only_synced Anything old mid w) in
-    record { writes = only_more Anything old synced last upto (only_write Anything err n bytes synced last tt wrote); at = tt }
-
+-- and after the last sync
 pub finished : {T E : Type 0} (result : Result T E) (saved : Saved) (old a b c synced wrote last : Life) (bytes : List ℕ) → Steps saved old a b c → saved.length ≡ 0 → length saved.setup.params ≡ 5399 → header_in 1 bytes ≡ Some first_header → synced ≡ Synced c → wrote ≡ Wrote 1 bytes synced → Syncs result wrote last
     → Begins result saved old last
 finished {T = T} {E = E} result saved old a b c synced wrote last bytes s long table header is is_written done = go result (subst (λ (l : Life). Syncs result l last) whole done)

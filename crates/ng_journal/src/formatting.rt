@@ -1,5 +1,5 @@
 //! A device made fresh: no header is left on it, then it stands for a fresh controller.
-ghost use Rattle.std.specs.Prelude.{◌≡◌, ◌≤◌, ◌<◌, ◌⊎◌, ◌↔◌, IsErrOf, IfErr};
+ghost use Rattle.std.specs.Prelude.{◌≡◌, ◌≤◌, ◌<◌, ◌+◌, ◌⊎◌, ◌↔◌, IsErrOf, IfErr};
 ghost use Rattle.ng_num.specs.declared.fault.Fault.TheVariants.{DeviceFailed, NotFormatted};
 ghost use Rattle.ng_rig.specs.Calls.{Promises, Counts};
 ghost use Rattle.ng_layout.specs.Fields.{number_at};
