@@ -5,6 +5,7 @@
 mod checkpoint;
 mod formatting;
 mod journal;
+mod loading;
 mod reading;
 mod recovery;
 mod sectors;
