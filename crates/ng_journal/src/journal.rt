@@ -8,7 +8,6 @@ ghost use Rattle.ng_layout.specs.Stored.{Standing};
 ghost use Rattle.ng_journal.specs.Recover.{Recovers, rig_of, fault_of};
 ghost use Rattle.ng_journal.specs.Journal.{Tells};
 ghost use Rattle.ng_journal.specs.AtRest.{IsOwn, Checkpoints, next_header};
-ghost use Rattle.ng_journal.specs.Loads.{Loads, other_area};
 
 use crate::checkpoint::checkpoint;
 use crate::loading::load;
@@ -178,8 +177,22 @@ impl<R: Rig, A: Allocator + Copy + Drop> Journal<R, A> {
         if self.is_used_up(stored.entries) {
             return Err(Fault::CountersUsed);
         }
-        self.stored.take_over(stored);
-        self.renew_with(text)
+        let next = Header {
+            epoch: self.header.epoch + 1,
+            area: 1 - self.header.area,
+            length: text.len() as u64,
+        };
+        match load(&mut self.rig, self.header, text, stored) {
+            Ok(()) => {
+                self.stored.take_over(stored);
+                self.header = next;
+                Ok(())
+            }
+            Err(Failed) => {
+                self.broken = true;
+                Err(Fault::DeviceFailed)
+            }
+        }
     }
 
     /// Hands an item out. J1 where the device failed: the journal is broken then, and the item or nothing was
@@ -207,31 +220,6 @@ impl<R: Rig, A: Allocator + Copy + Drop> Journal<R, A> {
         ensures { (result ≡ true) ↔ (greatest_count ≤ self.now.header.epoch ⊎ greatest_count < entries) }
     {
         self.header.epoch >= GREATEST_COUNT || entries > GREATEST_COUNT
-    }
-
-    /// Writes a program to the other area, and what is stored with it under the next epoch.
-    fn renew_with(&mut self, text: &[u8]) -> Result<(), Fault>
-        requires counted { self.old.header.epoch < 1_000_000_000_000 }
-        requires long { self.old.saved.length ≡ length text.now }
-        ensures stops { Promises (R.honest self.old.rig) (R.honest self.new.rig) (IsOwn (R.life self.old.rig) self.old.header
-            → Loads result self.old.header (record { saved = self.old.saved; program = text.now }) (R.life self.old.rig) (R.life self.new.rig)) }
-        ensures saved { self.new.saved ≡ self.old.saved }
-        ensures ok { OnOk result (self.new.header ≡ next_header self.old.header (other_area self.old.header) self.old.saved.length) }
-        ensures broken { MatchResult result (λ _. self.new.broken ≡ self.old.broken) (λ e. (e ≡ DeviceFailed) × (self.new.broken ≡ true)) }
-        ensures failures { Counts result (R.failed self.old.rig) (R.failed self.new.rig) }
-    {
-        match load(&mut self.rig, self.header, text, &self.stored) {
-            Ok(()) => {
-                self.header.epoch += 1;
-                self.header.area = 1 - self.header.area;
-                self.header.length = self.stored.length;
-                Ok(())
-            }
-            Err(Failed) => {
-                self.broken = true;
-                Err(Fault::DeviceFailed)
-            }
-        }
     }
 
     /// Writes what is stored under the next epoch, in the same program area.
