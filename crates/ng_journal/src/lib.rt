@@ -3,9 +3,11 @@
 #![tactic(auto)]
 
 mod checkpoint;
+mod formatting;
 mod journal;
 mod reading;
 mod recovery;
 mod sectors;
 
+pub use formatting::format;
 pub use journal::{Journal, recover};
