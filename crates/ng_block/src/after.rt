@@ -27,22 +27,21 @@ fn keeps_modes(block: &Block) -> bool
         | block.m.stop.is_some())
 }
 
-/// The modes after a block. Most lines change none but the motion, so this is looked at first.
+/// Puts the modes after a block into a place. Most lines change none but the motion, so this is looked at first.
 #[inline]
-pub fn modes_after(block: &Block, modes: &Modes) -> Modes
-    ensures { result ≡ modes_after block.now modes.now }
+pub fn put_modes_after(block: &Block, modes: &Modes, place: &mut Modes)
+    ensures { place.new ≡ modes_after block.now modes.now }
 {
     if keeps_modes(block) {
-        Modes {
-            motion: block.motion_after(modes),
-            ..*modes
-        }
+        *place = *modes;
+        place.motion = block.motion_after(modes);
     } else {
-        modes_by(block, modes)
+        *place = modes_by(block, modes);
     }
 }
 
-/// The same, mode by mode.
+/// The modes after a block, mode by mode.
+#[inline(never)]
 fn modes_by(block: &Block, modes: &Modes) -> Modes
     ensures { result ≡ modes_after block.now modes.now }
 {
@@ -73,14 +72,14 @@ fn modes_by(block: &Block, modes: &Modes) -> Modes
     }
 }
 
-/// The words that a cycle keeps, after a block: another motion and the program's end drop them.
+/// Puts the words that a cycle keeps after a block into a place: another motion and the program's end drop them.
 #[inline]
-pub fn kept_after(block: &Block, kept: KeptWords) -> KeptWords
-    ensures { result ≡ kept_after block.now kept }
+pub fn put_kept_after(block: &Block, kept: &KeptWords, place: &mut KeptWords)
+    ensures { place.new ≡ kept_after block.now kept.now }
 {
     if block.g.motion.is_some() || ends(block.m.stop) {
-        KeptWords::none()
+        *place = KeptWords::none();
     } else {
-        kept
+        *place = *kept;
     }
 }

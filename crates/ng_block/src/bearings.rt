@@ -79,6 +79,7 @@ impl Effect {
     }
 
     /// Puts system 1 in force, and drops the G92 offset, as the program's end does.
+    #[inline(never)]
     fn end_bearings<A: Allocator + Copy + Drop>(&mut self, params: &Params<A>)
         requires { length self.old.changes.items ≤ 132 }
         ensures path { self.new.plan.path ≡ self.old.plan.path }

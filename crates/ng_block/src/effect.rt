@@ -8,7 +8,7 @@ ghost use Rattle.ng_block.specs.Remarks.{remark_of};
 ghost use Rattle.ng_block.specs.Dry.{idle};
 ghost use Rattle.ng_block.specs.declared.effect.Stop.TheVariants.{GoesOn};
 
-use crate::after::{kept_after, modes_after};
+use crate::after::{put_kept_after, put_modes_after};
 use crate::ends::{ends, stop_of};
 use crate::goal::feed_mode_after;
 use crate::machine::Machine;
@@ -16,8 +16,8 @@ use crate::path::Path;
 use crate::plan::Plan;
 use crate::remark::Remark;
 use crate::state::State;
-use crate::switches::outputs_after;
-use crate::tasks::{feed_set, tasks_of};
+use crate::switches::put_outputs_after;
+use crate::tasks::{feed_set, put_tasks};
 use arrayvec::ArrayVec;
 use ng_modal::Block;
 use ng_params::Change;
@@ -102,18 +102,22 @@ impl Effect {
         ensures { in_state state.now self.new ≡ block_done block.now (goal_by self.old) (remark_of (option_map (λ text. text.now) comment.entry)) state.now }
     {
         let machine = &state.machine;
-        let before = machine.outputs;
         let mode = feed_mode_after(block, &machine.modes);
-        let tasks = tasks_of(block, mode, &before);
-        self.machine.outputs = outputs_after(&tasks, before);
-        self.machine.modes = modes_after(block, &machine.modes);
-        self.machine.kept = kept_after(block, machine.kept);
-        self.machine.point = self.plan.path.point_after(machine.point);
+        put_tasks(block, mode, &machine.outputs, &mut self.plan.tasks);
+        put_outputs_after(
+            &self.plan.tasks,
+            &machine.outputs,
+            &mut self.machine.outputs,
+        );
+        put_modes_after(block, &machine.modes, &mut self.machine.modes);
+        put_kept_after(block, &machine.kept, &mut self.machine.kept);
+        self.plan
+            .path
+            .put_point_after(&machine.point, &mut self.machine.point);
         self.machine.place_known = machine.place_known;
         self.stop = stop_of(block.m.stop);
         self.plan.remark.take(comment);
         self.plan.feed = feed_set(block, mode, self.machine.feed_per_min);
-        self.plan.tasks = tasks;
-        self.plan.before = before;
+        self.plan.before = machine.outputs;
     }
 }

@@ -173,6 +173,7 @@ fn is_machine(word: Option<NonModal>) -> bool
 }
 
 /// The end of a move under G53.
+#[inline(never)]
 fn machine_end_of(block: &Block, machine: &Machine) -> Result<Point, Fault>
     ensures { result ≡ machine_end_of block.now machine.now }
 {

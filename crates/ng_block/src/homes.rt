@@ -62,6 +62,7 @@ pub fn home_on<A: Allocator + Copy + Drop>(
 
 /// The way to a home, through the point that a line's axis words name; still, where it goes to none. E3 where a coordinate of
 /// that point is beyond the range.
+#[inline(never)]
 pub fn way_home(
     block: &Block,
     machine: &Machine,

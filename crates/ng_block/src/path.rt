@@ -37,16 +37,16 @@ impl Path {
         }
     }
 
-    /// Where the machine stands behind it, from where it stood before.
+    /// Puts into a place where the machine stands behind it, from where it stood before.
     #[inline]
-    pub fn point_after(&self, start: Point) -> Point
-        ensures { result ≡ point_after self.now start }
+    pub fn put_point_after(&self, start: &Point, place: &mut Point)
+        ensures { place.new ≡ point_after self.now start.now }
     {
         match self {
-            Path::Straight(line) => line.end,
-            Path::Homing(way) => way.home,
-            Path::Still => start,
-            Path::WithoutFeed => start,
+            Path::Straight(line) => *place = line.end,
+            Path::Homing(way) => *place = way.home,
+            Path::Still => *place = *start,
+            Path::WithoutFeed => *place = *start,
         }
     }
 }

@@ -116,6 +116,7 @@ fn with_system<A: Allocator + Copy + Drop>(
 
 /// The offsets behind a line's words, in the table that its settings leave. E3 where one of them, or a sum that is printed, is
 /// beyond the range.
+#[inline(never)]
 pub fn shift_of<A: Allocator + Copy + Drop>(
     block: &Block,
     machine: &Machine,

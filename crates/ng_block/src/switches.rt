@@ -109,17 +109,28 @@ pub fn outputs_through(tasks: &Option<Tasks>, outputs: Outputs, step: Step) -> O
     }
 }
 
-/// The outputs behind all steps.
-pub fn outputs_after(tasks: &Option<Tasks>, before: Outputs) -> Outputs
-    ensures { result ≡ outputs_behind (tasks_in tasks.now) before order }
+/// The outputs behind all steps that switch.
+#[inline(never)]
+fn outputs_of(tasks: &Tasks, before: Outputs) -> Outputs
+    ensures { result ≡ outputs_behind tasks.now before order }
 {
-    let Some(tasks) = tasks else { return before };
     let turning = speed_outputs(tasks.speed, before);
     let selected = selected_outputs(tasks.selected_slot, turning);
     let changed = changed_outputs(tasks.changed_slot, selected);
     let spun = spindle_outputs(tasks.spindle, changed);
     let cooled = coolant_outputs(tasks.coolant, spun);
     stop_outputs(tasks.stop, cooled)
+}
+
+/// Puts the outputs behind all steps into a place.
+#[inline]
+pub fn put_outputs_after(tasks: &Option<Tasks>, before: &Outputs, place: &mut Outputs)
+    ensures { place.new ≡ outputs_behind (tasks_in tasks.now) before.now order }
+{
+    match tasks {
+        None => *place = *before,
+        Some(tasks) => *place = outputs_of(tasks, *before),
+    }
 }
 
 /// A switch to outputs, where a word asks for one.

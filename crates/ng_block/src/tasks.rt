@@ -69,6 +69,7 @@ fn gives_nothing(block: &Block, mode: FeedMode) -> bool
 
 impl Tasks {
     /// What a block's words give to do, with the outputs before it.
+    #[inline(never)]
     fn of(block: &Block, mode: FeedMode, before: &Outputs) -> Tasks
         ensures { result ≡ tasks_of block.now mode before.now }
     {
@@ -95,14 +96,15 @@ impl Tasks {
     }
 }
 
-/// The same; none where there is nothing to do. Most lines only move, so this is looked at first.
+/// Puts what a block's words give to do into a place; none where there is nothing to do. Most lines only move, so this is
+/// looked at first.
 #[inline]
-pub fn tasks_of(block: &Block, mode: FeedMode, before: &Outputs) -> Option<Tasks>
-    ensures { tasks_in result ≡ tasks_of block.now mode before.now }
+pub fn put_tasks(block: &Block, mode: FeedMode, before: &Outputs, place: &mut Option<Tasks>)
+    ensures { tasks_in place.new ≡ tasks_of block.now mode before.now }
 {
     if gives_nothing(block, mode) {
-        None
+        *place = None;
     } else {
-        Some(Tasks::of(block, mode, before))
+        *place = Some(Tasks::of(block, mode, before));
     }
 }

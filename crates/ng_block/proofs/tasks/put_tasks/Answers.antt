@@ -1,6 +1,6 @@
 use Rattle.std.proofs.Common.{◌∙◌, sym}
 use Rattle.ng_block.proofs.TaskLemmas.{no_tasks-nothing}
-use Rattle.ng_block.proofs.tasks.tasks_of.Goals as goal
+use Rattle.ng_block.proofs.tasks.put_tasks.Goals as goal
 
 pub returns-then-gives_nothing : goal.returns-then-gives_nothing
 returns-then-gives_nothing c =
