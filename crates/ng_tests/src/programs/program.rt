@@ -1,57 +1,36 @@
 //! The program itself, over words and files.
+use super::rows::{ALL_MOVES, LEFT_MOVES, SLASHES};
 use super::{CUTS, CUTS_TEXT, PROGRAM_END, joined};
-use ng_console::{Job, ngc, run_dry, words};
+use ng_console::{Job, ngc, words};
 use std::test::Fail;
 use std::{env, fs};
 
-/// A program with lines that block delete leaves out.
-const SLASHES: &str = "G0 X1\n/G0 X2\nY3\n \t/ N5 X4 Y4\nM2\n";
-
-/// The moves of `SLASHES`, block delete off.
-const ALL_MOVES: &str =
-    "STRAIGHT_TRAVERSE(1.000000, 0.000000, 0.000000)\nSTRAIGHT_TRAVERSE(2.000000, 0.000000, 0.000000)\nSTRAIGHT_TRAVERSE(2.000000, 3.000000, 0.000000)\nSTRAIGHT_TRAVERSE(4.000000, 4.000000, 0.000000)\n";
-
-/// The moves of `SLASHES`, block delete on.
-const LEFT_MOVES: &str =
-    "STRAIGHT_TRAVERSE(1.000000, 0.000000, 0.000000)\nSTRAIGHT_TRAVERSE(1.000000, 3.000000, 0.000000)\n";
-
-#[test]
-fn reads_the_words(rt: HostRuntime) -> Result<(), Fail> {
-    let lines: [(&[&str], &str, bool); 7] = [
-        (&["ngc", "dry", "part.ngc"], "part.ngc", false),
-        (&["ngc", "dry", "--", "-part.ngc"], "-part.ngc", false),
-        (
-            &["ngc", "dry", "part.ngc", "--block-delete"],
-            "part.ngc",
-            true,
-        ),
-        (
-            &["ngc", "dry", "--block-delete", "part.ngc"],
-            "part.ngc",
-            true,
-        ),
-        (
-            &["ngc", "dry", "--block-delete", "--", "-part.ngc"],
-            "-part.ngc",
-            true,
-        ),
-        (
-            &["ngc", "dry", "--", "--block-delete"],
-            "--block-delete",
-            false,
-        ),
-        (&["ngc", "dry", "block-delete"], "block-delete", false),
-    ];
-    for (given, program, block_delete) in lines {
-        let job = words(rt.alloc(), given)?;
-        let wanted = Job::Dry {
-            program,
-            block_delete,
-        };
-        assert!(rt; job == wanted, "{given:?}");
-    }
-    Ok(())
-}
+/// Words that ask for a dry run: of which program, and whether block delete is on.
+const JOBS: [(&[&str], &str, bool); 7] = [
+    (&["ngc", "dry", "part.ngc"], "part.ngc", false),
+    (&["ngc", "dry", "--", "-part.ngc"], "-part.ngc", false),
+    (
+        &["ngc", "dry", "part.ngc", "--block-delete"],
+        "part.ngc",
+        true,
+    ),
+    (
+        &["ngc", "dry", "--block-delete", "part.ngc"],
+        "part.ngc",
+        true,
+    ),
+    (
+        &["ngc", "dry", "--block-delete", "--", "-part.ngc"],
+        "-part.ngc",
+        true,
+    ),
+    (
+        &["ngc", "dry", "--", "--block-delete"],
+        "--block-delete",
+        false,
+    ),
+    (&["ngc", "dry", "block-delete"], "block-delete", false),
+];
 
 /// How help begins, of the program and of `dry`; how the text of wrong words begins.
 const HELP: &str = "A controller for three-axis milling machines\n\nUsage: ngc <COMMAND>\n";
@@ -61,35 +40,45 @@ const DRY_HELP: &str =
 
 const WRONG: &str = "error: ";
 
+/// Words that are answered with text, and how that begins.
+const ANSWERED: [(&[&str], &str); 18] = [
+    (&["ngc"], HELP),
+    (&["ngc", "--help"], HELP),
+    (&["ngc", "help"], HELP),
+    (&["ngc", "--version"], "ngc 0.1.0\n"),
+    (&["ngc", "dry", "--help"], DRY_HELP),
+    (&["ngc", "help", "dry"], DRY_HELP),
+    (&["ngc", "dry"], WRONG),
+    (&["ngc", "help", "wet"], WRONG),
+    (&["ngc", "dry", "a.ngc", "b.ngc"], WRONG),
+    (&["ngc", "wet", "a.ngc"], WRONG),
+    (
+        &["ngc", "dry", "a.ngc", "--block-delete", "--block-delete"],
+        WRONG,
+    ),
+    (
+        &["ngc", "dry", "--block-delete", "a.ngc", "--block-delete"],
+        WRONG,
+    ),
+    (&["ngc", "dry", "--block-delete"], WRONG),
+    (&["ngc", "dry", "a.ngc", "--block-delete=true"], WRONG),
+    (&["ngc", "dry", "a.ngc", "--block-deletes"], WRONG),
+    (&["ngc", "dry", "a.ngc", "--block"], WRONG),
+    (&["ngc", "dry", "a.ngc", "-b"], WRONG),
+    (&["ngc", "--block-delete", "dry", "a.ngc"], WRONG),
+];
+
 #[test]
-fn answers_wrong_words_and_help_with_text(rt: HostRuntime) -> Result<(), Fail> {
-    let rows: [(&[&str], &str); 18] = [
-        (&["ngc"], HELP),
-        (&["ngc", "--help"], HELP),
-        (&["ngc", "help"], HELP),
-        (&["ngc", "--version"], "ngc 0.1.0\n"),
-        (&["ngc", "dry", "--help"], DRY_HELP),
-        (&["ngc", "help", "dry"], DRY_HELP),
-        (&["ngc", "dry"], WRONG),
-        (&["ngc", "help", "wet"], WRONG),
-        (&["ngc", "dry", "a.ngc", "b.ngc"], WRONG),
-        (&["ngc", "wet", "a.ngc"], WRONG),
-        (
-            &["ngc", "dry", "a.ngc", "--block-delete", "--block-delete"],
-            WRONG,
-        ),
-        (
-            &["ngc", "dry", "--block-delete", "a.ngc", "--block-delete"],
-            WRONG,
-        ),
-        (&["ngc", "dry", "--block-delete"], WRONG),
-        (&["ngc", "dry", "a.ngc", "--block-delete=true"], WRONG),
-        (&["ngc", "dry", "a.ngc", "--block-deletes"], WRONG),
-        (&["ngc", "dry", "a.ngc", "--block"], WRONG),
-        (&["ngc", "dry", "a.ngc", "-b"], WRONG),
-        (&["ngc", "--block-delete", "dry", "a.ngc"], WRONG),
-    ];
-    for (given, beginning) in rows {
+fn words_ask_for_a_job_or_are_answered(rt: HostRuntime) -> Result<(), Fail> {
+    for (given, program, block_delete) in JOBS {
+        let job = words(rt.alloc(), given)?;
+        let wanted = Job::Dry {
+            program,
+            block_delete,
+        };
+        assert!(rt; job == wanted, "{given:?}");
+    }
+    for (given, beginning) in ANSWERED {
         let mut text = Vec::new(rt.alloc());
         assert!(rt; ngc(&rt, given, &mut text) == 2, "{given:?}");
         assert!(rt;
@@ -108,72 +97,45 @@ fn answers_wrong_words_and_help_with_text(rt: HostRuntime) -> Result<(), Fail> {
     Ok(())
 }
 
+/// Programs in a file, whether block delete is on, the exit status, and what is written.
+const FILES: [(&str, bool, u8, &str, &str); 4] = [
+    (CUTS, false, 0, CUTS_TEXT, ""),
+    (
+        "G0 X1\nG1 X2",
+        false,
+        1,
+        "STRAIGHT_TRAVERSE(1.000000, 0.000000, 0.000000)\n",
+        "REFUSED line 2: X1 NoFeed\n",
+    ),
+    (SLASHES, false, 0, ALL_MOVES, PROGRAM_END),
+    (SLASHES, true, 0, LEFT_MOVES, PROGRAM_END),
+];
+
 #[test]
 fn runs_a_file(rt: HostRuntime) -> Result<(), Fail> {
     let folder = env::temp_dir(&rt)?;
     let number = std::process::id(rt.process());
-    let path = format!(in rt.alloc(); "{}/ngc_console_{number}.ngc", folder.display())?;
-    for (program, status, wanted) in [
-        (CUTS, 0, CUTS_TEXT),
-        (
-            "G0 X1\nG1 X2",
-            1,
-            "STRAIGHT_TRAVERSE(1.000000, 0.000000, 0.000000)\nREFUSED line 2: X1 NoFeed\n",
-        ),
-    ] {
-        fs::write(&rt, path.as_str(), program)?;
-        let mut text = Vec::new(rt.alloc());
-        assert!(rt;
-            ngc(&rt, &["ngc", "dry", path.as_str()], &mut text) == status,
-            "{program:?}"
-        );
-        assert!(rt; text.as_slice() == wanted.as_bytes(), "{program:?}");
-        fs::remove_file(&rt, path.as_str())?;
+    let name = format!(in rt.alloc(); "{}/ngc_console_{number}.ngc", folder.display())?;
+    let path = name.as_str();
+    for (program, block_delete, status, moves, end) in FILES {
+        fs::write(&rt, path, program)?;
+        let given: [&[&str]; 2] = if block_delete {
+            [
+                &["ngc", "dry", path, "--block-delete"],
+                &["ngc", "dry", "--block-delete", path],
+            ]
+        } else {
+            [&["ngc", "dry", path], &["ngc", "dry", "--", path]]
+        };
+        let wanted = joined(rt.alloc(), moves.as_bytes(), end.as_bytes())?;
+        for words in given {
+            let mut text = Vec::new(rt.alloc());
+            assert!(rt; ngc(&rt, words, &mut text) == status, "{words:?}");
+            assert!(rt; text == wanted, "{words:?}");
+        }
+        fs::remove_file(&rt, path)?;
     }
     let mut text = Vec::new(rt.alloc());
-    assert!(rt; ngc(&rt, &["ngc", "dry", path.as_str()], &mut text) == 2 && text.is_empty());
-    Ok(())
-}
-
-#[test]
-fn leaves_blocks_out_where_the_flag_is_given(rt: HostRuntime) -> Result<(), Fail> {
-    for (program, block_delete, status, moves, end) in [
-        (SLASHES, false, 0, ALL_MOVES, PROGRAM_END),
-        (SLASHES, true, 0, LEFT_MOVES, PROGRAM_END),
-        ("/M2", false, 0, "", PROGRAM_END),
-        ("/M2", true, 1, "", "REFUSED line 2: X3 NoProgramEnd\n"),
-        ("/G0 X\nM2", false, 1, "", "REFUSED line 1: E1 Unreadable\n"),
-        ("/G0 X\nM2", true, 0, "", PROGRAM_END),
-    ] {
-        let mut reader = program.as_bytes();
-        let mut text = Vec::new(rt.alloc());
-        assert!(rt;
-            run_dry(rt.alloc(), &mut reader, &mut text, block_delete) == status,
-            "{program:?} {block_delete}"
-        );
-        let wanted = joined(rt.alloc(), moves.as_bytes(), end.as_bytes())?;
-        assert!(rt; text == wanted, "{program:?} {block_delete}");
-    }
-    Ok(())
-}
-
-#[test]
-fn leaves_blocks_of_a_file_out(rt: HostRuntime) -> Result<(), Fail> {
-    let folder = env::temp_dir(&rt)?;
-    let number = std::process::id(rt.process());
-    let path = format!(in rt.alloc(); "{}/ngc_blocks_{number}.ngc", folder.display())?;
-    fs::write(&rt, path.as_str(), SLASHES)?;
-    let lines: [(&[&str], &str); 3] = [
-        (&["ngc", "dry", path.as_str()], ALL_MOVES),
-        (&["ngc", "dry", path.as_str(), "--block-delete"], LEFT_MOVES),
-        (&["ngc", "dry", "--block-delete", path.as_str()], LEFT_MOVES),
-    ];
-    for (given, moves) in lines {
-        let mut text = Vec::new(rt.alloc());
-        assert!(rt; ngc(&rt, given, &mut text) == 0, "{given:?}");
-        let wanted = joined(rt.alloc(), moves.as_bytes(), PROGRAM_END.as_bytes())?;
-        assert!(rt; text == wanted, "{given:?}");
-    }
-    fs::remove_file(&rt, path.as_str())?;
+    assert!(rt; ngc(&rt, &["ngc", "dry", path], &mut text) == 2 && text.is_empty());
     Ok(())
 }
