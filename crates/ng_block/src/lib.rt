@@ -14,6 +14,7 @@
 
 mod after;
 mod commands;
+mod course;
 mod dry_run;
 mod effect;
 mod ending;
@@ -39,6 +40,7 @@ mod terms;
 mod tools;
 
 pub use commands::Commands;
+pub use course::Course;
 pub use dry_run::{READS, dry};
 pub use effect::{CHANGES, Changes, Effect, Stop};
 pub use ending::{DryFault, Ended};
@@ -50,4 +52,5 @@ pub use places::{Places, execute};
 pub use segments::Segments;
 pub use state::State;
 pub use steps::{ORDER, Step};
+pub use terms::Terms;
 pub use tools::{SLOTS, Tools};
