@@ -5,11 +5,12 @@ use Rattle.ng_canon.specs.Fresh.{fresh_outputs}
 use Rattle.ng_canon.specs.declared.segment.Segment.{Segment}
 use Rattle.ng_block.specs.declared.course.CourseLeft.{CourseLeft}
 use Rattle.ng_block.specs.Order.{Plan, segments_through}
+use Rattle.ng_block.specs.Shifts.{nothing_shown}
 use Rattle.ng_block.specs.Tasks.{tasks_in}
 
 -- the plan of which it is, as far as its segments go
 abbrev pub plan_of : CourseLeft → Plan
-plan_of c = record { remark = []; feed = None; tasks = tasks_in c.tasks; path = c.path; origin = zero_point; before = fresh_outputs }
+plan_of c = record { remark = []; feed = None; tasks = tasks_in c.tasks; shown = nothing_shown; path = c.path; origin = zero_point; before = fresh_outputs }
 
 abbrev pub rest_of : CourseLeft → List Segment
 rest_of c = c.moves ++ segments_through (plan_of c) c.behind c.steps.now
