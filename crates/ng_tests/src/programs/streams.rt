@@ -1,9 +1,6 @@
 //! Readers that give little, and readers and writers that fail.
 use super::{CUTS, CUTS_TEXT, PROGRAM_END, dry_run};
-use linked_list_allocator::LocalHeap;
-use ng_block::{DryFault, Ended, put_canon};
-use ng_canon::{Canon, Command};
-use ng_num::Point;
+use ng_block::{DryFault, Ended};
 use std::io;
 use std::io::{ErrorKind, Read, Write};
 use std::test::Fail;
@@ -142,35 +139,5 @@ fn reads_as_often_as_a_program_needs(rt: HostRuntime) -> Result<(), Fail> {
         assert!(rt; matches!(ended, Ok(Ended::Done)), "{at_most}");
         assert!(rt; text.as_slice() == expected.as_slice(), "{at_most}");
     }
-    Ok(())
-}
-
-/// A writer that counts what it takes.
-#[derive(Drop)]
-struct Counted {
-    bytes: usize,
-}
-
-impl Write for Counted {
-    fn write(&mut self, buf: &[u8]) -> io::Result<usize> {
-        self.bytes = self.bytes.saturating_add(buf.len());
-        Ok(buf.len())
-    }
-
-    fn flush(&mut self) -> io::Result<()> {
-        Ok(())
-    }
-}
-
-#[test]
-fn prints_a_million_commands_in_flat_memory(rt: HostRuntime) -> Result<(), Fail> {
-    let heap = LocalHeap::new(rt.alloc(), 40_000)?;
-    let mut text = Vec::new(&heap);
-    let mut writer = Counted { bytes: 0 };
-    let traverse = Canon::Command(Command::Traverse(Point::zero()));
-    for n in 0..1_000_000 {
-        assert!(rt; put_canon(&mut text, &mut writer, &traverse).is_ok(), "{n}");
-    }
-    assert_eq!(rt; writer.bytes.saturating_add(text.len()), 48_000_000);
     Ok(())
 }
