@@ -1,6 +1,7 @@
 pub mod Beginning
 pub mod Finding
 pub mod Moving
+pub mod LinesRead
 pub mod Overwriting
 pub mod Recovering
 pub mod Renewing

@@ -5,6 +5,7 @@
 mod checkpoint;
 mod formatting;
 mod journal;
+mod line;
 mod loading;
 mod reading;
 mod recovery;
@@ -12,3 +13,4 @@ mod sectors;
 
 pub use formatting::format;
 pub use journal::{Journal, recover};
+pub use line::{LINE, ProgramLine};
