@@ -7,7 +7,11 @@ use Rattle.std.proofs.lemmas.List.FromFn.{fill_by_all, get_or-map-range_with_len
 use Rattle.std.proofs.Common.{length-drop}
 use Rattle.ng_rig.specs.Life.{Life, reads}
 use Rattle.ng_layout.specs.Sectors.{text_of}
-use Rattle.ng_layout.specs.Stands.{program_size, stretch}
+use Rattle.ng_layout.specs.declared.header.Header.{Header}
+use Rattle.ng_layout.specs.Stands.{program_first, program_size, stretch}
+use Rattle.ng_layout.specs.Stored.{Standing}
+use Rattle.ng_journal.specs.AtRest.{IsAt}
+use Rattle.ng_journal.proofs.Moving.{stands-program}
 use Rattle.ng_layout.proofs.Images.{stretch-at}
 use Rattle.std.specs.Str.Lines.{lines, strip_carriage_return}
 use Rattle.ng_block.specs.Parts.{HasNoNewline}
@@ -205,11 +209,11 @@ short_line program kept text place n e short is =
     let kept_is : kept ≡ raw = e.0.kept_is ∙ take_all 257 raw (omega arith) in
     found_line program kept text place n e (strip_short raw (omega arith) ∙ ap strip_carriage_return (sym kept_is) ∙ sym is)
 
-pub long_line : (program kept : List ℕ) (place n : ℕ) → IsEnd (drop place program) kept (Some n) → 257 < n → Some (record { text = kept; next = place + n + 1 }) ≡ line_at program place
-long_line program kept place n e long =
+pub long_line : (program kept text : List ℕ) (place n : ℕ) → IsEnd (drop place program) kept (Some n) → 257 < n → text ≡ kept → Some (record { text = text; next = place + n + 1 }) ≡ line_at program place
+long_line program kept text place n e long is =
     let raw = take n (drop place program) in
     let size : length raw ≡ n = length-take-le n (drop place program) (let lt = e.1 in omega arith) in
-    found_line program kept kept place n e (strip_long raw (omega arith) ∙ sym e.0.kept_is)
+    found_line program kept text place n e (strip_long raw (omega arith) ∙ sym e.0.kept_is ∙ sym is)
 
 alone : (rest kept : List ℕ) (next : ℕ) → 0 < length rest → Keeps rest (length rest) kept → first_line (lines rest) next ≡ Some (record { text = kept; next = next })
 alone [] kept next some k = absurd (omega arith)
@@ -240,3 +244,16 @@ no_line program place size long end =
 -- A sector read of a program area.
 pub sector_at : (first n : ℕ) (begun now : Life) (sector : List ℕ) → n < 256 → now ≡ begun → sector ≡ reads now (first + n) → sector ≡ stretch first program_size (reads begun) n
 sector_at first n begun now sector lt same is = is ∙ ap (λ (l : Life). reads l (first + n)) same ∙ sym (stretch-at first program_size (reads begun) n lt)
+
+pub end_some : (rest kept : List ℕ) (o : Option ℕ) (n : ℕ) → o ≡ Some n → IsEnd rest kept o → IsEnd rest kept (Some n)
+end_some rest kept o n is e = subst (IsEnd rest kept) is e
+
+pub end_none : (rest kept : List ℕ) (o : Option ℕ) → o ≡ None → IsEnd rest kept o → IsEnd rest kept None
+end_none rest kept o is e = subst (IsEnd rest kept) is e
+
+-- The program of what stands is that of the area in force.
+pub line_in_force : (old : Life) (header : Header) (standing : Standing) (first place : ℕ) (line : Option Line) → IsAt old header standing → first ≡ program_first header.area → line ≡ line_at (text_of header.length (stretch first program_size (reads old))) place → line ≡ line_at standing.program place
+line_in_force old header standing first place line at is found =
+    found
+    ∙ ap (λ (n : ℕ). line_at (text_of header.length (stretch n program_size (reads old))) place) is
+    ∙ ap (λ (l : List ℕ). line_at l place) (sym (stands-program (reads old) header standing at.force at.stands_for))

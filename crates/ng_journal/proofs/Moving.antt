@@ -19,7 +19,7 @@ program-of None text length s is = absurd (cc)
 program-of (Some f) text length s is = let e : text ≡ s.program = cc in sym e
 
 -- The program of what stands lies in the area that the header names.
-stands-program : (image : Image) (h : Header) (s : Standing) → in_force image ≡ Some h → stands image ≡ Ok s → s.program ≡ text_of h.length (stretch (program_first h.area) program_size image)
+pub stands-program : (image : Image) (h : Header) (s : Standing) → in_force image ≡ Some h → stands image ≡ Ok s → s.program ≡ text_of h.length (stretch (program_first h.area) program_size image)
 unfolding stands standing_of
 stands-program image h s is state =
     program-of _ (text_of h.length (stretch (program_first h.area) program_size image)) h.length s

@@ -111,3 +111,41 @@ fn find_end<R: Rig>(
     }
     Ok(None)
 }
+
+/// The line that begins at a place of a program that ends here; none at its end.
+pub(crate) fn read_line<R: Rig>(
+    rig: &mut R,
+    first: usize,
+    place: usize,
+    program_end: usize,
+) -> Result<Option<ProgramLine>, Failed>
+    requires room { first + 256 ≤ R.sectors rig.old }
+    requires area { first ≤ 430 }
+    requires place { place ≤ program_end }
+    requires small { program_end ≤ 131_072 }
+    ensures read { Promises (R.honest rig.old) (R.honest rig.new) (Reads result (λ image line. line ≡ line_at (text_of program_end (stretch first program_size image)) place) (R.life rig.old) (R.life rig.new)) }
+    // without honesty too
+    ensures next { IfOk result (λ line. IfSome line (λ l. (place < l.next) × (l.next ≤ program_end))) }
+    ensures size { R.sectors rig.new ≡ R.sectors rig.old }
+    ensures failures { Counts result (R.failed rig.old) (R.failed rig.new) }
+{
+    if place == program_end {
+        return Ok(None);
+    }
+    let mut text = ArrayVec::new();
+    match find_end(rig, first, place, program_end, &mut text)? {
+        Some(end) => {
+            if end <= LINE {
+                drop_return(&mut text);
+            }
+            Ok(Some(ProgramLine {
+                text,
+                next: (place + end + 1) as u64,
+            }))
+        }
+        None => Ok(Some(ProgramLine {
+            text,
+            next: program_end as u64,
+        })),
+    }
+}

@@ -15,7 +15,7 @@ returns-in-Some-clause-read g c =
     onto _ c.loop-n.invariant.read c.in_ok-sector.ensures.read (λ p q. record {
       same = q.same ∙ p.0;
       right = rw c.saturating_sub.ensures (end_found (text_of c.args.program_end row) _ _ c.args.place c.loop-n.n c.in-Some.end _
-      (c.part_of.ensures.part row (sector_at c.args.first c.loop-n.n begun _ _ few p.0 q.right)) p.1 c.in-Some.ensures.taken);
+          (c.part_of.ensures.part row (sector_at c.args.first c.loop-n.n begun _ _ few p.0 q.right)) p.1 c.in-Some.ensures.taken);
     })
 
 pub loop-n-preserved : goal.loop-n-preserved
@@ -24,8 +24,11 @@ loop-n-preserved g c =
     let row = stretch c.args.first program_size (reads begun) in
     let few : c.loop-n.n < 256 = omega (arith, c.loop-n-test.true, c.div_ceil-n-end.ensures, c.requires.small) in
     record {
-      read = onto _ c.loop-n.invariant.read c.in_ok-sector.ensures.read (λ p q. (q.same ∙ p.0, part_kept (text_of c.args.program_end row) _ _ c.args.place c.loop-n.n _
-      (c.part_of.ensures.part row (sector_at c.args.first c.loop-n.n begun _ _ few p.0 q.right)) p.1 c.in-None.ensures.taken));
+      read = onto _ c.loop-n.invariant.read c.in_ok-sector.ensures.read (λ p q. (
+        q.same ∙ p.0,
+        part_kept (text_of c.args.program_end row) _ _ c.args.place c.loop-n.n _
+            (c.part_of.ensures.part row (sector_at c.args.first c.loop-n.n begun _ _ few p.0 q.right)) p.1 c.in-None.ensures.taken,
+      ));
       size = c.in_ok-sector.ensures.size ∙ c.loop-n.invariant.size;
       failures = c.in_ok-sector.ensures.failures ∙ c.loop-n.invariant.failures;
     }
