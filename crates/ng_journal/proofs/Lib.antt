@@ -5,6 +5,7 @@ pub mod LinesRead
 pub mod Overwriting
 pub mod Recovering
 pub mod Renewing
+pub mod Resting
 pub mod Restoring
 pub mod SnapshotReading
 pub mod TableReading

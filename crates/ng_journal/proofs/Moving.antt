@@ -1,10 +1,7 @@
 -- A checkpoint of a journal at rest moves it from what stood to the new.
-use Rattle.std.proofs.Common.{◌≡◌, ◌⊎◌, inl, inr, ⊎_elim, ℕ, ◌+◌, List, Option, Some, None, Result, Ok, Err, refl, sym, ◌∙◌, ap, subst}
+use Rattle.std.proofs.Common.{◌≡◌, inl, inr, ⊎_elim, ℕ, List, Option, Some, None, Result, Ok, Err, refl, sym, ◌∙◌, ap, subst}
 use Rattle.std.specs.Prelude.{OnOk}
-use Rattle.ng_num.specs.declared.fault.Fault.{Fault}
-use Rattle.ng_canon.specs.declared.item.Item.{Item}
 use Rattle.ng_rig.specs.Life.{Image, Life, reads, items}
-use Rattle.ng_rig.specs.Onward.{Onward}
 use Rattle.ng_rig.proofs.Running.{weaker}
 use Rattle.ng_layout.specs.declared.header.Header.{Header}
 use Rattle.ng_layout.specs.Log.{Found, log_size}

@@ -1,5 +1,5 @@
 -- The lines of a program, each by the place at which it begins (own).
-use Rattle.std.specs.Prelude.{◌≡◌, ◌≤◌, ◌<◌, ◌+◌, ◌-◌, ◌==◌, ℕ, min, List, [], ◌∷◌, ◌++◌, length, take, drop, slice_index, Option, Some, None, Result, IfOk, if◌then◌else◌}
+use Rattle.std.specs.Prelude.{◌≡◌, ◌<◌, ◌+◌, ◌-◌, ◌==◌, ℕ, min, List, [], ◌∷◌, ◌++◌, length, take, drop, slice_index, Option, Some, None, Result, IfOk, if◌then◌else◌}
 use Rattle.std.specs.Str.Lines.{lines}
 use Rattle.ng_block.specs.Parts.{HasNoNewline}
 use Rattle.ng_rig.specs.Life.{Life}

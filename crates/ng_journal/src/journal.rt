@@ -87,7 +87,7 @@ fn two_fresh<A: Allocator + Copy + Drop>(alloc: A) -> Result<(Stored<A>, Stored<
 }
 
 impl<R: Rig, A: Allocator + Copy + Drop> Journal<R, A> {
-    ghost use Rattle.ng_journal.specs.Journal.{Logbook, RestsAt, Moves, IsBrokenBy};
+    ghost use Rattle.ng_journal.specs.Journal.{Logbook, RestsAt, Moves, HandsOut, IsBrokenBy};
 
     /// The device as it is, with no call to it.
     pub fn into_rig(self) -> R
@@ -202,7 +202,8 @@ impl<R: Rig, A: Allocator + Copy + Drop> Journal<R, A> {
     pub fn hand_out(&mut self, item: Item) -> Result<(), Fault>
         requires whole { self.old.broken ≡ false }
         ensures hands { Promises (R.honest self.old.rig) (R.honest self.new.rig) (Hands result item (R.life self.old.rig) (R.life self.new.rig)) }
-        ensures rests { R.honest self.old.rig → (standing : Standing) → RestsAt (R.life self.old.rig) self.old standing → RestsAt (R.life self.new.rig) self.new standing }
+        ensures stops { Promises (R.honest self.old.rig) (R.honest self.new.rig) ((standing : Standing) → RestsAt (R.life self.old.rig) self.old standing
+            → HandsOut result self.new standing item (R.life self.old.rig) (R.life self.new.rig)) }
         ensures saved { self.new.saved ≡ self.old.saved }
         ensures broken { IsBrokenBy result self.new.broken }
         ensures errors { IfErr result (λ e. e ≡ DeviceFailed) }

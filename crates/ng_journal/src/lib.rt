@@ -5,6 +5,7 @@
 mod checkpoint;
 mod formatting;
 mod journal;
+pub mod laws;
 mod line;
 mod loading;
 mod reading;

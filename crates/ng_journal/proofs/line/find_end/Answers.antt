@@ -1,4 +1,4 @@
-use Rattle.std.proofs.Common.{◌≡◌, ◌∙◌, ◌<◌, ◌≤◌, ◌-◌, ◌*◌, ℕ, List, length, drop, arith}
+use Rattle.std.proofs.Common.{◌∙◌, ◌<◌, ◌≤◌, ◌-◌, ◌*◌, length, drop, arith}
 use Rattle.std.proofs.Common.{length-drop}
 use Rattle.ng_rig.specs.Life.{reads}
 use Rattle.ng_layout.specs.Sectors.{text_of}

@@ -1,4 +1,4 @@
-use Rattle.std.proofs.Common.{◌≡◌, ◌∙◌, ◌<◌, List, drop, refl, ap, arith}
+use Rattle.std.proofs.Common.{◌∙◌, ◌<◌, List, drop, refl, ap, arith}
 use Rattle.ng_rig.specs.Life.{reads}
 use Rattle.ng_layout.specs.Sectors.{text_of}
 use Rattle.ng_layout.specs.Stands.{program_size, stretch}
