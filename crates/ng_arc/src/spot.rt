@@ -1,9 +1,11 @@
 //! Points of an arc's plane, seen from its centre.
-ghost use Rattle.std.specs.Prelude.{◌≡◌, ◌^◌, ◌<◌};
+ghost use Rattle.std.specs.Prelude.{◌≡◌, ◌^◌, ◌<◌, ◌≤◌, ◌*ℤ◌, ◌==◌, unsigned_abs};
 ghost use Rattle.ng_arc.specs.Planes.{spot_of, square_of, AreWithin};
+ghost use Rattle.ng_arc.specs.Extremes.{cross, dot, sweep_by};
+ghost use Rattle.ng_arc.specs.Quadrants.{mirrored};
 
 use crate::plane::{of_a, of_b};
-use ng_canon::Arc;
+use ng_canon::{Arc, Turn};
 use ng_num::{Len, Point};
 
 /// An offset from an arc's centre in nanometres, on the axes of its plane.
@@ -36,4 +38,55 @@ impl Spot {
         let (a, b) = (self.a.unsigned_abs() as u128, self.b.unsigned_abs() as u128);
         a * a + b * b
     }
+
+    /// The same with b negated for a clockwise arc.
+    pub(crate) fn mirrored(self, turn: Turn) -> Spot
+        requires { AreWithin self (2 ^ 45) }
+        ensures value { result ≡ mirrored turn self }
+        ensures size { AreWithin result (2 ^ 45) }
+    {
+        match turn {
+            Turn::Counterclockwise => self,
+            Turn::Clockwise => Spot {
+                a: self.a,
+                b: -self.b,
+            },
+        }
+    }
+
+    /// The cross product: above 0 where the other lies less than half a turn counterclockwise.
+    pub(crate) fn cross(self, other: Spot) -> i128
+        requires first { AreWithin self (2 ^ 45) }
+        requires second { AreWithin other (2 ^ 45) }
+        ensures { result ≡ cross self other }
+    {
+        product(self.a, other.b) - product(self.b, other.a)
+    }
+
+    /// The dot product: above 0 where the other lies less than a quarter turn away, either way.
+    fn dot(self, other: Spot) -> i128
+        requires first { AreWithin self (2 ^ 45) }
+        requires second { AreWithin other (2 ^ 45) }
+        ensures { result ≡ dot self other }
+    {
+        product(self.a, other.a) + product(self.b, other.b)
+    }
+
+    /// Whether the other lies the same way from the centre, or one of them is the centre.
+    pub(crate) fn is_same_way(self, other: Spot) -> bool
+        requires first { AreWithin self (2 ^ 45) }
+        requires second { AreWithin other (2 ^ 45) }
+        ensures { result ≡ (sweep_by (cross self other) (dot self other) == 4) }
+    {
+        self.cross(other) == 0 && self.dot(other) >= 0
+    }
+}
+
+fn product(first: i64, second: i64) -> i128
+    requires first { unsigned_abs first < 2 ^ 45 }
+    requires second { unsigned_abs second < 2 ^ 45 }
+    ensures value { result ≡ first *ℤ second }
+    ensures size { unsigned_abs result ≤ 2 ^ 90 }
+{
+    first as i128 * second as i128
 }
