@@ -56,3 +56,6 @@ by_last p m w (suc n) some hp hm false e =
 pub repeated_last : (p m w : ℤ) (n : ℕ) → 1 ≤ n → IsCount p → IsCount m →
     (is_far (p +ℤ pos n *ℤ w) || is_far (m +ℤ pos n *ℤ w)) ≡ list_any is_far (flat_map (repeated p m w) (numbers_from 1 n))
 repeated_last p m w n some hp hm = sym (by_last p m w n some hp hm _ refl)
+
+pub last_near : (far : Bool) (n : ℤ) → (far || is_far n) ≡ false → IsCount n
+last_near far n e = is_far-near n (or_none far (is_far n) e).1

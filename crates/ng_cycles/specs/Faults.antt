@@ -16,6 +16,7 @@ use Rattle.ng_offsets.specs.Points.{shift_x, shift_y, shift_z}
 use Rattle.ng_cycles.specs.declared.drill.Drill.{Drill}
 use Rattle.ng_cycles.specs.declared.drill.Work.{Work}
 use Rattle.ng_cycles.specs.declared.drill.Work.TheVariants as work
+use Rattle.ng_cycles.specs.declared.heights.Lengths.{Lengths}
 use Rattle.ng_cycles.specs.declared.words.CycleWords.{CycleWords}
 use Rattle.ng_cycles.specs.declared.words.KeptWords.{KeptWords}
 use Rattle.ng_cycles.specs.declared.words.Kind.{Kind}
@@ -36,22 +37,34 @@ work_of Boring words = work.Boring
 work_of BoringWithStop words = work.BoringWithStop (unwrap_or words.p (pos 0))
 work_of BoringWithDwell words = work.BoringWithDwell (unwrap_or words.p (pos 0))
 
-abbrev pub drill_of : CycleWords → Setting → Drill
-drill_of w s =
-    let words = in_force w.own s.kept in
+-- a cycle by its lengths
+abbrev pub drill_by : CycleWords → Setting → KeptWords → Lengths → Drill
+drill_by w s words l = record {
+  work = work_of w.kind words;
+  start = s.point;
+  x = l.x;
+  y = l.y;
+  r = l.r;
+  z = l.z;
+  clear = if s.keeps_old_z then int_max s.point.z l.r else l.r;
+  repeats = w.repeats;
+  rate = unwrap_or (above_zero s.feed_per_min) 1;
+  outputs = s.outputs;
+}
+
+-- the lengths of words, of missing ones those of 0
+abbrev pub lengths_of : CycleWords → Setting → KeptWords → Lengths
+lengths_of w s words =
     let r' = r_of s.is_incremental (unwrap_or words.r (pos 0)) (shift_z s.offsets) s.point.z in
     record {
-      work = work_of w.kind words;
-      start = s.point;
       x = course_of s.is_incremental w.x (shift_x s.offsets) s.point.x;
       y = course_of s.is_incremental w.y (shift_y s.offsets) s.point.y;
       r = r';
       z = z_of s.is_incremental (unwrap_or words.z (pos 0)) (shift_z s.offsets) r';
-      clear = if s.keeps_old_z then int_max s.point.z r' else r';
-      repeats = w.repeats;
-      rate = unwrap_or (above_zero s.feed_per_min) 1;
-      outputs = s.outputs;
     }
+
+abbrev pub drill_of : CycleWords → Setting → Drill
+drill_of w s = let words = in_force w.own s.kept in drill_by w s words (lengths_of w s words)
 
 -- ---- the causes
 
@@ -102,23 +115,27 @@ ends_outside g _ = false
 abbrev pub leaves_travel : Geometry → Drill → Bool
 leaves_travel g d = list_any (ends_outside g) (cycle_segments d)
 
--- each fault behind its cause: E3, Y1 to Y8, X1, X2
-abbrev pub causes : CycleWords → Setting → Geometry → List (Bool × Fault)
-causes w s g =
-    let words = in_force w.own s.kept in
-    let d = drill_of w s in
-    (list_any is_far (lengths w s), OutOfRange)
-    ∷ ((names_no_axis w, CycleNoAxis)
-    ∷ ((is_none words.z, NoZ)
-    ∷ ((is_none words.r, NoR)
-    ∷ ((int_lt d.r d.z, RBelowZ)
+-- Y4 to Y8, X1 and X2 of a cycle that has its words
+abbrev pub hole_causes : CycleWords → Setting → KeptWords → Geometry → Drill → List (Bool × Fault)
+hole_causes w s words g d =
+    (int_lt d.r d.z, RBelowZ)
     ∷ ((s.is_inverse_time, InverseTime)
     ∷ ((has_negative_p w.kind words, NegativeP)
     ∷ ((has_bad_q w.kind words, BadQ)
     ∷ ((finds_spindle_stopped w.kind s.outputs.spindle, SpindleStopped)
     ∷ ((is_none (above_zero s.feed_per_min), NoFeed)
     ∷ ((leaves_travel g d, OutsideTravel)
-    ∷ []))))))))))
+    ∷ []))))))
+
+-- each fault behind its cause: E3, Y1 to Y8, X1, X2
+abbrev pub causes : CycleWords → Setting → Geometry → List (Bool × Fault)
+causes w s g =
+    let words = in_force w.own s.kept in
+    (list_any is_far (lengths w s), OutOfRange)
+    ∷ ((names_no_axis w, CycleNoAxis)
+    ∷ ((is_none words.z, NoZ)
+    ∷ ((is_none words.r, NoR)
+    ∷ hole_causes w s words g (drill_of w s))))
 
 -- the first fault whose cause holds
 abbrev pub first_fault : List (Bool × Fault) → Option Fault

@@ -2,11 +2,13 @@
 -- 3.5.17; ranges own).
 use Rattle.std.specs.Prelude.{ℕ, ℤ, pos, ◌+ℤ◌, ◌-ℤ◌, ◌*ℤ◌, unsigned_abs, Bool, true, false, not, nat_le, if◌then◌else◌, Option, Some, None, unwrap_or, List, [], ◌∷◌, ◌++◌, flat_map, Result, Ok, Err}
 use Rattle.std.specs.List.{list_any}
+use Rattle.std.specs.Option.{option_map}
 use Rattle.ng_num.specs.Range.{greatest}
 use Rattle.ng_num.specs.declared.fault.Fault.{Fault}
 use Rattle.ng_num.specs.declared.fault.Fault.TheVariants.{OutOfRange}
 use Rattle.ng_offsets.specs.Points.{shift_x, shift_y, shift_z}
 use Rattle.ng_cycles.specs.declared.drill.Course.{Course}
+use Rattle.ng_cycles.specs.declared.heights.Heights.{Heights}
 use Rattle.ng_cycles.specs.declared.words.CycleWords.{CycleWords}
 use Rattle.ng_cycles.specs.declared.words.KeptWords.{KeptWords}
 use Rattle.ng_cycles.specs.declared.words.Setting.{Setting}
@@ -30,6 +32,16 @@ r_of true word shift at = at +ℤ word
 abbrev pub z_of : Bool → ℤ → ℤ → ℤ → ℤ
 z_of false word shift r = word +ℤ shift
 z_of true word shift r = r +ℤ word
+
+abbrev pub z_by : Bool → Option ℤ → Option ℤ → ℤ → ℤ → Option ℤ
+z_by incremental r None shift at = None
+z_by false r (Some word) shift at = Some (word +ℤ shift)
+z_by true None (Some word) shift at = None
+z_by true (Some r) (Some word) shift at = Some ((at +ℤ r) +ℤ word)
+
+-- the same of words that may be missing; under G91 Z is none where R is missing
+abbrev pub heights_of : Bool → KeptWords → ℤ → ℤ → Heights
+heights_of incremental words shift at = record { r = option_map (λ r. r_of incremental r shift at) words.r; z = z_by incremental words.r words.z shift at }
 
 -- ---- what is looked at: the current and the new program coordinates where the line needs them, and the machine coordinates
 
@@ -55,13 +67,16 @@ z_lengths false r (Some word) shift at = (word +ℤ shift) ∷ []
 z_lengths true None (Some word) shift at = []
 z_lengths true (Some r) (Some word) shift at = (((at -ℤ shift) +ℤ r) +ℤ word) ∷ ((at +ℤ r) +ℤ word) ∷ []
 
+abbrev pub height_lengths : KeptWords → Setting → List ℤ
+height_lengths words s =
+    r_lengths s.is_incremental words.r (shift_z s.offsets) s.point.z
+    ++ z_lengths s.is_incremental words.r words.z (shift_z s.offsets) s.point.z
+
 abbrev pub lengths : CycleWords → Setting → List ℤ
 lengths w s =
-    let words = in_force w.own s.kept in
     place_lengths s.is_incremental w.x (shift_x s.offsets) s.point.x w.repeats
     ++ (place_lengths s.is_incremental w.y (shift_y s.offsets) s.point.y w.repeats
-    ++ (r_lengths s.is_incremental words.r (shift_z s.offsets) s.point.z
-    ++ z_lengths s.is_incremental words.r words.z (shift_z s.offsets) s.point.z))
+    ++ height_lengths (in_force w.own s.kept) s)
 
 -- beyond the range of lengths
 abbrev pub is_far : ℤ → Bool

@@ -5,3 +5,4 @@ pub mod Left
 pub mod Words
 pub mod Lengths
 pub mod Faults
+pub mod Inside

@@ -4,6 +4,8 @@
 mod canned;
 mod cycle;
 mod drill;
+mod heights;
+mod inside;
 mod left;
 mod peck;
 mod phase;

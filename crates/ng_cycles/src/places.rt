@@ -37,7 +37,7 @@ fn depth_of(count: u64, peck: Peck) -> i128
 impl Course {
     /// The coordinate at the place of a repeat. Where that of the last one is in range, so are all before it.
     #[tactic(auto, using(crate::proofs::Between::between))]
-    fn coordinate(&self, repeat: u32, repeats: u32) -> Len
+    pub(crate) fn coordinate(&self, repeat: u32, repeats: u32) -> Len
         requires before { repeat ≤ repeats }
         requires last { IsCount (coordinate self.now repeats) }
         ensures { result ≡ coordinate self.now repeat }
