@@ -1,7 +1,7 @@
 //! A cycle's segments, one at a time.
 ghost use Rattle.std.specs.Prelude.{◌≡◌};
 
-use crate::drill::Canned;
+use crate::canned::Canned;
 use crate::left::{CycleLeft, cycle_left};
 use crate::standing::Standing;
 use ng_canon::Segment;

@@ -2,7 +2,6 @@
 use crate::peck::Peck;
 use ng_canon::{Outputs, Rate};
 use ng_num::{Len, Num, Point};
-use std::marker::Model;
 
 /// What a cycle does at each of its places (NISTIR 6556, 3.5.16.2 to 3.5.16.9). Dwells are in seconds.
 #[derive(Clone, Copy, Debug, PartialEq, Eq)]
@@ -46,36 +45,4 @@ pub struct Drill {
     pub rate: Rate,
     /// The outputs before it, and behind it.
     pub outputs: Outputs,
-}
-
-/// A canned cycle that nothing forbids.
-#[derive(Clone, Copy, Debug, PartialEq, Eq)]
-pub struct Canned {
-    drill: Drill,
-}
-
-impl Model for Canned {
-    ghost use Rattle.ng_cycles.specs.declared.drill.Drill.{Drill};
-    ghost use Rattle.ng_cycles.specs.Canned.{IsCanned};
-
-    ghost Value = { Drill };
-
-    ghost view = { λ c. c.drill };
-
-    ghost invariant = { λ c. IsCanned c.drill };
-
-    ghost inverse = { λ d. record { drill = d } };
-}
-
-impl Canned {
-    ghost use Rattle.std.specs.Prelude.{◌≡◌};
-    ghost use Rattle.ng_cycles.specs.Canned.{IsCanned};
-
-    /// What it does.
-    pub fn drill(&self) -> &Drill
-        ensures value { result.now ≡ self.now }
-        ensures canned { IsCanned self.now }
-    {
-        &self.drill
-    }
 }

@@ -7,7 +7,8 @@ ghost use Rattle.ng_cycles.specs.Segments.{stand_after, line_to, whole};
 ghost use Rattle.ng_cycles.specs.Left.{ahead_of, strokes_in, seconds_of, way_out, pecks_behind, Gives, IsNext};
 ghost use Rattle.ng_cycles.specs.declared.drill.Drill.{Drill};
 
-use crate::drill::{Canned, Work};
+use crate::canned::Canned;
+use crate::drill::Work;
 use crate::peck::Peck;
 use crate::phase::{Pecking, Phase};
 use crate::standing::Standing;

@@ -4,7 +4,8 @@ ghost use Rattle.std.specs.Int.{int_min};
 ghost use Rattle.ng_num.specs.Range.{IsCount};
 ghost use Rattle.ng_cycles.specs.Strokes.{coordinate, bottom, pecks, clearance};
 
-use crate::drill::{Canned, Course, Drill};
+use crate::canned::Canned;
+use crate::drill::{Course, Drill};
 use crate::peck::Peck;
 use ng_canon::Spindle;
 use ng_num::{Len, Point};
@@ -18,7 +19,7 @@ fn length_of(nm: i128) -> Len
 }
 
 /// A length so many times.
-fn times(count: u32, length: Len) -> i128
+pub(crate) fn times(count: u32, length: Len) -> i128
     ensures value { result ≡ pos count *ℤ length }
     ensures small { unsigned_abs result < 2 ^ 100 }
 {
@@ -36,7 +37,7 @@ fn depth_of(count: u64, peck: Peck) -> i128
 impl Course {
     /// The coordinate at the place of a repeat. Where that of the last one is in range, so are all before it.
     #[tactic(auto, using(crate::proofs::Between::between))]
-    fn coordinate(&self, repeat: u32, repeats: u32) -> Len
+    pub(crate) fn coordinate(&self, repeat: u32, repeats: u32) -> Len
         requires before { repeat ≤ repeats }
         requires last { IsCount (coordinate self.now repeats) }
         ensures { result ≡ coordinate self.now repeat }
