@@ -1,8 +1,10 @@
 //! The program itself, over words and files.
 use super::{CUTS, CUTS_TEXT, PROGRAM_END, joined};
 use ng_console::{Job, ngc, run_dry, words};
+use ng_settings::Settings;
+use std::rt::Files;
 use std::test::Fail;
-use std::{env, fs};
+use std::{env, fs, io};
 
 /// A program with lines that block delete leaves out.
 const SLASHES: &str = "G0 X1\n/G0 X2\nY3\n \t/ N5 X4 Y4\nM2\n";
@@ -17,35 +19,47 @@ const LEFT_MOVES: &str =
 
 #[test]
 fn reads_the_words(rt: HostRuntime) -> Result<(), Fail> {
-    let lines: [(&[&str], &str, bool); 7] = [
-        (&["ngc", "dry", "part.ngc"], "part.ngc", false),
-        (&["ngc", "dry", "--", "-part.ngc"], "-part.ngc", false),
+    let lines: [(&[&str], &str, Option<&str>, bool); 12] = [
+        (&["part.ngc"], "part.ngc", None, false),
+        (&["--", "-part.ngc"], "-part.ngc", None, false),
+        (&["part.ngc", "--block-delete"], "part.ngc", None, true),
+        (&["--block-delete", "part.ngc"], "part.ngc", None, true),
         (
-            &["ngc", "dry", "part.ngc", "--block-delete"],
-            "part.ngc",
-            true,
-        ),
-        (
-            &["ngc", "dry", "--block-delete", "part.ngc"],
-            "part.ngc",
-            true,
-        ),
-        (
-            &["ngc", "dry", "--block-delete", "--", "-part.ngc"],
+            &["--block-delete", "--", "-part.ngc"],
             "-part.ngc",
+            None,
             true,
         ),
+        (&["--", "--block-delete"], "--block-delete", None, false),
+        (&["block-delete"], "block-delete", None, false),
         (
-            &["ngc", "dry", "--", "--block-delete"],
-            "--block-delete",
+            &["part.ngc", "--settings", "mill.toml"],
+            "part.ngc",
+            Some("mill.toml"),
             false,
         ),
-        (&["ngc", "dry", "block-delete"], "block-delete", false),
+        (
+            &["--settings=mill.toml", "part.ngc"],
+            "part.ngc",
+            Some("mill.toml"),
+            false,
+        ),
+        (
+            &["--settings", "dry", "--block-delete", "settings"],
+            "settings",
+            Some("dry"),
+            true,
+        ),
+        (&["--settings=", "part.ngc"], "part.ngc", Some(""), false),
+        (&["--", "--settings"], "--settings", None, false),
     ];
-    for (given, program, block_delete) in lines {
-        let job = words(rt.alloc(), given)?;
+    for (given, program, settings, block_delete) in lines {
+        let mut all = vec![in rt.alloc(); "ngc", "dry"]?;
+        all.extend_from_slice(given)?;
+        let job = words(rt.alloc(), all.as_slice())?;
         let wanted = Job::Dry {
             program,
+            settings,
             block_delete,
         };
         assert!(rt; job == wanted, "{given:?}");
@@ -63,7 +77,7 @@ const WRONG: &str = "error: ";
 
 #[test]
 fn answers_wrong_words_and_help_with_text(rt: HostRuntime) -> Result<(), Fail> {
-    let rows: [(&[&str], &str); 18] = [
+    let rows: [(&[&str], &str); 23] = [
         (&["ngc"], HELP),
         (&["ngc", "--help"], HELP),
         (&["ngc", "help"], HELP),
@@ -88,6 +102,17 @@ fn answers_wrong_words_and_help_with_text(rt: HostRuntime) -> Result<(), Fail> {
         (&["ngc", "dry", "a.ngc", "--block"], WRONG),
         (&["ngc", "dry", "a.ngc", "-b"], WRONG),
         (&["ngc", "--block-delete", "dry", "a.ngc"], WRONG),
+        (&["ngc", "dry", "a.ngc", "--settings"], WRONG),
+        (&["ngc", "dry", "--settings", "a.ngc"], WRONG),
+        (
+            &["ngc", "dry", "a.ngc", "--settings", "--block-delete"],
+            WRONG,
+        ),
+        (
+            &["ngc", "dry", "a.ngc", "--settings=b", "--settings=c"],
+            WRONG,
+        ),
+        (&["ngc", "--settings", "b", "dry", "a.ngc"], WRONG),
     ];
     for (given, beginning) in rows {
         let mut text = Vec::new(rt.alloc());
@@ -108,30 +133,92 @@ fn answers_wrong_words_and_help_with_text(rt: HostRuntime) -> Result<(), Fail> {
     Ok(())
 }
 
+/// A machine of a millimetre on each side with no tools.
+const NO_TOOLS: &str =
+    "step_nm = [10, 10, 10]\nlow_nm = [-1, -1, -1]\nhigh_nm = [1000000, 1000000, 1000000]\ntraverse_nm_per_min = 1\nperiod_us = 1\ntools_nm = []\n";
+
+/// What programs write: the default settings have one tool and a metre on each side, `NO_TOOLS` no tool and a millimetre.
+const RUNS: [(Option<&str>, Option<&str>, u8, &str); 12] = [
+    (None, Some(CUTS), 0, CUTS_TEXT),
+    (
+        None,
+        Some("G0 X1\nG1 X2"),
+        1,
+        "STRAIGHT_TRAVERSE(1.000000, 0.000000, 0.000000)\nREFUSED line 2: X1 NoFeed\n",
+    ),
+    (None, None, 2, ""),
+    (
+        None,
+        Some("T1\nG0 X1.000001\nX1000.1"),
+        1,
+        "SELECT_TOOL(1)\nSTRAIGHT_TRAVERSE(1.000001, 0.000000, 0.000000)\nREFUSED line 3: X2 OutsideTravel\n",
+    ),
+    (
+        Some(NO_TOOLS),
+        Some("T1\nM2"),
+        1,
+        "REFUSED line 1: B14 BadSlot\n",
+    ),
+    (
+        Some(NO_TOOLS),
+        Some("G0 X1\nX1.000001"),
+        1,
+        "STRAIGHT_TRAVERSE(1.000000, 0.000000, 0.000000)\nREFUSED line 2: X2 OutsideTravel\n",
+    ),
+    (Some(NO_TOOLS), None, 2, ""),
+    // faults of the settings come before those of the program's file and of the run
+    (Some("x = 1"), Some("G0 X"), 2, "refused S2 MissingKey\n"),
+    (Some("x = 1"), None, 2, "refused S2 MissingKey\n"),
+    (Some("x"), Some("M2"), 2, "refused S1 NotToml\n"),
+    (Some("\u{feff}"), Some("M2"), 2, "refused S2 MissingKey\n"),
+    (Some(""), Some("M2"), 2, "refused S2 MissingKey\n"),
+];
+
+/// Writes a file, where there is something to be written.
+fn put_file<R: Files>(rt: &R, path: &str, text: Option<&str>) -> io::Result<()> {
+    match text {
+        Some(text) => fs::write(rt, path, text),
+        None => Ok(()),
+    }
+}
+
+/// Removes a file, where it was written.
+fn remove_file<R: Files>(rt: &R, path: &str, text: Option<&str>) -> io::Result<()> {
+    match text {
+        Some(_) => fs::remove_file(rt, path),
+        None => Ok(()),
+    }
+}
+
 #[test]
-fn runs_a_file(rt: HostRuntime) -> Result<(), Fail> {
+fn runs_files(rt: HostRuntime) -> Result<(), Fail> {
     let folder = env::temp_dir(&rt)?;
     let number = std::process::id(rt.process());
     let path = format!(in rt.alloc(); "{}/ngc_console_{number}.ngc", folder.display())?;
-    for (program, status, wanted) in [
-        (CUTS, 0, CUTS_TEXT),
-        (
-            "G0 X1\nG1 X2",
-            1,
-            "STRAIGHT_TRAVERSE(1.000000, 0.000000, 0.000000)\nREFUSED line 2: X1 NoFeed\n",
-        ),
-    ] {
-        fs::write(&rt, path.as_str(), program)?;
+    let machine = format!(in rt.alloc(); "{}/ngc_console_{number}.toml", folder.display())?;
+    for (settings, program, status, wanted) in RUNS {
+        put_file(&rt, path.as_str(), program)?;
+        put_file(&rt, machine.as_str(), settings)?;
+        let mut given = vec![in rt.alloc(); "ngc", "dry", path.as_str()]?;
+        if settings.is_some() {
+            given.push("--settings")?;
+            given.push(machine.as_str())?;
+        }
         let mut text = Vec::new(rt.alloc());
         assert!(rt;
-            ngc(&rt, &["ngc", "dry", path.as_str()], &mut text) == status,
+            ngc(&rt, given.as_slice(), &mut text) == status,
             "{program:?}"
         );
         assert!(rt; text.as_slice() == wanted.as_bytes(), "{program:?}");
-        fs::remove_file(&rt, path.as_str())?;
+        remove_file(&rt, path.as_str(), program)?;
+        remove_file(&rt, machine.as_str(), settings)?;
     }
+    // a settings file that isn't there is missed before the program's, and prints nothing
+    fs::write(&rt, path.as_str(), "M2")?;
     let mut text = Vec::new(rt.alloc());
-    assert!(rt; ngc(&rt, &["ngc", "dry", path.as_str()], &mut text) == 2 && text.is_empty());
+    let given = ["ngc", "dry", path.as_str(), "--settings", machine.as_str()];
+    assert!(rt; ngc(&rt, &given, &mut text) == 2 && text.is_empty());
+    fs::remove_file(&rt, path.as_str())?;
     Ok(())
 }
 
@@ -148,7 +235,13 @@ fn leaves_blocks_out_where_the_flag_is_given(rt: HostRuntime) -> Result<(), Fail
         let mut reader = program.as_bytes();
         let mut text = Vec::new(rt.alloc());
         assert!(rt;
-            run_dry(rt.alloc(), &mut reader, &mut text, block_delete) == status,
+            run_dry(
+                rt.alloc(),
+                &Settings::standard(),
+                &mut reader,
+                &mut text,
+                block_delete
+            ) == status,
             "{program:?} {block_delete}"
         );
         let wanted = joined(rt.alloc(), moves.as_bytes(), end.as_bytes())?;
