@@ -11,6 +11,7 @@ use Rattle.ng_modal.specs.declared.modes.FeedMode.TheVariants.{PerMinute}
 use Rattle.ng_block.specs.declared.machine.Machine.{Machine}
 use Rattle.ng_block.specs.declared.machine.KeptWords.{KeptWords}
 use Rattle.ng_block.specs.declared.tasks.Tasks.{Tasks}
+use Rattle.ng_block.specs.AxisData.{system_after}
 use Rattle.ng_block.specs.Blocks.{feed_mode_after}
 use Rattle.ng_block.specs.Ends.{ends}
 use Rattle.ng_block.specs.Fresh.{no_words}
@@ -19,7 +20,7 @@ use Rattle.ng_block.specs.Order.{outputs_behind}
 use Rattle.ng_block.specs.Paths.{point_after}
 use Rattle.ng_block.specs.Steps.{order}
 
--- the program's end sets G1, G17, G90, G94, G54, M48; unit, retract and path mode stay; G54 to G59.3 aren't built
+-- the program's end sets G1, G17, G90, G94, G54, M48; unit, retract and path mode stay
 abbrev pub modes_after : Block → Modes → Modes
 modes_after b m = record {
   motion = if ends b.m.stop then Feed else motion_after b m;
@@ -28,7 +29,7 @@ modes_after b m = record {
   feed_mode = if ends b.m.stop then PerMinute else feed_mode_after b m;
   unit = unwrap_or b.g.unit m.unit;
   retract = unwrap_or b.g.retract m.retract;
-  system = if ends b.m.stop then 1 else m.system;
+  system = if ends b.m.stop then 1 else system_after b m;
   path = unwrap_or b.g.path m.path;
   overrides = ends b.m.stop || unwrap_or b.m.overrides m.overrides;
 }
@@ -36,7 +37,7 @@ modes_after b m = record {
 -- no word of a block changes a mode but the motion
 abbrev pub keeps_modes : Block → Bool
 keeps_modes b =
-    not (is_some b.g.plane || is_some b.g.distance || is_some b.g.feed_mode || is_some b.g.unit || is_some b.g.retract || is_some b.g.path
+    not (is_some b.g.plane || is_some b.g.distance || is_some b.g.feed_mode || is_some b.g.unit || is_some b.g.retract || is_some b.g.path || is_some b.g.system
     || is_some b.m.overrides || is_some b.m.stop)
 
 -- another motion and the program's end drop the words that a cycle keeps

@@ -26,6 +26,7 @@ use Rattle.ng_block.specs.Goals.{Goal, goal_of}
 use Rattle.ng_block.specs.Faults.{path_faults}
 use Rattle.ng_block.specs.Tasks.{feed_set, tasks_of, tasks_in}
 use Rattle.ng_block.specs.After.{machine_after}
+use Rattle.ng_block.specs.Shifts.{shown_in}
 use Rattle.ng_block.specs.Order.{Plan, commands_of, segments_of}
 
 -- what a line has done: the new state, the outputs that it began with, its segments and commands in their order, and how the program goes on
@@ -38,7 +39,7 @@ pub record Done : Type 0 where
 
 -- what is kept of a line
 abbrev pub plan_by : Effect → Plan
-plan_by e = record { remark = said_by e.plan.remark; feed = e.plan.feed; tasks = tasks_in e.plan.tasks; path = e.plan.path; origin = e.machine.offsets.origin; before = e.plan.before }
+plan_by e = record { remark = said_by e.plan.remark; feed = e.plan.feed; tasks = tasks_in e.plan.tasks; shown = shown_in e.plan.shown; path = e.plan.path; origin = e.machine.offsets.origin; before = e.plan.before }
 
 abbrev pub commands_by : Effect → List Canonical
 commands_by e = commands_of (plan_by e)
@@ -58,7 +59,7 @@ lawful None answer = answer
 lawful (Some fault) answer = Err fault
 
 abbrev pub plan_of : List Canonical → Option ℤ → Tasks → Goal → Machine → Plan
-plan_of remark feed tasks goal m = record { remark = remark; feed = feed; tasks = tasks; path = goal.path; origin = goal.offsets.origin; before = m.outputs }
+plan_of remark feed tasks goal m = record { remark = remark; feed = feed; tasks = tasks; shown = goal.shown; path = goal.path; origin = goal.offsets.origin; before = m.outputs }
 
 -- what a lawful block does
 abbrev pub block_done : Block → Goal → List Canonical → Setup → Done
@@ -69,12 +70,12 @@ block_done b goal remark s =
     record { setup = changed s (machine_after b goal tasks s.machine) goal.changes; before = plan.before; segments = segments_of plan; commands = commands_of plan; stop = stop_of b.m.stop }
 
 -- what the values of a line do. It is refused by B1 to B19 of its words, then for a code that isn't built (B3), then for a computed
--- length (E3), then for its move (X1, X2); of each of these by the first whose cause holds
+-- length or offset (E3), then for its move (X1, X2); of each of these by the first whose cause holds
 unfoldable pub executed_values : Setup → List Canonical → Settled → List ℤ → Geometry → Result Done Fault
 executed_values s remark values tools geometry =
     and_then (checked values.words s.machine.modes (length tools)) (λ b.
     lawful (first_fault ((is_later b, LeftOutCode) ∷ []))
-    (and_then (goal_of b values.settings s) (λ goal.
+    (and_then (goal_of b values.settings s tools) (λ goal.
     lawful (first_fault (path_faults goal.path geometry)) (Ok (block_done b goal remark s)))))
 
 -- what the pieces of a line do: the faults of their values come first

@@ -1,20 +1,21 @@
 -- The faults of a move (own numbers; NISTIR 6556, 3.5.2, 3.5.19), in the order in which they are looked for.
-use Rattle.std.specs.Prelude.{Bool, true, false, not, List, [], ◌∷◌}
+use Rattle.std.specs.Prelude.{Bool, true, false, not, ◌&&◌, List, [], ◌∷◌}
 use Rattle.ng_num.specs.declared.fault.Fault.{Fault}
 use Rattle.ng_num.specs.declared.fault.Fault.TheVariants.{NoFeed, OutsideTravel}
 use Rattle.ng_canon.specs.Inside.{is_inside}
 use Rattle.ng_canon.specs.declared.geometry.Geometry.{Geometry}
 use Rattle.ng_block.specs.declared.path.Path.{Path}
-use Rattle.ng_block.specs.declared.path.Path.TheVariants.{WithoutFeed, Straight}
+use Rattle.ng_block.specs.declared.path.Path.TheVariants.{WithoutFeed, Straight, Homing}
 
 -- X1: it moves at a feed, and under G94 the feed is 0, under G93 the line has no F above 0
 abbrev pub lacks_feed : Path → Bool
 lacks_feed WithoutFeed = true
 lacks_feed _ = false
 
--- X2: a move ends outside the travel
+-- X2: a move ends outside the travel; on the way home each of two
 abbrev pub leaves_travel : Path → Geometry → Bool
 leaves_travel (Straight line) geometry = not (is_inside geometry line.end)
+leaves_travel (Homing way) geometry = not (is_inside geometry way.between && is_inside geometry way.home)
 leaves_travel _ geometry = false
 
 abbrev pub path_faults : Path → Geometry → List (Bool × Fault)

@@ -2,7 +2,11 @@ pub mod Fresh
 pub mod Setup
 pub mod Ends
 pub mod Paths
+pub mod ToolLength
+pub mod AxisData
+pub mod Shifts
 pub mod Blocks
+pub mod Homes
 pub mod Goals
 pub mod Faults
 pub mod Remarks
@@ -14,5 +18,6 @@ pub mod After
 pub mod Effects
 pub mod Commands
 pub mod Segments
+pub mod Course
 pub mod Dry
 pub mod Parts

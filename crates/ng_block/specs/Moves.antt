@@ -1,7 +1,12 @@
 -- What a cursor over a path has left.
 use Rattle.std.specs.Prelude.{List, [], ◌∷◌, Option, Some, None}
 use Rattle.ng_canon.specs.declared.segment.Segment.{Segment}
+use Rattle.ng_canon.specs.declared.segment.Segment.TheVariants as segment
+use Rattle.ng_canon.specs.declared.segment.StraightMove.{StraightMove}
 
-abbrev pub left_of : Option Segment → List Segment
-left_of None = []
-left_of (Some segment) = segment ∷ []
+-- its next segment, and the straight move behind that
+abbrev pub left_of : Option Segment → Option StraightMove → List Segment
+left_of None None = []
+left_of None (Some line) = segment.Line line ∷ []
+left_of (Some next) None = next ∷ []
+left_of (Some next) (Some line) = next ∷ segment.Line line ∷ []

@@ -17,18 +17,20 @@ use Rattle.ng_modal.specs.declared.asks.Stop.{Stop as StopWord}
 use Rattle.ng_modal.specs.declared.asks.Stop.TheVariants as word
 use Rattle.ng_block.specs.declared.path.Path.{Path}
 use Rattle.ng_block.specs.declared.tasks.Tasks.{Tasks}
+use Rattle.ng_block.specs.declared.shifts.Shown.{Shown}
 use Rattle.ng_block.specs.declared.steps.Step.{Step}
 use Rattle.ng_block.specs.declared.steps.Step.TheVariants as step
 use Rattle.ng_block.specs.Ends.{ends}
 use Rattle.ng_block.specs.Paths.{path_segments, path_commands, spindle_command}
 use Rattle.ng_block.specs.Steps.{order}
 
--- what a block says, the feed that its F sets, what its other words give to do, where its motion goes, the origin after it, and
--- the outputs before it
+-- what a block says, the feed that its F sets, what its other words give to do, what it prints of offsets, where its motion goes,
+-- the origin after it, and the outputs before it
 pub record Plan : Type 0 where
   pub remark : List Canonical
   pub feed : Option ℤ
   pub tasks : Tasks
+  pub shown : Shown
   pub path : Path
   pub origin : Point
   pub before : Outputs
@@ -75,6 +77,9 @@ task_commands t origin s = command_at t s
 -- the time of a move stands right before it
 abbrev pub numeric_at : Plan → Step → List Command
 numeric_at p step.Feed = command_for command.FeedRate p.feed
+numeric_at p step.ToolLength = command_for command.ToolLength p.shown.tool_length
+numeric_at p step.CoordinateSystem = command_for command.OriginOffsets p.shown.system
+numeric_at p step.AxisData = command_for command.OriginOffsets p.shown.axis_data
 numeric_at p step.Motion = command_at p.tasks step.Motion ++ path_commands p.path
 numeric_at p s = task_commands p.tasks p.origin s
 

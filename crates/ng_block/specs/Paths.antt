@@ -9,8 +9,9 @@ use Rattle.ng_canon.specs.declared.pace.Pace.{Pace}
 use Rattle.ng_canon.specs.declared.pace.Pace.TheVariants as pace
 use Rattle.ng_canon.specs.declared.segment.Segment.{Segment}
 use Rattle.ng_canon.specs.declared.segment.Segment.TheVariants as segment
+use Rattle.ng_canon.specs.declared.segment.StraightMove.{StraightMove}
 use Rattle.ng_block.specs.declared.path.Path.{Path}
-use Rattle.ng_block.specs.declared.path.Path.TheVariants.{Still, WithoutFeed, Straight}
+use Rattle.ng_block.specs.declared.path.Path.TheVariants.{Still, WithoutFeed, Straight, Homing}
 
 -- a straight move at a pace; a block that moves without one is refused
 abbrev pub moving_at : Option Pace → Point → Point → Path
@@ -20,12 +21,17 @@ moving_at (Some pace) start end = Straight (record { start = start; end = end; p
 -- where the machine stands behind a path
 abbrev pub point_after : Path → Point → Point
 point_after (Straight line) start = line.end
+point_after (Homing way) start = way.home
 point_after _ start = start
+
+abbrev pub traverse : Point → Point → StraightMove
+traverse start end = record { start = start; end = end; pace = pace.Traverse }
 
 abbrev pub path_segments : Path → List Segment
 path_segments Still = []
 path_segments WithoutFeed = []
 path_segments (Straight line) = segment.Line line ∷ []
+path_segments (Homing way) = segment.Line (traverse way.start way.between) ∷ segment.Line (traverse way.between way.home) ∷ []
 
 abbrev pub pace_command : Pace → Point → Command
 pace_command pace.Traverse end = command.Traverse end

@@ -2,6 +2,7 @@
 ghost use Rattle.std.specs.Prelude.{◌≡◌};
 ghost use Rattle.ng_block.specs.After.{keeps_modes, modes_after, kept_after};
 
+use crate::axis_data::system_after;
 use crate::ends::ends;
 use crate::goal::feed_mode_after;
 use crate::machine::KeptWords;
@@ -21,6 +22,7 @@ fn keeps_modes(block: &Block) -> bool
         | words.unit.is_some()
         | words.retract.is_some()
         | words.path.is_some()
+        | words.system.is_some()
         | block.m.overrides.is_some()
         | block.m.stop.is_some())
 }
@@ -51,7 +53,7 @@ fn modes_by(block: &Block, modes: &Modes) -> Modes
         feed_mode: feed_mode_after(block, modes),
         unit: words.unit.unwrap_or(modes.unit),
         retract: words.retract.unwrap_or(modes.retract),
-        system: modes.system,
+        system: system_after(block, modes),
         path: words.path.unwrap_or(modes.path),
         overrides: block.m.overrides.unwrap_or(modes.overrides),
     };

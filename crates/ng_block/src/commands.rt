@@ -5,10 +5,12 @@ ghost use Rattle.ng_block.specs.Commands.{begun_commands, rest_commands};
 ghost use Rattle.ng_block.specs.Effects.{plan_by, commands_by};
 ghost use Rattle.ng_block.specs.Paths.{pace_command};
 ghost use Rattle.ng_block.specs.Tasks.{tasks_in};
+ghost use Rattle.ng_block.specs.Shifts.{shown_in};
 ghost use Rattle.ng_block.specs.Order.{commands_at, numeric_at, command_for, command_at, task_commands, coolant_commands, stop_commands};
 
 use crate::effect::Effect;
 use crate::path::{Moves, Path, command_of, spindle_command};
+use crate::shifts::Shown;
 use crate::steps::{ORDER, Step};
 use crate::tasks::Tasks;
 use arrayvec::ArrayVec;
@@ -28,6 +30,43 @@ fn put_feed(feed_per_min: Option<Len>, commands: &mut OfStep)
 {
     if let Some(feed_per_min) = feed_per_min {
         commands.push(Command::FeedRate(feed_per_min));
+    }
+}
+
+fn put_length(shown: &Option<Shown>, commands: &mut OfStep)
+    requires { commands.old.items ≡ [] }
+    ensures { commands.new.items ≡ command_for Command.ToolLength (shown_in shown.now).tool_length }
+{
+    let Some(shown) = shown else { return };
+    if let Some(tool_length) = shown.tool_length {
+        commands.push(Command::ToolLength(tool_length));
+    }
+}
+
+fn put_offsets(offsets: Option<Point>, commands: &mut OfStep)
+    requires { commands.old.items ≡ [] }
+    ensures { commands.new.items ≡ command_for Command.OriginOffsets offsets }
+{
+    if let Some(offsets) = offsets {
+        commands.push(Command::OriginOffsets(offsets));
+    }
+}
+
+fn put_system(shown: &Option<Shown>, commands: &mut OfStep)
+    requires { commands.old.items ≡ [] }
+    ensures { commands.new.items ≡ command_for Command.OriginOffsets (shown_in shown.now).system }
+{
+    if let Some(shown) = shown {
+        put_offsets(shown.system, commands);
+    }
+}
+
+fn put_axis_data(shown: &Option<Shown>, commands: &mut OfStep)
+    requires { commands.old.items ≡ [] }
+    ensures { commands.new.items ≡ command_for Command.OriginOffsets (shown_in shown.now).axis_data }
+{
+    if let Some(shown) = shown {
+        put_offsets(shown.axis_data, commands);
     }
 }
 
@@ -165,13 +204,15 @@ impl Effect {
     pub(crate) fn only_move(&self) -> Option<&StraightMove>
         ensures { IfSome result (λ move. commands_by self.now ≡ map numeric (command_for Command.FeedRate self.now.plan.feed ++ pace_command move.now.pace move.now.end ∷ [])) }
     {
-        if self.plan.tasks.is_some() || self.plan.remark.manner.is_some() {
+        let plan = &self.plan;
+        if plan.tasks.is_some() | plan.shown.is_some() | plan.remark.manner.is_some() {
             return None;
         }
         match &self.plan.path {
             Path::Straight(line) => Some(line),
             Path::Still => None,
             Path::WithoutFeed => None,
+            Path::Homing(_) => None,
         }
     }
 }
@@ -204,12 +245,14 @@ impl<'a> CommandsLeft<'a> {
         self.waiting.clear();
         self.taken = 0;
         let plan = &self.effect.plan;
-        if let Step::Feed = step {
-            put_feed(plan.feed, &mut self.waiting);
-            return;
-        }
         let origin = self.effect.machine.offsets.origin;
-        put_tasks(&plan.tasks, origin, step, &mut self.waiting);
+        match step {
+            Step::Feed => put_feed(plan.feed, &mut self.waiting),
+            Step::ToolLength => put_length(&plan.shown, &mut self.waiting),
+            Step::CoordinateSystem => put_system(&plan.shown, &mut self.waiting),
+            Step::AxisData => put_axis_data(&plan.shown, &mut self.waiting),
+            _ => put_tasks(&plan.tasks, origin, step, &mut self.waiting),
+        }
         if let Step::Motion = step {
             self.moves = Moves::of(&plan.path);
         }

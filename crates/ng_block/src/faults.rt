@@ -20,5 +20,10 @@ pub fn path_fault(path: &Path, geometry: &Geometry) -> Option<Fault>
         } else {
             Some(Fault::OutsideTravel)
         },
+        Path::Homing(way) => if geometry.contains(way.between) && geometry.contains(way.home) {
+            None
+        } else {
+            Some(Fault::OutsideTravel)
+        },
     }
 }

@@ -1,15 +1,23 @@
-//! What a line does to motion: its feed, its pace and where it goes (NISTIR 6556, 3.5.1, 3.5.2, 3.5.17, 3.5.19). E3 where a
-//! length that it computes is beyond the range.
+//! What a line does to motion: its feed, its pace and where it goes (NISTIR 6556, 3.5.1, 3.5.2, 3.5.12, 3.5.17, 3.5.19). E3 where
+//! a length that it computes is beyond the range.
 ghost use Rattle.std.specs.Prelude.{◌≡◌, ◌-ℤ◌};
+ghost use Rattle.ng_params.specs.Changes.{with_changes};
+ghost use Rattle.ng_modal.specs.Causes.{is_machine};
 ghost use Rattle.ng_modal.specs.Lines.{is_straight};
-ghost use Rattle.ng_block.specs.Blocks.{feed_mode_after, is_fed, feed_word, time_word, feed_of, fed_pace, pace_by, program_coordinate, coordinate, end_of, path_of};
+ghost use Rattle.ng_block.specs.Blocks.{feed_mode_after, is_fed, feed_word, time_word, feed_of, fed_pace, pace_by, program_coordinate, coordinate, end_of, machine_end_of, straight_end_of};
+ghost use Rattle.ng_block.specs.Goals.{path_of};
 
+use crate::axis_data::{named_on, unit_after};
+use crate::homes::{home_on, way_home};
 use crate::machine::Machine;
 use crate::path::Path;
+use crate::state::State;
 use ng_canon::{InverseTime, Pace, Rate};
-use ng_modal::{Block, Distance, FeedMode, Modes, Motion};
+use ng_modal::{Block, Distance, FeedMode, Modes, Motion, NonModal};
 use ng_num::{Fault, Len, Num, Point, Unit, nm_of};
-use ng_offsets::Shift;
+use ng_offsets::{Offsets, Shift};
+use ng_params::Change;
+use std::alloc::Allocator;
 
 /// What a line's axis words are read by.
 #[derive(Clone, Copy, Debug, PartialEq, Eq)]
@@ -137,33 +145,54 @@ fn coordinate(word: Option<Num>, reading: Reading, shift: Shift, machine: Len) -
     }
 }
 
-/// The end of a straight move.
-fn end_of(block: &Block, machine: &Machine) -> Result<Point, Fault>
-    ensures { result ≡ end_of block.now machine.now }
+/// The end of a move under offsets.
+pub fn end_of(block: &Block, machine: &Machine, offsets: &Offsets) -> Result<Point, Fault>
+    ensures { result ≡ end_of block.now machine.now offsets.now }
 {
     let reading = Reading {
-        unit: block.g.unit.unwrap_or(machine.modes.unit),
+        unit: unit_after(block, &machine.modes),
         distance: block.g.distance.unwrap_or(machine.modes.distance),
     };
-    let x = coordinate(
-        block.values.x,
-        reading,
-        machine.offsets.x(),
-        machine.point.x,
-    )?;
-    let y = coordinate(
-        block.values.y,
-        reading,
-        machine.offsets.y(),
-        machine.point.y,
-    )?;
-    let z = coordinate(
-        block.values.z,
-        reading,
-        machine.offsets.z(),
-        machine.point.z,
-    )?;
+    let values = &block.values;
+    let point = &machine.point;
+    let x = coordinate(values.x, reading, offsets.x(), point.x)?;
+    let y = coordinate(values.y, reading, offsets.y(), point.y)?;
+    let z = coordinate(values.z, reading, offsets.z(), point.z)?;
     Ok(Point { x, y, z })
+}
+
+/// Whether a word of group 0 is G53.
+#[inline]
+fn is_machine(word: Option<NonModal>) -> bool
+    ensures { result ≡ is_machine word }
+{
+    match word {
+        Some(NonModal::MachineCoordinates) => true,
+        _ => false,
+    }
+}
+
+/// The end of a move under G53.
+#[inline(never)]
+fn machine_end_of(block: &Block, machine: &Machine) -> Result<Point, Fault>
+    ensures { result ≡ machine_end_of block.now machine.now }
+{
+    match named_on(block, &machine.modes) {
+        Ok(named) => Ok(named.put(machine.point)),
+        Err(fault) => Err(fault),
+    }
+}
+
+/// The end of a straight move.
+#[inline]
+fn straight_end_of(block: &Block, machine: &Machine, offsets: &Offsets) -> Result<Point, Fault>
+    ensures { result ≡ straight_end_of block.now machine.now offsets.now }
+{
+    if is_machine(block.g.non_modal) {
+        machine_end_of(block, machine)
+    } else {
+        end_of(block, machine, offsets)
+    }
 }
 
 /// Whether a motion is G0 or G1.
@@ -177,14 +206,23 @@ fn is_straight(motion: Option<Motion>) -> bool
     }
 }
 
-/// Where a line's motion goes, with the feed after the line.
-pub fn path_of(block: &Block, machine: &Machine, feed_per_min: Len) -> Result<Path, Fault>
-    ensures { result ≡ path_of block.now machine.now feed_per_min }
+/// Where a line's motion goes under offsets, with the feed after the line, in the table that its settings leave. E3 where a
+/// coordinate of it is beyond the range.
+pub fn path_of<A: Allocator + Copy + Drop>(
+    block: &Block,
+    state: &State<A>,
+    settings: &[Change],
+    offsets: &Offsets,
+    feed_per_min: Len,
+) -> Result<Path, Fault>
+    ensures { result ≡ path_of block.now state.now.machine offsets.now (with_changes state.now.params settings.now) feed_per_min }
 {
+    let machine = &state.machine;
     if !is_straight(block.motion) {
-        return Ok(Path::Still);
+        let home = home_on(block.g.non_modal, &state.params, settings);
+        return way_home(block, machine, offsets, home);
     }
-    let end = end_of(block, machine)?;
+    let end = straight_end_of(block, machine, offsets)?;
     let mode = feed_mode_after(block, &machine.modes);
     let pace = pace_by(block.motion, mode, feed_per_min, block.values.f);
     Ok(Path::moving_at(pace, machine.point, end))

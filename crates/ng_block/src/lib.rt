@@ -13,13 +13,17 @@
 #![tactic(auto)]
 
 mod after;
+mod axis_data;
+mod bearings;
 mod commands;
+mod course;
 mod dry_run;
 mod effect;
 mod ending;
 mod ends;
 mod faults;
 mod goal;
+mod homes;
 pub mod laws;
 mod machine;
 mod output;
@@ -31,6 +35,7 @@ mod remark;
 mod run;
 mod segments;
 mod session;
+mod shifts;
 mod state;
 mod steps;
 mod switches;
@@ -38,6 +43,7 @@ mod tasks;
 mod terms;
 
 pub use commands::Commands;
+pub use course::Course;
 pub use dry_run::{READS, dry};
 pub use effect::{CHANGES, Changes, Effect, Stop};
 pub use ending::{DryFault, Ended};
@@ -50,3 +56,4 @@ pub use places::{Places, execute};
 pub use segments::Segments;
 pub use state::State;
 pub use steps::{ORDER, Step};
+pub use terms::Terms;

@@ -11,8 +11,9 @@ ghost use Rattle.ng_block.specs.Paths.{pace_command};
 use crate::commands::Commands;
 use crate::effect::Effect;
 use crate::ending::DryFault;
-use crate::path::pace_command;
-use ng_canon::{Canon, Command, StraightMove, print, print_command};
+use ng_canon::{
+    Canon, Command, Pace, StraightMove, print, print_command, print_feed, print_traverse,
+};
 use ng_num::{Fault, Len, print_whole};
 use std::alloc::{AllocError, Allocator};
 use std::io::Write;
@@ -154,6 +155,37 @@ fn push_line<A: Allocator + Copy + Drop>(
     text.extend_from_slice(b"\n")
 }
 
+/// Appends the command of a straight move. A refused growth leaves the text as it was.
+#[inline]
+fn print_straight<A: Allocator + Copy + Drop>(
+    text: &mut Vec<u8, A>,
+    line: &StraightMove,
+) -> Result<(), AllocError>
+    ensures ok { OnOk result (text.new.items ≡ text.old.items ++ command_text (pace_command line.now.pace line.now.end)) }
+    ensures err { OnErr result (text.new.items ≡ text.old.items) }
+{
+    match line.pace {
+        Pace::Traverse => print_traverse(text, line.end),
+        Pace::Feed(_) => print_feed(text, line.end),
+        Pace::InverseTime(_) => print_feed(text, line.end),
+    }
+}
+
+/// Prints a straight move, likewise, without a command of it.
+#[inline]
+fn put_straight<W: Write, A: Allocator + Copy + Drop>(
+    text: &mut Vec<u8, A>,
+    writer: &mut W,
+    line: &StraightMove,
+) -> Result<(), DryFault>
+    ensures { Drains (W.contents writer.old) (W.contents writer.new) (text.old.items ++ command_text (pace_command line.now.pace line.now.end)) text.new.items result }
+{
+    match print_straight(text, line) {
+        Ok(()) => relieve(text, writer),
+        Err(_) => Err(break_off(text, writer, DryFault::Memory)),
+    }
+}
+
 /// Prints the feed that a line sets, and its move, likewise.
 #[inline]
 fn put_move<W: Write, A: Allocator + Copy + Drop>(
@@ -165,9 +197,9 @@ fn put_move<W: Write, A: Allocator + Copy + Drop>(
     ensures { Drains (W.contents writer.old) (W.contents writer.new) (text.old.items ++ commands_text (map numeric (command_for Command.FeedRate feed_per_min ++ pace_command line.now.pace line.now.end ∷ []))) text.new.items result }
 {
     match feed_per_min {
-        None => put_command(text, writer, &pace_command(line.pace, line.end)),
+        None => put_straight(text, writer, line),
         Some(feed_per_min) => match put_command(text, writer, &Command::FeedRate(feed_per_min)) {
-            Ok(()) => put_command(text, writer, &pace_command(line.pace, line.end)),
+            Ok(()) => put_straight(text, writer, line),
             Err(fault) => Err(fault),
         },
     }

@@ -1,10 +1,18 @@
 //! The path of a block's motion, and its segments one at a time.
 ghost use Rattle.std.specs.Prelude.{◌≡◌, ◌∷◌, [], MatchOption};
-ghost use Rattle.ng_block.specs.Paths.{moving_at, point_after, path_segments, pace_command, spindle_command, command_of};
+ghost use Rattle.ng_block.specs.Paths.{moving_at, point_after, traverse, path_segments, pace_command, spindle_command, command_of};
 
 use ng_canon::{Arc, ArcFeed, Command, Pace, Segment, Spindle, StraightMove};
 use ng_num::Point;
 use std::marker::Model;
+
+/// The way home: to a point between, and on from there, both at the traverse rate.
+#[derive(Clone, Copy, Debug, PartialEq, Eq)]
+pub struct WayHome {
+    pub start: Point,
+    pub between: Point,
+    pub home: Point,
+}
 
 /// The path of a block's motion.
 #[derive(Clone, Copy, Debug, PartialEq, Eq)]
@@ -14,6 +22,7 @@ pub enum Path {
     /// A move whose feed or time is missing: its block is refused (X1).
     WithoutFeed,
     Straight(StraightMove),
+    Homing(WayHome),
 }
 
 impl Path {
@@ -28,23 +37,38 @@ impl Path {
         }
     }
 
-    /// Where the machine stands behind it, from where it stood before.
+    /// Puts into a place where the machine stands behind it, from where it stood before.
     #[inline]
-    pub fn point_after(&self, start: Point) -> Point
-        ensures { result ≡ point_after self.now start }
+    pub fn put_point_after(&self, start: &Point, place: &mut Point)
+        ensures { place.new ≡ point_after self.now start.now }
     {
         match self {
-            Path::Straight(line) => line.end,
-            Path::Still => start,
-            Path::WithoutFeed => start,
+            Path::Straight(line) => *place = line.end,
+            Path::Homing(way) => *place = way.home,
+            Path::Still => *place = *start,
+            Path::WithoutFeed => *place = *start,
         }
+    }
+}
+
+/// A straight move at the traverse rate.
+#[inline]
+pub fn traverse(start: Point, end: Point) -> StraightMove
+    ensures { result ≡ traverse start end }
+{
+    StraightMove {
+        start,
+        end,
+        pace: Pace::Traverse,
     }
 }
 
 /// The segments that are left of a path.
 #[derive(Drop)]
 pub struct Moves {
-    left: Option<Segment>,
+    next: Option<Segment>,
+    /// The straight move behind the next segment.
+    behind: Option<StraightMove>,
 }
 
 impl Model for Moves {
@@ -54,7 +78,7 @@ impl Model for Moves {
 
     ghost Value = { List Segment };
 
-    ghost view = { λ m. left_of m.left };
+    ghost view = { λ m. left_of m.next m.behind };
 }
 
 impl Moves {
@@ -62,7 +86,10 @@ impl Moves {
     pub fn none() -> Moves
         ensures { result ≡ [] }
     {
-        Moves { left: None }
+        Moves {
+            next: None,
+            behind: None,
+        }
     }
 
     /// All segments of a path.
@@ -70,10 +97,15 @@ impl Moves {
         ensures { result ≡ path_segments path.now }
     {
         match path {
-            Path::Still => Moves { left: None },
-            Path::WithoutFeed => Moves { left: None },
+            Path::Still => Moves::none(),
+            Path::WithoutFeed => Moves::none(),
             Path::Straight(line) => Moves {
-                left: Some(Segment::Line(*line)),
+                next: Some(Segment::Line(*line)),
+                behind: None,
+            },
+            Path::Homing(way) => Moves {
+                next: Some(Segment::Line(traverse(way.start, way.between))),
+                behind: Some(traverse(way.between, way.home)),
             },
         }
     }
@@ -82,9 +114,22 @@ impl Moves {
     pub fn next(&mut self) -> Option<Segment>
         ensures { MatchOption result ((self.old ≡ []) × (self.new ≡ [])) (λ segment. self.old ≡ segment ∷ self.new) }
     {
-        let next = self.left;
-        self.left = None;
-        next
+        let next = self.next;
+        let behind = self.behind;
+        self.next = None;
+        self.behind = None;
+        match next {
+            Some(_) => {
+                if let Some(line) = behind {
+                    self.next = Some(Segment::Line(line));
+                }
+                next
+            }
+            None => match behind {
+                Some(line) => Some(Segment::Line(line)),
+                None => None,
+            },
+        }
     }
 }
 

@@ -1,6 +1,7 @@
 //! What is kept of a block, so that its steps give their commands and segments one at a time.
 use crate::path::Path;
 use crate::remark::Remark;
+use crate::shifts::Shown;
 use crate::tasks::Tasks;
 use ng_canon::Outputs;
 use ng_num::Len;
@@ -13,6 +14,8 @@ pub struct Plan {
     pub feed: Option<Len>,
     /// None where its words give nothing else to do but to say and to move.
     pub tasks: Option<Tasks>,
+    /// What it prints of offsets; none where its words leave them as they are.
+    pub shown: Option<Shown>,
     pub path: Path,
     /// The outputs before the block.
     pub before: Outputs,

@@ -22,5 +22,5 @@ pub use item::{Item, Pulse, Step};
 pub use outputs::{Outputs, Spindle};
 pub use pace::{InverseTime, Pace, Rate};
 pub use plane::{Plane, Turn};
-pub use printing::{print, print_command};
+pub use printing::{print, print_command, print_feed, print_traverse};
 pub use segment::{Arc, Segment, StraightMove};

@@ -237,3 +237,48 @@ pub fn print_command<A: Allocator + Copy + Drop>(
         }
     }
 }
+
+/// Appends a command with a point, likewise.
+#[inline]
+fn print_at<A: Allocator + Copy + Drop>(
+    text: &mut Vec<u8, A>,
+    name: &[u8],
+    point: Point,
+) -> Result<(), AllocError>
+    ensures ok { OnOk result (text.new.items ≡ text.old.items ++ (name.now ++ point_text point ++ codes ")\n")) }
+    ensures err { OnErr result (text.new.items ≡ text.old.items) }
+{
+    let before = text.len();
+    match push_point(text, name, point) {
+        Ok(()) => Ok(()),
+        Err(refused) => {
+            text.truncate(before);
+            Err(refused)
+        }
+    }
+}
+
+/// Appends the canonical text of a straight traverse to a point, as `print_command` does, without a command of it. A
+/// refused growth leaves the text as it was.
+#[tactic(auto, unfolding(crate::specs::Text::command_text))]
+pub fn print_traverse<A: Allocator + Copy + Drop>(
+    text: &mut Vec<u8, A>,
+    end: Point,
+) -> Result<(), AllocError>
+    ensures ok { OnOk result (text.new.items ≡ text.old.items ++ command_text (Command.Traverse end)) }
+    ensures err { OnErr result (text.new.items ≡ text.old.items) }
+{
+    print_at(text, b"STRAIGHT_TRAVERSE(", end)
+}
+
+/// The same of a straight move at a feed.
+#[tactic(auto, unfolding(crate::specs::Text::command_text))]
+pub fn print_feed<A: Allocator + Copy + Drop>(
+    text: &mut Vec<u8, A>,
+    end: Point,
+) -> Result<(), AllocError>
+    ensures ok { OnOk result (text.new.items ≡ text.old.items ++ command_text (Command.Feed end)) }
+    ensures err { OnErr result (text.new.items ≡ text.old.items) }
+{
+    print_at(text, b"STRAIGHT_FEED(", end)
+}

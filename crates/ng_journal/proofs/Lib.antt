@@ -1,5 +1,7 @@
+pub mod Beginning
 pub mod Finding
 pub mod Moving
+pub mod Overwriting
 pub mod Recovering
 pub mod Renewing
 pub mod Restoring

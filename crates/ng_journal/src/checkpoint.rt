@@ -34,7 +34,7 @@ fn write_snapshot<R: Rig, A: Allocator + Copy + Drop>(
 
 /// The sector of a header that is within its limits.
 #[tactic(auto, unfolding(ng_layout::specs::Header::header_in))]
-fn header_sector(header: Header) -> [u8; 512]
+pub(crate) fn header_sector(header: Header) -> [u8; 512]
     requires counted { 1 ≤ header.epoch }
     requires few { header.epoch ≤ 1_000_000_000_000 }
     requires area { header.area ≤ 1 }

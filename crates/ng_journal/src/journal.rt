@@ -1,6 +1,6 @@
 //! The journal of a device.
 ghost use Rattle.std.specs.Prelude.{◌≡◌, ◌≤◌, ◌<◌, ◌⊎◌, ◌↔◌, false, true, Some, length, MatchResult, OnOk, IfOk, IfErr, IsErrOf, IsErrAnd};
-ghost use Rattle.ng_num.specs.declared.fault.Fault.TheVariants.{DeviceFailed, NotFormatted, CountersUsed, OutOfMemory};
+ghost use Rattle.ng_num.specs.declared.fault.Fault.TheVariants.{DeviceFailed, NotFormatted, CountersUsed, ProgramTooLong, OutOfMemory};
 ghost use Rattle.ng_rig.specs.Calls.{Promises, Counts, Hands};
 ghost use Rattle.ng_layout.specs.Limits.{greatest_count};
 ghost use Rattle.ng_layout.specs.Storable.{CanWait, IsStorable};
@@ -10,10 +10,11 @@ ghost use Rattle.ng_journal.specs.Journal.{Tells};
 ghost use Rattle.ng_journal.specs.AtRest.{IsOwn, Checkpoints, next_header};
 
 use crate::checkpoint::checkpoint;
+use crate::loading::load;
 use crate::recovery::restore;
 use crate::sectors::LEAST;
 use ng_canon::Item;
-use ng_layout::{GREATEST_COUNT, Half, Header, Stored};
+use ng_layout::{GREATEST_COUNT, Half, Header, LONGEST_PROGRAM, Stored};
 use ng_num::Fault;
 use ng_rig::{Failed, Rig};
 use std::alloc::{AllocError, Allocator};
@@ -123,7 +124,7 @@ impl<R: Rig, A: Allocator + Copy + Drop> Journal<R, A> {
         ensures unchanged { IsErrOf result CountersUsed → self.new ≡ self.old }
         ensures failures { Tells result (R.failed self.old.rig) (R.failed self.new.rig) }
     {
-        if self.header.epoch >= GREATEST_COUNT || stored.entries > GREATEST_COUNT {
+        if self.is_used_up(stored.entries) {
             return Err(Fault::CountersUsed);
         }
         self.stored.take_over(stored);
@@ -152,6 +153,48 @@ impl<R: Rig, A: Allocator + Copy + Drop> Journal<R, A> {
         self.renew()
     }
 
+    /// Stores a program and what goes with it: the text takes the place of the program in force.
+    ///
+    /// J5 for more than 131,072 bytes; J4 where the entry count or the epoch would be beyond its limit; then nothing
+    /// is changed, and the device isn't called. J1 where the device failed: the journal is broken then, and the
+    /// device stands for what stood before or for the new. It takes no memory.
+    pub fn load_program(&mut self, text: &[u8], stored: &Stored<A>) -> Result<(), Fault>
+        requires whole { self.old.broken ≡ false }
+        requires storable { length text.now ≤ 131_072 → IsStorable stored.now }
+        requires long { stored.now.length ≡ length text.now }
+        ensures stops { Promises (R.honest self.old.rig) (R.honest self.new.rig) ((before : Standing) → RestsAt (R.life self.old.rig) self.old before
+            → Moves result self.new before (record { saved = stored.now; program = text.now }) (R.life self.old.rig) (R.life self.new.rig)) }
+        ensures saved { OnOk result (self.new.saved ≡ stored.now) }
+        ensures broken { IsBrokenBy result self.new.broken }
+        ensures too_long { IsErrOf result ProgramTooLong ↔ (131_072 < length text.now) }
+        ensures used_up { IsErrOf result CountersUsed ↔ ((length text.now ≤ 131_072) × (greatest_count ≤ self.old.header.epoch ⊎ greatest_count < stored.now.entries)) }
+        ensures unchanged { (IsErrOf result CountersUsed ⊎ IsErrOf result ProgramTooLong) → self.new ≡ self.old }
+        ensures failures { Tells result (R.failed self.old.rig) (R.failed self.new.rig) }
+    {
+        if text.len() > LONGEST_PROGRAM as usize {
+            return Err(Fault::ProgramTooLong);
+        }
+        if self.is_used_up(stored.entries) {
+            return Err(Fault::CountersUsed);
+        }
+        let next = Header {
+            epoch: self.header.epoch + 1,
+            area: 1 - self.header.area,
+            length: text.len() as u64,
+        };
+        match load(&mut self.rig, self.header, text, stored) {
+            Ok(()) => {
+                self.stored.take_over(stored);
+                self.header = next;
+                Ok(())
+            }
+            Err(Failed) => {
+                self.broken = true;
+                Err(Fault::DeviceFailed)
+            }
+        }
+    }
+
     /// Hands an item out. J1 where the device failed: the journal is broken then, and the item or nothing was
     /// handed out. It takes no memory.
     pub fn hand_out(&mut self, item: Item) -> Result<(), Fault>
@@ -170,6 +213,13 @@ impl<R: Rig, A: Allocator + Copy + Drop> Journal<R, A> {
                 Err(Fault::DeviceFailed)
             }
         }
+    }
+
+    /// Whether the next epoch or so many entries are beyond their limit.
+    fn is_used_up(&self, entries: u64) -> bool
+        ensures { (result ≡ true) ↔ (greatest_count ≤ self.now.header.epoch ⊎ greatest_count < entries) }
+    {
+        self.header.epoch >= GREATEST_COUNT || entries > GREATEST_COUNT
     }
 
     /// Writes what is stored under the next epoch, in the same program area.

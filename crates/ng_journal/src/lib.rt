@@ -3,9 +3,12 @@
 #![tactic(auto)]
 
 mod checkpoint;
+mod formatting;
 mod journal;
+mod loading;
 mod reading;
 mod recovery;
 mod sectors;
 
+pub use formatting::format;
 pub use journal::{Journal, recover};

@@ -11,7 +11,7 @@ ghost use Rattle.ng_layout.specs.Stands.{in_force, newer, snapshot_first};
 ghost use Rattle.ng_layout.specs.Storable.{IsStorable};
 ghost use Rattle.ng_journal.specs.Reading.{Reads, IsTableOf, IsSnapshotOf, has_record};
 
-use crate::sectors::{SNAPSHOT, snapshot_first};
+use crate::sectors::{LOG, SNAPSHOT, snapshot_first};
 use ng_layout::{BYTES, Header, Reported, StateField, Stored, epoch_of_part, take_values};
 use ng_params::Params;
 use ng_rig::{Failed, Rig};
@@ -77,7 +77,7 @@ pub(crate) fn log_has<R: Rig>(rig: &mut R, epoch: u64) -> Result<bool, Failed>
     ensures size { R.sectors rig.new ≡ R.sectors rig.old }
     ensures failures { Counts result (R.failed rig.old) (R.failed rig.new) }
 {
-    let bytes = read_sector(rig, 686)?;
+    let bytes = read_sector(rig, LOG)?;
     Ok(epoch_of_part(&bytes) == epoch)
 }
 

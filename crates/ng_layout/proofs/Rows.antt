@@ -1,7 +1,7 @@
 -- Sectors of values and of a text.
-use Rattle.std.proofs.Common.{◌≡◌, ◌⊎◌, inl, inr, ℕ, zero, suc, ◌+◌, ◌-◌, ◌*◌, ◌<◌, ◌≤◌, min, List, ◌++◌, ℤ, pos, get_or, slice_index, length, take, drop, replicate, refl, sym, ◌∙◌, ap, subst, arith}
+use Rattle.std.proofs.Common.{◌≡◌, ◌≢◌, ◌⊎◌, inl, inr, ⊎_elim, ℕ, zero, suc, ◌+◌, ◌-◌, ◌*◌, ◌<◌, ◌≤◌, min, List, ◌++◌, ℤ, pos, get_or, slice_index, length, take, drop, replicate, set, lit≤, refl, sym, ◌∙◌, ap, subst, arith}
 use Rattle.std.proofs.lemmas.Bool.{cases_eq}
-use Rattle.std.proofs.lemmas.List.{drop-replicate, get_or-take, get_or-drop, get_or_append_left, get_or-append_right, get_or_past, length-take-le}
+use Rattle.std.proofs.lemmas.List.{drop-replicate, length-replicate, get_or-set_same, get_or-set_other, get_or-take, get_or-drop, get_or_append_left, get_or-append_right, get_or_past, length-take-le}
 use Rattle.std.proofs.Common.{length-drop}
 use Rattle.byteorder.specs.Endian.{little_number, little_from}
 use Rattle.ng_num.specs.Range.{IsCount, greatest}
@@ -79,3 +79,52 @@ pub record TakenTo (old new : List ℤ) (first k : ℕ) (sector : List ℕ) : Ty
   pub counts : (j : ℕ) → j < k → first + j < 5399 → IsCount (signed_at (8 * j) sector)
   pub before : (p : ℕ) → p < first → get_or new p (pos 0) ≡ get_or old p (pos 0)
   pub long : length new ≡ length old
+
+-- A table in which all values but one are 0.
+value_zero : (n i : ℕ) → get_or (replicate n (pos 0)) i (pos 0) ≡ pos 0
+value_zero zero i = refl
+value_zero (suc n) zero = refl
+value_zero (suc n) (suc i) = value_zero n i
+
+other_value : (n p i : ℕ) (v : ℤ) → i ≢ p → get_or (set (replicate n (pos 0)) p v) i (pos 0) ≡ pos 0
+other_value n p i v other = get_or-set_other (replicate n (pos 0)) p i v (pos 0) other ∙ value_zero n i
+
+that_value : (n p : ℕ) (v : ℤ) → p < n → get_or (set (replicate n (pos 0)) p v) p (pos 0) ≡ v
+that_value n p v lt = get_or-set_same (replicate n (pos 0)) p v (pos 0) (omega (arith, length-replicate n (pos 0)))
+
+zero_count : IsCount (pos 0)
+zero_count = lit≤ tt
+
+-- a sector of zeros, where that one isn't in it
+pub zeros_hold : (n p first : ℕ) (v : ℤ) → (p < first) ⊎ (first + 64 ≤ p) → HoldsValues (set (replicate n (pos 0)) p v) first (replicate 512 0)
+zeros_hold n p first v outside = record {
+  each = λ k lt within. signed-zeros (8 * k) 512 ∙ sym (other_value n p (first + k) v (λ e. ⊎_elim (λ before. omega arith) (λ after. omega arith) outside));
+  past = λ k lt beyond. signed-zeros (8 * k) 512;
+  counts = λ k lt within. subst IsCount (sym (signed-zeros (8 * k) 512)) zero_count;
+}
+
+-- and the sector that has it
+pub one_holds : (n p first : ℕ) (v : ℤ) (sector : List ℕ) → p < n → p < 5399 → first ≤ p → p < first + 64 → IsCount v → Puts (signed_at (8 * (p - first))) (8 * (p - first)) (8 * (p - first) + 8) v (replicate 512 0) sector → HoldsValues (set (replicate n (pos 0)) p v) first sector
+one_holds n p first v sector there within from to small put = record {
+  each = λ k lt here. elim (cases_eq k place) [
+    | inl same ↦ ap (λ (x : ℕ). signed_at (8 * x) sector) same ∙ put.written ∙ sym (ap (λ (x : ℕ). get_or (set (replicate n (pos 0)) p v) x (pos 0)) (whole k same) ∙ that_value n p v there)
+    | inr other ↦ zero_here k other ∙ sym (other_value n p (first + k) v (λ e. other (omega arith)))
+  ];
+  past = λ k lt beyond. zero_here k (λ e. omega arith);
+  counts = λ k lt here. elim (cases_eq k place) [
+    | inl same ↦ subst IsCount (sym (ap (λ (x : ℕ). signed_at (8 * x) sector) same ∙ put.written)) small
+    | inr other ↦ subst IsCount (sym (zero_here k other)) zero_count
+  ];
+}
+  where
+    place : ℕ
+    place = p - first
+
+    whole : (k : ℕ) → k ≡ p - first → first + k ≡ p
+    whole k same = omega arith
+
+    zero_here : (k : ℕ) → k ≢ p - first → signed_at (8 * k) sector ≡ pos 0
+    zero_here k other = elim (lt_cases k (p - first)) [
+      | inl before ↦ signed-below (8 * k) (8 * (p - first)) (replicate 512 0) sector put.below (omega arith) ∙ signed-zeros (8 * k) 512
+      | inr after ↦ signed-from (8 * (p - first) + 8) (8 * k) (replicate 512 0) sector put.beyond (omega arith) ∙ signed-zeros (8 * k) 512
+    ]

@@ -18,4 +18,4 @@ pub use header::{Header, LONGEST_PROGRAM};
 pub use part::epoch_of_part;
 pub use report::{GREATEST_COUNT, Reported};
 pub use sectors::{BYTES, take_values, text_sector};
-pub use stored::Stored;
+pub use stored::{Stored, fresh_sector};

@@ -1,6 +1,7 @@
 //! Sectors of parameters and of a program's text.
 ghost use Rattle.std.specs.Prelude.{◌≡◌, ◌≤◌, ◌<◌, ◌+◌, ◌*◌, ◌-◌, ◌++◌, length, replicate};
 ghost use Rattle.std.specs.Bool.{OnTrue, OnFalse};
+ghost use Rattle.ng_params.specs.Table.{defaults};
 ghost use Rattle.ng_layout.specs.Sectors.{HoldsValues, TakesValues, IsBeyond, HoldsText};
 
 use crate::bytes::{get_i64, put_i64};
@@ -31,6 +32,21 @@ pub(crate) fn values_sector<A: Allocator + Copy + Drop>(
             let value = table.get(Index::known((first + k) as u16 + 1));
             put_i64(&mut sector, 8 * k, value.count());
         }
+    }
+    sector
+}
+
+/// The index of parameter 5220 in a table, the one that isn't 0 in a fresh one.
+const SYSTEM_INDEX: usize = 5219;
+
+/// The same sector of the table of a fresh controller, in which the system in force is 1 and all else 0.
+pub(crate) fn fresh_values_sector(first: usize) -> [u8; BYTES]
+    requires { first ≤ 5399 }
+    ensures { HoldsValues defaults first result }
+{
+    let mut sector = [0; BYTES];
+    if first <= SYSTEM_INDEX && SYSTEM_INDEX < first + VALUES {
+        put_i64(&mut sector, 8 * (SYSTEM_INDEX - first), 1_000_000);
     }
     sector
 }

@@ -5,12 +5,13 @@ ghost use Rattle.ng_layout.specs.Fields.{number_at};
 ghost use Rattle.ng_layout.specs.StateField.{field_at};
 ghost use Rattle.ng_layout.specs.Storable.{IsStorable};
 ghost use Rattle.ng_layout.specs.Snapshot.{HoldsPart};
+ghost use Rattle.ng_layout.specs.Stored.{fresh};
 
 use crate::field::StateField;
 use crate::half::Half;
 use crate::report::Reported;
-use crate::sectors::{BYTES, VALUES, copy_table, values_sector};
-use ng_block::State;
+use crate::sectors::{BYTES, VALUES, copy_table, fresh_values_sector, values_sector};
+use ng_block::{Machine, State};
 use std::alloc::{AllocError, Allocator};
 use std::marker::Model;
 
@@ -115,6 +116,18 @@ impl<A: Allocator + Copy + Drop> Stored<A> {
         } else {
             values_sector(&self.state.params, VALUES * (part - 1))
         }
+    }
+}
+
+/// The sector of a fresh controller's snapshot that holds this part of it. It takes no memory.
+pub fn fresh_sector(part: usize) -> [u8; BYTES]
+    requires { part < 86 }
+    ensures { HoldsPart fresh part result }
+{
+    if part == 0 {
+        state_sector(&StateField::of(0, 0, &Machine::fresh(), None))
+    } else {
+        fresh_values_sector(VALUES * (part - 1))
     }
 }
 

@@ -95,7 +95,7 @@ impl ByLetter {
 
     /// Whether X, Y or Z is named.
     #[inline]
-    pub(crate) fn has_axis(&self) -> bool
+    pub fn has_axis(&self) -> bool
         ensures { result ≡ has_axis self.now }
     {
         self.x.is_some() || self.y.is_some() || self.z.is_some()

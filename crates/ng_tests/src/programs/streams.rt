@@ -62,74 +62,60 @@ impl Write for Full {
     }
 }
 
-#[test]
-fn stops_where_the_reader_fails(rt: HostRuntime) -> Result<(), Fail> {
-    for at_most in [1, 7, 8192] {
-        let mut whole = 0u32;
-        let mut cut = 0u32;
-        for reads_left in 0..60 {
-            let mut reader = Drip {
-                bytes: CUTS.as_bytes(),
-                at_most,
-                reads_left,
-            };
-            let mut text = Vec::new(rt.alloc());
-            match dry_run(rt.alloc(), &mut reader, &mut text, false) {
-                Ok(ended) => {
-                    assert!(rt; ended == Ended::Done && text.as_slice() == CUTS_TEXT.as_bytes());
-                    whole = whole.saturating_add(1);
-                }
-                Err(fault) => {
-                    assert!(rt; matches!(fault, DryFault::Reader), "{at_most} {reads_left}");
-                    assert!(rt;
-                        CUTS_TEXT.as_bytes().starts_with(text.as_slice()),
-                        "{at_most} {reads_left}"
-                    );
-                    assert!(rt; whole == 0, "{at_most} {reads_left}");
-                    cut = cut.saturating_add(1);
-                }
-            }
-        }
-        assert!(rt; whole > 0 && cut > 0, "{at_most}");
+/// How many bytes a read and a write move at most, whether it is the reader that fails, and whether a writer that fails
+/// takes none.
+const LIMITS: [(usize, usize, bool, bool); 6] = [
+    (1, 8192, true, false),
+    (7, 8192, true, false),
+    (8192, 8192, true, false),
+    (8192, 1, false, false),
+    (8192, 50, false, true),
+    (8192, 8192, false, false),
+];
+
+/// Whether a run was broken off by its reader, or by its writer.
+fn is_broken(ended: &Result<Ended, DryFault>, by_reader: bool) -> bool {
+    match ended {
+        Err(DryFault::Reader) => by_reader,
+        Err(DryFault::Writer) => !by_reader,
+        _ => false,
     }
-    Ok(())
 }
 
 #[test]
-fn stops_where_the_writer_fails(rt: HostRuntime) -> Result<(), Fail> {
-    for (at_most, takes_none) in [(1, false), (50, true), (8192, false)] {
+fn stops_where_the_reader_or_the_writer_fails(rt: HostRuntime) -> Result<(), Fail> {
+    for (read_most, write_most, by_reader, takes_none) in LIMITS {
         let mut whole = 0u32;
         let mut cut = 0u32;
-        for writes_left in 0..500 {
-            let mut reader = CUTS.as_bytes();
+        for calls in 0..500 {
+            let mut reader = Drip {
+                bytes: CUTS.as_bytes(),
+                at_most: read_most,
+                reads_left: if by_reader { calls } else { 1_000 },
+            };
             let mut writer = Full {
                 taken: Vec::new(rt.alloc()),
-                at_most,
-                writes_left,
+                at_most: write_most,
+                writes_left: if by_reader { 1_000 } else { calls },
                 takes_none,
             };
-            match dry_run(rt.alloc(), &mut reader, &mut writer, false) {
-                Ok(ended) => {
-                    assert!(rt;
-                        ended == Ended::Done && writer.taken.as_slice() == CUTS_TEXT.as_bytes()
-                    );
-                    whole = whole.saturating_add(1);
-                }
-                Err(fault) => {
-                    assert!(rt;
-                        matches!(fault, DryFault::Writer),
-                        "{at_most} {writes_left}"
-                    );
-                    assert!(rt;
-                        CUTS_TEXT.as_bytes().starts_with(writer.taken.as_slice()),
-                        "{at_most} {writes_left}"
-                    );
-                    assert!(rt; whole == 0, "{at_most} {writes_left}");
-                    cut = cut.saturating_add(1);
-                }
+            let ended = dry_run(rt.alloc(), &mut reader, &mut writer, false);
+            let text = writer.taken.as_slice();
+            if is_broken(&ended, by_reader) {
+                cut = cut.saturating_add(1);
+                assert!(rt;
+                    whole == 0 && CUTS_TEXT.as_bytes().starts_with(text),
+                    "{read_most} {write_most} {calls}"
+                );
+            } else {
+                whole = whole.saturating_add(1);
+                assert!(rt;
+                    matches!(ended, Ok(Ended::Done)) && text == CUTS_TEXT.as_bytes(),
+                    "{read_most} {write_most} {calls}"
+                );
             }
         }
-        assert!(rt; whole > 0 && cut > 0, "{at_most}");
+        assert!(rt; whole > 0 && cut > 0, "{read_most} {write_most}");
     }
     Ok(())
 }

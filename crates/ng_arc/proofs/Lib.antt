@@ -1,0 +1,3 @@
+pub mod RadiiLemmas
+pub mod CheckLemmas
+pub mod SpotLemmas

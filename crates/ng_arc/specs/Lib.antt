@@ -1,0 +1,5 @@
+pub mod Radii
+pub mod Planes
+pub mod FirstFault
+pub mod Asked
+pub mod Check

@@ -1,0 +1,11 @@
+//! Arcs: whether the arc that a line asks for is lawful, and whether it stays within the travel.
+#![tactic(auto)]
+
+mod asked;
+mod checking;
+mod plane;
+mod radii;
+mod spot;
+
+pub use asked::{AskedArc, CentreOffsets, NamedAxes};
+pub use checking::check_arc;

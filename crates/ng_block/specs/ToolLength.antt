@@ -1,0 +1,22 @@
+-- The tool length that a line puts in force: G43, G49 (NISTIR 6556, 3.5.11).
+use Rattle.std.specs.Prelude.{ℕ, ℤ, List, Option, Some, None, unwrap_or}
+use Rattle.std.specs.Option.{option_map}
+use Rattle.ng_modal.specs.Accepted.{slot_on}
+use Rattle.ng_modal.specs.declared.asks.ToolLength.{ToolLength}
+use Rattle.ng_modal.specs.declared.asks.ToolLength.TheVariants.{OfSlot, Zero}
+use Rattle.ng_offsets.specs.Origins.{with_tool}
+use Rattle.ng_offsets.specs.declared.offsets.Offsets.{Offsets}
+
+-- G43 takes the length of the slot that H names, which each lawful line with G43 has; G49 that of slot 0, which is none
+abbrev pub slot_by : ToolLength → Option ℤ → ℕ
+slot_by OfSlot h = unwrap_or (slot_on h) 0
+slot_by Zero h = 0
+
+-- the offsets behind the tool length
+abbrev pub behind_length : Option ToolLength → Option ℤ → List ℤ → Offsets → Offsets
+behind_length None h lengths o = o
+behind_length (Some word) h lengths o = with_tool o (slot_by word h) lengths
+
+-- what the word prints: the tool length behind it
+abbrev pub length_shown : Option ToolLength → Offsets → Option ℤ
+length_shown word behind = option_map (λ _. behind.tool_length) word

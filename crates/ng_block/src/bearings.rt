@@ -1,0 +1,119 @@
+//! All lengths that a line computes, found before any of its commands: its feed, the offsets after it, the parameters that it sets,
+//! and its path.
+ghost use Rattle.std.specs.Prelude.{◌≡◌, ◌≤◌, ◌<◌, ◌+◌, ◌++◌, length, Ok, Err, MatchResult, OnOk};
+ghost use Rattle.ng_modal.specs.Accepted.{IsSlot};
+ghost use Rattle.ng_block.specs.Goals.{selecting, storing, bearings_of, ended, goal_of, bearings_by, goal_by};
+
+use crate::effect::{Changes, Effect};
+use crate::ends::ends;
+use crate::goal::{feed_of, path_of};
+use crate::shifts::{keeps_offsets, shift_of};
+use crate::state::State;
+use ng_modal::Block;
+use ng_num::{Fault, Point};
+use ng_offsets::{Offsets, Tools};
+use ng_params::{Change, Params, System};
+use std::alloc::Allocator;
+
+/// Adds changes of parameters.
+fn put_changes(from: &[Change], changes: &mut Changes)
+    requires { length changes.old.items + length from.now ≤ 136 }
+    ensures items { changes.new.items ≡ changes.old.items ++ from.now }
+    ensures count { length changes.new.items ≡ length changes.old.items + length from.now }
+{
+    for change in from {
+        changes.push(*change);
+    }
+}
+
+/// Adds the change that a word of group 12 makes.
+fn put_selection(system: Option<System>, changes: &mut Changes)
+    requires { length changes.old.items + 1 ≤ 136 }
+    ensures items { changes.new.items ≡ selecting system changes.old.items }
+    ensures room { length changes.new.items ≤ length changes.old.items + 1 }
+{
+    if let Some(system) = system {
+        put_changes(&[system.selection()], changes);
+    }
+}
+
+/// Adds the changes that axis data make.
+fn put_stored(stored: &Option<[Change; 3]>, changes: &mut Changes)
+    requires { length changes.old.items + 3 ≤ 136 }
+    ensures items { changes.new.items ≡ storing stored.now changes.old.items }
+    ensures room { length changes.new.items ≤ length changes.old.items + 3 }
+{
+    if let Some(stored) = stored {
+        put_changes(stored, changes);
+    }
+}
+
+impl Effect {
+    /// Finds the offsets behind a block's axis data, and the changes of parameters so far. Most lines leave the offsets as they
+    /// are, so this is looked at first.
+    fn find_bearings<A: Allocator + Copy + Drop>(
+        &mut self,
+        state: &State<A>,
+        block: &Block,
+        settings: &[Change],
+        tools: &Tools,
+    ) -> Result<(), Fault>
+        requires short { length settings.now ≤ 128 }
+        requires slot { IsSlot block.now.values.h (length tools.now) }
+        ensures value { MatchResult result (λ _. bearings_of block.now settings.now state.now tools.now ≡ Ok (bearings_by self.new)) (λ fault. bearings_of block.now settings.now state.now tools.now ≡ Err fault) }
+        ensures room { OnOk result (length self.new.changes.items ≤ 132) }
+    {
+        self.changes.clear();
+        put_changes(settings, &mut self.changes);
+        if keeps_offsets(block) {
+            self.machine.offsets = state.machine.offsets;
+            self.plan.shown = None;
+            return Ok(());
+        }
+        let at = shift_of(block, &state.machine, &state.params, settings, tools)?;
+        self.machine.offsets = at.offsets;
+        self.plan.shown = Some(at.shown);
+        put_selection(block.g.system, &mut self.changes);
+        put_stored(&at.stored, &mut self.changes);
+        Ok(())
+    }
+
+    /// Puts system 1 in force, and drops the G92 offset, as the program's end does.
+    #[inline(never)]
+    fn end_bearings<A: Allocator + Copy + Drop>(&mut self, params: &Params<A>)
+        requires { length self.old.changes.items ≤ 132 }
+        ensures path { self.new.plan.path ≡ self.old.plan.path }
+        ensures value { bearings_by self.new ≡ ended params.now (bearings_by self.old) }
+    {
+        self.machine.offsets = Offsets {
+            origin: params.origin_after(System::first(), self.changes.as_slice()),
+            g92: Point::zero(),
+            tool_length: self.machine.offsets.tool_length,
+        };
+        self.changes.push(System::first().selection());
+    }
+
+    /// Finds all lengths that a block's words come to in a state: the feed and the offsets after it, the parameters that it
+    /// sets, and its path. E3 where one of them is beyond the range.
+    pub(crate) fn find_goal<A: Allocator + Copy + Drop>(
+        &mut self,
+        state: &State<A>,
+        block: &Block,
+        settings: &[Change],
+        tools: &Tools,
+    ) -> Result<(), Fault>
+        requires short { length settings.now ≤ 128 }
+        requires slot { IsSlot block.now.values.h (length tools.now) }
+        ensures { MatchResult result (λ _. goal_of block.now settings.now state.now tools.now ≡ Ok (goal_by self.new)) (λ fault. goal_of block.now settings.now state.now tools.now ≡ Err fault) }
+    {
+        let feed_per_min = feed_of(block, &state.machine)?;
+        self.find_bearings(state, block, settings, tools)?;
+        let offsets = &self.machine.offsets;
+        self.plan.path = path_of(block, state, settings, offsets, feed_per_min)?;
+        if ends(block.m.stop) {
+            self.end_bearings(&state.params);
+        }
+        self.machine.feed_per_min = feed_per_min;
+        Ok(())
+    }
+}

@@ -1,0 +1,87 @@
+//! G28 and G30: the way home (NISTIR 6556, 3.5.8).
+ghost use Rattle.std.specs.Prelude.{◌≡◌, ◌≤◌};
+ghost use Rattle.ng_params.specs.Changes.{with_changes};
+ghost use Rattle.ng_params.specs.Points.{point_at};
+ghost use Rattle.ng_params.specs.Table.{at};
+ghost use Rattle.ng_block.specs.Homes.{home_on, way_home};
+
+use crate::goal::end_of;
+use crate::machine::Machine;
+use crate::path::{Path, WayHome, traverse};
+use ng_modal::{Block, NonModal};
+use ng_num::{Fault, Len, Point};
+use ng_offsets::Offsets;
+use ng_params::{Change, Index, Params};
+use std::alloc::Allocator;
+
+/// The length in a parameter, which holds millimetres.
+fn length_after<A: Allocator + Copy + Drop>(
+    params: &Params<A>,
+    changes: &[Change],
+    index: u16,
+) -> Len
+    requires low { 1 ≤ index }
+    requires high { index ≤ 5399 }
+    ensures { result ≡ at (with_changes params.now changes.now) index }
+{
+    let millimetres = params.get_after(Index::known(index), changes);
+    Len::of_nm(millimetres.count() as i128).unwrap()
+}
+
+/// The point in three parameters.
+fn point_after<A: Allocator + Copy + Drop>(
+    params: &Params<A>,
+    changes: &[Change],
+    first: u16,
+) -> Point
+    requires low { 1 ≤ first }
+    requires high { first ≤ 5397 }
+    ensures { result ≡ point_at (with_changes params.now changes.now) first }
+{
+    Point {
+        x: length_after(params, changes, first),
+        y: length_after(params, changes, first + 1),
+        z: length_after(params, changes, first + 2),
+    }
+}
+
+/// The home that a line goes to, in machine coordinates, in the table that its settings leave.
+pub fn home_on<A: Allocator + Copy + Drop>(
+    word: Option<NonModal>,
+    params: &Params<A>,
+    settings: &[Change],
+) -> Option<Point>
+    ensures { result ≡ home_on word (with_changes params.now settings.now) }
+{
+    match word {
+        Some(NonModal::Home) => Some(point_after(params, settings, 5161)),
+        Some(NonModal::SecondHome) => Some(point_after(params, settings, 5181)),
+        _ => None,
+    }
+}
+
+/// The way to a home, through the point that a line's axis words name; still, where it goes to none. E3 where a coordinate of
+/// that point is beyond the range.
+#[inline(never)]
+pub fn way_home(
+    block: &Block,
+    machine: &Machine,
+    offsets: &Offsets,
+    home: Option<Point>,
+) -> Result<Path, Fault>
+    ensures { result ≡ way_home block.now machine.now offsets.now home }
+{
+    let Some(home) = home else {
+        return Ok(Path::Still);
+    };
+    let start = machine.point;
+    if !block.values.has_axis() {
+        return Ok(Path::Straight(traverse(start, home)));
+    }
+    let between = end_of(block, machine, offsets)?;
+    Ok(Path::Homing(WayHome {
+        start,
+        between,
+        home,
+    }))
+}

@@ -1,0 +1,143 @@
+//! The offsets that a line puts in force, in the order of its steps: tool length, coordinate system, axis data. None of them
+//! moves the machine.
+ghost use Rattle.std.specs.Prelude.{◌≡◌, ◌≤◌, length};
+ghost use Rattle.std.specs.Option.{option_map};
+ghost use Rattle.ng_params.specs.Changes.{with_changes};
+ghost use Rattle.ng_modal.specs.Accepted.{IsSlot};
+ghost use Rattle.ng_block.specs.ToolLength.{slot_by, behind_length, length_shown};
+ghost use Rattle.ng_block.specs.AxisData.{offsets_behind, offsets_shown, with_system};
+ghost use Rattle.ng_block.specs.Shifts.{shift_of, keeps_offsets};
+
+use crate::axis_data::axis_data_of;
+use crate::machine::Machine;
+use ng_modal::{Block, ToolLength};
+use ng_num::{Fault, Len, Point};
+use ng_offsets::{NewOffsets, Offsets, Tools};
+use ng_params::{Change, Params, System};
+use std::alloc::Allocator;
+
+/// What the steps of a line print of the offsets; none where a step leaves them as they are.
+#[derive(Clone, Copy, Debug, PartialEq, Eq)]
+pub struct Shown {
+    /// The tool length behind G43 or G49.
+    pub tool_length: Option<Len>,
+    /// Origin plus G92 offset behind G54 to G59.3.
+    pub system: Option<Point>,
+    /// The same behind G92 and its three others, and behind G10 of the system in force.
+    pub axis_data: Option<Point>,
+}
+
+/// The offsets behind a line's words.
+#[derive(Clone, Copy, Debug, PartialEq, Eq)]
+pub struct Shifted {
+    pub offsets: Offsets,
+    pub shown: Shown,
+    /// The changes of parameters that its axis data make.
+    pub stored: Option<[Change; 3]>,
+}
+
+/// Whether no word of a line changes an offset or stores one.
+#[inline]
+pub fn keeps_offsets(block: &Block) -> bool
+    ensures { result ≡ keeps_offsets block.now }
+{
+    let words = &block.g;
+    !(words.tool_length.is_some() | words.system.is_some() | words.non_modal.is_some())
+}
+
+/// The slot whose length a word takes.
+fn slot_by(word: ToolLength, block: &Block) -> u8
+    ensures { result ≡ slot_by word block.now.values.h }
+{
+    match word {
+        ToolLength::OfSlot => block.length_slot().unwrap_or(0),
+        ToolLength::Zero => 0,
+    }
+}
+
+/// The offsets behind the tool length of a line.
+fn behind_length(block: &Block, tools: &Tools, offsets: &Offsets) -> Offsets
+    requires { IsSlot block.now.values.h (length tools.now) }
+    ensures { result ≡ behind_length block.now.g.tool_length block.now.values.h tools.now offsets.now }
+{
+    match block.g.tool_length {
+        None => *offsets,
+        Some(word) => offsets.tool_length(slot_by(word, block), tools),
+    }
+}
+
+/// What the word of a tool length prints.
+fn length_shown(word: Option<ToolLength>, behind: &Offsets) -> Option<Len>
+    ensures { result ≡ length_shown word behind.now }
+{
+    match word {
+        None => None,
+        Some(_) => Some(behind.tool_length),
+    }
+}
+
+/// The offsets behind a step that may give new ones.
+fn offsets_behind(new: &Option<NewOffsets>, offsets: Offsets) -> Offsets
+    ensures { result ≡ offsets_behind new.now offsets }
+{
+    match new {
+        None => offsets,
+        Some(new) => new.offsets,
+    }
+}
+
+/// What a step prints of them.
+fn offsets_shown(new: &Option<NewOffsets>) -> Option<Point>
+    ensures { result ≡ offsets_shown new.now }
+{
+    match new {
+        None => None,
+        Some(new) => Some(new.shown),
+    }
+}
+
+/// The offsets that G54 to G59.3 give.
+fn with_system<A: Allocator + Copy + Drop>(
+    system: Option<System>,
+    offsets: &Offsets,
+    params: &Params<A>,
+    settings: &[Change],
+) -> Result<Option<NewOffsets>, Fault>
+    ensures { result ≡ with_system system offsets.now (with_changes params.now settings.now) }
+{
+    match system {
+        None => Ok(None),
+        Some(system) => {
+            let selected = offsets.select(system, params, settings)?;
+            Ok(Some(selected.0))
+        }
+    }
+}
+
+/// The offsets behind a line's words, in the table that its settings leave. E3 where one of them, or a sum that is printed, is
+/// beyond the range.
+#[inline(never)]
+pub fn shift_of<A: Allocator + Copy + Drop>(
+    block: &Block,
+    machine: &Machine,
+    params: &Params<A>,
+    settings: &[Change],
+    tools: &Tools,
+) -> Result<Shifted, Fault>
+    requires { IsSlot block.now.values.h (length tools.now) }
+    ensures { result ≡ shift_of block.now machine.now (with_changes params.now settings.now) tools.now }
+{
+    let lengthened = behind_length(block, tools, &machine.offsets);
+    let system = with_system(block.g.system, &lengthened, params, settings)?;
+    let placed = offsets_behind(&system, lengthened);
+    let data = axis_data_of(block, machine, &placed, params, settings)?;
+    Ok(Shifted {
+        offsets: offsets_behind(&data.new, placed),
+        shown: Shown {
+            tool_length: length_shown(block.g.tool_length, &lengthened),
+            system: offsets_shown(&system),
+            axis_data: offsets_shown(&data.new),
+        },
+        stored: data.stored,
+    })
+}

@@ -1,0 +1,4 @@
+pub mod Strokes
+pub mod Canned
+pub mod Segments
+pub mod Left

@@ -1,0 +1,41 @@
+use Rattle.std.proofs.Common.{◌≤◌, length, arith}
+use Rattle.std.proofs.lemmas.Result.{err_from_is_err_and}
+use Rattle.ng_journal.proofs.Overwriting.{own_again, exit_text, exit_sync, loaded_all}
+use Rattle.ng_journal.proofs.loading.load.Goals as goal
+
+pub returns-in_err-write_program-clause-stops : goal.returns-in_err-write_program-clause-stops
+returns-in_err-write_program-clause-stops g c =
+    let p = err_from_is_err_and c.from_residual.result c.from_residual.ensures.1 in
+    let text = c.write_program.ensures.text in
+    rw p.1 (record {
+      keeps = text.keeps;
+      back = text.back;
+      holds = λ h at. exit_text p.0 c.write_program.result _ _ c.program_first.result c.args.header _ c.args.text.now at c.program_first.ensures.is (text.holds h);
+    })
+
+pub returns-in_err-sync-clause-stops : goal.returns-in_err-sync-clause-stops
+returns-in_err-sync-clause-stops g c =
+    let p = err_from_is_err_and c.from_residual-in_err-sync.result c.from_residual-in_err-sync.ensures.1 in
+    let text = c.write_program.ensures.text in
+    let sync = c.in_err-sync.ensures.life in
+    rw p.1 (record {
+      keeps = λ h. sync.keeps (text.keeps h);
+      back = λ h. text.back (sync.back h);
+      holds = λ h at. exit_sync p.0 c.write_program.result _ _ _ c.program_first.result c.args.header _ c.args.text.now at c.program_first.ensures.is (text.holds h) (sync.holds (text.keeps h));
+    })
+
+pub returns-clause-stops : goal.returns-clause-stops
+returns-clause-stops g c =
+    let text = c.in_ok-write_program.ensures.text in
+    let sync = c.in_ok-sync.ensures.life in
+    let last = c.checkpoint.ensures.stops in
+    let short : length c.args.text.now ≤ 131_072 = omega (arith, c.requires.storable.program, c.requires.long) in
+    record {
+      keeps = λ h. last.keeps (sync.keeps (text.keeps h));
+      back = λ h. text.back (sync.back (last.back h));
+      holds = λ h at.
+          let t = text.holds h in
+          let s = sync.holds (text.keeps h) in
+          loaded_all c.checkpoint.result _ _ _ _ _ c.program_first.result c.args.header c.args.stored.now c.args.text.now at c.program_first.ensures.is c.requires.long short t s
+          (last.holds (sync.keeps (text.keeps h)) (own_again _ _ _ c.program_first.result c.args.header at c.program_first.ensures.is t.writes s));
+    }

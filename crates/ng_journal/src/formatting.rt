@@ -1,0 +1,106 @@
+//! A device made fresh: no header is left on it, then it stands for a fresh controller.
+ghost use Rattle.std.specs.Prelude.{◌≡◌, ◌≤◌, ◌<◌, ◌+◌, ◌⊎◌, ◌↔◌, IsErrOf, IfErr};
+ghost use Rattle.ng_num.specs.declared.fault.Fault.TheVariants.{DeviceFailed, NotFormatted};
+ghost use Rattle.ng_rig.specs.Calls.{Promises, Counts};
+ghost use Rattle.ng_layout.specs.Fields.{number_at};
+ghost use Rattle.ng_layout.specs.Log.{log_size};
+ghost use Rattle.ng_layout.specs.Snapshot.{HoldsPart};
+ghost use Rattle.ng_layout.specs.Stands.{log_first, snapshot_first, snapshot_size};
+ghost use Rattle.ng_layout.specs.Stored.{fresh};
+ghost use Rattle.ng_journal.specs.Formats.{Overwrites, IsEmpty, Formats};
+ghost use Rattle.ng_journal.specs.Journal.{Tells};
+
+use crate::checkpoint::header_sector;
+use crate::sectors::{LEAST, LOG, LOG_SIZE, SNAPSHOT, snapshot_first};
+use ng_layout::{BYTES, Header, fresh_sector};
+use ng_num::Fault;
+use ng_rig::{Failed, Rig};
+
+/// A sector of zeros.
+fn empty_sector() -> [u8; BYTES]
+    ensures { number_at 8 0 result ≡ 0 }
+{
+    [0; BYTES]
+}
+
+/// Takes the headers away, one after the other.
+fn clear_headers<R: Rig>(rig: &mut R) -> Result<(), Failed>
+    requires { 1710 ≤ R.sectors rig.old }
+    ensures clears { Promises (R.honest rig.old) (R.honest rig.new) (Overwrites result 0 2 IsEmpty (R.life rig.old) (R.life rig.new)) }
+    ensures size { R.sectors rig.new ≡ R.sectors rig.old }
+    ensures failures { Counts result (R.failed rig.old) (R.failed rig.new) }
+{
+    for k in 0..2 {
+        rig.write(k, &empty_sector())?;
+        rig.sync()?;
+    }
+    Ok(())
+}
+
+/// Takes all parts of records away.
+fn clear_log<R: Rig>(rig: &mut R) -> Result<(), Failed>
+    requires { 1710 ≤ R.sectors rig.old }
+    ensures clears { Promises (R.honest rig.old) (R.honest rig.new) (Overwrites result log_first log_size IsEmpty (R.life rig.old) (R.life rig.new)) }
+    ensures size { R.sectors rig.new ≡ R.sectors rig.old }
+    ensures failures { Counts result (R.failed rig.old) (R.failed rig.new) }
+{
+    for n in 0..LOG_SIZE {
+        rig.write(LOG + n, &empty_sector())?;
+    }
+    Ok(())
+}
+
+/// Writes the snapshot of a fresh controller.
+fn write_fresh_snapshot<R: Rig>(rig: &mut R, first: usize) -> Result<(), Failed>
+    requires room { first + 86 ≤ R.sectors rig.old }
+    requires small { first ≤ 88 }
+    ensures writes { Promises (R.honest rig.old) (R.honest rig.new) (Overwrites result first snapshot_size (HoldsPart fresh) (R.life rig.old) (R.life rig.new)) }
+    ensures size { R.sectors rig.new ≡ R.sectors rig.old }
+    ensures failures { Counts result (R.failed rig.old) (R.failed rig.new) }
+{
+    for part in 0..SNAPSHOT {
+        rig.write(first + part, &fresh_sector(part))?;
+    }
+    Ok(())
+}
+
+/// Makes a device fresh that is large enough.
+fn make_fresh<R: Rig>(rig: &mut R) -> Result<(), Failed>
+    requires { 1710 ≤ R.sectors rig.old }
+    ensures formats { Promises (R.honest rig.old) (R.honest rig.new) (Formats result (R.life rig.old) (R.life rig.new)) }
+    ensures size { R.sectors rig.new ≡ R.sectors rig.old }
+    ensures failures { Counts result (R.failed rig.old) (R.failed rig.new) }
+{
+    let header = Header {
+        epoch: 1,
+        area: 0,
+        length: 0,
+    };
+    clear_headers(rig)?;
+    clear_log(rig)?;
+    write_fresh_snapshot(rig, snapshot_first(header.epoch))?;
+    rig.sync()?;
+    rig.write(1, &header_sector(header))?;
+    rig.sync()
+}
+
+/// Formats a device: after Ok it has one image, which stands for a fresh controller with no program, under epoch 1.
+///
+/// J2 for fewer than 1,710 sectors, with no call of the device. J1 where the device failed; nothing is said of what
+/// it stands for then, nor of a stop before Ok: it is formatted again. Nothing is handed out. It takes no memory.
+pub fn format<R: Rig>(rig: &mut R) -> Result<(), Fault>
+    ensures formats { 1710 ≤ R.sectors rig.old → Promises (R.honest rig.old) (R.honest rig.new) (Formats result (R.life rig.old) (R.life rig.new)) }
+    ensures small { IsErrOf result NotFormatted ↔ (R.sectors rig.old < 1710) }
+    ensures unchanged { IsErrOf result NotFormatted → rig.new ≡ rig.old }
+    ensures size { R.sectors rig.new ≡ R.sectors rig.old }
+    ensures errors { IfErr result (λ e. (e ≡ NotFormatted) ⊎ (e ≡ DeviceFailed)) }
+    ensures failures { Tells result (R.failed rig.old) (R.failed rig.new) }
+{
+    if rig.size() < LEAST {
+        return Err(Fault::NotFormatted);
+    }
+    match make_fresh(rig) {
+        Ok(()) => Ok(()),
+        Err(Failed) => Err(Fault::DeviceFailed),
+    }
+}
