@@ -12,6 +12,7 @@ use ng_block::{DryFault, Ended, Tools, dry};
 use ng_canon::Geometry;
 use ng_console::run_dry;
 use ng_num::Len;
+use ng_settings::Settings;
 use std::alloc::{Allocator, Global};
 use std::io::{Read, Write};
 use std::test::Fail;
@@ -87,7 +88,8 @@ fn writes(
     let (written, ended) = dry_text(alloc, program.as_bytes(), block_delete);
     let mut reader = program.as_bytes();
     let mut again = Vec::new(alloc);
-    let status = run_dry(alloc, &mut reader, &mut again, block_delete);
+    let settings = Settings::standard();
+    let status = run_dry(alloc, &settings, &mut reader, &mut again, block_delete);
     Ok(
         written == wanted
             && is_said(alloc, end, ended)?
