@@ -4,6 +4,7 @@ mod blocks;
 mod grammar;
 mod memory;
 mod modal;
+mod offsets;
 mod program;
 mod rows;
 mod streams;
@@ -68,4 +69,17 @@ fn joined(alloc: Global, first: &[u8], second: &[u8]) -> Result<Vec<u8>, Fail> {
 /// As many blanks.
 fn blanks(alloc: Global, count: usize) -> Result<Vec<u8>, Fail> {
     Ok(vec![in alloc; b' '; count]?)
+}
+
+/// Whether a program writes a text and then its refusal in a line.
+fn is_refused(
+    alloc: Global,
+    program: &str,
+    text: &str,
+    line: &str,
+    name: &str,
+) -> Result<bool, Fail> {
+    let (written, _) = dry_text(alloc, program.as_bytes(), false);
+    let wanted = format!(in alloc; "{text}REFUSED line {line}: {name}\n")?;
+    Ok(written.as_slice() == wanted.as_bytes())
 }

@@ -1,10 +1,9 @@
 //! Modal groups: what each code of a line prints, in the order of the steps, and which fault refuses a line alone. All of it is
 //! worked out by hand from the language.
-use super::dry_text;
+use super::{dry_text, is_refused};
 use ng_block::{State, Stop, Tools, execute};
 use ng_canon::{Geometry, Outputs, Segment, Spindle};
 use ng_num::{Len, Num};
-use std::alloc::Global;
 use std::test::Fail;
 
 /// Programs of one line and what they write in front of the refusal that their end is missing.
@@ -66,7 +65,7 @@ const PRINTED: [(&str, &str); 27] = [
 ];
 
 /// Lines and the fault that refuses each of them alone, by a program of one line.
-const REFUSED: [(&str, &str); 36] = [
+const REFUSED: [(&str, &str); 32] = [
     ("F1 F1", "B1 RepeatedLetter"),
     ("G21.1", "B2 UnknownCode"),
     ("M1.5", "B2 UnknownCode"),
@@ -95,29 +94,12 @@ const REFUSED: [(&str, &str); 36] = [
     ("G18 G81 X1", "B19 CyclePlane"),
     // codes that aren't built, behind all of these, and in front of what the block comes to
     ("G2 X1 J1", "B3 LeftOutCode"),
-    ("G53 G0 X1", "B3 LeftOutCode"),
-    ("G10 L2 P9 X1", "B3 LeftOutCode"),
-    ("G43 H1", "B3 LeftOutCode"),
     ("G83 X0 Z-2 R1 Q2 L3 F100", "B3 LeftOutCode"),
-    ("G54 G20 G0 X1000000", "B3 LeftOutCode"),
     ("G1 X1", "X1 NoFeed"),
     ("G93 G1 X1", "X1 NoFeed"),
     ("G93 G1 X2000 F0", "X1 NoFeed"),
     ("G93 G1 X2000 F1", "X2 OutsideTravel"),
 ];
-
-/// Whether a program writes a text and then its refusal in a line.
-fn is_refused(
-    alloc: Global,
-    program: &str,
-    text: &str,
-    line: &str,
-    name: &str,
-) -> Result<bool, Fail> {
-    let (written, _) = dry_text(alloc, program.as_bytes(), false);
-    let wanted = format!(in alloc; "{text}REFUSED line {line}: {name}\n")?;
-    Ok(written.as_slice() == wanted.as_bytes())
-}
 
 #[test]
 fn codes_print_in_the_order_of_the_steps(rt: HostRuntime) -> Result<(), Fail> {
