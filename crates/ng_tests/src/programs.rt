@@ -4,6 +4,7 @@ mod blocks;
 mod grammar;
 mod memory;
 mod modal;
+mod offsets;
 mod program;
 mod rows;
 mod streams;

@@ -67,7 +67,7 @@ const PRINTED: [(&str, &str); 27] = [
 ];
 
 /// Lines and the fault that refuses each of them alone, by a program of one line.
-const REFUSED: [(&str, &str); 36] = [
+const REFUSED: [(&str, &str); 32] = [
     ("F1 F1", "B1 RepeatedLetter"),
     ("G21.1", "B2 UnknownCode"),
     ("M1.5", "B2 UnknownCode"),
@@ -96,11 +96,7 @@ const REFUSED: [(&str, &str); 36] = [
     ("G18 G81 X1", "B19 CyclePlane"),
     // codes that aren't built, behind all of these, and in front of what the block comes to
     ("G2 X1 J1", "B3 LeftOutCode"),
-    ("G53 G0 X1", "B3 LeftOutCode"),
-    ("G10 L2 P9 X1", "B3 LeftOutCode"),
-    ("G43 H1", "B3 LeftOutCode"),
     ("G83 X0 Z-2 R1 Q2 L3 F100", "B3 LeftOutCode"),
-    ("G54 G20 G0 X1000000", "B3 LeftOutCode"),
     ("G1 X1", "X1 NoFeed"),
     ("G93 G1 X1", "X1 NoFeed"),
     ("G93 G1 X2000 F0", "X1 NoFeed"),

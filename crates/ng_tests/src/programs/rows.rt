@@ -1,6 +1,7 @@
 //! Programs and what they write.
 use super::grammar::{COMMENTS, PERCENTS, VALUES};
 use super::modal::LASTING;
+use super::offsets::OFFSETS;
 use super::{NO_END, PROGRAM_END, writes};
 use std::test::Fail;
 
@@ -164,6 +165,7 @@ fn programs_write_their_texts(rt: HostRuntime) -> Result<(), Fail> {
         (false, COMMENTS),
         (false, PERCENTS),
         (false, LASTING),
+        (false, OFFSETS),
     ] {
         for (program, text, end) in rows {
             assert!(rt;
