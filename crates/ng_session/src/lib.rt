@@ -10,6 +10,7 @@ mod activity;
 mod beginning;
 mod current;
 mod event;
+mod loading;
 mod reply;
 mod session;
 mod ticking;
