@@ -309,3 +309,15 @@ step equipment program s (event.OptionalStop wanted) = answers program reply.Tak
 step equipment program s (event.BlockDelete on) = answers program reply.Taken (record s { block_delete = on })
 step equipment program s event.Status = answers program (reply.Status (shown s)) s
 step equipment program s event.Tick = tick equipment program s
+
+-- an event that neither writes to the device nor hands anything out
+abbrev pub IsQuiet : {A : Type 0} → Event A → Type 0
+IsQuiet (event.Load text) = ⊥
+IsQuiet event.Start = Unit {0}
+IsQuiet event.Hold = Unit {0}
+IsQuiet event.Continue = Unit {0}
+IsQuiet (event.Mdi text) = Unit {0}
+IsQuiet (event.OptionalStop wanted) = Unit {0}
+IsQuiet (event.BlockDelete on) = Unit {0}
+IsQuiet event.Status = Unit {0}
+IsQuiet event.Tick = ⊥

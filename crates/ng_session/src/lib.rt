@@ -7,6 +7,7 @@
 #![tactic(auto)]
 
 mod activity;
+mod answering;
 mod beginning;
 mod current;
 mod event;
