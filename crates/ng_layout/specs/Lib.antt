@@ -13,3 +13,4 @@ pub mod StateField
 pub mod Storable
 pub mod Stored
 pub mod Writing
+pub mod Programs

@@ -9,7 +9,7 @@ use Rattle.ng_block.specs.declared.effect.Stop.{Stop}
 use Rattle.ng_layout.specs.Stored.{Saved}
 use Rattle.ng_layout.specs.declared.half.Source.{Source}
 use Rattle.ng_layout.specs.declared.half.Source.TheVariants.{Program, Mdi}
-use Rattle.ng_session.specs.Programs.{lines_before}
+use Rattle.ng_layout.specs.Programs.{lines_before}
 
 -- the tool table and the geometry: they stay as they are
 pub record Equipment : Type 0 where

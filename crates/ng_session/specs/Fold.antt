@@ -6,7 +6,7 @@ use Rattle.ng_step.specs.Hands.{hand}
 use Rattle.ng_block.specs.Effects.{Done}
 use Rattle.ng_layout.specs.Stored.{Standing}
 use Rattle.ng_layout.specs.declared.half.Source.{Source}
-use Rattle.ng_session.specs.Programs.{place_behind}
+use Rattle.ng_layout.specs.Programs.{place_behind}
 use Rattle.ng_session.specs.Entries.{Equipment, Entry, Block, Loaded, done_of, after_block, after_load}
 
 -- what stands behind a line; one that is refused is never committed

@@ -1,4 +1,3 @@
-pub mod Programs
 pub mod Entries
 pub mod Session
 pub mod Kept

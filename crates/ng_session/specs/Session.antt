@@ -17,7 +17,7 @@ use Rattle.ng_layout.specs.Stored.{HalfDone, Saved}
 use Rattle.ng_layout.specs.declared.half.Source.{Source}
 use Rattle.ng_layout.specs.declared.half.Source.TheVariants as source
 use Rattle.ng_layout.specs.declared.half.Opened.TheVariants as open_part
-use Rattle.ng_session.specs.Programs.{lines_before, line_at, place_behind}
+use Rattle.ng_layout.specs.Programs.{Line, lines_before, line_at}
 use Rattle.ng_session.specs.Entries.{Equipment, Entry, Block, Loaded, done_of, after_block, after_load}
 use Rattle.ng_session.specs.declared.activity.Activity.{Activity}
 use Rattle.ng_session.specs.declared.activity.Activity.TheVariants as activity
@@ -157,11 +157,21 @@ mdi equipment program s text =
     else if not s.stored.setup.machine.place_known then refuses program fault.PlaceUnknown s
     else mdi_by program s text (done_of equipment program s.stored source.Mdi text s.block_delete)
 
+abbrev pub load_refusal : Sitting → List ℕ → Option Fault
+load_refusal s text =
+    if not (is_free s) then Some fault.Busy
+    else if nat_lt longest_program (length text) then Some fault.ProgramTooLong
+    else None
+
+abbrev pub loaded : Sitting → Saved → Sitting
+loaded s x = record s { stored = x; activity = activity.Idle }
+
+abbrev pub load_unless : List ℕ → Sitting → List ℕ → Option Fault → Outcome
+load_unless program s text (Some fault) = refuses program fault s
+load_unless program s text None = commits text (Loaded text) (loaded s (after_load s.stored (length text)))
+
 abbrev pub load : List ℕ → Sitting → List ℕ → Outcome
-load program s text =
-    if not (is_free s) then refuses program fault.Busy s
-    else if nat_lt longest_program (length text) then refuses program fault.ProgramTooLong s
-    else commits text (Loaded text) (record s { stored = after_load s.stored (length text); activity = activity.Idle })
+load program s text = load_unless program s text (load_refusal s text)
 
 -- ---- what the status shows
 
@@ -199,18 +209,18 @@ abbrev pub rest : List ℕ → Sitting → Outcome
 rest program s = answers program (idleness s.activity) s
 
 -- 4. a line of the program is begun; one that is refused stops the program before it
-abbrev pub begin_by : List ℕ → Sitting → List ℕ → Result Done Fault → Outcome
-begin_by program s text (Err fault) = answers program (reply.Refused fault) (record s { activity = activity.Stopped })
-begin_by program s text (Ok done) =
-    answers program reply.Begun (record s { current = Some (begun s.stored source.Program text s.block_delete (place_behind program s.stored.place) done) })
+abbrev pub begin_by : List ℕ → Sitting → Line → Result Done Fault → Outcome
+begin_by program s line (Err fault) = answers program (reply.Refused fault) (record s { activity = activity.Stopped })
+begin_by program s line (Ok done) =
+    answers program reply.Begun (record s { current = Some (begun s.stored source.Program line.text s.block_delete line.next done) })
 
 -- a program that ends before its end stops there
 abbrev pub break_off : List ℕ → Sitting → Outcome
 break_off program s = answers program (reply.Refused (missing_end (first_kind (lines_before program s.stored.place)))) (record s { activity = activity.Stopped })
 
-abbrev pub begin : Equipment → List ℕ → Sitting → Option (List ℕ) → Outcome
+abbrev pub begin : Equipment → List ℕ → Sitting → Option Line → Outcome
 begin equipment program s None = break_off program s
-begin equipment program s (Some text) = begin_by program s text (done_of equipment program s.stored source.Program text s.block_delete)
+begin equipment program s (Some line) = begin_by program s line (done_of equipment program s.stored source.Program line.text s.block_delete)
 
 -- 3. a block of which nothing is left is committed. Optional stop is looked at here. M2, M30 and the closing percent line end
 -- the program, M0, M1 and M60 stop it; by the operator the last three do nothing
@@ -299,3 +309,15 @@ step equipment program s (event.OptionalStop wanted) = answers program reply.Tak
 step equipment program s (event.BlockDelete on) = answers program reply.Taken (record s { block_delete = on })
 step equipment program s event.Status = answers program (reply.Status (shown s)) s
 step equipment program s event.Tick = tick equipment program s
+
+-- an event that neither writes to the device nor hands anything out
+abbrev pub IsQuiet : {A : Type 0} → Event A → Type 0
+IsQuiet (event.Load text) = ⊥
+IsQuiet event.Start = Unit {0}
+IsQuiet event.Hold = Unit {0}
+IsQuiet event.Continue = Unit {0}
+IsQuiet (event.Mdi text) = Unit {0}
+IsQuiet (event.OptionalStop wanted) = Unit {0}
+IsQuiet (event.BlockDelete on) = Unit {0}
+IsQuiet event.Status = Unit {0}
+IsQuiet event.Tick = ⊥

@@ -3,7 +3,7 @@ ghost use Rattle.std.specs.Prelude.{◌≡◌, ◌≤◌, ℕ, List, Some, Ok, E
 ghost use Rattle.ng_block.specs.Dry.{first_kind};
 ghost use Rattle.ng_block.specs.Effects.{Done, in_state};
 ghost use Rattle.ng_layout.specs.declared.half.Source.TheVariants as source;
-ghost use Rattle.ng_session.specs.Programs.{lines_before, place_behind};
+ghost use Rattle.ng_layout.specs.Programs.{Line, lines_before};
 ghost use Rattle.ng_session.specs.Entries.{Equipment, equipment_of, done_of};
 
 use crate::activity::Activity;
@@ -107,8 +107,8 @@ impl<A: Allocator + Copy + Drop> Session<A> {
         tools: &Tools,
         geometry: &Geometry,
     ) -> Result<Reply, AllocError>
-        ensures reply { IfOk result (λ reply. (program : List ℕ) → next ≡ place_behind program self.old.stored.place → first ≡ first_kind (lines_before program self.old.stored.place) → reply ≡ (begin (record { tools = tools.now; geometry = geometry.now }) program self.old (Some text.now)).reply) }
-        ensures next { OnOk result ((program : List ℕ) → next ≡ place_behind program self.old.stored.place → first ≡ first_kind (lines_before program self.old.stored.place) → self.new ≡ (begin (record { tools = tools.now; geometry = geometry.now }) program self.old (Some text.now)).next) }
+        ensures reply { IfOk result (λ reply. (program : List ℕ) → first ≡ first_kind (lines_before program self.old.stored.place) → reply ≡ (begin (record { tools = tools.now; geometry = geometry.now }) program self.old (Some (record { text = text.now; next = next }))).reply) }
+        ensures next { OnOk result ((program : List ℕ) → first ≡ first_kind (lines_before program self.old.stored.place) → self.new ≡ (begin (record { tools = tools.now; geometry = geometry.now }) program self.old (Some (record { text = text.now; next = next }))).next) }
         ensures err { OnErr result (self.new ≡ self.old) }
     {
         let block_delete = self.block_delete;

@@ -7,9 +7,11 @@
 #![tactic(auto)]
 
 mod activity;
+mod answering;
 mod beginning;
 mod current;
 mod event;
+mod loading;
 mod reply;
 mod session;
 mod ticking;

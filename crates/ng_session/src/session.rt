@@ -1,11 +1,12 @@
 //! A session: what a controller keeps between two events.
-ghost use Rattle.std.specs.Prelude.{◌≡◌, ◌≤◌, List, ℕ, None, Some, MatchOption};
+ghost use Rattle.std.specs.Prelude.{◌≡◌, ◌≤◌, List, ℕ};
+ghost use Rattle.std.specs.Option.{option_map};
+ghost use Rattle.ng_session.specs.Session.{point_shown, place_shown, half_shown};
 
 use crate::activity::Activity;
 use crate::current::Current;
-use crate::reply::{HalfShown, Reply, Status};
+use crate::reply::{Condition, HalfShown, Reply, Status};
 use ng_block::{Machine, Places};
-use ng_canon::{Geometry, Item};
 use ng_layout::{Half, Stored};
 use ng_num::{Fault, Point};
 use std::alloc::Allocator;
@@ -168,5 +169,58 @@ impl<A: Allocator + Copy + Drop> Session<A> {
     {
         self.block_delete = on;
         Reply::Taken
+    }
+
+    /// What the status shows: what is stored, and what the session is about. A block with an open segment counts as half-done.
+    pub fn status(&self) -> Status
+        ensures { result ≡ shown self.now }
+    {
+        let machine = &self.stored.state.machine;
+        let half = self.stored.half.as_ref();
+        Status {
+            entries: self.stored.entries,
+            place: self.stored.place,
+            point: point_shown(machine.point, half),
+            place_known: place_shown(machine.place_known, half),
+            half: half_shown(half),
+            condition: if self.held {
+                Condition::Held
+            } else {
+                self.activity.condition()
+            },
+        }
+    }
+}
+
+/// Where the machine stands, beside a half-done block.
+fn point_shown(point: Point, half: Option<&Half>) -> Point
+    ensures { result ≡ point_shown point (option_map (λ h. h.now) half.entry) }
+{
+    match half {
+        Some(half) => half.at.unwrap_or(point),
+        None => point,
+    }
+}
+
+/// Whether it is known that it stands there.
+fn place_shown(known: bool, half: Option<&Half>) -> bool
+    ensures { result ≡ place_shown known (option_map (λ h. h.now) half.entry) }
+{
+    match half {
+        Some(half) => half.at.is_some(),
+        None => known,
+    }
+}
+
+/// A half-done block, as it is shown.
+fn half_shown(half: Option<&Half>) -> Option<HalfShown>
+    ensures { result ≡ option_map half_shown (option_map (λ h. h.now) half.entry) }
+{
+    match half {
+        Some(half) => Some(HalfShown {
+            source: half.source,
+            index: half.index,
+        }),
+        None => None,
     }
 }

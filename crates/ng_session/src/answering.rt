@@ -1,0 +1,38 @@
+//! The events that a session answers of itself, with no device.
+ghost use Rattle.std.specs.Prelude.{◌≡◌, ℕ, List, IfOk, OnOk, OnErr};
+
+use crate::event::Event;
+use crate::reply::Reply;
+use crate::session::Session;
+use ng_block::Tools;
+use ng_canon::Geometry;
+use std::alloc::{AllocError, Allocator};
+
+impl<A: Allocator + Copy + Drop> Session<A> {
+    ghost use Rattle.ng_session.specs.Session.{step, IsQuiet};
+
+    /// Answers an event that neither writes to the device nor hands anything out: all but a Load and a Tick. `AllocError` where
+    /// the state after a line of the operator found no memory: nothing is changed then.
+    pub fn answer(
+        &mut self,
+        event: &Event<A>,
+        tools: &Tools,
+        geometry: &Geometry,
+    ) -> Result<Reply, AllocError>
+        requires { IsQuiet event.now }
+        ensures reply { IfOk result (λ reply. (program : List ℕ) → reply ≡ (step (record { tools = tools.now; geometry = geometry.now }) program self.old event.now).reply) }
+        ensures next { OnOk result ((program : List ℕ) → self.new ≡ (step (record { tools = tools.now; geometry = geometry.now }) program self.old event.now).next) }
+        ensures err { OnErr result (self.new ≡ self.old) }
+    {
+        match event {
+            Event::Start => Ok(self.start()),
+            Event::Hold => Ok(self.hold()),
+            Event::Continue => Ok(self.go_on()),
+            Event::Mdi(text) => self.mdi(text.bytes(), tools, geometry),
+            Event::OptionalStop(wanted) => Ok(self.set_optional_stop(*wanted)),
+            Event::BlockDelete(on) => Ok(self.set_block_delete(*on)),
+            Event::Status => Ok(Reply::Status(self.status())),
+            Event::Load(_) | Event::Tick => unreachable!(),
+        }
+    }
+}

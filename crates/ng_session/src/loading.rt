@@ -1,0 +1,66 @@
+//! How a program is loaded.
+ghost use Rattle.std.specs.Prelude.{◌≡◌, ◌≤◌, ℕ, List, Ok, Err, IfOk, OnErr, MatchResult, length};
+ghost use Rattle.ng_session.specs.Entries.{after_load};
+
+use crate::activity::Activity;
+use crate::reply::Reply;
+use crate::session::Session;
+use ng_layout::{LONGEST_PROGRAM, Stored};
+use ng_num::Fault;
+use std::alloc::{AllocError, Allocator};
+
+/// What is to be stored beside a program of this length. `AllocError` where its table found no memory.
+fn after_load<A: Allocator + Copy + Drop>(
+    stored: &Stored<A>,
+    length: u64,
+) -> Result<Stored<A>, AllocError>
+    requires { stored.now.entries ≤ 1_000_000_000_000 }
+    ensures { IfOk result (λ x. x ≡ after_load stored.now length) }
+{
+    let mut state = stored.state.copy()?;
+    state.params.clear_passing();
+    Ok(Stored {
+        entries: stored.entries + 1,
+        state,
+        place: 0,
+        length,
+        half: None,
+    })
+}
+
+impl<A: Allocator + Copy + Drop> Session<A> {
+    ghost use Rattle.ng_session.specs.Session.{load, load_refusal, loaded};
+
+    /// Why a program of these bytes isn't loaded now: K1 where the session isn't at rest or a block is half-done, J5 where it is
+    /// too long.
+    pub fn load_refusal(&self, text: &[u8]) -> Option<Fault>
+        ensures { result ≡ load_refusal self.now text.now }
+    {
+        if !self.is_free() {
+            return Some(Fault::Busy);
+        }
+        if text.len() > LONGEST_PROGRAM as usize {
+            return Some(Fault::ProgramTooLong);
+        }
+        None
+    }
+
+    /// What is to be stored with a program of these bytes. The session stays as it is. `AllocError` where its table found no
+    /// memory.
+    pub fn loading(&self, text: &[u8]) -> Result<Stored<A>, AllocError>
+        ensures { IfOk result (λ x. x ≡ after_load self.now.stored (length text.now)) }
+    {
+        after_load(&self.stored, text.len() as u64)
+    }
+
+    /// Goes on with a program, once that is stored.
+    pub fn load(&mut self, stored: Stored<A>) -> Reply
+        requires { stored.entries ≤ 1_000_000_000_000 }
+        ensures reply { result ≡ Reply.Done stored.entries }
+        ensures next { self.new ≡ loaded self.old stored }
+    {
+        self.stored = stored;
+        self.activity = Activity::Idle;
+        Reply::Done(self.stored.entries)
+    }
+}
