@@ -18,5 +18,6 @@ pub mod After
 pub mod Effects
 pub mod Commands
 pub mod Segments
+pub mod Course
 pub mod Dry
 pub mod Parts

@@ -7,15 +7,17 @@
 //! state, and writes the text of the commands as they come; its contract says exactly which text, for every reader
 //! and writer. The crate stands on the reader of lines, the parameter table, the offsets and the canonical text below it.
 //!
-//! Built are straight moves, both feed modes, spindle, tools, coolant, dwells, planes, units, modes that are only recorded, and
-//! all stops. What a line asks for, and whether it may, is `ng_modal`'s; the codes that it accepts and that aren't built here
-//! (G10, G28, G30, G43, G49, G53 to G59.3, G92 and its others, arcs, cycles) are refused behind it (B3).
+//! Built are straight moves, in machine coordinates too, both feed modes, spindle, tools, coolant, dwells, planes, units, tool lengths,
+//! coordinate systems, G10, G92 and its three others, the ways home, modes that are only recorded, and all stops. What a line asks
+//! for, and whether it may, is `ng_modal`'s; the codes that it accepts and that aren't built here (arcs, cycles) are refused behind
+//! it (B3).
 #![tactic(auto)]
 
 mod after;
 mod axis_data;
 mod bearings;
 mod commands;
+mod course;
 mod dry_run;
 mod effect;
 mod ending;
@@ -42,6 +44,7 @@ mod tasks;
 mod terms;
 
 pub use commands::Commands;
+pub use course::Course;
 pub use dry_run::{READS, dry};
 pub use effect::{CHANGES, Changes, Effect, Stop};
 pub use ending::{DryFault, Ended};
@@ -54,3 +57,4 @@ pub use places::{Places, execute};
 pub use segments::Segments;
 pub use state::State;
 pub use steps::{ORDER, Step};
+pub use terms::Terms;

@@ -147,7 +147,7 @@ impl Places {
     }
 
     /// The same, unless the line is deleted.
-    pub(crate) fn execute_unless_deleted<A: Allocator + Copy + Drop>(
+    pub fn execute_unless_deleted<A: Allocator + Copy + Drop>(
         &mut self,
         terms: &Terms<'_>,
         state: &State<A>,
@@ -162,7 +162,7 @@ impl Places {
     }
 
     /// The same behind lines before it, whose first that isn't blank is of a kind: it may be a percent line.
-    pub(crate) fn execute_behind<A: Allocator + Copy + Drop>(
+    pub fn execute_behind<A: Allocator + Copy + Drop>(
         &mut self,
         terms: &Terms<'_>,
         first: Kind,

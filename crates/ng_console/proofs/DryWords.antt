@@ -23,7 +23,7 @@ use Rattle.ng_console.specs.declared.command_line.Job.{Job}
 use Rattle.ng_console.specs.declared.command_line.Job.TheVariants.{Dry}
 use Rattle.std.proofs.lemmas.Slice.Eq.{bytes_eq-Decides}
 use Rattle.ng_console.proofs.Entered.{IsNotHelp, enters_no_help}
-use Rattle.ng_console.proofs.Walked.{Full, flag, rules, rows_full, rows_say}
+use Rattle.ng_console.proofs.Walked.{Full, flag, program, rules, rows_full, rows_say, settings}
 
 abbrev first_shape : List Shape → Shape
 first_shape [] = new_shape []
@@ -74,20 +74,21 @@ nothing_wanted s rows has h =
     wanted_none (not has && (s.arg_required_else_help && not (list_any (λ r. explicit_source r.source) rows))) (not has && s.subcommand_required)
     (not (s.subcommand_negates_reqs && has) && list_any (λ a. a.required && not (is_given a.id rows)) s.rules) h
 
--- what is given has a first value
-first_given : (id : Text) (rows : List Row) → Full rows → is_given id rows ≡ true → is_some (first_of id rows) ≡ true
-first_given id [] full given = cc
-first_given id (r ∷ rs) full given = go (bytes_eq r.id id) given (first_given id rs full.1)
+-- PROGRAM, where it is given, has a first value
+first_given : (rows : List Row) → Full rows → is_given program.id rows ≡ true → is_some (first_of program.id rows) ≡ true
+first_given [] full given = cc
+first_given (r ∷ rs) full given = go (bytes_eq r.id program.id) full.0.0 given (first_given rs full.1)
   where
     some_value : (vs : List Text) → 0 < length vs → is_some (slice_get vs 0) ≡ true
     some_value [] lt = absurd (omega arith)
     some_value (v ∷ vs) lt = refl
 
-    go : (b : Bool) → option_map_or (λ (x : Row). explicit_source x.source) (if b then Some r else find (λ (x : Row). bytes_eq x.id id) rs) false ≡ true
-        → (is_given id rs ≡ true → is_some (first_of id rs) ≡ true)
-        → is_some (option_and_then (λ (x : Row). slice_get x.values 0) (if b then Some r else find (λ (x : Row). bytes_eq x.id id) rs)) ≡ true
-    go true g rest = some_value r.values full.0.0
-    go false g rest = rest g
+    go : (b : Bool) → (b ≡ true → 0 < length r.values)
+        → option_map_or (λ (x : Row). explicit_source x.source) (if b then Some r else find (λ (x : Row). bytes_eq x.id program.id) rs) false ≡ true
+        → (is_given program.id rs ≡ true → is_some (first_of program.id rs) ≡ true)
+        → is_some (option_and_then (λ (x : Row). slice_get x.values 0) (if b then Some r else find (λ (x : Row). bytes_eq x.id program.id) rs)) ≡ true
+    go true some g rest = some_value r.values (some refl)
+    go false some g rest = rest g
 
 -- `dry` without a fault has PROGRAM
 dry_right : (words : List Text) → level_fault dry_shape [] nothing_held words false [] ≡ []
@@ -96,11 +97,11 @@ dry_right words h =
     let rows = rows_after rules [] words in
     let checked : check_fault dry_shape rows false ≡ [] = (level_right dry_shape [] words false [] h).1 in
     let wanted = (nothing_wanted dry_shape rows false checked).1 in
-    first_given (codes "PROGRAM") rows (rows_full words) (go (is_given (codes "PROGRAM") rows) (is_given flag rows) (is_given (codes "help") rows) wanted)
+    first_given rows (rows_full words) (go (is_given program.id rows) (is_given settings.id rows) (is_given flag rows) (is_given (codes "help") rows) wanted)
   where
-    go : (b f d : Bool) → ((true && not b) || ((false && not f) || ((false && not d) || false))) ≡ false → b ≡ true
-    go true f d e = refl
-    go false f d e = cc
+    go : (b s f d : Bool) → ((true && not b) || ((false && not s) || ((false && not f) || ((false && not d) || false)))) ≡ false → b ≡ true
+    go true s f d e = refl
+    go false s f d e = cc
 
 -- where clap's definition finds no fault, the words name `dry` and its program, and the flag is on or off
 names_a_program : (words : List Text) → fault_of ngc_app words ≡ []
@@ -158,7 +159,7 @@ found_of_dry words app matches found is_ngc kinds has below =
 
 pub is_asked : (words : List Text) (job : Job) (found : List Row) → subcommand_of ngc_app words ≡ Some (codes "dry", found)
     → HasFiles found job → HasFlags found job → Asks words job
-is_asked words (Dry file block_delete) found named files flags = (found, named, files, flags)
+is_asked words (Dry file settings_file block_delete) found named files flags = (found, named, files, flags)
 
 -- where clap found no fault, the subcommand that the matches name is `dry`
 pub names_dry : (words : List Text) (app : App) (matches : ArgMatches) → app ≡ ngc_app → (is_simple_and_free app ≡ true → fault_of app words ≡ [])

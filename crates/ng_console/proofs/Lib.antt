@@ -1,5 +1,4 @@
 mod Walked
 mod Entered
 mod DryWords
-mod Defaults
-mod Jobs
+mod Runs

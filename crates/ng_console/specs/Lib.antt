@@ -1,2 +1,3 @@
 pub mod Words
+pub mod Chosen
 pub mod Status

@@ -1,32 +1,65 @@
--- How `ngc` ends (own): 0 done, 1 a refused program, 2 anything that kept it from running the program.
-use Rattle.std.specs.Prelude.{ℕ, ◌≡◌, Bool, List, [], ◌∷◌, pos, Option, Result, Ok, Err, IfSome}
-use Rattle.ng_canon.specs.Inside.{IsStandard}
+-- How `ngc` ends (own): 0 done, 1 a refused program, 2 anything that kept it from running the program. Faults of status 2 are
+-- looked for in the order words, settings file, program file, the run.
+use Rattle.std.specs.Prelude.{ℕ, ◌≡◌, Bool, List, ◌++◌, Option, Result, Ok, Err, IfSome, is_some, codes}
+use Rattle.std.specs.Io.KnownBytes.{Appends}
+use Rattle.ng_num.specs.declared.fault.Fault.{Fault}
+use Rattle.ng_num.specs.FaultText.{text as fault_text}
+use Rattle.std.specs.declared.io.Error.{Error}
+use Rattle.ng_settings.specs.declared.standard.Settings.{Settings}
 use Rattle.ng_block.specs.Dry.{Terms, Output, Finishes, output_of}
 use Rattle.ng_block.specs.declared.ending.Ended.{Ended}
-use Rattle.ng_block.specs.declared.ending.Ended.TheVariants.{Done, Refused}
+use Rattle.ng_block.specs.declared.ending.Ended.TheVariants as ended
 use Rattle.ng_block.specs.declared.ending.DryFault.{DryFault}
+use Rattle.ng_console.specs.Chosen.{GivesChoice}
 use Rattle.ng_console.specs.declared.command_line.Job.{Job}
 use Rattle.ng_console.specs.declared.command_line.Job.TheVariants.{Dry}
+use Rattle.ng_console.specs.declared.settings_file.NoSettings.{NoSettings}
+use Rattle.ng_console.specs.declared.settings_file.NoSettings.TheVariants.{Unread, Refused}
 
 abbrev pub status_of : Result Ended DryFault → ℕ
-status_of (Ok Done) = 0
-status_of (Ok (Refused number fault)) = 1
+status_of (Ok ended.Done) = 0
+status_of (Ok (ended.Refused number fault)) = 1
 status_of (Err fault) = 2
 
--- the default settings: one tool of 50 mm, the standard geometry; lines that begin with a slash are deleted where it is asked
-abbrev pub IsDefault : Bool → Terms → Type 0
-IsDefault block_delete terms = (terms.block_delete ≡ block_delete) × (terms.tools ≡ pos 50_000_000 ∷ []) × IsStandard terms.geometry
+-- a run with the machine and the tools of settings; lines that begin with a slash are deleted where it is asked
+abbrev pub terms_of : Bool → Settings → Terms
+terms_of block_delete settings = record { block_delete = block_delete; tools = settings.tools; geometry = settings.geometry }
 
 -- the status is that of a run which wrote what it had to
 abbrev pub Reports : Option (List ℕ) → Option (List ℕ) → Output → ℕ → Type 0
 Reports old new output status =
     (ended : Result Ended DryFault) × (status ≡ status_of ended) × Finishes old new output ended
 
--- a dry run with the default settings of the bytes that a reader gives, where they are known
-abbrev pub IsDryRun : Bool → Option (List ℕ) → Option (List ℕ) → Option (List ℕ) → ℕ → Type 0
-IsDryRun block_delete given old new status =
-    IfSome given (λ program. (terms : Terms) × IsDefault block_delete terms × Reports old new (output_of terms program) status)
+-- a dry run with settings, of the bytes that a reader gives, where they are known
+abbrev pub IsDryRun : Settings → Bool → Option (List ℕ) → Option (List ℕ) → Option (List ℕ) → ℕ → Type 0
+IsDryRun settings block_delete given old new status =
+    IfSome given (λ program. Reports old new (output_of (terms_of block_delete settings) program) status)
 
--- a run as the job asks for it, of the bytes that its file gives, where they are known
-abbrev pub Does : Job → Option (List ℕ) → Option (List ℕ) → Option (List ℕ) → ℕ → Type 0
-Does (Dry program block_delete) given old new status = IsDryRun block_delete given old new status
+-- a file that can't be opened or read: nothing is written
+abbrev pub IsBroken : Option (List ℕ) → Option (List ℕ) → ℕ → Type 0
+IsBroken old new status = (status ≡ 2) × (new ≡ old)
+
+-- what is written of a settings file that is refused
+abbrev pub refused_text : Fault → List ℕ
+refused_text fault = codes "refused " ++ (fault_text fault ++ codes "\n")
+
+abbrev pub IsRefusedWith : Fault → Option (List ℕ) → Option (List ℕ) → ℕ → Type 0
+IsRefusedWith fault old new status = (status ≡ 2) × Appends old new (refused_text fault)
+
+module _ {F : Type 0} (bytes_of : F → Option (List ℕ)) where
+  -- a dry run of a program's file, as it was opened
+  abbrev pub RunsFile : Settings → Bool → Result F Error → Option (List ℕ) → Option (List ℕ) → ℕ → Type 0
+  RunsFile settings block_delete (Ok file) old new status = IsDryRun settings block_delete (bytes_of file) old new status
+  RunsFile settings block_delete (Err error) old new status = IsBroken old new status
+
+  -- the same with the settings that were found; where there are none the program's file isn't looked at
+  abbrev pub RunsChosen : Result Settings NoSettings → Bool → Result F Error → Option (List ℕ) → Option (List ℕ) → ℕ → Type 0
+  RunsChosen (Ok settings) block_delete program old new status = RunsFile settings block_delete program old new status
+  RunsChosen (Err Unread) block_delete program old new status = IsBroken old new status
+  RunsChosen (Err (Refused fault)) block_delete program old new status = IsRefusedWith fault old new status
+
+  -- what the job asks for, of files that were opened or not
+  abbrev pub Does : Job → Option (List ℕ) → Option (List ℕ) → ℕ → Type 0
+  Does (Dry program settings block_delete) old new status =
+      (settings_file : Option (Result F Error)) × (program_file : Result F Error) × (is_some settings_file ≡ is_some settings)
+      × ((chosen : Result Settings NoSettings) × GivesChoice bytes_of settings_file chosen × RunsChosen chosen block_delete program_file old new status)

@@ -1,5 +1,5 @@
 -- The command line of `ngc` (own), in the words by which clap defines what a command makes of its words.
-use Rattle.std.specs.Prelude.{◌≡◌, Bool, List, Some, true, codes}
+use Rattle.std.specs.Prelude.{◌≡◌, Bool, List, Some, true, codes, option_map}
 use Rattle.clap.specs.Words.{App, Row, Rule, Text, first_of, new_app, new_rule, one_of, subcommand_of, with_rule, with_subcommand}
 use Rattle.clap.specs.declared.builder.ArgAction.TheVariants.{Set, SetTrue}
 use Rattle.clap.specs.Values.{bool_text}
@@ -10,29 +10,34 @@ use Rattle.ng_console.specs.declared.command_line.Job.TheVariants.{Dry}
 abbrev pub program_rule : Rule
 program_rule = record (new_rule (codes "PROGRAM")) { action = Some Set; required = true }
 
+-- --settings FILE, a file that may be named
+abbrev pub settings_rule : Rule
+settings_rule = record (new_rule (codes "settings")) { long = Some (codes "settings"); action = Some Set; value_names = 1 }
+
 -- --block-delete, a flag that is off where it isn't given
 abbrev pub block_delete_rule : Rule
 block_delete_rule = record (new_rule (codes "block-delete")) { long = Some (codes "block-delete"); action = Some SetTrue }
 
--- dry PROGRAM [--block-delete]
+-- dry PROGRAM [--settings FILE] [--block-delete]
 abbrev pub dry_app : App
-dry_app = with_rule (with_rule (new_app (codes "dry")) program_rule) block_delete_rule
+dry_app = with_rule (with_rule (with_rule (new_app (codes "dry")) program_rule) settings_rule) block_delete_rule
 
 -- a command line names one of the subcommands; --version and help, asked for in either way, are answered
 abbrev pub only_by_subcommands : App → App
 only_by_subcommands app = record app { top = record app.top { has_version = true; subcommand_required = true; arg_required_else_help = true } }
 
--- ngc dry PROGRAM [--block-delete]
+-- ngc dry PROGRAM [--settings FILE] [--block-delete]
 abbrev pub ngc_app : App
 ngc_app = with_subcommand (only_by_subcommands (new_app (codes "ngc"))) dry_app.top
 
 -- the name of the job's subcommand
 abbrev pub subcommand_name : Job → Text
-subcommand_name (Dry program block_delete) = codes "dry"
+subcommand_name (Dry program settings block_delete) = codes "dry"
 
 -- the job's files are those that the subcommand's matches name
 abbrev pub HasFiles : List Row → Job → Type 0
-HasFiles rows (Dry program block_delete) = first_of (codes "PROGRAM") rows ≡ Some program.now
+HasFiles rows (Dry program settings block_delete) =
+    (first_of (codes "PROGRAM") rows ≡ Some program.now) × (first_of (codes "settings") rows ≡ option_map (λ file. file.now) settings)
 
 -- the matches say of the flag that it is on, or off
 abbrev pub SaysFlag : Text → List Row → Bool → Type 0
@@ -44,7 +49,7 @@ HasFlag flag rows = (is_on : Bool) × SaysFlag flag rows is_on
 
 -- the job's switches are the flags of the subcommand's matches
 abbrev pub HasFlags : List Row → Job → Type 0
-HasFlags rows (Dry program block_delete) = SaysFlag (codes "block-delete") rows block_delete
+HasFlags rows (Dry program settings block_delete) = SaysFlag (codes "block-delete") rows block_delete
 
 -- the job is what clap's definition makes of the words: the subcommand that they name, its files and its flags
 abbrev pub Asks : List Text → Job → Type 0

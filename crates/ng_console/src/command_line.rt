@@ -12,15 +12,17 @@ const VERSION: &str = "0.1.0";
 
 /// What stands below each help text: how a run ends.
 const ENDINGS: &str =
-    "Exit status:\n  0  the program ran to its end\n  1  a line was refused; the last line printed says which one and why\n  2  the words are wrong, or ask for help or the version; or a file can't be\n     read, the output can't be written, or memory is wanting\n\nA file that can't be read prints nothing.";
+    "Exit status:\n  0  the program ran to its end\n  1  a line was refused; the last line printed says which one and why\n  2  the words are wrong, or ask for help or the version; or a file can't be\n     read, the settings are refused, the output can't be written, or memory\n     is wanting\n\nRefused settings print why. A file that can't be read prints nothing.";
 
 /// What a command line asks for.
 #[derive(Clone, Copy, Debug, PartialEq, Eq)]
 pub enum Job<'a> {
-    /// `ngc dry PROGRAM [--block-delete]`: a dry run of a program with the default tools and geometry.
+    /// `ngc dry PROGRAM [--settings FILE] [--block-delete]`: a dry run of a program.
     Dry {
         /// The path of the program's file.
         program: &'a str,
+        /// The path of the settings file; without one the default settings hold.
+        settings: Option<&'a str>,
         /// Whether the lines that begin with a slash are deleted.
         block_delete: bool,
     },
@@ -48,10 +50,12 @@ fn dry_job<'a>(matches: &ArgMatches<'a>) -> Job<'a>
     ensures files { HasFiles (rows_of (found_of matches.now)) result }
     ensures flags { HasFlags (rows_of (found_of matches.now)) result }
 {
+    let settings = matches.get_str("settings");
     let block_delete = matches.get_flag("block-delete");
     match matches.get_str("PROGRAM") {
         Some(program) => Job::Dry {
             program,
+            settings,
             block_delete,
         },
         None => unreachable!(),
@@ -79,6 +83,11 @@ fn dry_command<'a>(alloc: Global) -> Result<Command<'a>, AllocError>
         .help("The file of the program: lines of RS274/NGC that end with M2 or M30")
         .action(ArgAction::Set)
         .required(true);
+    let settings = Arg::new(alloc, "settings")
+        .long("settings")
+        .value_name("FILE")
+        .help("The file of the machine's settings, in TOML; without it the default settings hold")
+        .action(ArgAction::Set);
     let block_delete = Arg::new(alloc, "block-delete")
         .long("block-delete")
         .help("Leave out the lines that begin with a slash")
@@ -87,5 +96,6 @@ fn dry_command<'a>(alloc: Global) -> Result<Command<'a>, AllocError>
         .about("Run a program without a machine and print its canonical text")
         .after_help(ENDINGS)
         .arg(program)?
+        .arg(settings)?
         .arg(block_delete)
 }

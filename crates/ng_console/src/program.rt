@@ -1,12 +1,14 @@
 //! The program: from its words to its exit status.
-ghost use Rattle.std.specs.Prelude.{ℕ, ◌≡◌, ◌⊎◌, ◌≤◌, ◌∷◌, List, [], IfErr, IfOk, map, pos};
-ghost use Rattle.ng_console.specs.Status.{Does, IsDryRun, status_of};
+ghost use Rattle.std.specs.Prelude.{ℕ, ◌≡◌, ◌⊎◌, ◌≤◌, List, IfOk, OnOk, map};
+ghost use Rattle.std.specs.Io.KnownBytes.{Appends};
+ghost use Rattle.ng_console.specs.Status.{Does, IsDryRun, RunsChosen, RunsFile, refused_text, status_of};
 ghost use Rattle.ng_console.specs.Words.{Asks};
 
 use crate::command_line::{Job, words};
-use ng_block::{DryFault, Ended, Tools, dry};
-use ng_canon::Geometry;
-use ng_num::Len;
+use crate::settings_file::{NoSettings, chosen_settings};
+use ng_block::{DryFault, Ended, dry};
+use ng_num::Fault;
+use ng_settings::Settings;
 use std::alloc::{Allocator, Global};
 use std::io::{Read, Write};
 use std::rt::{Env, Files};
@@ -18,7 +20,7 @@ const DONE: u8 = 0;
 /// The program that was to be run is refused.
 const REFUSED: u8 = 1;
 
-/// The words, a file, the reader, the writer or memory kept the program from its work.
+/// The words, a file, the settings, the reader, the writer or memory kept the program from its work.
 const BROKEN: u8 = 2;
 
 /// Does what the words that the process was started with ask for, and gives the exit status.
@@ -26,7 +28,7 @@ const BROKEN: u8 = 2;
 /// Words that are not text, and memory wanting for them, print nothing and give 2; for the rest see `ngc`.
 pub fn start<R: Env + Files + AllocGlobal, W: Write>(rt: &R, writer: &mut W) -> u8
     ensures status { result ≤ 2 }
-    ensures run { (result ≡ 2) ⊎ ((texts : List (List ℕ)) × ((job : Job) × Asks texts job × ((file : R.File) × Does job (R.File.remaining file) (W.contents writer.old) (W.contents writer.new) result))) }
+    ensures run { (result ≡ 2) ⊎ ((texts : List (List ℕ)) × ((job : Job) × Asks texts job × Does R.File.remaining job (W.contents writer.old) (W.contents writer.new) result)) }
 {
     let Ok(given) = given_words(rt) else {
         return BROKEN;
@@ -48,13 +50,15 @@ fn given_words<R: Env + AllocGlobal>(rt: &R) -> io::Result<Vec<String>> {
 
 /// Does what a line of words asks for, writes what that prints, and gives the exit status.
 ///
-/// 0: the program ran to its end. 1: it is refused, and the last line written says where and why. 2: the words ask
-/// for nothing that `ngc` does, or for help, and clap's text is written; or the program's file can't be opened or
-/// read, the writer fails, or memory is wanting, and nothing more is written. Source: own.
+/// 0: the program ran to its end. 1: it is refused, and the last line written says where and why. 2, for the first of
+/// these that holds: the words ask for nothing that `ngc` does, or for help, and clap's text is written; the settings
+/// file can't be opened or read, and nothing is written, or it is refused, and one line with its fault is written; the
+/// program's file can't be opened or read, the writer fails, or memory is wanting, and nothing more is written. Source:
+/// own.
 pub fn ngc<R: Files + AllocGlobal, W: Write>(rt: &R, given: &[&str], writer: &mut W) -> u8
     ensures status { result ≤ 2 }
     ensures refused { ((job : Job) → Asks (map (λ s. s.now) given.now) job → ⊥) → result ≡ 2 }
-    ensures run { (result ≡ 2) ⊎ ((job : Job) × Asks (map (λ s. s.now) given.now) job × ((file : R.File) × Does job (R.File.remaining file) (W.contents writer.old) (W.contents writer.new) result)) }
+    ensures run { (result ≡ 2) ⊎ ((job : Job) × Asks (map (λ s. s.now) given.now) job × Does R.File.remaining job (W.contents writer.old) (W.contents writer.new) result) }
 {
     match words(rt.alloc(), given) {
         Ok(job) => carry_out(rt, job, writer),
@@ -69,44 +73,86 @@ pub fn ngc<R: Files + AllocGlobal, W: Write>(rt: &R, given: &[&str], writer: &mu
 /// Does a job, and gives the exit status.
 fn carry_out<R: Files + AllocGlobal, W: Write>(rt: &R, job: Job<'_>, writer: &mut W) -> u8
     ensures status { result ≤ 2 }
-    ensures run { (result ≡ 2) ⊎ ((file : R.File) × Does job.entry (R.File.remaining file) (W.contents writer.old) (W.contents writer.new) result) }
+    ensures run { (result ≡ 2) ⊎ Does R.File.remaining job.entry (W.contents writer.old) (W.contents writer.new) result }
 {
     match job {
         Job::Dry {
             program,
+            settings,
             block_delete,
-        } => run_file(rt.alloc(), fs::open(rt, program), writer, block_delete),
+        } => {
+            let settings = match settings {
+                Some(path) => Some(fs::open(rt, path)),
+                None => None,
+            };
+            let program = fs::open(rt, program);
+            let chosen = chosen_settings(rt.alloc(), settings);
+            run_chosen(rt.alloc(), chosen, program, writer, block_delete).unwrap_or(BROKEN)
+        }
     }
+}
+
+/// Runs the program of a file that was opened with the settings that were found, and gives the exit status. Where there
+/// are none the program's file isn't looked at, and the fault of settings that are refused is written. The error is that
+/// of the writer of that fault.
+fn run_chosen<R: Read + Drop, W: Write, A: Allocator + Copy + Drop>(
+    alloc: A,
+    chosen: Result<Settings, NoSettings>,
+    program: io::Result<R>,
+    writer: &mut W,
+    block_delete: bool,
+) -> io::Result<u8>
+    ensures run { IfOk result (λ status. RunsChosen R.remaining chosen block_delete program (W.contents writer.old) (W.contents writer.new) status) }
+    ensures range { IfOk result (λ status. status ≤ 2) }
+{
+    match chosen {
+        Ok(settings) => Ok(run_file(alloc, &settings, program, writer, block_delete)),
+        Err(NoSettings::Unread) => Ok(BROKEN),
+        Err(NoSettings::Refused(fault)) => {
+            refuse(writer, fault)?;
+            Ok(BROKEN)
+        }
+    }
+}
+
+/// Writes the line of a fault.
+fn refuse<W: Write>(writer: &mut W, fault: Fault) -> io::Result<()>
+    ensures { OnOk result (Appends (W.contents writer.old) (W.contents writer.new) (refused_text fault)) }
+{
+    writer.write_all(b"refused ")?;
+    writer.write_all(fault.text())?;
+    writer.write_all(b"\n")
 }
 
 /// Runs the program of a file that was opened, as `run_dry` does. A file that could not be opened gives 2, and
 /// nothing is written.
 fn run_file<R: Read + Drop, W: Write, A: Allocator + Copy + Drop>(
     alloc: A,
+    settings: &Settings,
     opened: io::Result<R>,
     writer: &mut W,
     block_delete: bool,
 ) -> u8
-    ensures opened { IfOk opened (λ file. IsDryRun block_delete (R.remaining file) (W.contents writer.old) (W.contents writer.new) result) }
-    ensures unopened { IfErr opened (λ _. (result ≡ 2) × (W.contents writer.new ≡ W.contents writer.old)) }
+    ensures run { RunsFile R.remaining settings.now block_delete opened (W.contents writer.old) (W.contents writer.new) result }
     ensures range { result ≤ 2 }
 {
     match opened {
-        Ok(mut file) => run_dry(alloc, &mut file, writer, block_delete),
+        Ok(mut file) => run_dry(alloc, settings, &mut file, writer, block_delete),
         Err(_) => BROKEN,
     }
 }
 
-/// Runs a program with the default tools and geometry and without a machine, writes its canonical text, and gives the
-/// exit status: 0 at the program's end, 1 where it is refused, 2 where the reader or the writer fails or memory is
-/// wanting. Lines that begin with a slash are deleted where `block_delete` is set.
+/// Runs a program with settings and without a machine, writes its canonical text, and gives the exit status: 0 at the
+/// program's end, 1 where it is refused, 2 where the reader or the writer fails or memory is wanting. Lines that begin
+/// with a slash are deleted where `block_delete` is set.
 pub fn run_dry<R: Read, W: Write, A: Allocator + Copy + Drop>(
     alloc: A,
+    settings: &Settings,
     reader: &mut R,
     writer: &mut W,
     block_delete: bool,
 ) -> u8
-    ensures text { IsDryRun block_delete (R.remaining reader.old) (W.contents writer.old) (W.contents writer.new) result }
+    ensures text { IsDryRun settings.now block_delete (R.remaining reader.old) (W.contents writer.old) (W.contents writer.new) result }
     ensures range { result ≤ 2 }
 {
     let ended = dry(
@@ -114,19 +160,10 @@ pub fn run_dry<R: Read, W: Write, A: Allocator + Copy + Drop>(
         reader,
         writer,
         block_delete,
-        &standard_tools(),
-        &Geometry::standard(),
+        &settings.tools,
+        &settings.geometry,
     );
     status(&ended)
-}
-
-/// The default tool table: one tool of 50 mm.
-fn standard_tools() -> Tools
-    ensures { result ≡ pos 50_000_000 ∷ [] }
-{
-    let mut tools = Tools::new();
-    tools.push(Len::of_nm(50_000_000).unwrap());
-    tools
 }
 
 /// The exit status of a dry run.

@@ -1,29 +1,25 @@
 -- A format: sectors written one after the other, and what stands when the header of the first epoch is synced.
-use Rattle.std.proofs.Common.{◌≡◌, ◌≢◌, ◌⊎◌, inl, inr, ⊎_elim, ℕ, ◌+◌, ◌*◌, ◌%◌, ◌<◌, ◌≤◌, ◌==◌, ◌&&◌, Bool, true, false, if◌then◌else◌, List, [], ℤ, pos, set, replicate, Option, Some, None, Result, Ok, Err, length, refl, sym, ◌∙◌, ap, subst, arith, codes}
-use Rattle.std.proofs.lemmas.Bool.{cases_eq}
+use Rattle.std.proofs.Common.{◌≡◌, ◌≢◌, ℕ, ◌+◌, ◌%◌, ◌<◌, ◌==◌, ◌&&◌, false, if◌then◌else◌, List, [], ℤ, pos, set, replicate, Some, None, Result, Ok, Err, length, refl, sym, ◌∙◌, ap, subst, arith}
 use Rattle.std.proofs.lemmas.Bool.Decides.{nat_tests}
 use Rattle.std.proofs.lemmas.List.{length-replicate}
 use Rattle.std.proofs.Math.ListN.{length-set}
 use Rattle.std.specs.Prelude.{OnOk}
-use Rattle.ng_rig.specs.Life.{Image, Life, Wrote, Perhaps, Synced, reads}
-use Rattle.ng_rig.specs.Calls.{Writes, Syncs}
-use Rattle.ng_rig.specs.Onward.{IsSynced}
+use Rattle.ng_rig.specs.Life.{Image, Life, Wrote, Synced, reads}
+use Rattle.ng_rig.specs.Calls.{Syncs}
 use Rattle.ng_rig.specs.Only.{WritesOnly}
 use Rattle.ng_rig.proofs.Running.{is_synced}
-use Rattle.ng_rig.proofs.Writes_only.{only_none, only_more, only_write, only_synced, only_syncs}
-use Rattle.ng_layout.specs.declared.header.Header.{Header}
+use Rattle.ng_rig.proofs.Writes_only.{only_more, only_write, only_synced}
 use Rattle.ng_layout.specs.Fields.{number_at}
 use Rattle.ng_layout.specs.Header.{header_at, is_marked, is_within, header_in}
 use Rattle.ng_layout.specs.Log.{log_size}
 use Rattle.ng_layout.specs.Sectors.{text_of}
-use Rattle.ng_layout.specs.Snapshot.{HoldsPart, report_in}
-use Rattle.ng_layout.specs.Spare.{IsAmong}
-use Rattle.ng_layout.specs.Stands.{snapshot_first, snapshot_size, program_first, program_size, log_first, stretch, newer, in_force, epoch_in_force, snapshot, standing, stands, IsWritten}
-use Rattle.ng_layout.specs.Stored.{Saved, Standing}
+use Rattle.ng_layout.specs.Snapshot.{HoldsPart}
+use Rattle.ng_layout.specs.Stands.{snapshot_first, snapshot_size, program_first, program_size, log_first, stretch, newer, in_force, snapshot, standing, stands, IsWritten}
+use Rattle.ng_layout.specs.Stored.{Saved}
 use Rattle.ng_layout.proofs.Images.{stretch-at, stands-snapshot}
 use Rattle.ng_layout.proofs.Snapshots.{snapshot-new}
 use Rattle.ng_journal.specs.AtRest.{IsAt}
-use Rattle.ng_journal.specs.Formats.{Anything, IsEmpty, OverwritesTo, Overwrites, Formats, first_header}
+use Rattle.ng_journal.specs.Formats.{Anything, IsEmpty, Overwrites, first_header}
 
 -- what a read gives after a write
 there : (n : ℕ) (bytes : List ℕ) (life : Life) → reads (Wrote n bytes life) n ≡ bytes

@@ -1,18 +1,17 @@
 -- What was read, and what it says of what the image stands for.
-use Rattle.std.proofs.Common.{◌≡◌, ◌≢◌, ◌⊎◌, inl, inr, ℕ, ◌+◌, ◌==◌, Bool, true, false, List, Option, Some, None, Result, Ok, Err, refl, sym, ◌∙◌, ap, subst, arith}
+use Rattle.std.proofs.Common.{◌≡◌, ◌≢◌, inl, inr, ℕ, ◌==◌, Bool, true, false, Option, Some, None, Ok, Err, refl, sym, ◌∙◌, subst, arith}
 use Rattle.std.proofs.lemmas.Bool.Decides.{nat_tests}
-use Rattle.ng_num.specs.declared.fault.Fault.{Fault}
 use Rattle.ng_num.specs.declared.fault.Fault.TheVariants.{NotFormatted, Damaged}
-use Rattle.ng_rig.specs.Life.{Image, Life, reads}
+use Rattle.ng_rig.specs.Life.{Image}
 use Rattle.ng_layout.specs.declared.header.Header.{Header}
 use Rattle.ng_layout.specs.Fields.{number_at}
 use Rattle.ng_layout.specs.Log.{log_size}
 use Rattle.ng_layout.specs.Sectors.{text_of}
 use Rattle.ng_layout.specs.Stands.{by_header, in_force, log_first, program_first, program_size, snapshot, snapshot_first, snapshot_size, standing, standing_of, stands, stretch}
-use Rattle.ng_layout.specs.Stored.{Saved, Standing}
+use Rattle.ng_layout.specs.Stored.{Saved}
 use Rattle.ng_layout.proofs.Images.{stands-snapshot}
 use Rattle.ng_journal.specs.Reading.{IsSnapshotOf, has_record}
-use Rattle.ng_journal.specs.Recovery.{HasCause, HasRecord, StandsUnder, IsRead}
+use Rattle.ng_journal.specs.Recovery.{HasCause, StandsUnder}
 
 -- no header is in force
 pub none_found : (image : Image) (h : Option Header) → h ≡ in_force image → h ≡ None → stands image ≡ Err NotFormatted

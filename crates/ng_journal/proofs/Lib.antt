@@ -1,9 +1,11 @@
 pub mod Beginning
 pub mod Finding
 pub mod Moving
+pub mod LinesRead
 pub mod Overwriting
 pub mod Recovering
 pub mod Renewing
+pub mod Resting
 pub mod Restoring
 pub mod SnapshotReading
 pub mod TableReading

@@ -1,10 +1,7 @@
 -- A checkpoint of a journal at rest moves it from what stood to the new.
-use Rattle.std.proofs.Common.{◌≡◌, ◌⊎◌, inl, inr, ⊎_elim, ℕ, ◌+◌, List, Option, Some, None, Result, Ok, Err, refl, sym, ◌∙◌, ap, subst}
+use Rattle.std.proofs.Common.{◌≡◌, inl, inr, ⊎_elim, ℕ, List, Option, Some, None, Result, Ok, Err, refl, sym, ◌∙◌, ap, subst}
 use Rattle.std.specs.Prelude.{OnOk}
-use Rattle.ng_num.specs.declared.fault.Fault.{Fault}
-use Rattle.ng_canon.specs.declared.item.Item.{Item}
 use Rattle.ng_rig.specs.Life.{Image, Life, reads, items}
-use Rattle.ng_rig.specs.Onward.{Onward}
 use Rattle.ng_rig.proofs.Running.{weaker}
 use Rattle.ng_layout.specs.declared.header.Header.{Header}
 use Rattle.ng_layout.specs.Log.{Found, log_size}
@@ -19,7 +16,7 @@ program-of None text length s is = absurd (cc)
 program-of (Some f) text length s is = let e : text ≡ s.program = cc in sym e
 
 -- The program of what stands lies in the area that the header names.
-stands-program : (image : Image) (h : Header) (s : Standing) → in_force image ≡ Some h → stands image ≡ Ok s → s.program ≡ text_of h.length (stretch (program_first h.area) program_size image)
+pub stands-program : (image : Image) (h : Header) (s : Standing) → in_force image ≡ Some h → stands image ≡ Ok s → s.program ≡ text_of h.length (stretch (program_first h.area) program_size image)
 unfolding stands standing_of
 stands-program image h s is state =
     program-of _ (text_of h.length (stretch (program_first h.area) program_size image)) h.length s

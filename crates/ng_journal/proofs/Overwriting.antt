@@ -1,17 +1,16 @@
 -- A load: the program's text written to the area that isn't in force, a sync, a checkpoint whose header names that area.
-use Rattle.std.proofs.Common.{◌≡◌, ◌⊎◌, inl, inr, ⊎_elim, ℕ, ◌+◌, ◌-◌, ◌*◌, ◌<◌, ◌≤◌, List, Option, Some, None, Result, Ok, Err, length, refl, sym, ◌∙◌, ap, subst, arith}
+use Rattle.std.proofs.Common.{◌≡◌, inl, inr, ⊎_elim, ℕ, ◌+◌, ◌-◌, ◌*◌, ◌<◌, ◌≤◌, List, Result, Ok, Err, length, sym, ◌∙◌, ap, subst, arith}
 use Rattle.std.specs.Prelude.{OnOk}
 use Rattle.ng_canon.specs.declared.item.Item.{Item}
-use Rattle.ng_rig.specs.Life.{Image, Life, Synced, MayHold, reads, items}
-use Rattle.ng_rig.specs.Calls.{Syncs}
-use Rattle.ng_rig.specs.Onward.{Onward, IsSynced}
+use Rattle.ng_rig.specs.Life.{Image, Life, Synced, reads, items}
+use Rattle.ng_rig.specs.Onward.{Onward}
 use Rattle.ng_rig.specs.Only.{Blend, WritesOnly}
 use Rattle.ng_rig.proofs.Running.{joined, weaker, is_synced}
 use Rattle.ng_rig.proofs.Writes_only.{reads_blend, only_sync}
 use Rattle.ng_layout.specs.declared.header.Header.{Header}
 use Rattle.ng_layout.specs.Sectors.{text_of, HoldsText}
-use Rattle.ng_layout.specs.Spare.{IsAmong, IsSpare, SameButSpare}
-use Rattle.ng_layout.specs.Stands.{program_first, program_size, stretch, in_force, stands, IsWritten}
+use Rattle.ng_layout.specs.Spare.{IsAmong, SameButSpare}
+use Rattle.ng_layout.specs.Stands.{program_first, program_size, stretch, stands}
 use Rattle.ng_layout.specs.Stored.{Saved, Standing}
 use Rattle.ng_layout.proofs.Images.{stretch-at, force-frame, stands-frame, written-frame}
 use Rattle.ng_layout.proofs.Snapshots.{text-whole}

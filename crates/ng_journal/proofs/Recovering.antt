@@ -1,10 +1,10 @@
 -- What `recover` hands back.
-use Rattle.std.proofs.Common.{◌≡◌, Result, Ok, sym, ◌∙◌, subst}
+use Rattle.std.proofs.Common.{◌≡◌, Ok, sym, ◌∙◌, subst}
 use Rattle.ng_rig.specs.Life.{Life}
 use Rattle.ng_layout.specs.declared.header.Header.{Header}
 use Rattle.ng_layout.specs.Stored.{Saved}
 use Rattle.ng_journal.specs.AtRest.{IsAt}
-use Rattle.ng_journal.specs.Journal.{Logbook, RestsAt}
+use Rattle.ng_journal.specs.Journal.{Logbook}
 use Rattle.ng_journal.specs.Recover.{Recovers, IsRecovered}
 use Rattle.ng_journal.specs.Recovery.{IsReady, Restores}
 

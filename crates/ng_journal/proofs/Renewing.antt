@@ -1,11 +1,9 @@
 -- The stops of a checkpoint: a snapshot written to the next epoch's area, a sync, the next header, a sync.
-use Rattle.std.proofs.Common.{◌≡◌, ◌≢◌, ◌⊎◌, inl, inr, ⊎_elim, ℕ, ◌+◌, ◌%◌, ◌<◌, ◌≤◌, ◌==◌, if◌then◌else◌, List, Option, Some, None, Result, Ok, Err, length, refl, sym, ◌∙◌, ap, subst, arith}
+use Rattle.std.proofs.Common.{◌≡◌, ◌≢◌, ◌⊎◌, inl, inr, ⊎_elim, ℕ, ◌+◌, ◌%◌, ◌<◌, ◌==◌, if◌then◌else◌, List, Some, Result, Ok, Err, length, refl, sym, ◌∙◌, ap, subst, arith}
 use Rattle.std.proofs.lemmas.Bool.{cases_eq}
 use Rattle.std.proofs.lemmas.Bool.Decides.{nat_tests}
-use Rattle.std.specs.Prelude.{OnOk}
-use Rattle.ng_num.specs.declared.fault.Fault.{Fault}
 use Rattle.ng_canon.specs.declared.item.Item.{Item}
-use Rattle.ng_rig.specs.Life.{Image, Life, Wrote, Perhaps, Synced, MayHold, reads, items, IsStop}
+use Rattle.ng_rig.specs.Life.{Image, Life, Wrote, Synced, MayHold, reads, items}
 use Rattle.ng_rig.specs.Calls.{Writes, Syncs}
 use Rattle.ng_rig.specs.Onward.{Onward, IsSynced}
 use Rattle.ng_rig.specs.Only.{Blend, WritesOnly}
@@ -16,14 +14,14 @@ use Rattle.ng_layout.specs.Header.{header_in}
 use Rattle.ng_layout.specs.Fields.{number_at}
 use Rattle.ng_layout.specs.Sectors.{text_of}
 use Rattle.ng_layout.specs.Snapshot.{HoldsPart}
-use Rattle.ng_layout.specs.Spare.{IsAmong, IsSpare, SameButSpare}
+use Rattle.ng_layout.specs.Spare.{IsAmong, SameButSpare}
 use Rattle.ng_layout.specs.Stands.{snapshot_first, snapshot_size, program_first, program_size, log_first, stretch, in_force, snapshot, standing, stands, IsWritten}
 use Rattle.ng_layout.specs.Log.{log_size}
 use Rattle.ng_layout.specs.Stored.{Saved, Standing}
 use Rattle.ng_layout.proofs.Images.{force-same, force-next, stretch-same, stretch-at, stands-frame, written-frame, stands-snapshot, none-of-new, written-new}
 use Rattle.ng_layout.proofs.Snapshots.{snapshot-new}
 use Rattle.ng_journal.specs.Area.{WritesArea}
-use Rattle.ng_journal.specs.AtRest.{IsOwn, IsAt, IsEither, beside, next_header, Checkpoints}
+use Rattle.ng_journal.specs.AtRest.{IsOwn, IsEither, beside, next_header, Checkpoints}
 
 abbrev In : ℕ → ℕ → List ℕ → Type 0
 In first n c = IsAmong first snapshot_size n

@@ -1,5 +1,5 @@
 -- The exits of power on: a sync, what is found, a checkpoint of its recovered.
-use Rattle.std.proofs.Common.{◌≡◌, ◌⊎◌, inl, inr, ⊎_elim, ℕ, ◌+◌, ◌≤◌, List, Option, Some, Result, Ok, Err, refl, sym, ◌∙◌, ap, subst}
+use Rattle.std.proofs.Common.{◌≡◌, inl, inr, ⊎_elim, ℕ, ◌≤◌, List, Result, Ok, Err, refl, sym, ◌∙◌, ap, subst}
 use Rattle.std.specs.Option.{option_map}
 use Rattle.ng_num.specs.declared.fault.Fault.{Fault}
 use Rattle.ng_num.specs.declared.fault.Fault.TheVariants.{CountersUsed}
@@ -9,10 +9,10 @@ use Rattle.ng_rig.specs.Onward.{Onward, IsSynced}
 use Rattle.ng_rig.proofs.Running.{joined, weaker, on_sync, is_synced}
 use Rattle.ng_layout.specs.declared.header.Header.{Header}
 use Rattle.ng_layout.specs.Limits.{greatest_count}
-use Rattle.ng_layout.specs.Stands.{stands, closed, recovered, IsWritten}
-use Rattle.ng_layout.specs.Stored.{Saved, Standing}
+use Rattle.ng_layout.specs.Stands.{stands, closed, IsWritten}
+use Rattle.ng_layout.specs.Stored.{Saved}
 use Rattle.ng_journal.specs.AtRest.{IsOwn, IsAt, IsEither, beside, next_header, Checkpoints}
-use Rattle.ng_journal.specs.Recovery.{recovered_of, HasCause, StandsUnder, IsRead, IsReady, Restores}
+use Rattle.ng_journal.specs.Recovery.{recovered_of, HasCause, StandsUnder, IsRead, Restores}
 
 abbrev Same : Life → Image → List Item → Type 0
 Same old = IsEither (stands (reads old)) (recovered_of (stands (reads old))) (items old)

@@ -1,5 +1,5 @@
 -- A snapshot read: its state field, then its parameters.
-use Rattle.std.proofs.Common.{◌≡◌, ℕ, ◌+◌, ◌*◌, ◌<◌, List, ℤ, Bool, true, false, Option, Some, None, refl, sym, ◌∙◌, ap, subst, arith}
+use Rattle.std.proofs.Common.{◌≡◌, ℕ, ◌+◌, List, ℤ, Bool, true, false, Option, Some, None, sym, ◌∙◌, ap, subst, arith}
 use Rattle.ng_rig.specs.Life.{Life, Image, reads}
 use Rattle.ng_layout.specs.Report.{and_then, report_of}
 use Rattle.ng_layout.specs.Log.{Found}

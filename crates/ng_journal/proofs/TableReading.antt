@@ -1,13 +1,12 @@
 -- The parameters of an area, read sector by sector.
-use Rattle.std.proofs.Common.{◌≡◌, ℕ, ◌+◌, ◌*◌, ◌<◌, ◌≤◌, List, ℤ, Bool, true, false, Result, Ok, refl, sym, ◌∙◌, ap, subst, arith}
-use Rattle.std.specs.Prelude.{IfOk}
+use Rattle.std.proofs.Common.{◌≡◌, ℕ, ◌+◌, ◌*◌, ◌<◌, List, ℤ, true, false, sym, ◌∙◌, ap, subst, arith}
 use Rattle.ng_rig.specs.Life.{Life, Image, reads}
 use Rattle.ng_layout.specs.Sectors.{TakesValues, IsBeyond}
 use Rattle.ng_layout.specs.Snapshot.{TableTo}
 use Rattle.ng_layout.specs.Stands.{snapshot_size, stretch}
 use Rattle.ng_layout.proofs.Images.{stretch-at}
 use Rattle.ng_layout.proofs.Snapshots.{table-more, table-whole, table-beyond}
-use Rattle.ng_journal.specs.Reading.{Reads, IsTableOf}
+use Rattle.ng_journal.specs.Reading.{IsTableOf}
 
 abbrev row_of : ℕ → Image → ℕ → List ℕ
 row_of first image = stretch first snapshot_size image

@@ -1,5 +1,5 @@
 -- What writing a snapshot leaves.
-use Rattle.std.specs.Prelude.{◌≡◌, ◌<◌, ◌+◌, ℕ, Result, OnOk}
+use Rattle.std.specs.Prelude.{◌<◌, ◌+◌, ℕ, Result, OnOk}
 use Rattle.ng_rig.specs.Life.{Life, reads}
 use Rattle.ng_rig.specs.Only.{WritesOnly}
 use Rattle.ng_layout.specs.Snapshot.{HoldsPart}

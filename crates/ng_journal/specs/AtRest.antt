@@ -1,5 +1,5 @@
 -- A device at rest, and what a stop of it stands for (own).
-use Rattle.std.specs.Prelude.{◌≡◌, ◌⊎◌, ◌+◌, ℕ, List, Option, Some, Result, Ok, OnOk}
+use Rattle.std.specs.Prelude.{◌≡◌, ◌⊎◌, ◌+◌, ℕ, List, Some, Result, Ok, OnOk}
 use Rattle.ng_num.specs.declared.fault.Fault.{Fault}
 use Rattle.ng_canon.specs.declared.item.Item.{Item}
 use Rattle.ng_rig.specs.Life.{Image, Life, reads, items}

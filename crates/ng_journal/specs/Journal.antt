@@ -1,13 +1,14 @@
 -- A journal as its callers see it, and what its calls leave (own).
-use Rattle.std.specs.Prelude.{◌≡◌, ◌≤◌, ◌+◌, ◌%◌, ◌^◌, ℕ, Bool, true, false, List, Result, Ok, Err, OnOk, length}
+use Rattle.std.specs.Prelude.{◌≡◌, ◌⊎◌, ◌≤◌, ◌+◌, ◌%◌, ◌^◌, ℕ, Bool, true, false, List, [], ◌∷◌, ◌++◌, Result, Ok, Err, OnOk}
 use Rattle.ng_num.specs.declared.fault.Fault.{Fault}
 use Rattle.ng_num.specs.declared.fault.Fault.TheVariants.{DeviceFailed}
-use Rattle.ng_rig.specs.Life.{Life, reads, items}
+use Rattle.ng_canon.specs.declared.item.Item.{Item}
+use Rattle.ng_rig.specs.Life.{Image, Life, items}
 use Rattle.ng_rig.specs.Onward.{Onward}
 use Rattle.ng_layout.specs.declared.header.Header.{Header}
 use Rattle.ng_layout.specs.Header.{IsLawful}
 use Rattle.ng_layout.specs.Limits.{greatest_count}
-use Rattle.ng_layout.specs.Stands.{least_size}
+use Rattle.ng_layout.specs.Stands.{least_size, stands, IsWritten}
 use Rattle.ng_layout.specs.Storable.{IsStorable}
 use Rattle.ng_layout.specs.Stored.{Saved, Standing}
 use Rattle.ng_journal.specs.AtRest.{IsAt, IsEither}
@@ -37,6 +38,19 @@ pub record Moves {R T E : Type 0} (result : Result T E) (journal : Logbook R) (b
   pub stops : Onward old new (IsEither (Ok before) (Ok after) (items old))
   pub items_are : items new ≡ items old
   pub at : OnOk result (RestsAt new journal after)
+
+-- An image stands for this and has no record of an epoch to come; this was handed out.
+pub record StandsFor (standing : Standing) (given : List Item) (image : Image) (handed : List Item) : Type 0 where
+  pub state : stands image ≡ Ok standing
+  pub written : IsWritten image
+  pub handed_is : handed ≡ given
+
+-- Each stop since has the item besides; what stands stays. After Ok it is handed out, else it or nothing.
+pub record HandsOut {R T E : Type 0} (result : Result T E) (journal : Logbook R) (standing : Standing) (item : Item) (old new : Life) : Type 0 where
+  pub stops : Onward old new (StandsFor standing (items old ++ item ∷ []))
+  pub items_are : (items new ≡ items old) ⊎ (items new ≡ items old ++ item ∷ [])
+  pub given : OnOk result (items new ≡ items old ++ item ∷ [])
+  pub at : RestsAt new journal standing
 
 -- The device failed in that call exactly where that is the fault.
 abbrev pub Tells : {T : Type 0} → Result T Fault → ℕ → ℕ → Type 0

@@ -3,6 +3,7 @@ pub mod AtRest
 pub mod Formats
 pub mod Journal
 pub mod Loads
+pub mod ProgramLines
 pub mod Reading
 pub mod Recover
 pub mod Recovery

@@ -7,7 +7,7 @@ use Rattle.ng_layout.specs.declared.header.Header.{Header}
 use Rattle.ng_layout.specs.Sectors.{HoldsText}
 use Rattle.ng_layout.specs.Spare.{IsAmong}
 use Rattle.ng_layout.specs.Stands.{program_size, stands}
-use Rattle.ng_layout.specs.Stored.{Saved, Standing}
+use Rattle.ng_layout.specs.Stored.{Standing}
 use Rattle.ng_journal.specs.AtRest.{IsAt, IsEither, next_header}
 
 -- the first n sectors from there on hold the text, and only a program area is written

@@ -1,8 +1,7 @@
 -- What is read of a device.
-use Rattle.std.specs.Prelude.{◌≡◌, ◌==◌, ℕ, Bool, List, ℤ, Option, Some, None, Result, IfOk, MatchBool}
+use Rattle.std.specs.Prelude.{◌≡◌, ◌==◌, ℕ, Bool, List, ℤ, Some, None, Result, IfOk, MatchBool}
 use Rattle.ng_rig.specs.Life.{Life, Image, reads}
 use Rattle.ng_layout.specs.Fields.{number_at}
-use Rattle.ng_layout.specs.Log.{Found}
 use Rattle.ng_layout.specs.Sectors.{values}
 use Rattle.ng_layout.specs.Snapshot.{report_in}
 use Rattle.ng_layout.specs.Stands.{all_counts, snapshot, snapshot_size, stretch, log_first}

@@ -1,5 +1,5 @@
 -- What `recover` answers (own).
-use Rattle.std.specs.Prelude.{◌≡◌, ◌≤◌, ℕ, Bool, false, Option, Some, None, Result, Ok, Err, IfOk}
+use Rattle.std.specs.Prelude.{◌≡◌, ℕ, Result, Ok, Err, IfOk}
 use Rattle.ng_num.specs.declared.fault.Fault.{Fault}
 use Rattle.ng_num.specs.declared.fault.Fault.TheVariants.{DeviceFailed, OutOfMemory}
 use Rattle.ng_rig.specs.Life.{Image, Life, reads, items}
@@ -7,7 +7,7 @@ use Rattle.ng_rig.specs.Onward.{Onward}
 use Rattle.ng_layout.specs.Stands.{stands, IsWritten}
 use Rattle.ng_layout.specs.Stored.{Saved, Standing}
 use Rattle.ng_journal.specs.AtRest.{IsEither}
-use Rattle.ng_journal.specs.Journal.{Logbook, RestsAt, Tells}
+use Rattle.ng_journal.specs.Journal.{Logbook, RestsAt}
 use Rattle.ng_journal.specs.Recovery.{recovered_of, HasCause, IsFound}
 
 abbrev pub Answer : Type 0 → Type 0

@@ -1,5 +1,5 @@
 //! The journal of a device.
-ghost use Rattle.std.specs.Prelude.{◌≡◌, ◌≤◌, ◌<◌, ◌⊎◌, ◌↔◌, false, true, Some, length, MatchResult, OnOk, IfOk, IfErr, IsErrOf, IsErrAnd};
+ghost use Rattle.std.specs.Prelude.{◌≡◌, ◌≤◌, ◌<◌, ◌⊎◌, ◌↔◌, false, true, Some, length, MatchResult, OnOk, IfOk, IfErr, IfSome, IsErrOf, IsErrAnd};
 ghost use Rattle.ng_num.specs.declared.fault.Fault.TheVariants.{DeviceFailed, NotFormatted, CountersUsed, ProgramTooLong, OutOfMemory};
 ghost use Rattle.ng_rig.specs.Calls.{Promises, Counts, Hands};
 ghost use Rattle.ng_layout.specs.Limits.{greatest_count};
@@ -7,12 +7,14 @@ ghost use Rattle.ng_layout.specs.Storable.{CanWait, IsStorable};
 ghost use Rattle.ng_layout.specs.Stored.{Standing};
 ghost use Rattle.ng_journal.specs.Recover.{Recovers, rig_of, fault_of};
 ghost use Rattle.ng_journal.specs.Journal.{Tells};
+ghost use Rattle.ng_journal.specs.ProgramLines.{ReadsLine};
 ghost use Rattle.ng_journal.specs.AtRest.{IsOwn, Checkpoints, next_header};
 
 use crate::checkpoint::checkpoint;
+use crate::line::{ProgramLine, read_line};
 use crate::loading::load;
 use crate::recovery::restore;
-use crate::sectors::LEAST;
+use crate::sectors::{LEAST, program_first};
 use ng_canon::Item;
 use ng_layout::{GREATEST_COUNT, Half, Header, LONGEST_PROGRAM, Stored};
 use ng_num::Fault;
@@ -85,7 +87,7 @@ fn two_fresh<A: Allocator + Copy + Drop>(alloc: A) -> Result<(Stored<A>, Stored<
 }
 
 impl<R: Rig, A: Allocator + Copy + Drop> Journal<R, A> {
-    ghost use Rattle.ng_journal.specs.Journal.{Logbook, RestsAt, Moves, IsBrokenBy};
+    ghost use Rattle.ng_journal.specs.Journal.{Logbook, RestsAt, Moves, HandsOut, IsBrokenBy};
 
     /// The device as it is, with no call to it.
     pub fn into_rig(self) -> R
@@ -200,7 +202,8 @@ impl<R: Rig, A: Allocator + Copy + Drop> Journal<R, A> {
     pub fn hand_out(&mut self, item: Item) -> Result<(), Fault>
         requires whole { self.old.broken ≡ false }
         ensures hands { Promises (R.honest self.old.rig) (R.honest self.new.rig) (Hands result item (R.life self.old.rig) (R.life self.new.rig)) }
-        ensures rests { R.honest self.old.rig → (standing : Standing) → RestsAt (R.life self.old.rig) self.old standing → RestsAt (R.life self.new.rig) self.new standing }
+        ensures stops { Promises (R.honest self.old.rig) (R.honest self.new.rig) ((standing : Standing) → RestsAt (R.life self.old.rig) self.old standing
+            → HandsOut result self.new standing item (R.life self.old.rig) (R.life self.new.rig)) }
         ensures saved { self.new.saved ≡ self.old.saved }
         ensures broken { IsBrokenBy result self.new.broken }
         ensures errors { IfErr result (λ e. e ≡ DeviceFailed) }
@@ -220,6 +223,32 @@ impl<R: Rig, A: Allocator + Copy + Drop> Journal<R, A> {
         ensures { (result ≡ true) ↔ (greatest_count ≤ self.now.header.epoch ⊎ greatest_count < entries) }
     {
         self.header.epoch >= GREATEST_COUNT || entries > GREATEST_COUNT
+    }
+
+    /// The line of the program in force that begins at a place, and where the next one begins; none at the program's
+    /// end. A place in the middle of a line begins a line there.
+    ///
+    /// J1 where the device failed: the journal is broken then. Nothing is written. It takes no memory.
+    pub fn program_line(&mut self, place: u64) -> Result<Option<ProgramLine>, Fault>
+        requires whole { self.old.broken ≡ false }
+        requires place { place ≤ self.old.saved.length }
+        ensures line { Promises (R.honest self.old.rig) (R.honest self.new.rig) ((standing : Standing) → RestsAt (R.life self.old.rig) self.old standing
+            → ReadsLine result self.new standing place (R.life self.old.rig) (R.life self.new.rig)) }
+        ensures next { IfOk result (λ line. IfSome line (λ l. (place < l.next) × (l.next ≤ self.old.saved.length))) }
+        ensures saved { self.new.saved ≡ self.old.saved }
+        ensures broken { IsBrokenBy result self.new.broken }
+        ensures errors { IfErr result (λ e. e ≡ DeviceFailed) }
+        ensures failures { Tells result (R.failed self.old.rig) (R.failed self.new.rig) }
+    {
+        let first = program_first(self.header.area);
+        let program_end = self.header.length as usize;
+        match read_line(&mut self.rig, first, place as usize, program_end) {
+            Ok(line) => Ok(line),
+            Err(Failed) => {
+                self.broken = true;
+                Err(Fault::DeviceFailed)
+            }
+        }
     }
 
     /// Writes what is stored under the next epoch, in the same program area.

@@ -5,6 +5,8 @@
 mod checkpoint;
 mod formatting;
 mod journal;
+pub mod laws;
+mod line;
 mod loading;
 mod reading;
 mod recovery;
@@ -12,3 +14,4 @@ mod sectors;
 
 pub use formatting::format;
 pub use journal::{Journal, recover};
+pub use line::{LINE, ProgramLine};

@@ -18,7 +18,7 @@ use ng_rig::{Failed, Rig};
 use std::alloc::Allocator;
 
 /// A sector's bytes.
-fn read_sector<R: Rig>(rig: &mut R, sector: usize) -> Result<[u8; BYTES], Failed>
+pub(crate) fn read_sector<R: Rig>(rig: &mut R, sector: usize) -> Result<[u8; BYTES], Failed>
     requires { sector < R.sectors rig.old }
     ensures read { Promises (R.honest rig.old) (R.honest rig.new) (Reads result (λ image bytes. bytes ≡ image sector) (R.life rig.old) (R.life rig.new)) }
     ensures size { R.sectors rig.new ≡ R.sectors rig.old }

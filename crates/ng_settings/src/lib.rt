@@ -15,8 +15,6 @@ mod making;
 mod numbers;
 mod reading;
 mod standard;
-#[cfg(test)]
-mod tests;
 mod whole;
 
 pub use reading::settings;

@@ -32,50 +32,61 @@ fn prints<A: Allocator + Copy + Drop>(alloc: A, canon: &Canon<'_>, want: &str) -
     text.as_slice().strip_prefix(b"N1\n") == Some(want.as_bytes())
 }
 
+/// Commands without a number, and their text.
+const PLAIN: [(Command, &str); 18] = [
+    (
+        Command::StartSpindleClockwise,
+        "START_SPINDLE_CLOCKWISE()\n",
+    ),
+    (
+        Command::StartSpindleCounterclockwise,
+        "START_SPINDLE_COUNTERCLOCKWISE()\n",
+    ),
+    (Command::StopSpindle, "STOP_SPINDLE_TURNING()\n"),
+    (Command::MistOn, "MIST_ON()\n"),
+    (Command::MistOff, "MIST_OFF()\n"),
+    (Command::FloodOn, "FLOOD_ON()\n"),
+    (Command::FloodOff, "FLOOD_OFF()\n"),
+    (Command::SelectPlane(Plane::Xy), "SELECT_PLANE(XY)\n"),
+    (Command::SelectPlane(Plane::Xz), "SELECT_PLANE(XZ)\n"),
+    (Command::SelectPlane(Plane::Yz), "SELECT_PLANE(YZ)\n"),
+    (
+        Command::LengthUnits(Unit::Inches),
+        "USE_LENGTH_UNITS(INCHES)\n",
+    ),
+    (
+        Command::LengthUnits(Unit::Millimetres),
+        "USE_LENGTH_UNITS(MM)\n",
+    ),
+    (Command::ProgramStop, "PROGRAM_STOP()\n"),
+    (Command::OptionalStop, "OPTIONAL_PROGRAM_STOP()\n"),
+    (Command::PalletShuttle, "PALLET_SHUTTLE()\n"),
+    (Command::ProgramEnd, "PROGRAM_END()\n"),
+    (Command::SelectTool(0), "SELECT_TOOL(0)\n"),
+    (Command::ChangeTool(64), "CHANGE_TOOL(64)\n"),
+];
+
+/// Comments and messages, and their text.
+const WORDS: [(Canon<'_>, &str); 3] = [
+    (Canon::Comment(b""), "COMMENT()\n"),
+    (
+        Canon::Comment(b" Two  words; %"),
+        "COMMENT( Two  words; %)\n",
+    ),
+    (Canon::Message(b" look here "), "MESSAGE( look here )\n"),
+];
+
 #[test]
-fn plain_commands(rt: HostRuntime) {
-    let table = [
-        (
-            Command::StartSpindleClockwise,
-            "START_SPINDLE_CLOCKWISE()\n",
-        ),
-        (
-            Command::StartSpindleCounterclockwise,
-            "START_SPINDLE_COUNTERCLOCKWISE()\n",
-        ),
-        (Command::StopSpindle, "STOP_SPINDLE_TURNING()\n"),
-        (Command::MistOn, "MIST_ON()\n"),
-        (Command::MistOff, "MIST_OFF()\n"),
-        (Command::FloodOn, "FLOOD_ON()\n"),
-        (Command::FloodOff, "FLOOD_OFF()\n"),
-        (Command::SelectPlane(Plane::Xy), "SELECT_PLANE(XY)\n"),
-        (Command::SelectPlane(Plane::Xz), "SELECT_PLANE(XZ)\n"),
-        (Command::SelectPlane(Plane::Yz), "SELECT_PLANE(YZ)\n"),
-        (
-            Command::LengthUnits(Unit::Inches),
-            "USE_LENGTH_UNITS(INCHES)\n",
-        ),
-        (
-            Command::LengthUnits(Unit::Millimetres),
-            "USE_LENGTH_UNITS(MM)\n",
-        ),
-        (Command::ProgramStop, "PROGRAM_STOP()\n"),
-        (Command::OptionalStop, "OPTIONAL_PROGRAM_STOP()\n"),
-        (Command::PalletShuttle, "PALLET_SHUTTLE()\n"),
-        (Command::ProgramEnd, "PROGRAM_END()\n"),
-        (Command::SelectTool(0), "SELECT_TOOL(0)\n"),
-        (Command::ChangeTool(64), "CHANGE_TOOL(64)\n"),
-    ];
-    for (command, want) in table {
+fn commands_print_as_lines(rt: HostRuntime) {
+    for (canon, want) in WORDS {
+        assert!(rt; prints(rt.alloc(), &canon, want), "{want}");
+    }
+    for (command, want) in PLAIN {
         assert!(rt;
             prints(rt.alloc(), &Canon::Command(command), want),
             "{want}"
         );
     }
-}
-
-#[test]
-fn commands_with_numbers(rt: HostRuntime) {
     let arc = |turn: Turn| ArcFeed {
         end: point(20_002_000, 0, -1),
         centre_a: nm(10_000_000),
@@ -129,25 +140,6 @@ fn commands_with_numbers(rt: HostRuntime) {
     }
 }
 
-#[test]
-fn words_of_comments(rt: HostRuntime) {
-    assert!(rt; prints(rt.alloc(), &Canon::Comment(b""), "COMMENT()\n"));
-    assert!(rt;
-        prints(
-            rt.alloc(),
-            &Canon::Comment(b" Two  words; %"),
-            "COMMENT( Two  words; %)\n"
-        )
-    );
-    assert!(rt;
-        prints(
-            rt.alloc(),
-            &Canon::Message(b" look here "),
-            "MESSAGE( look here )\n"
-        )
-    );
-}
-
 /// Whether a command of 63 bytes was printed behind three bytes, and the text is as it then must be.
 fn grows<A: Allocator + Copy + Drop>(alloc: A, canon: &Canon<'_>) -> (bool, bool) {
     let mut text = Vec::new(alloc);
@@ -186,26 +178,27 @@ fn refused_growth_leaves_the_text(rt: HostRuntime) -> Result<(), Fail> {
     Ok(())
 }
 
+/// The most nanometres of an axis on either side.
+const FAR: i64 = 10_000_000_000;
+
+/// An axis's step, its ends, and whether it is within its limits.
+const AXES: [(u32, i64, i64, bool); 8] = [
+    (10, 0, 0, true),
+    (1_000_000, -FAR, FAR, true),
+    (9, 0, 0, false),
+    (1_000_001, 0, 0, false),
+    (10, 1, 1, false),
+    (10, -1, -1, false),
+    (10, -FAR - 1, 0, false),
+    (10, 0, FAR + 1, false),
+];
+
 #[test]
-fn limits_of_an_axis(rt: HostRuntime) {
-    let far = 10_000_000_000;
-    for (step, low, high, want) in [
-        (10, 0, 0, true),
-        (1_000_000, -far, far, true),
-        (9, 0, 0, false),
-        (1_000_001, 0, 0, false),
-        (10, 1, 1, false),
-        (10, -1, -1, false),
-        (10, -far - 1, 0, false),
-        (10, 0, far + 1, false),
-    ] {
+fn axes_and_machines_have_limits(rt: HostRuntime) {
+    for (step, low, high, want) in AXES {
         let axis = Axis::new(step, nm(low), nm(high));
         assert_eq!(rt; axis.is_some(), want, "{step} {low} {high}");
     }
-}
-
-#[test]
-fn limits_of_a_machine(rt: HostRuntime) {
     let standard = Geometry::standard();
     for (traverse, period, want) in [
         (1, 1, true),

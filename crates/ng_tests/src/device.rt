@@ -91,6 +91,16 @@ fn leaves<A: Allocator + Copy + Drop>(
     )
 }
 
+/// How many unsynced writes of each sector are kept, after so many of these calls and past their ends, and what each
+/// sector then holds.
+const KEPT: [(usize, &[usize], [u8; 3]); 5] = [
+    (10, &[], [3, 2, 0]),
+    (10, &[9, 1], [3, 4, 0]),
+    (10, &[usize::MAX; 5], [3, 6, 5]),
+    (11, &[1, 1, 1], [3, 4, 5]),
+    (usize::MAX, &[0, 2, 0], [3, 6, 0]),
+];
+
 #[test]
 fn a_stop_after_each_call_leaves_each_choice(rt: HostRuntime) -> Result<(), Fail> {
     let mut rig = MemoryRig::new(rt.alloc(), 3)?;
@@ -113,19 +123,9 @@ fn a_stop_after_each_call_leaves_each_choice(rt: HostRuntime) -> Result<(), Fail
             "at {n}"
         );
     }
-    Ok(())
-}
-
-#[test]
-fn a_stop_past_the_ends(rt: HostRuntime) -> Result<(), Fail> {
-    let mut rig = MemoryRig::new(rt.alloc(), 3)?;
-    let items = three_items();
-    assert!(rt; make_ten_calls(&mut rig, &items).is_ok());
-    assert!(rt; leaves(&rig, 10, &[], [3, 2, 0])?);
-    assert!(rt; leaves(&rig, 10, &[9, 1], [3, 4, 0])?);
-    assert!(rt; leaves(&rig, 10, &[usize::MAX; 5], [3, 6, 5])?);
-    assert!(rt; leaves(&rig, 11, &[1, 1, 1], [3, 4, 5])?);
-    assert!(rt; leaves(&rig, usize::MAX, &[0, 2, 0], [3, 6, 0])?);
+    for (n, keep, want) in KEPT {
+        assert!(rt; leaves(&rig, n, keep, want)?, "{keep:?} at {n}");
+    }
     assert_eq!(rt; rig.handed(usize::MAX)?.as_slice(), items.as_slice());
     Ok(())
 }
@@ -168,37 +168,37 @@ fn the_three_devices_are_called_as_one(rt: HostRuntime) -> Result<(), Fail> {
     Ok(())
 }
 
+/// How many calls a fuse passes, which of four calls then succeed, and how many are made and fail.
+const FUSES: [(u64, [bool; 4], usize, u64); 5] = [
+    (0, [false, false, false, false], 0, 4),
+    (1, [true, false, false, false], 1, 3),
+    (2, [true, true, false, false], 2, 2),
+    (3, [true, true, true, false], 3, 1),
+    (4, [true, true, true, true], 3, 0),
+];
+
+/// Behind how many calls one fails, which of four calls then succeed, which of the next four, and how many of the first
+/// four are made.
+const ONE_FAILS: [(u64, [bool; 4], [bool; 4], usize); 5] = [
+    (0, [false, true, true, true], [true, true, true, true], 2),
+    (1, [true, false, true, true], [true, true, true, true], 2),
+    (2, [true, true, false, true], [true, true, true, true], 2),
+    (3, [true, true, true, false], [true, true, true, true], 3),
+    (4, [true, true, true, true], [false, true, true, true], 3),
+];
+
 #[test]
-fn a_fuse_passes_so_many_calls(rt: HostRuntime) -> Result<(), Fail> {
-    let table = [
-        (0, [false, false, false, false], 0, 4),
-        (1, [true, false, false, false], 1, 3),
-        (2, [true, true, false, false], 2, 2),
-        (3, [true, true, true, false], 3, 1),
-        (4, [true, true, true, true], 3, 0),
-    ];
-    for (passed, want, calls, failures) in table {
+fn calls_fail_where_they_are_told_to(rt: HostRuntime) -> Result<(), Fail> {
+    for (passed, want, calls, failures) in FUSES {
         let mut fuse = FuseRig::new(MemoryRig::new(rt.alloc(), 1)?, passed);
         assert_eq!(rt; four_calls(&mut fuse, 5).0, want, "{passed}");
         assert_eq!(rt; fuse.failures(), failures, "{passed}");
         assert_eq!(rt; four_calls(&mut fuse, 6).0, [false; 4], "{passed}");
-        assert_eq!(rt; fuse.failures(), failures + 4, "{passed}");
+        assert_eq!(rt; fuse.failures(), failures.saturating_add(4), "{passed}");
         let mut inner = fuse.into_inner();
         assert_eq!(rt; (inner.calls(), inner.failures()), (calls, 0), "{passed}");
     }
-    Ok(())
-}
-
-#[test]
-fn one_call_fails_once(rt: HostRuntime) -> Result<(), Fail> {
-    let table = [
-        (0, [false, true, true, true], [true, true, true, true], 2),
-        (1, [true, false, true, true], [true, true, true, true], 2),
-        (2, [true, true, false, true], [true, true, true, true], 2),
-        (3, [true, true, true, false], [true, true, true, true], 3),
-        (4, [true, true, true, true], [false, true, true, true], 3),
-    ];
-    for (passed, want, then, calls) in table {
+    for (passed, want, then, calls) in ONE_FAILS {
         let mut once = FailRig::new(MemoryRig::new(rt.alloc(), 1)?, passed);
         assert_eq!(rt; four_calls(&mut once, 5).0, want, "{passed}");
         let mut inner = once.into_inner();
@@ -212,7 +212,7 @@ fn one_call_fails_once(rt: HostRuntime) -> Result<(), Fail> {
 }
 
 #[test]
-fn want_of_memory_fails_with_no_effect(rt: HostRuntime) -> Result<(), Fail> {
+fn failures_have_no_effect_and_are_counted(rt: HostRuntime) -> Result<(), Fail> {
     let heap = LocalHeap::new(rt.alloc(), 5_000)?;
     let mut rig = MemoryRig::new(&heap, 1)?;
     assert_eq!(rt;
@@ -223,11 +223,6 @@ fn want_of_memory_fails_with_no_effect(rt: HostRuntime) -> Result<(), Fail> {
     assert!(rt; holds(&mut rig, 0, 0));
     assert!(rt; MemoryRig::new(&heap, 1).is_err());
     assert!(rt; rig.stopped(0, &[]).is_err());
-    Ok(())
-}
-
-#[test]
-fn the_count_of_failures_goes_on_at_zero(rt: HostRuntime) {
     let mut worn = Worn::new(u64::MAX - 1);
     assert_eq!(rt; (worn.sync(), worn.failures()), (Err(Failed), u64::MAX));
     assert_eq!(rt; (worn.sync(), worn.failures()), (Err(Failed), 0));
@@ -238,6 +233,7 @@ fn the_count_of_failures_goes_on_at_zero(rt: HostRuntime) {
     assert_eq!(rt; (once.sync(), once.failures()), (Err(Failed), u64::MAX));
     assert_eq!(rt; (once.sync(), once.failures()), (Err(Failed), 0));
     assert_eq!(rt; once.into_inner().failures(), u64::MAX);
+    Ok(())
 }
 
 #[test]

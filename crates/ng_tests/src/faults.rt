@@ -66,10 +66,6 @@ fn each_fault_prints_its_number_and_name(rt: HostRuntime) {
     ] {
         assert_eq!(rt; fault.text(), want.as_bytes(), "{want}");
     }
-}
-
-#[test]
-fn a_refused_growth_is_out_of_memory(rt: HostRuntime) {
     assert_eq!(rt; Fault::from(AllocError), Fault::OutOfMemory);
     assert_eq!(rt; Fault::from(AllocFailed { value: 7u8 }), Fault::OutOfMemory);
 }

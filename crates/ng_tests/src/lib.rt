@@ -16,11 +16,15 @@ mod lines;
 #[cfg(test)]
 mod numbers;
 #[cfg(test)]
+mod offsets;
+#[cfg(test)]
 mod parameters;
 #[cfg(test)]
 mod printing;
 #[cfg(test)]
 mod programs;
+#[cfg(test)]
+mod settings;
 #[cfg(test)]
 mod stepping;
 #[cfg(test)]

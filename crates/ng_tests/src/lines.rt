@@ -244,6 +244,18 @@ const UNREADABLE: [&[u8]; 73] = [
     b"X[#]",
 ];
 
+/// Lines and whether they are blank, percent lines or others.
+const KINDS: [(&[u8], Kind); 8] = [
+    (b"", Kind::Blank),
+    (b" \t ", Kind::Blank),
+    (b"%", Kind::Percent),
+    (b"\t% ", Kind::Percent),
+    (b"%%", Kind::Other),
+    (b"%X1", Kind::Other),
+    (b"X1%", Kind::Other),
+    (b"(%)", Kind::Other),
+];
+
 /// A node's code: a number's digit, and a mark for anything else.
 fn code(node: &Node) -> u8 {
     match node {
@@ -398,19 +410,7 @@ fn count(line: &Line) -> usize {
 }
 
 #[test]
-fn rounds_numbers(rt: HostRuntime) -> Result<(), Fail> {
-    let mut line = Line::new();
-    for (i, (text, millionths)) in NUMBERS.iter().enumerate() {
-        assert!(rt; line.read(text).is_ok(), "number {i}");
-        let mut pieces = line.pieces();
-        assert!(rt; is_word(&mut pieces, Letter::X, *millionths), "number {i}");
-        assert!(rt; is_end(&mut pieces), "number {i}");
-    }
-    Ok(())
-}
-
-#[test]
-fn reads_lines(rt: HostRuntime) -> Result<(), Fail> {
+fn lines_are_read_as_they_stand(rt: HostRuntime) -> Result<(), Fail> {
     let mut line = Line::new();
     for (i, (text, deletable, number, words)) in LINES.iter().enumerate() {
         assert!(rt; line.read(text).is_ok(), "line {i}");
@@ -419,44 +419,45 @@ fn reads_lines(rt: HostRuntime) -> Result<(), Fail> {
         assert_eq!(rt; line.number(), *number, "line {i}");
         assert!(rt; has_words(&line, words), "line {i}");
     }
+    for (i, (text, comments)) in COMMENTS.iter().enumerate() {
+        assert!(rt; line.read(text).is_ok(), "comment {i}");
+        assert!(rt; has_comments(&line, comments), "comment {i}");
+        assert!(rt;
+            line.last_comment() == comments.last().copied(),
+            "comment {i}"
+        );
+    }
+    for (i, text) in UNREADABLE.iter().enumerate() {
+        assert_eq!(rt; line.read(text), Err(Fault::Unreadable), "line {i}");
+        assert_eq!(rt; count(&line), 0, "line {i}");
+    }
+    for (text, kind) in KINDS {
+        assert_eq!(rt; kind_of(text), kind, "{text:?}");
+    }
     Ok(())
 }
 
 #[test]
-fn reads_values(rt: HostRuntime) -> Result<(), Fail> {
+fn values_are_read_as_they_stand(rt: HostRuntime) -> Result<(), Fail> {
     let mut line = Line::new();
+    for (i, (text, millionths)) in NUMBERS.iter().enumerate() {
+        assert!(rt; line.read(text).is_ok(), "number {i}");
+        let mut pieces = line.pieces();
+        assert!(rt; is_word(&mut pieces, Letter::X, *millionths), "number {i}");
+        assert!(rt; is_end(&mut pieces), "number {i}");
+    }
     for (i, (text, codes)) in VALUES.iter().enumerate() {
         assert!(rt; line.read(text).is_ok(), "value {i}");
         let mut pieces = line.pieces();
         assert!(rt; is_value(&mut pieces, codes), "value {i}");
         assert!(rt; is_end(&mut pieces), "value {i}");
     }
-    Ok(())
-}
-
-#[test]
-fn reads_settings(rt: HostRuntime) -> Result<(), Fail> {
-    let mut line = Line::new();
     for (i, (text, index, value)) in SETTINGS.iter().enumerate() {
         assert!(rt; line.read(text).is_ok(), "setting {i}");
         let mut pieces = line.pieces();
         assert!(rt; is_setting(&mut pieces, index, value), "setting {i}");
         assert!(rt; is_end(&mut pieces), "setting {i}");
     }
-    Ok(())
-}
-
-#[test]
-fn keeps_the_bytes_of_comments(rt: HostRuntime) -> Result<(), Fail> {
-    let mut line = Line::new();
-    for (i, (text, comments)) in COMMENTS.iter().enumerate() {
-        assert!(rt; line.read(text).is_ok(), "comment {i}");
-        assert!(rt; has_comments(&line, comments), "comment {i}");
-    }
-    assert_eq!(rt; line.read(b"(a)G1(b c)X#2"), Ok(()));
-    assert!(rt; line.last_comment() == Some(b"b c"));
-    assert_eq!(rt; line.read(b"G1"), Ok(()));
-    assert!(rt; line.last_comment().is_none());
     Ok(())
 }
 
@@ -474,74 +475,43 @@ fn reads_pieces_in_order(rt: HostRuntime) -> Result<(), Fail> {
     assert!(rt; is_comment(&mut pieces, b"out"));
     assert!(rt; is_word(&mut pieces, Letter::Y, Some(-8_000_000)));
     assert!(rt; is_end(&mut pieces));
+    assert!(rt; line.last_comment() == Some(b"out"));
+    assert_eq!(rt; line.read(b"G1"), Ok(()));
+    assert!(rt; line.last_comment().is_none());
     Ok(())
 }
 
 #[test]
-fn refuses_what_is_no_line(rt: HostRuntime) -> Result<(), Fail> {
+fn the_longest_lines_are_read(rt: HostRuntime) -> Result<(), Fail> {
     let mut line = Line::new();
-    for (i, text) in UNREADABLE.iter().enumerate() {
-        assert_eq!(rt; line.read(text), Err(Fault::Unreadable), "line {i}");
-        assert_eq!(rt; count(&line), 0, "line {i}");
-    }
-    Ok(())
-}
-
-#[test]
-fn refuses_from_257_bytes_on(rt: HostRuntime) -> Result<(), Fail> {
     let blanks = [b' '; 257];
-    let mut line = Line::new();
-    assert_eq!(rt; line.read(&blanks[..256]), Ok(()));
+    let mut words = [b'0'; 256];
+    for i in 0..PIECES {
+        words[2 * i] = b'Z';
+    }
+    let mut indices = [b'#'; 256];
+    indices[0] = b'X';
+    indices[255] = b'1';
+    let mut brackets = [b'['; 256];
+    brackets[0] = b'X';
+    brackets[128] = b'1';
+    for i in 129..256 {
+        brackets[i] = b']';
+    }
+    for (text, pieces) in [
+        (&blanks[..256], 0),
+        (&words, PIECES),
+        (&indices, 1),
+        (&brackets, 1),
+    ] {
+        assert_eq!(rt; line.read(text), Ok(()), "{pieces} pieces");
+        assert_eq!(rt; count(&line), pieces);
+    }
+    assert!(rt; matches!(read_line(&words), Ok(read) if count(&read) == PIECES));
+    brackets[255] = b' ';
+    assert_eq!(rt; line.read(&brackets), Err(Fault::Unreadable));
     assert_eq!(rt; line.read(&blanks), Err(Fault::LineTooLong));
     assert_eq!(rt; line.read(&[b'%'; 257]), Err(Fault::LineTooLong));
     assert!(rt; matches!(read_line(&blanks), Err(Fault::LineTooLong)));
-    Ok(())
-}
-
-#[test]
-fn holds_as_many_words_as_a_line_has(rt: HostRuntime) -> Result<(), Fail> {
-    let mut text = [b'0'; 256];
-    for i in 0..PIECES {
-        text[2 * i] = b'Z';
-    }
-    match read_line(&text) {
-        Ok(line) => assert_eq!(rt; count(&line), PIECES),
-        Err(_) => assert!(rt; false),
-    }
-    Ok(())
-}
-
-#[test]
-fn nests_as_deep_as_a_line_goes(rt: HostRuntime) -> Result<(), Fail> {
-    let mut text = [b'#'; 256];
-    text[0] = b'X';
-    text[255] = b'1';
-    let mut line = Line::new();
-    assert_eq!(rt; line.read(&text), Ok(()));
-    assert_eq!(rt; count(&line), 1);
-    for i in 1..128 {
-        text[i] = b'[';
-    }
-    text[128] = b'1';
-    for i in 129..256 {
-        text[i] = b']';
-    }
-    assert_eq!(rt; line.read(&text), Ok(()));
-    assert_eq!(rt; count(&line), 1);
-    text[255] = b' ';
-    assert_eq!(rt; line.read(&text), Err(Fault::Unreadable));
-    Ok(())
-}
-
-#[test]
-fn tells_percent_lines(rt: HostRuntime) -> Result<(), Fail> {
-    assert_eq!(rt; kind_of(b""), Kind::Blank);
-    assert_eq!(rt; kind_of(b" \t "), Kind::Blank);
-    assert_eq!(rt; kind_of(b"%"), Kind::Percent);
-    assert_eq!(rt; kind_of(b"\t% "), Kind::Percent);
-    assert_eq!(rt; kind_of(b"%%"), Kind::Other);
-    assert_eq!(rt; kind_of(b"%X1"), Kind::Other);
-    assert_eq!(rt; kind_of(b"X1%"), Kind::Other);
-    assert_eq!(rt; kind_of(b"(%)"), Kind::Other);
     Ok(())
 }

@@ -20,26 +20,6 @@ fn put<A: Allocator + Copy + Drop>(params: &mut Params<A>, number: i64, count: i
 }
 
 #[test]
-fn numbers_in_range(rt: HostRuntime) {
-    for (number, want) in [
-        (i64::MIN, 0),
-        (-1, 0),
-        (0, 0),
-        (1, 1),
-        (5399, 5399),
-        (5400, 0),
-    ] {
-        let found = Index::of(number).map_or(0, |index| index.number());
-        assert_eq!(rt; found, want, "parameter {number}");
-    }
-    for (number, want) in [(-1, 0), (0, 0), (1, 1), (9, 9), (10, 0), (257, 0)] {
-        let found = System::of(number).map_or(0, |system| system.number());
-        assert_eq!(rt; found, want, "system {number}");
-    }
-    assert_eq!(rt; System::first().number(), 1);
-}
-
-#[test]
 fn what_outlives_a_program(rt: HostRuntime) -> Result<(), Fail> {
     let mut params = Params::new(rt.alloc())?;
     assert_eq!(rt;
@@ -84,8 +64,30 @@ fn point(x: i64, y: i64, z: i64) -> Point {
     }
 }
 
+/// Whole numbers, and the parameter that each names; 0 for none.
+const INDICES: [(i64, u16); 6] = [
+    (i64::MIN, 0),
+    (-1, 0),
+    (0, 0),
+    (1, 1),
+    (5399, 5399),
+    (5400, 0),
+];
+
+/// Whole numbers, and the system that each names; 0 for none.
+const SYSTEMS: [(i64, u8); 6] = [(-1, 0), (0, 0), (1, 1), (9, 9), (10, 0), (257, 0)];
+
 #[test]
-fn points_lie_at_their_numbers(rt: HostRuntime) -> Result<(), Fail> {
+fn numbers_name_parameters_and_systems(rt: HostRuntime) -> Result<(), Fail> {
+    for (number, want) in INDICES {
+        let found = Index::of(number).map_or(0, |index| index.number());
+        assert_eq!(rt; found, want, "parameter {number}");
+    }
+    for (number, want) in SYSTEMS {
+        let found = System::of(number).map_or(0, |system| system.number());
+        assert_eq!(rt; found, want, "system {number}");
+    }
+    assert_eq!(rt; System::first().number(), 1);
     let mut params = Params::new(rt.alloc())?;
     let nine = System::of(9).unwrap_or_default();
     params.apply(&nine.origin_changes(point(-1, 2, 3)));

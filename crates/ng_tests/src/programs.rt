@@ -11,7 +11,9 @@ mod streams;
 
 use ng_block::{DryFault, Ended, Tools, dry};
 use ng_canon::Geometry;
+use ng_console::run_dry;
 use ng_num::Len;
+use ng_settings::Settings;
 use std::alloc::{Allocator, Global};
 use std::io::{Read, Write};
 use std::test::Fail;
@@ -19,6 +21,9 @@ use std::test::Fail;
 /// What the program end writes.
 const PROGRAM_END: &str =
     "SET_ORIGIN_OFFSETS(0.000000, 0.000000, 0.000000)\nSELECT_PLANE(XY)\nSTOP_SPINDLE_TURNING()\nMIST_OFF()\nFLOOD_OFF()\nPROGRAM_END()\n";
+
+/// How a program of one line without a program end is refused.
+const NO_END: &str = "REFUSED line 2: X3 NoProgramEnd\n";
 
 /// A program whose reads and writes are broken off in every place.
 const CUTS: &str = "G21 G90 F600\nG0 X1 Y2\r\nG1 Z-1.5\nX3\n\nG91 X1\nM2\njunk";
@@ -58,6 +63,43 @@ fn dry_text(
     (text, ended)
 }
 
+/// Whether a run ended as a text's end says: refused in that line and by that name, or else at the program's end.
+fn is_said(alloc: Global, end: &str, ended: Result<Ended, DryFault>) -> Result<bool, Fail> {
+    match ended {
+        Ok(Ended::Done) => Ok(!end.starts_with("REFUSED")),
+        Ok(Ended::Refused(number, fault)) => {
+            let front = format!(in alloc; "REFUSED line {number}: ")?;
+            let refusal = joined(alloc, front.as_bytes(), fault.text())?;
+            Ok(joined(alloc, refusal.as_slice(), b"\n")?.as_slice() == end.as_bytes())
+        }
+        Err(_) => Ok(false),
+    }
+}
+
+/// Whether a program writes a text and then this end, and ends as that says, with the exit status 0, or 1 where it is
+/// refused.
+fn writes(
+    alloc: Global,
+    program: &str,
+    block_delete: bool,
+    text: &str,
+    end: &str,
+) -> Result<bool, Fail> {
+    let wanted = joined(alloc, text.as_bytes(), end.as_bytes())?;
+    let (written, ended) = dry_text(alloc, program.as_bytes(), block_delete);
+    let mut reader = program.as_bytes();
+    let mut again = Vec::new(alloc);
+    let settings = Settings::standard();
+    let status = run_dry(alloc, &settings, &mut reader, &mut again, block_delete);
+    Ok(
+        written == wanted
+            && is_said(alloc, end, ended)?
+            && again == wanted
+            && (status == 1) == end.starts_with("REFUSED")
+            && status <= 1,
+    )
+}
+
 /// Two texts, one behind the other.
 fn joined(alloc: Global, first: &[u8], second: &[u8]) -> Result<Vec<u8>, Fail> {
     let mut text = Vec::new(alloc);
@@ -67,19 +109,10 @@ fn joined(alloc: Global, first: &[u8], second: &[u8]) -> Result<Vec<u8>, Fail> {
 }
 
 /// As many blanks.
-fn blanks(alloc: Global, count: usize) -> Result<Vec<u8>, Fail> {
-    Ok(vec![in alloc; b' '; count]?)
-}
-
-/// Whether a program writes a text and then its refusal in a line.
-fn is_refused(
-    alloc: Global,
-    program: &str,
-    text: &str,
-    line: &str,
-    name: &str,
-) -> Result<bool, Fail> {
-    let (written, _) = dry_text(alloc, program.as_bytes(), false);
-    let wanted = format!(in alloc; "{text}REFUSED line {line}: {name}\n")?;
-    Ok(written.as_slice() == wanted.as_bytes())
+fn blanks(alloc: Global, count: usize) -> Result<String<Global>, Fail> {
+    let mut text = String::new(alloc);
+    for _ in 0..count {
+        text.push(' ')?;
+    }
+    Ok(text)
 }

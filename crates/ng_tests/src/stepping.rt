@@ -111,147 +111,188 @@ fn items(alloc: Global, segment: &Segment, machine: &Geometry) -> Text {
     Ok(text)
 }
 
+/// An arc's plane, way round, start, end and centre, the step of Y, and the items.
+type ArcRow = (
+    Plane,
+    Turn,
+    [i64; 3],
+    [i64; 3],
+    (i64, i64),
+    u32,
+    &'static str,
+);
+
+/// Arcs on axes whose other steps are 1,000 nm.
+const ARCS: [ArcRow; 15] = [
+    // full circles of two steps' radius: each plane and way round
+    (
+        Plane::Xy,
+        Turn::Counterclockwise,
+        [0, 0, 0],
+        [0, 0, 0],
+        (-2_000, 0),
+        1_000,
+        "1000: +Y -X +Y -X -X -Y -X -Y -Y +X -Y +X +X +Y +X +Y",
+    ),
+    (
+        Plane::Xy,
+        Turn::Clockwise,
+        [0, 0, 0],
+        [0, 0, 0],
+        (-2_000, 0),
+        1_000,
+        "1000: -Y -X -Y -X -X +Y -X +Y +Y +X +Y +X +X -Y +X -Y",
+    ),
+    (
+        Plane::Xz,
+        Turn::Counterclockwise,
+        [0, 0, 0],
+        [0, 0, 0],
+        (-2_000, 0),
+        1_000,
+        "1000: +X -Z +X -Z -Z -X -Z -X -X +Z -X +Z +Z +X +Z +X",
+    ),
+    (
+        Plane::Xz,
+        Turn::Clockwise,
+        [0, 0, 0],
+        [0, 0, 0],
+        (-2_000, 0),
+        1_000,
+        "1000: -X -Z -X -Z -Z +X -Z +X +X +Z +X +Z +Z -X +Z -X",
+    ),
+    (
+        Plane::Yz,
+        Turn::Counterclockwise,
+        [0, 0, 0],
+        [0, 0, 0],
+        (-2_000, 0),
+        1_000,
+        "1000: +Z -Y +Z -Y -Y -Z -Y -Z -Z +Y -Z +Y +Y +Z +Y +Z",
+    ),
+    (
+        Plane::Yz,
+        Turn::Clockwise,
+        [0, 0, 0],
+        [0, 0, 0],
+        (-2_000, 0),
+        1_000,
+        "1000: -Z -Y -Z -Y -Y +Z -Y +Z +Z +Y +Z +Y +Y -Z +Y -Z",
+    ),
+    // rounded starts, a helix, arcs of one quadrant, small ones
+    (
+        Plane::Xy,
+        Turn::Counterclockwise,
+        [0, 400, 0],
+        [0, 400, 0],
+        (-2_000, 300),
+        1_000,
+        "1000: +Y -X +Y +Y -X -Y -X -X -Y -Y +X -Y -Y +X +Y +X +X +Y +Y -Y",
+    ),
+    (
+        Plane::Xy,
+        Turn::Counterclockwise,
+        [0, 0, 0],
+        [0, 0, 4_000],
+        (-2_000, 0),
+        1_000,
+        "1000: +Y -X+Z +Y -X -X -Y+Z -X -Y -Y +X+Z -Y +X +X +Y+Z +X +Y",
+    ),
+    (
+        Plane::Xy,
+        Turn::Counterclockwise,
+        [0, 0, 0],
+        [-8_000, 4_000, 0],
+        (-5_000, 0),
+        1_000,
+        "1000: +Y -X +Y +Y +Y -X +Y -X -X -X -X -Y -X -X",
+    ),
+    (
+        Plane::Xy,
+        Turn::Counterclockwise,
+        [5_000, 300, 0],
+        [0, 5_000, 0],
+        (0, 400),
+        1_000,
+        "1000: +Y -X +Y +Y +Y -X +Y -X -X +Y -X -Y",
+    ),
+    (
+        Plane::Xy,
+        Turn::Counterclockwise,
+        [5_000, -400, 0],
+        [5_000, -300, 0],
+        (0, 0),
+        1_000,
+        "",
+    ),
+    (
+        Plane::Xy,
+        Turn::Counterclockwise,
+        [0, 0, 0],
+        [0, 0, 0],
+        (-1_000, 0),
+        1_000,
+        "",
+    ),
+    (
+        Plane::Xy,
+        Turn::Counterclockwise,
+        [0, 0, 0],
+        [-3_998, 0, 0],
+        (-1_999, 0),
+        1_000,
+        "1000: -X -X -X -X",
+    ),
+    // unequal steps, flat and of a helix
+    (
+        Plane::Xy,
+        Turn::Counterclockwise,
+        [4_000, 0, 0],
+        [0, 4_000, 0],
+        (0, 0),
+        500,
+        "1000: +Y -X +Y +Y +Y +Y +Y -X +Y -X +Y -X",
+    ),
+    (
+        Plane::Yz,
+        Turn::Clockwise,
+        [0, 4_000, 0],
+        [3_000, 0, -4_000],
+        (0, 0),
+        500,
+        "1000: -Z +X-Y -Z -Y -Z +X-Y -Z -Y -Y +X-Y -Y -Y",
+    ),
+];
+
 #[test]
-fn lines(rt: HostRuntime) -> Result<(), Fail> {
+fn each_segment_gives_its_items(rt: HostRuntime) -> Result<(), Fail> {
     let machine = Geometry::standard();
     let origin = Point::zero();
     let inverse = InverseTime::of(Num::of(60_000_000)?).map_or(Pace::Traverse, Pace::InverseTime);
-    for (end, pace, want) in [
-        (point(5_000, 2_000, 0), feed(), "1078: +X +X+Y +X +X+Y +X"),
-        (point(5_000, 0, 0), inverse, "200000: +X +X +X +X +X"),
-        (point(2_000, 0, 0), Pace::Traverse, "50: +X +X"),
-        (
-            point(-3_000, 1_499, 3_000),
-            feed(),
-            "1500: -X+Z -X+Y+Z -X+Z",
-        ),
-        (origin, feed(), ""),
-        (point(499, -499, 0), feed(), ""),
+    for ([x, y, z], pace, want) in [
+        ([5_000, 2_000, 0], feed(), "1078: +X +X+Y +X +X+Y +X"),
+        ([5_000, 0, 0], inverse, "200000: +X +X +X +X +X"),
+        ([2_000, 0, 0], Pace::Traverse, "50: +X +X"),
+        ([-3_000, 1_499, 3_000], feed(), "1500: -X+Z -X+Y+Z -X+Z"),
+        ([0, 0, 0], feed(), ""),
+        ([499, -499, 0], feed(), ""),
     ] {
+        let segment = line(origin, point(x, y, z), pace);
         assert_eq!(rt;
-            items(rt.alloc(), &line(origin, end, pace), &machine)?.as_str(),
-            want
+            items(rt.alloc(), &segment, &machine)?.as_str(),
+            want,
+            "{want}"
         );
     }
-    Ok(())
-}
-
-/// Full circles of two steps' radius: each plane and way round.
-#[test]
-fn circles(rt: HostRuntime) -> Result<(), Fail> {
-    let machine = Geometry::standard();
-    let origin = Point::zero();
-    for (plane, turn, want) in [
-        (
-            Plane::Xy,
-            Turn::Counterclockwise,
-            "1000: +Y -X +Y -X -X -Y -X -Y -Y +X -Y +X +X +Y +X +Y",
-        ),
-        (
-            Plane::Xy,
-            Turn::Clockwise,
-            "1000: -Y -X -Y -X -X +Y -X +Y +Y +X +Y +X +X -Y +X -Y",
-        ),
-        (
-            Plane::Xz,
-            Turn::Counterclockwise,
-            "1000: +X -Z +X -Z -Z -X -Z -X -X +Z -X +Z +Z +X +Z +X",
-        ),
-        (
-            Plane::Xz,
-            Turn::Clockwise,
-            "1000: -X -Z -X -Z -Z +X -Z +X +X +Z +X +Z +Z -X +Z -X",
-        ),
-        (
-            Plane::Yz,
-            Turn::Counterclockwise,
-            "1000: +Z -Y +Z -Y -Y -Z -Y -Z -Z +Y -Z +Y +Y +Z +Y +Z",
-        ),
-        (
-            Plane::Yz,
-            Turn::Clockwise,
-            "1000: -Z -Y -Z -Y -Y +Z -Y +Z +Z +Y +Z +Y +Y -Z +Y -Z",
-        ),
-    ] {
-        let circle = arc(plane, turn, origin, origin, (-2_000, 0));
-        assert_eq!(rt; items(rt.alloc(), &circle, &machine)?.as_str(), want);
+    for (plane, turn, [a, b, c], [x, y, z], centre, step, want) in ARCS {
+        let segment = arc(plane, turn, point(a, b, c), point(x, y, z), centre);
+        let machine = steps_of(1_000, step, 1_000);
+        assert_eq!(rt;
+            items(rt.alloc(), &segment, &machine)?.as_str(),
+            want,
+            "{want}"
+        );
     }
-    Ok(())
-}
-
-/// Counterclockwise in the plane of X and Y: rounded starts, a helix, arcs of one quadrant, small ones.
-#[test]
-fn arcs(rt: HostRuntime) -> Result<(), Fail> {
-    let machine = Geometry::standard();
-    for (start, end, centre, want) in [
-        (
-            point(0, 400, 0),
-            point(0, 400, 0),
-            (-2_000, 300),
-            "1000: +Y -X +Y +Y -X -Y -X -X -Y -Y +X -Y -Y +X +Y +X +X +Y +Y -Y",
-        ),
-        (
-            point(0, 0, 0),
-            point(0, 0, 4_000),
-            (-2_000, 0),
-            "1000: +Y -X+Z +Y -X -X -Y+Z -X -Y -Y +X+Z -Y +X +X +Y+Z +X +Y",
-        ),
-        (
-            point(0, 0, 0),
-            point(-8_000, 4_000, 0),
-            (-5_000, 0),
-            "1000: +Y -X +Y +Y +Y -X +Y -X -X -X -X -Y -X -X",
-        ),
-        (
-            point(5_000, 300, 0),
-            point(0, 5_000, 0),
-            (0, 400),
-            "1000: +Y -X +Y +Y +Y -X +Y -X -X +Y -X -Y",
-        ),
-        (point(5_000, -400, 0), point(5_000, -300, 0), (0, 0), ""),
-        (point(0, 0, 0), point(0, 0, 0), (-1_000, 0), ""),
-        (
-            point(0, 0, 0),
-            point(-3_998, 0, 0),
-            (-1_999, 0),
-            "1000: -X -X -X -X",
-        ),
-    ] {
-        let round = arc(Plane::Xy, Turn::Counterclockwise, start, end, centre);
-        assert_eq!(rt; items(rt.alloc(), &round, &machine)?.as_str(), want);
-    }
-    Ok(())
-}
-
-#[test]
-fn unequal_steps(rt: HostRuntime) -> Result<(), Fail> {
-    let machine = steps_of(1_000, 500, 1_000);
-    let flat = arc(
-        Plane::Xy,
-        Turn::Counterclockwise,
-        point(4_000, 0, 0),
-        point(0, 4_000, 0),
-        (0, 0),
-    );
-    let helix = arc(
-        Plane::Yz,
-        Turn::Clockwise,
-        point(0, 4_000, 0),
-        point(3_000, 0, -4_000),
-        (0, 0),
-    );
-    for (segment, want) in [
-        (flat, "1000: +Y -X +Y +Y +Y +Y +Y -X +Y -X +Y -X"),
-        (helix, "1000: -Z +X-Y -Z -Y -Z +X-Y -Z -Y -Y +X-Y -Y -Y"),
-    ] {
-        assert_eq!(rt; items(rt.alloc(), &segment, &machine)?.as_str(), want);
-    }
-    Ok(())
-}
-
-#[test]
-fn single_items(rt: HostRuntime) -> Result<(), Fail> {
-    let machine = Geometry::standard();
     let mut outputs = Outputs::fresh();
     outputs.selected_slot = 7;
     for (segment, want) in [
@@ -259,7 +300,11 @@ fn single_items(rt: HostRuntime) -> Result<(), Fail> {
         (Segment::Dwell(Num::of(-1)?), "dwell 0"),
         (Segment::Switch(outputs), "switch 7"),
     ] {
-        assert_eq!(rt; items(rt.alloc(), &segment, &machine)?.as_str(), want);
+        assert_eq!(rt;
+            items(rt.alloc(), &segment, &machine)?.as_str(),
+            want,
+            "{want}"
+        );
     }
     Ok(())
 }

@@ -28,30 +28,46 @@ fn last_word<A: Allocator + Copy + Drop>(
     }
 }
 
+/// Lines over a fresh table, and the count of millionths of the last word, or the line's fault.
+const LINES: [(&[u8], Result<i64, Fault>); 30] = [
+    (b"X-1.5", Ok(-1_500_000)),
+    (b"X[1/3*3]", Ok(999_999)),
+    (b"X[2.0/3*1.5-5.5/11.0]", Ok(500_001)),
+    (b"X[1+2**3*2]", Ok(17_000_000)),
+    (b"X[2**3**2]", Ok(64_000_000)),
+    (b"X[10-4-3]", Ok(3_000_000)),
+    (b"X[5MOD3**2]", Ok(5_000_000)),
+    (b"X[-7MOD3]", Ok(2_000_000)),
+    (b"XFIX[-2.8]", Ok(-3_000_000)),
+    (b"XFUP[-2.8]", Ok(-2_000_000)),
+    (b"XROUND[-2.5]", Ok(-3_000_000)),
+    (b"XABS[1-4]", Ok(3_000_000)),
+    (b"XSQRT[2]", Ok(1_414_213)),
+    (b"X[-1AND0.5]", Ok(1_000_000)),
+    (b"X[2XOR-3]", Ok(0)),
+    (b"X[0OR[1XOR0]]", Ok(1_000_000)),
+    (b"X10000000", Err(Fault::OutOfRange)),
+    (b"X[9999999*2]", Err(Fault::OutOfRange)),
+    (b"X[0AND[1/0]]", Err(Fault::BadArithmetic)),
+    (b"X[1OR[1/0]]", Err(Fault::BadArithmetic)),
+    (b"X[1MOD0]", Err(Fault::BadArithmetic)),
+    (b"XSQRT[-1]", Err(Fault::BadArithmetic)),
+    (b"X[10**7*#0]", Err(Fault::OutOfRange)),
+    (b"X[#0*10**7]", Err(Fault::BadIndex)),
+    (b"X#5400", Err(Fault::BadIndex)),
+    (b"X#-1", Err(Fault::BadIndex)),
+    (b"#0=[1/0]", Err(Fault::BadIndex)),
+    (b"#10000000=1", Err(Fault::OutOfRange)),
+    (b"#1=[1/0] X#0", Err(Fault::BadArithmetic)),
+    (b"X#0 #1=[1/0]", Err(Fault::BadIndex)),
+];
+
 #[test]
-fn values_of_chains(rt: HostRuntime) -> Result<(), Fail> {
+fn values_of_lines_or_their_faults(rt: HostRuntime) -> Result<(), Fail> {
     let params = Params::new(rt.alloc())?;
     let mut line = Line::new();
-    let cases: [(&[u8], i64); 16] = [
-        (b"X-1.5", -1_500_000),
-        (b"X[1/3*3]", 999_999),
-        (b"X[2.0/3*1.5-5.5/11.0]", 500_001),
-        (b"X[1+2**3*2]", 17_000_000),
-        (b"X[2**3**2]", 64_000_000),
-        (b"X[10-4-3]", 3_000_000),
-        (b"X[5MOD3**2]", 5_000_000),
-        (b"X[-7MOD3]", 2_000_000),
-        (b"XFIX[-2.8]", -3_000_000),
-        (b"XFUP[-2.8]", -2_000_000),
-        (b"XROUND[-2.5]", -3_000_000),
-        (b"XABS[1-4]", 3_000_000),
-        (b"XSQRT[2]", 1_414_213),
-        (b"X[-1AND0.5]", 1_000_000),
-        (b"X[2XOR-3]", 0),
-        (b"X[0OR[1XOR0]]", 1_000_000),
-    ];
-    for (text, want) in cases {
-        assert_eq!(rt; last_word(&mut line, &params, text), Ok(want), "{text:?}");
+    for (text, want) in LINES {
+        assert_eq!(rt; last_word(&mut line, &params, text), want, "{text:?}");
     }
     Ok(())
 }
@@ -89,31 +105,5 @@ fn values_of_parameters(rt: HostRuntime) -> Result<(), Fail> {
         last_word(&mut line, &params, b"X#3.0002"),
         Err(Fault::BadIndex)
     );
-    Ok(())
-}
-
-#[test]
-fn faults(rt: HostRuntime) -> Result<(), Fail> {
-    let params = Params::new(rt.alloc())?;
-    let mut line = Line::new();
-    let cases: [(&[u8], Fault); 14] = [
-        (b"X10000000", Fault::OutOfRange),
-        (b"X[9999999*2]", Fault::OutOfRange),
-        (b"X[0AND[1/0]]", Fault::BadArithmetic),
-        (b"X[1OR[1/0]]", Fault::BadArithmetic),
-        (b"X[1MOD0]", Fault::BadArithmetic),
-        (b"XSQRT[-1]", Fault::BadArithmetic),
-        (b"X[10**7*#0]", Fault::OutOfRange),
-        (b"X[#0*10**7]", Fault::BadIndex),
-        (b"X#5400", Fault::BadIndex),
-        (b"X#-1", Fault::BadIndex),
-        (b"#0=[1/0]", Fault::BadIndex),
-        (b"#10000000=1", Fault::OutOfRange),
-        (b"#1=[1/0] X#0", Fault::BadArithmetic),
-        (b"X#0 #1=[1/0]", Fault::BadIndex),
-    ];
-    for (text, want) in cases {
-        assert_eq!(rt; last_word(&mut line, &params, text), Err(want), "{text:?}");
-    }
     Ok(())
 }

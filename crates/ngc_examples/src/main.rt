@@ -4,26 +4,23 @@
 use ng_console::ngc;
 use std::{fs, io};
 
-/// A program, the text beside it, and whether the lines that begin with a slash are deleted.
-const EXAMPLES: [(&str, &str, bool); 5] = [
-    ("first.ngc", "first.txt", false),
-    ("face.ngc", "face.txt", false),
-    ("pocket.ngc", "pocket.txt", false),
-    ("parameters.ngc", "parameters.txt", false),
-    ("percent.ngc", "percent.txt", true),
+/// A program, the text beside it, and the words in front of the program that it is run with.
+const EXAMPLES: [(&str, &str, &[&str]); 6] = [
+    ("first.ngc", "first.txt", &[]),
+    ("face.ngc", "face.txt", &[]),
+    ("pocket.ngc", "pocket.txt", &[]),
+    ("parameters.ngc", "parameters.txt", &[]),
+    ("percent.ngc", "percent.txt", &["--block-delete"]),
+    ("mill.ngc", "mill.txt", &["--settings", "mill.toml"]),
 ];
 
 fn main(rt: HostRuntime) -> io::Result<()> {
-    for (program, wanted, block_delete) in EXAMPLES {
-        let plain = ["ngc", "dry", program];
-        let deleting = ["ngc", "dry", "--block-delete", program];
-        let words = if block_delete {
-            deleting.as_slice()
-        } else {
-            plain.as_slice()
-        };
+    for (program, wanted, options) in EXAMPLES {
+        let mut words = vec![in rt.alloc(); "ngc", "dry"]?;
+        words.extend_from_slice(options)?;
+        words.push(program)?;
         let mut text = Vec::new(rt.alloc());
-        let status = ngc(&rt, words, &mut text);
+        let status = ngc(&rt, words.as_slice(), &mut text);
         let same = text == fs::read(&rt, wanted)?;
         println!(rt; "{program}: status {status}, as the text beside it: {same}")?;
     }

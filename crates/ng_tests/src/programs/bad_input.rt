@@ -1,5 +1,5 @@
 //! Lines that nobody would write: each is answered by a fault, or read, at once.
-use super::{blanks, dry_text, joined};
+use super::{NO_END, PROGRAM_END, blanks, dry_text, writes};
 use ng_block::{Ended, State, Tools, execute};
 use ng_canon::Geometry;
 use ng_num::Fault;
@@ -47,13 +47,9 @@ fn ends_with(text: &[u8], before: &[u8], fault: Fault) -> bool {
 }
 
 #[test]
-fn lines_by_chance_are_refused_by_name(rt: HostRuntime) {
+fn broken_lines_are_refused_by_name(rt: HostRuntime) -> Result<(), Fail> {
     let mut chance: u64 = 0x9e37_79b9_7f4a_7c15;
-    let state = State::fresh(rt.alloc());
-    let Ok(state) = state else {
-        assert!(rt; false);
-        return;
-    };
+    let state = State::fresh(rt.alloc())?;
     for i in 0..10_000 {
         let mut line = [0u8; 40];
         for byte in &mut line {
@@ -67,76 +63,52 @@ fn lines_by_chance_are_refused_by_name(rt: HostRuntime) {
             "line {i}"
         );
     }
-}
-
-#[test]
-fn long_rows_of_one_byte_are_refused(rt: HostRuntime) {
     for byte in b"[#-0123456789]*+/(.)=%GXN \t" {
         let line = [*byte; 256];
         assert!(rt; is_refused(rt.alloc(), &line), "byte {byte}");
     }
-}
-
-#[test]
-fn every_beginning_of_a_line_is_refused_or_read(rt: HostRuntime) {
     for row in ROWS {
         let line = row.as_bytes();
-        for n in 0..line.len() {
+        for n in 0..=line.len() {
             assert!(rt; is_refused(rt.alloc(), &line[..n]), "{row:?} cut at {n}");
         }
-        assert!(rt; is_refused(rt.alloc(), line), "{row:?}");
     }
-}
-
-#[test]
-fn deep_brackets_and_many_settings_are_read(rt: HostRuntime) -> Result<(), Fail> {
-    let mut deep = Vec::new(rt.alloc());
-    deep.extend_from_slice(b"G0 X")?;
-    for _ in 0..120 {
-        deep.push(b'[')?;
-    }
-    deep.push(b'1')?;
-    for _ in 0..120 {
-        deep.push(b']')?;
-    }
-    let (text, _) = dry_text(rt.alloc(), deep.as_slice(), false);
-    assert!(rt;
-        text.as_slice()
-            == "STRAIGHT_TRAVERSE(1.000000, 0.000000, 0.000000)\nREFUSED line 2: X3 NoProgramEnd\n".as_bytes()
-    );
-    let mut many = Vec::new(rt.alloc());
-    for i in 1..50 {
-        many.extend_from_slice(format!(in rt.alloc(); "#{i}=1")?.as_bytes())?;
-    }
-    many.extend_from_slice(b"\nG0 X#1 Y#25 Z#49")?;
-    let (text, _) = dry_text(rt.alloc(), many.as_slice(), false);
-    assert!(rt;
-        text.as_slice()
-            == "STRAIGHT_TRAVERSE(1.000000, 1.000000, 1.000000)\nREFUSED line 3: X3 NoProgramEnd\n".as_bytes()
-    );
     Ok(())
 }
 
+/// What stands before and behind so many blanks, and the end that the program then writes: whether a 256th byte may
+/// stand there, and a 257th.
+const LONG: [(&str, usize, &str, &str); 15] = [
+    ("", 256, "\nM2", PROGRAM_END),
+    ("", 257, "\nM2", TOO_LONG),
+    ("", 256, "\r\nM2", PROGRAM_END),
+    ("", 257, "\r\nM2", TOO_LONG),
+    ("", 256, "", NO_END),
+    ("", 257, "", TOO_LONG),
+    ("", 255, "\r", "REFUSED line 1: E1 Unreadable\n"),
+    ("", 256, "\r", TOO_LONG),
+    ("", 254, "M2", PROGRAM_END),
+    ("", 255, "M2", TOO_LONG),
+    ("", 20_000, "M2", TOO_LONG),
+    ("%", 255, "", "REFUSED line 2: X4 MissingPercent\n"),
+    ("%", 256, "", TOO_LONG),
+    ("(a)junk", 250, "", TOO_LONG),
+    ("/", 256, "", TOO_LONG),
+];
+
+const TOO_LONG: &str = "REFUSED line 1: E2 LineTooLong\n";
+
 #[test]
-fn the_length_comes_first(rt: HostRuntime) -> Result<(), Fail> {
-    for (front, count, name) in [
-        (&b"%"[..], 255, "X4 MissingPercent"),
-        (b"%", 256, "E2 LineTooLong"),
-        (b"", 257, "E2 LineTooLong"),
-        (b"(a)junk", 250, "E2 LineTooLong"),
-    ] {
-        let line = joined(rt.alloc(), front, blanks(rt.alloc(), count)?.as_slice())?;
-        let (text, _) = dry_text(rt.alloc(), line.as_slice(), false);
-        let number: &[u8] = if name == "X4 MissingPercent" {
-            b"REFUSED line 2: "
-        } else {
-            b"REFUSED line 1: "
-        };
-        let wanted = joined(rt.alloc(), number, name.as_bytes())?;
-        assert!(rt;
-            text == joined(rt.alloc(), wanted.as_slice(), b"\n")?,
-            "{name}"
-        );
+fn the_length_of_a_line_comes_first(rt: HostRuntime) -> Result<(), Fail> {
+    for (front, count, behind, end) in LONG {
+        let blanks = blanks(rt.alloc(), count)?;
+        let program = format!(in rt.alloc(); "{front}{blanks}{behind}")?;
+        for block_delete in [false, true] {
+            assert!(rt;
+                writes(rt.alloc(), program.as_str(), block_delete, "", end)?,
+                "{front:?} {count} {behind:?}"
+            );
+        }
     }
     Ok(())
 }

@@ -1,49 +1,44 @@
 //! What single lines do in a state, field by field. The values are worked out by hand from the language.
-use ng_block::{Commands, Motion, State, Stop, Tools, execute};
+use ng_block::{Effect, Motion, State, Stop, Tools, execute};
 use ng_canon::{Canon, Command, Geometry, Plane, Segment};
 use ng_num::{Len, Point, Unit};
 use std::test::Fail;
 
-/// The next command whose arguments are numbers.
-fn next_of(commands: &mut Commands<'_>) -> Option<Command> {
-    match commands.next() {
-        Some(Canon::Command(command)) => Some(command),
-        Some(Canon::Comment(_)) | Some(Canon::Message(_)) | None => None,
+/// Whether an effect has just these commands.
+fn has_commands(effect: &Effect, wanted: &[Command]) -> bool {
+    let mut commands = effect.commands();
+    for command in wanted {
+        match commands.next() {
+            Some(Canon::Command(found)) if found == *command => {}
+            _ => return false,
+        }
     }
+    commands.next().is_none()
 }
 
 #[test]
-fn a_feed_move_changes_its_fields_and_no_others(rt: HostRuntime) -> Result<(), Fail> {
+fn a_line_changes_its_fields_and_no_others(rt: HostRuntime) -> Result<(), Fail> {
     let mut state = State::fresh(rt.alloc())?;
-    let effect = execute(
-        &state,
-        b"G20 F60 G91 G1 X1",
-        &Tools::new(),
-        &Geometry::standard(),
-    )?;
+    let line = b"G20 F60 G91 G1 X1";
+    let effect = execute(&state, line, &Tools::new(), &Geometry::standard())?;
     let machine = effect.machine;
     let feed = machine.feed_per_min;
-    let modes = machine.modes;
     let point = machine.point;
     assert_eq!(rt; feed.nm(), 60_000_000);
-    assert_eq!(rt; modes.motion, Motion::Feed);
-    assert_eq!(rt; modes.unit, Unit::Inches);
-    assert_eq!(rt; point.x.nm(), 25_400_000);
-    assert_eq!(rt; point.y.nm(), 0);
-    assert_eq!(rt; effect.changes.len(), 0);
-    let mut commands = effect.commands();
-    assert_eq!(rt; next_of(&mut commands), Some(Command::FeedRate(feed)));
-    assert_eq!(rt;
-        next_of(&mut commands),
-        Some(Command::LengthUnits(Unit::Inches))
-    );
-    assert_eq!(rt; next_of(&mut commands), Some(Command::Feed(point)));
-    assert!(rt; commands.next().is_none());
+    assert_eq!(rt; machine.modes.motion, Motion::Feed);
+    assert_eq!(rt; machine.modes.unit, Unit::Inches);
+    assert_eq!(rt; (point.x.nm(), point.y.nm()), (25_400_000, 0));
+    assert_eq!(rt; (effect.changes.len(), effect.stop), (0, Stop::GoesOn));
+    let printed = [
+        Command::FeedRate(feed),
+        Command::LengthUnits(Unit::Inches),
+        Command::Feed(point),
+    ];
+    assert!(rt; has_commands(&effect, &printed));
     let mut segments = effect.segments();
     assert!(rt; matches!(segments.next(), Some(Segment::Line(_))));
     assert_eq!(rt; segments.next(), None);
     assert_eq!(rt; segments.outputs(), state.machine.outputs);
-    assert_eq!(rt; effect.stop, Stop::GoesOn);
     state.apply(&effect);
     assert_eq!(rt; state.machine, machine);
     Ok(())
@@ -53,33 +48,26 @@ fn a_feed_move_changes_its_fields_and_no_others(rt: HostRuntime) -> Result<(), F
 fn a_program_end_selects_the_first_system(rt: HostRuntime) -> Result<(), Fail> {
     let mut state = State::fresh(rt.alloc())?;
     let effect = execute(&state, b"M30", &Tools::new(), &Geometry::standard())?;
-    assert_eq!(rt; effect.changes.len(), 1);
-    let mut commands = effect.commands();
-    assert_eq!(rt;
-        next_of(&mut commands),
-        Some(Command::OriginOffsets(Point::zero()))
-    );
-    assert_eq!(rt;
-        next_of(&mut commands),
-        Some(Command::SelectPlane(Plane::Xy))
-    );
-    assert_eq!(rt; next_of(&mut commands), Some(Command::StopSpindle));
-    assert_eq!(rt; next_of(&mut commands), Some(Command::MistOff));
-    assert_eq!(rt; next_of(&mut commands), Some(Command::FloodOff));
-    assert_eq!(rt; next_of(&mut commands), Some(Command::PalletShuttle));
-    assert_eq!(rt; next_of(&mut commands), Some(Command::ProgramEnd));
-    assert!(rt; commands.next().is_none());
+    assert_eq!(rt; (effect.changes.len(), effect.stop), (1, Stop::Ends));
+    let printed = [
+        Command::OriginOffsets(Point::zero()),
+        Command::SelectPlane(Plane::Xy),
+        Command::StopSpindle,
+        Command::MistOff,
+        Command::FloodOff,
+        Command::PalletShuttle,
+        Command::ProgramEnd,
+    ];
+    assert!(rt; has_commands(&effect, &printed));
     let mut segments = effect.segments();
     assert_eq!(rt;
         segments.next(),
         Some(Segment::Switch(effect.machine.outputs))
     );
     assert_eq!(rt; segments.next(), None);
-    assert_eq!(rt; effect.stop, Stop::Ends);
     state.apply(&effect);
     assert_eq!(rt; state.machine.modes.motion, Motion::Feed);
-    let copy = state.copy()?;
-    assert_eq!(rt; copy.machine, state.machine);
+    assert_eq!(rt; state.copy()?.machine, state.machine);
     Ok(())
 }
 

@@ -1,6 +1,8 @@
 //! Modal groups: what each code of a line prints, in the order of the steps, and which fault refuses a line alone. All of it is
 //! worked out by hand from the language.
-use super::{dry_text, is_refused};
+use super::grammar::{FAULTS, UNREADABLE};
+use super::rows::Rows;
+use super::{NO_END, dry_text, writes};
 use ng_block::{State, Stop, Tools, execute};
 use ng_canon::{Geometry, Outputs, Segment, Spindle};
 use ng_num::{Len, Num};
@@ -101,61 +103,49 @@ const REFUSED: [(&str, &str); 32] = [
     ("G93 G1 X2000 F1", "X2 OutsideTravel"),
 ];
 
+/// Modes last from line to line.
+pub const LASTING: Rows = &[
+    // a time holds for its line alone, and the feed stays behind it
+    (
+        "F60 G1 X1\nG93 X2 F3\nG94 X3\nG93\nX4",
+        "SET_FEED_RATE(60.000000)\nSTRAIGHT_FEED(1.000000, 0.000000, 0.000000)\nINVERSE_TIME(3.000000)\nSTRAIGHT_FEED(2.000000, 0.000000, 0.000000)\nSTRAIGHT_FEED(3.000000, 0.000000, 0.000000)\n",
+        "REFUSED line 5: X1 NoFeed\n",
+    ),
+    // G80 ends the motion, and the distance mode stays
+    (
+        "G91 G0 X1\nX1\nG80\nX1",
+        "STRAIGHT_TRAVERSE(1.000000, 0.000000, 0.000000)\nSTRAIGHT_TRAVERSE(2.000000, 0.000000, 0.000000)\n",
+        "REFUSED line 4: B7 AxisUnused\n",
+    ),
+    // the plane holds for a cycle in a later line
+    (
+        "G18\nG81 X1 Z-1 R1",
+        "SELECT_PLANE(XZ)\n",
+        "REFUSED line 2: B19 CyclePlane\n",
+    ),
+    // the selected slot is that of a line before
+    (
+        "T1\nM6\nT0 M6",
+        "SELECT_TOOL(1)\nCHANGE_TOOL(1)\nSELECT_TOOL(0)\nCHANGE_TOOL(0)\n",
+        "REFUSED line 4: X3 NoProgramEnd\n",
+    ),
+];
+
 #[test]
-fn codes_print_in_the_order_of_the_steps(rt: HostRuntime) -> Result<(), Fail> {
+fn each_line_prints_or_is_refused_alone(rt: HostRuntime) -> Result<(), Fail> {
     for (line, text) in PRINTED {
+        assert!(rt; writes(rt.alloc(), line, false, text, NO_END)?, "{line:?}");
+    }
+    for (line, name) in REFUSED.iter().chain(&FAULTS) {
+        let end = format!(in rt.alloc(); "REFUSED line 1: {name}\n")?;
         assert!(rt;
-            is_refused(rt.alloc(), line, text, "2", "X3 NoProgramEnd")?,
+            writes(rt.alloc(), line, false, "", end.as_str())?,
             "{line:?}"
         );
     }
-    Ok(())
-}
-
-#[test]
-fn each_fault_of_a_block_refuses_a_line_alone(rt: HostRuntime) -> Result<(), Fail> {
-    for (line, name) in REFUSED {
-        assert!(rt; is_refused(rt.alloc(), line, "", "1", name)?, "{line:?}");
-    }
-    Ok(())
-}
-
-#[test]
-fn modes_last_from_line_to_line(rt: HostRuntime) -> Result<(), Fail> {
-    for (program, text, line, name) in [
-        // a time holds for its line alone, and the feed stays behind it
-        (
-            "F60 G1 X1\nG93 X2 F3\nG94 X3\nG93\nX4",
-            "SET_FEED_RATE(60.000000)\nSTRAIGHT_FEED(1.000000, 0.000000, 0.000000)\nINVERSE_TIME(3.000000)\nSTRAIGHT_FEED(2.000000, 0.000000, 0.000000)\nSTRAIGHT_FEED(3.000000, 0.000000, 0.000000)\n",
-            "5",
-            "X1 NoFeed",
-        ),
-        // G80 ends the motion, and the distance mode stays
-        (
-            "G91 G0 X1\nX1\nG80\nX1",
-            "STRAIGHT_TRAVERSE(1.000000, 0.000000, 0.000000)\nSTRAIGHT_TRAVERSE(2.000000, 0.000000, 0.000000)\n",
-            "4",
-            "B7 AxisUnused",
-        ),
-        // the plane holds for a cycle in a later line
-        (
-            "G18\nG81 X1 Z-1 R1",
-            "SELECT_PLANE(XZ)\n",
-            "2",
-            "B19 CyclePlane",
-        ),
-        // the selected slot is that of a line before
-        (
-            "T1\nM6\nT0 M6",
-            "SELECT_TOOL(1)\nCHANGE_TOOL(1)\nSELECT_TOOL(0)\nCHANGE_TOOL(0)\n",
-            "4",
-            "X3 NoProgramEnd",
-        ),
-    ] {
-        assert!(rt;
-            is_refused(rt.alloc(), program, text, line, name)?,
-            "{program:?}"
-        );
+    for line in UNREADABLE {
+        let end = "REFUSED line 1: E1 Unreadable\n";
+        assert!(rt; writes(rt.alloc(), line, false, "", end)?, "{line:?}");
     }
     Ok(())
 }

@@ -1,9 +1,6 @@
 //! Readers that give little, and readers and writers that fail.
 use super::{CUTS, CUTS_TEXT, PROGRAM_END, dry_run};
-use linked_list_allocator::LocalHeap;
-use ng_block::{DryFault, Ended, put_canon};
-use ng_canon::{Canon, Command};
-use ng_num::Point;
+use ng_block::{DryFault, Ended};
 use std::io;
 use std::io::{ErrorKind, Read, Write};
 use std::test::Fail;
@@ -62,74 +59,60 @@ impl Write for Full {
     }
 }
 
-#[test]
-fn stops_where_the_reader_fails(rt: HostRuntime) -> Result<(), Fail> {
-    for at_most in [1, 7, 8192] {
-        let mut whole = 0u32;
-        let mut cut = 0u32;
-        for reads_left in 0..60 {
-            let mut reader = Drip {
-                bytes: CUTS.as_bytes(),
-                at_most,
-                reads_left,
-            };
-            let mut text = Vec::new(rt.alloc());
-            match dry_run(rt.alloc(), &mut reader, &mut text, false) {
-                Ok(ended) => {
-                    assert!(rt; ended == Ended::Done && text.as_slice() == CUTS_TEXT.as_bytes());
-                    whole = whole.saturating_add(1);
-                }
-                Err(fault) => {
-                    assert!(rt; matches!(fault, DryFault::Reader), "{at_most} {reads_left}");
-                    assert!(rt;
-                        CUTS_TEXT.as_bytes().starts_with(text.as_slice()),
-                        "{at_most} {reads_left}"
-                    );
-                    assert!(rt; whole == 0, "{at_most} {reads_left}");
-                    cut = cut.saturating_add(1);
-                }
-            }
-        }
-        assert!(rt; whole > 0 && cut > 0, "{at_most}");
+/// How many bytes a read and a write move at most, whether it is the reader that fails, and whether a writer that fails
+/// takes none.
+const LIMITS: [(usize, usize, bool, bool); 6] = [
+    (1, 8192, true, false),
+    (7, 8192, true, false),
+    (8192, 8192, true, false),
+    (8192, 1, false, false),
+    (8192, 50, false, true),
+    (8192, 8192, false, false),
+];
+
+/// Whether a run was broken off by its reader, or by its writer.
+fn is_broken(ended: &Result<Ended, DryFault>, by_reader: bool) -> bool {
+    match ended {
+        Err(DryFault::Reader) => by_reader,
+        Err(DryFault::Writer) => !by_reader,
+        _ => false,
     }
-    Ok(())
 }
 
 #[test]
-fn stops_where_the_writer_fails(rt: HostRuntime) -> Result<(), Fail> {
-    for (at_most, takes_none) in [(1, false), (50, true), (8192, false)] {
+fn stops_where_the_reader_or_the_writer_fails(rt: HostRuntime) -> Result<(), Fail> {
+    for (read_most, write_most, by_reader, takes_none) in LIMITS {
         let mut whole = 0u32;
         let mut cut = 0u32;
-        for writes_left in 0..500 {
-            let mut reader = CUTS.as_bytes();
+        for calls in 0..500 {
+            let mut reader = Drip {
+                bytes: CUTS.as_bytes(),
+                at_most: read_most,
+                reads_left: if by_reader { calls } else { 1_000 },
+            };
             let mut writer = Full {
                 taken: Vec::new(rt.alloc()),
-                at_most,
-                writes_left,
+                at_most: write_most,
+                writes_left: if by_reader { 1_000 } else { calls },
                 takes_none,
             };
-            match dry_run(rt.alloc(), &mut reader, &mut writer, false) {
-                Ok(ended) => {
-                    assert!(rt;
-                        ended == Ended::Done && writer.taken.as_slice() == CUTS_TEXT.as_bytes()
-                    );
-                    whole = whole.saturating_add(1);
-                }
-                Err(fault) => {
-                    assert!(rt;
-                        matches!(fault, DryFault::Writer),
-                        "{at_most} {writes_left}"
-                    );
-                    assert!(rt;
-                        CUTS_TEXT.as_bytes().starts_with(writer.taken.as_slice()),
-                        "{at_most} {writes_left}"
-                    );
-                    assert!(rt; whole == 0, "{at_most} {writes_left}");
-                    cut = cut.saturating_add(1);
-                }
+            let ended = dry_run(rt.alloc(), &mut reader, &mut writer, false);
+            let text = writer.taken.as_slice();
+            if is_broken(&ended, by_reader) {
+                cut = cut.saturating_add(1);
+                assert!(rt;
+                    whole == 0 && CUTS_TEXT.as_bytes().starts_with(text),
+                    "{read_most} {write_most} {calls}"
+                );
+            } else {
+                whole = whole.saturating_add(1);
+                assert!(rt;
+                    matches!(ended, Ok(Ended::Done)) && text == CUTS_TEXT.as_bytes(),
+                    "{read_most} {write_most} {calls}"
+                );
             }
         }
-        assert!(rt; whole > 0 && cut > 0, "{at_most}");
+        assert!(rt; whole > 0 && cut > 0, "{read_most} {write_most}");
     }
     Ok(())
 }
@@ -156,35 +139,5 @@ fn reads_as_often_as_a_program_needs(rt: HostRuntime) -> Result<(), Fail> {
         assert!(rt; matches!(ended, Ok(Ended::Done)), "{at_most}");
         assert!(rt; text.as_slice() == expected.as_slice(), "{at_most}");
     }
-    Ok(())
-}
-
-/// A writer that counts what it takes.
-#[derive(Drop)]
-struct Counted {
-    bytes: usize,
-}
-
-impl Write for Counted {
-    fn write(&mut self, buf: &[u8]) -> io::Result<usize> {
-        self.bytes = self.bytes.saturating_add(buf.len());
-        Ok(buf.len())
-    }
-
-    fn flush(&mut self) -> io::Result<()> {
-        Ok(())
-    }
-}
-
-#[test]
-fn prints_a_million_commands_in_flat_memory(rt: HostRuntime) -> Result<(), Fail> {
-    let heap = LocalHeap::new(rt.alloc(), 40_000)?;
-    let mut text = Vec::new(&heap);
-    let mut writer = Counted { bytes: 0 };
-    let traverse = Canon::Command(Command::Traverse(Point::zero()));
-    for n in 0..1_000_000 {
-        assert!(rt; put_canon(&mut text, &mut writer, &traverse).is_ok(), "{n}");
-    }
-    assert_eq!(rt; writer.bytes.saturating_add(text.len()), 48_000_000);
     Ok(())
 }

@@ -14,9 +14,10 @@ unreachable-requires c =
 
 pub returns-clause-files : goal.returns-clause-files
 returns-clause-files c =
-    let program = codes "PROGRAM" in
-    let found = found_of c.args.matches.now in
-    sym (first_value-rows found program) ∙ (sym c.get_str.ensures ∙ ap (option_map (λ s. s.now)) c.in-Some.is)
+    let found = found_of c.args.matches.now in (
+      sym (first_value-rows found (codes "PROGRAM")) ∙ (sym c.get_str.ensures ∙ ap (option_map (λ s. s.now)) c.in-Some.is),
+      sym (first_value-rows found (codes "settings")) ∙ sym c.get_str-settings.ensures,
+    )
 
 pub returns-clause-flags : goal.returns-clause-flags
 returns-clause-flags c = go c.requires.flag.0 c.requires.flag.1

@@ -1,4 +1,4 @@
-use Rattle.std.proofs.Common.{◌≡◌, ◌∙◌}
+use Rattle.std.proofs.Common.{◌∙◌}
 use Rattle.ng_rig.proofs.Promise.{onto, meaning}
 use Rattle.ng_journal.proofs.SnapshotReading.{exit_no_report, exit_no_table, exit_whole}
 use Rattle.ng_journal.proofs.reading.read_snapshot.Goals as goal

@@ -1,4 +1,4 @@
-use Rattle.std.proofs.Common.{◌≡◌, ◌∙◌, arith}
+use Rattle.std.proofs.Common.{◌∙◌, arith}
 use Rattle.ng_rig.proofs.Promise.{onto, meaning}
 use Rattle.ng_journal.proofs.TableReading.{turn, damaged, whole}
 use Rattle.ng_journal.proofs.reading.read_table.Goals as goal

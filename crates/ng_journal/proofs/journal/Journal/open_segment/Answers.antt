@@ -1,4 +1,4 @@
-use Rattle.std.proofs.Common.{◌≡◌, sym, ◌∙◌, ap}
+use Rattle.std.proofs.Common.{◌≡◌, ◌∙◌, ap}
 use Rattle.ng_layout.specs.Stored.{Saved}
 use Rattle.ng_journal.proofs.Moving.{own, moved}
 use Rattle.ng_journal.proofs.journal.Journal.open_segment.Goals as goal

@@ -1,0 +1,27 @@
+-- The arc that a line asks for (NISTIR 6556, 3.5.3): its centre lies where I, J and K say, seen from its start.
+use Rattle.std.specs.Prelude.{ℤ, pos, ◌+ℤ◌, Option, Some, None}
+use Rattle.ng_canon.specs.declared.segment.Arc.{Arc}
+use Rattle.ng_arc.specs.declared.asked.AskedArc.{AskedArc}
+use Rattle.ng_arc.specs.Planes.{of_a, of_b}
+
+-- the offset of a word; a missing one is 0
+abbrev pub offset_of : Option ℤ → ℤ
+offset_of (Some offset) = offset
+offset_of None = pos 0
+
+abbrev pub centre_a : AskedArc → ℤ
+centre_a asked = of_a asked.plane asked.start.x asked.start.y asked.start.z +ℤ offset_of (of_a asked.plane asked.offsets.i asked.offsets.j asked.offsets.k)
+
+abbrev pub centre_b : AskedArc → ℤ
+centre_b asked = of_b asked.plane asked.start.x asked.start.y asked.start.z +ℤ offset_of (of_b asked.plane asked.offsets.i asked.offsets.j asked.offsets.k)
+
+abbrev pub arc_of : AskedArc → Arc
+arc_of asked = record {
+  plane = asked.plane;
+  turn = asked.turn;
+  start = asked.start;
+  end = asked.end;
+  centre_a = centre_a asked;
+  centre_b = centre_b asked;
+  pace = asked.pace;
+}

@@ -1,0 +1,28 @@
+-- Radii that count as one (own). A radius is the root of a whole number of square nanometres, which is mostly no fraction; it is
+-- known by the fractions that it doesn't pass.
+use Rattle.std.specs.Prelude.{ℕ, ◌+◌, ◌-◌, ◌*◌, ◌<◌, ◌≤◌, min, max, Bool, nat_le}
+
+-- the root of n is at most p / q
+abbrev pub IsRootAtMost : ℕ → ℕ → ℕ → Type 0
+IsRootAtMost n p q = n * (q * q) ≤ p * p
+
+-- the root of n is longer than that of m by at most t: what the root of m doesn't pass, lengthened by t, the root of n doesn't pass
+abbrev pub IsLongerByAtMost : ℕ → ℕ → ℕ → Type 0
+IsLongerByAtMost t n m = (p q : ℕ) → 0 < q → IsRootAtMost m p q → IsRootAtMost n (p + t * q) q
+
+-- the roots of n and m differ by at most t
+pub record AreAlike (n m t : ℕ) : Type 0 where
+  pub first : IsLongerByAtMost t n m
+  pub second : IsLongerByAtMost t m n
+
+-- how much u is above v and the square of t; 0 where it isn't
+abbrev pub excess : ℕ → ℕ → ℕ → ℕ
+excess t u v = u - v - t * t
+
+-- what that may be
+unfoldable pub is_excess_allowed : ℕ → ℕ → ℕ → Bool
+is_excess_allowed t u v = nat_le (excess t u v * excess t u v) (4 * (t * t) * v)
+
+-- the same by whole numbers
+abbrev pub are_alike : ℕ → ℕ → ℕ → Bool
+are_alike n m t = is_excess_allowed t (max n m) (min n m)

@@ -1,0 +1,98 @@
+//! What a line asks for where its motion is an arc.
+ghost use Rattle.std.specs.Prelude.{◌≡◌, Ok, Err, if◌then◌else◌};
+ghost use Rattle.ng_num.specs.declared.fault.Fault.TheVariants.{OutOfRange};
+
+use crate::plane::{of_a, of_b};
+use ng_canon::{Arc, Pace, Plane, Turn};
+use ng_num::{Fault, Len, Point, Unit};
+
+/// The axes of which a line has a word.
+#[derive(Clone, Copy, Debug, PartialEq, Eq)]
+pub struct NamedAxes {
+    pub x: bool,
+    pub y: bool,
+    pub z: bool,
+}
+
+/// The words I, J and K of a line: how far along X, Y and Z the centre lies from the start (NISTIR 6556, 3.5.3.2).
+#[derive(Clone, Copy, Debug, PartialEq, Eq)]
+pub struct CentreOffsets {
+    pub i: Option<Len>,
+    pub j: Option<Len>,
+    pub k: Option<Len>,
+}
+
+/// An arc that a line asks for, by G2 or G3.
+#[derive(Clone, Copy, Debug, PartialEq, Eq)]
+pub struct AskedArc {
+    pub plane: Plane,
+    pub turn: Turn,
+    /// The machine point where it starts.
+    pub start: Point,
+    /// The machine point where it ends; on an axis that isn't named, that of the start.
+    pub end: Point,
+    pub named: NamedAxes,
+    pub offsets: CentreOffsets,
+    /// The unit after the line's own words, which the tolerance of its radii goes by.
+    pub unit: Unit,
+    /// What it is stepped by; it decides no fault.
+    pub pace: Pace,
+}
+
+impl AskedArc {
+    ghost use Rattle.ng_num.specs.Range.{in_range};
+    ghost use Rattle.ng_arc.specs.Asked.{centre_a, centre_b, arc_of};
+    ghost use Rattle.ng_arc.specs.Check.{has_no_end, has_no_centre, is_centre_beyond};
+
+    /// The centre's machine coordinate on the plane's axis a; E3 beyond the range of lengths.
+    fn centre_a(&self) -> Result<Len, Fault>
+        ensures { result ≡ in_range (centre_a self.now) }
+    {
+        let start: Len = of_a(self.plane, self.start.x, self.start.y, self.start.z);
+        let word: Option<Len> = of_a(self.plane, self.offsets.i, self.offsets.j, self.offsets.k);
+        start.add(word.unwrap_or(Len::zero()))
+    }
+
+    /// That on its axis b.
+    fn centre_b(&self) -> Result<Len, Fault>
+        ensures { result ≡ in_range (centre_b self.now) }
+    {
+        let start: Len = of_b(self.plane, self.start.x, self.start.y, self.start.z);
+        let word: Option<Len> = of_b(self.plane, self.offsets.i, self.offsets.j, self.offsets.k);
+        start.add(word.unwrap_or(Len::zero()))
+    }
+
+    /// The arc round its centre; E3 where the centre's coordinates are beyond the range of lengths.
+    pub(crate) fn arc(&self) -> Result<Arc, Fault>
+        ensures { result ≡ (if is_centre_beyond self.now then Err OutOfRange else Ok (arc_of self.now)) }
+    {
+        Ok(Arc {
+            plane: self.plane,
+            turn: self.turn,
+            start: self.start,
+            end: self.end,
+            centre_a: self.centre_a()?,
+            centre_b: self.centre_b()?,
+            pace: self.pace,
+        })
+    }
+
+    /// Whether the line names no end coordinate in the plane.
+    pub(crate) fn has_no_end(&self) -> bool
+        ensures { result ≡ has_no_end self.now }
+    {
+        let named = &self.named;
+        !(of_a(self.plane, named.x, named.y, named.z)
+            || of_b(self.plane, named.x, named.y, named.z))
+    }
+
+    /// Whether it has no offset in the plane.
+    pub(crate) fn has_no_centre(&self) -> bool
+        ensures { result ≡ has_no_centre self.now }
+    {
+        let offsets = &self.offsets;
+        let along_a: Option<Len> = of_a(self.plane, offsets.i, offsets.j, offsets.k);
+        let along_b: Option<Len> = of_b(self.plane, offsets.i, offsets.j, offsets.k);
+        !(along_a.is_some() || along_b.is_some())
+    }
+}

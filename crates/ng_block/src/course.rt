@@ -1,0 +1,109 @@
+//! A block's segments, one at a time, kept without its effect: so a block may be worked long after the places of its
+//! line serve another.
+ghost use Rattle.std.specs.Prelude.{◌≡◌, ◌∷◌, [], MatchOption};
+ghost use Rattle.ng_block.specs.Course.{plan_of, rest_of};
+ghost use Rattle.ng_block.specs.Effects.{segments_by};
+ghost use Rattle.ng_block.specs.Order.{outputs_through, segments_at};
+ghost use Rattle.ng_block.specs.Tasks.{tasks_in};
+
+use crate::effect::Effect;
+use crate::path::{Moves, Path};
+use crate::steps::{ORDER, Step};
+use crate::switches::{outputs_through, segment_at};
+use crate::tasks::Tasks;
+use ng_canon::{Outputs, Segment};
+use std::marker::Model;
+
+/// What is left of a block's segments.
+#[derive(Drop)]
+struct CourseLeft {
+    tasks: Option<Tasks>,
+    path: Path,
+    /// The outputs behind the steps that have begun.
+    behind: Outputs,
+    /// The segments of the motion, where that has begun.
+    moves: Moves,
+    /// The steps that haven't begun.
+    steps: &'static [Step],
+}
+
+/// The segments that are left of a block, in their order. Contracts see the list of them.
+#[derive(Drop)]
+pub struct Course {
+    rest: CourseLeft,
+}
+
+impl Model for Course {
+    ghost use Rattle.std.specs.Prelude.{List};
+    ghost use Rattle.ng_canon.specs.declared.segment.Segment.{Segment};
+
+    ghost Value = { List Segment };
+
+    ghost use Rattle.ng_block.specs.Course.{rest_of};
+
+    ghost view = { λ c. rest_of c.rest };
+}
+
+impl Effect {
+    /// Its segments, kept without it.
+    pub fn course(&self) -> Course
+        ensures { result ≡ segments_by self.now }
+    {
+        Course {
+            rest: CourseLeft {
+                tasks: self.plan.tasks,
+                path: self.plan.path,
+                behind: self.plan.before,
+                moves: Moves::none(),
+                steps: &ORDER,
+            },
+        }
+    }
+}
+
+impl CourseLeft {
+    /// Begins a step, and gives its first segment.
+    fn first_in(&mut self, step: Step) -> Option<Segment>
+        requires { self.old.moves ≡ [] }
+        ensures tasks { self.new.tasks ≡ self.old.tasks }
+        ensures path { self.new.path ≡ self.old.path }
+        ensures steps { self.new.steps ≡ self.old.steps }
+        ensures behind { self.new.behind ≡ outputs_through (tasks_in self.old.tasks) self.old.behind step }
+        ensures next { MatchOption result ((segments_at (plan_of self.old) self.new.behind step ≡ []) × (self.new.moves ≡ [])) (λ segment. segments_at (plan_of self.old) self.new.behind step ≡ segment ∷ self.new.moves) }
+    {
+        self.behind = outputs_through(&self.tasks, self.behind, step);
+        match step {
+            Step::Motion => {
+                self.moves = Moves::of(&self.path);
+                self.moves.next()
+            }
+            _ => segment_at(&self.tasks, self.behind, step),
+        }
+    }
+
+    /// The next segment.
+    fn next(&mut self) -> Option<Segment>
+        ensures { MatchOption result ((rest_of self.old ≡ []) × (rest_of self.new ≡ [])) (λ segment. rest_of self.old ≡ segment ∷ rest_of self.new) }
+    {
+        if let Some(segment) = self.moves.next() {
+            return Some(segment);
+        }
+        while let [step, behind @ ..] = self.steps {
+            self.steps = behind;
+            match self.first_in(*step) {
+                Some(segment) => return Some(segment),
+                None => {}
+            }
+        }
+        None
+    }
+}
+
+impl Course {
+    /// The next segment.
+    pub fn next(&mut self) -> Option<Segment>
+        ensures { MatchOption result ((self.old ≡ []) × (self.new ≡ [])) (λ segment. self.old ≡ segment ∷ self.new) }
+    {
+        self.rest.next()
+    }
+}

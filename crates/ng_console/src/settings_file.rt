@@ -1,0 +1,53 @@
+//! The settings that a run is made with.
+ghost use Rattle.std.specs.Prelude.{IfSome};
+ghost use Rattle.ng_console.specs.Chosen.{Gives, GivesChoice};
+
+use ng_num::Fault;
+use ng_settings::{Settings, settings};
+use std::alloc::Global;
+use std::io;
+use std::io::Read;
+
+/// Why there are no settings.
+#[derive(Clone, Copy, Debug, PartialEq, Eq)]
+pub(crate) enum NoSettings {
+    /// The file can't be opened or read, or memory for its bytes is wanting.
+    Unread,
+    /// The text is refused.
+    Refused(Fault),
+}
+
+/// The settings of a text.
+fn settings_in(alloc: Global, text: &[u8]) -> Result<Settings, NoSettings>
+    ensures { Gives text.now result }
+{
+    match settings(alloc, text) {
+        Ok(settings) => Ok(settings),
+        Err(fault) => Err(NoSettings::Refused(fault)),
+    }
+}
+
+/// The settings of a file.
+fn settings_of<R: Read + Drop>(alloc: Global, mut file: R) -> Result<Settings, NoSettings>
+    ensures { IfSome (R.remaining file) (λ text. Gives text result) }
+{
+    let mut bytes = Vec::new(alloc);
+    match file.read_to_end(&mut bytes) {
+        Ok(_) => settings_in(alloc, bytes.as_slice()),
+        Err(_) => Err(NoSettings::Unread),
+    }
+}
+
+/// The settings of a file that was opened, or the default ones where none is named.
+pub(crate) fn chosen_settings<R: Read + Drop>(
+    alloc: Global,
+    named: Option<io::Result<R>>,
+) -> Result<Settings, NoSettings>
+    ensures { GivesChoice R.remaining named result }
+{
+    match named {
+        Some(Ok(file)) => settings_of(alloc, file),
+        Some(Err(_)) => Err(NoSettings::Unread),
+        None => Ok(Settings::standard()),
+    }
+}

@@ -1,0 +1,4 @@
+pub mod Between
+pub mod Steps
+pub mod Far
+pub mod Travel

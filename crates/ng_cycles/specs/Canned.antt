@@ -1,0 +1,21 @@
+-- What is true of a canned cycle that nothing forbids.
+use Rattle.std.specs.Prelude.{◌≡◌, ℕ, ◌≤◌, ℤ, pos, ◌≤ℤ◌, ◌+ℤ◌}
+use Rattle.std.specs.Int.{int_max}
+use Rattle.ng_num.specs.Range.{IsCount}
+use Rattle.ng_cycles.specs.declared.drill.Drill.{Drill}
+use Rattle.ng_cycles.specs.Strokes.{coordinate}
+
+-- it has a place for each repeat, the last one in range, and R lies above Z
+pub record IsMade (d : Drill) : Type 0 where
+  pub some : 1 ≤ d.repeats
+  pub few : d.repeats ≤ 9_999_999
+  pub x : IsCount (coordinate d.x d.repeats)
+  pub y : IsCount (coordinate d.y d.repeats)
+  pub above : d.z ≤ℤ d.r
+  pub above_r : d.r ≤ℤ d.clear
+  pub below_top : d.clear ≤ℤ int_max d.start.z d.r
+
+-- and in a travel that a machine may have
+pub record IsCanned (d : Drill) : Type 0 where
+  pub made : IsMade d
+  pub near : d.r ≤ℤ (d.z +ℤ pos 20_000_000_000)

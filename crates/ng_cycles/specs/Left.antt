@@ -1,0 +1,69 @@
+-- What a cursor over a cycle's segments has left.
+use Rattle.std.specs.Prelude.{◌≡◌, ℕ, suc, ℤ, pos, ◌+ℤ◌, Option, MatchOption, List, [], ◌∷◌, ◌++◌, flat_map}
+use Rattle.std.specs.Int.{int_min}
+use Rattle.ng_canon.specs.declared.outputs.Spindle.TheVariants.{Stopped}
+use Rattle.ng_canon.specs.declared.segment.Segment.{Segment}
+use Rattle.ng_cycles.specs.declared.drill.Drill.{Drill}
+use Rattle.ng_cycles.specs.declared.drill.Work.{Work}
+use Rattle.ng_cycles.specs.declared.drill.Work.TheVariants.{Drilling, DrillingWithDwell, PeckDrilling, Boring, BoringWithStop, BoringWithDwell}
+use Rattle.ng_cycles.specs.declared.left.CycleLeft.{CycleLeft}
+use Rattle.ng_cycles.specs.declared.phase.Phase.{Phase}
+use Rattle.ng_cycles.specs.declared.phase.Phase.TheVariants as phase
+use Rattle.ng_cycles.specs.declared.phase.Pecking.{Pecking}
+use Rattle.ng_cycles.specs.Strokes.{Stroke, ToR, TraverseTo, FeedTo, Wait, Turn, numbers_from, bottom, clearance, again, strokes_of, repeat}
+use Rattle.ng_cycles.specs.Segments.{traced, stand_after, Ahead}
+
+-- how long it waits at the bottom
+abbrev pub seconds_of : Work → ℤ
+seconds_of (DrillingWithDwell seconds) = seconds
+seconds_of (BoringWithStop seconds) = seconds
+seconds_of (BoringWithDwell seconds) = seconds
+seconds_of _ = pos 0
+
+-- how the tool comes out of a hole
+abbrev pub way_out : Drill → Work → List Stroke
+way_out d Drilling = TraverseTo d.clear ∷ []
+way_out d (DrillingWithDwell seconds) = TraverseTo d.clear ∷ []
+way_out d (PeckDrilling peck) = TraverseTo d.clear ∷ []
+way_out d Boring = FeedTo d.clear ∷ []
+way_out d (BoringWithStop seconds) = Turn Stopped ∷ TraverseTo d.clear ∷ Turn d.outputs.spindle ∷ []
+way_out d (BoringWithDwell seconds) = FeedTo d.clear ∷ []
+
+-- so many pecks behind peck k, and out
+abbrev pub pecks_behind : Drill → ℕ → ℕ → ℕ → List Stroke
+pecks_behind d peck k n = flat_map (again d peck) (numbers_from k n) ++ TraverseTo d.clear ∷ []
+
+-- what is left of a repeat
+abbrev pub strokes_in : Drill → Phase → List Stroke
+strokes_in d phase.Rise = TraverseTo d.r ∷ []
+strokes_in d phase.Across = []
+strokes_in d phase.ToR = TraverseTo d.r ∷ strokes_of d d.work
+strokes_in d phase.Down = strokes_of d d.work
+strokes_in d phase.Dwell = Wait (seconds_of d.work) ∷ way_out d d.work
+strokes_in d phase.Stop = Turn Stopped ∷ TraverseTo d.clear ∷ Turn d.outputs.spindle ∷ []
+strokes_in d phase.OutStopped = TraverseTo d.clear ∷ Turn d.outputs.spindle ∷ []
+strokes_in d phase.Start = Turn d.outputs.spindle ∷ []
+strokes_in d phase.Out = TraverseTo d.clear ∷ []
+strokes_in d phase.FeedOut = FeedTo d.clear ∷ []
+strokes_in d (phase.PeckOut p) = TraverseTo d.r ∷ TraverseTo (int_min d.r (bottom d p.peck p.done +ℤ clearance)) ∷ FeedTo (bottom d p.peck (suc p.done)) ∷ pecks_behind d p.peck (suc p.done) p.left
+strokes_in d (phase.PeckBack p) = TraverseTo (int_min d.r (bottom d p.peck p.done +ℤ clearance)) ∷ FeedTo (bottom d p.peck (suc p.done)) ∷ pecks_behind d p.peck (suc p.done) p.left
+strokes_in d (phase.PeckDown p) = FeedTo (bottom d p.peck (suc p.done)) ∷ pecks_behind d p.peck (suc p.done) p.left
+
+-- what is left of a cycle
+abbrev pub strokes_left : Drill → CycleLeft → List Stroke
+strokes_left d c = strokes_in d c.phase ++ flat_map (repeat d) (numbers_from (suc c.begun) c.repeats_left)
+
+abbrev pub ahead_of : CycleLeft → Ahead
+ahead_of c = record { standing = c.standing; segments = traced c.canned c.standing (strokes_left c.canned c) }
+
+-- the next segment of what is ahead, if there is one
+abbrev pub IsNext : Ahead → Ahead → Option Segment → Type 0
+IsNext old new result = MatchOption result ((old.segments ≡ []) × (new ≡ old)) (λ segment. (old.segments ≡ segment ∷ new.segments) × (new.standing ≡ stand_after old.standing segment))
+
+-- a segment is the next one, and the repeat stays
+pub record Gives (old new : CycleLeft) (segment : Segment) : Type 0 where
+  pub segments : (ahead_of old).segments ≡ segment ∷ (ahead_of new).segments
+  pub standing : new.standing ≡ stand_after old.standing segment
+  pub canned : new.canned ≡ old.canned
+  pub begun : new.begun ≡ old.begun
+  pub repeats : new.repeats_left ≡ old.repeats_left

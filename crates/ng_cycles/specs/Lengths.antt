@@ -1,0 +1,87 @@
+-- What a cycle's words name in machine coordinates, and the lengths that are looked at for their range (NISTIR 6556, 3.5.16,
+-- 3.5.17; ranges own).
+use Rattle.std.specs.Prelude.{ℕ, ℤ, pos, ◌+ℤ◌, ◌-ℤ◌, ◌*ℤ◌, unsigned_abs, Bool, true, false, not, nat_le, if◌then◌else◌, Option, Some, None, unwrap_or, List, [], ◌∷◌, ◌++◌, flat_map, Result, Ok, Err}
+use Rattle.std.specs.List.{list_any}
+use Rattle.std.specs.Option.{option_map}
+use Rattle.ng_num.specs.Range.{greatest}
+use Rattle.ng_num.specs.declared.fault.Fault.{Fault}
+use Rattle.ng_num.specs.declared.fault.Fault.TheVariants.{OutOfRange}
+use Rattle.ng_offsets.specs.Points.{shift_x, shift_y, shift_z}
+use Rattle.ng_cycles.specs.declared.drill.Course.{Course}
+use Rattle.ng_cycles.specs.declared.heights.Heights.{Heights}
+use Rattle.ng_cycles.specs.declared.words.CycleWords.{CycleWords}
+use Rattle.ng_cycles.specs.declared.words.KeptWords.{KeptWords}
+use Rattle.ng_cycles.specs.declared.words.Setting.{Setting}
+use Rattle.ng_cycles.specs.Strokes.{numbers_from}
+use Rattle.ng_cycles.specs.Words.{in_force}
+
+-- ---- machine coordinates
+
+-- the places along an axis: under G90 the named one for all repeats, under G91 from the current one on
+abbrev pub course_of : Bool → Option ℤ → ℤ → ℤ → Course
+course_of incremental None shift at = record { from = at; step = pos 0 }
+course_of false (Some word) shift at = record { from = word +ℤ shift; step = pos 0 }
+course_of true (Some word) shift at = record { from = at; step = word }
+
+-- R: under G91 it counts from the current Z
+abbrev pub r_of : Bool → ℤ → ℤ → ℤ → ℤ
+r_of false word shift at = word +ℤ shift
+r_of true word shift at = at +ℤ word
+
+-- Z: under G91 it counts from R
+abbrev pub z_of : Bool → ℤ → ℤ → ℤ → ℤ
+z_of false word shift r = word +ℤ shift
+z_of true word shift r = r +ℤ word
+
+abbrev pub z_by : Bool → Option ℤ → Option ℤ → ℤ → ℤ → Option ℤ
+z_by incremental r None shift at = None
+z_by false r (Some word) shift at = Some (word +ℤ shift)
+z_by true None (Some word) shift at = None
+z_by true (Some r) (Some word) shift at = Some ((at +ℤ r) +ℤ word)
+
+-- the same of words that may be missing; under G91 Z is none where R is missing
+abbrev pub heights_of : Bool → KeptWords → ℤ → ℤ → Heights
+heights_of incremental words shift at = record { r = option_map (λ r. r_of incremental r shift at) words.r; z = z_by incremental words.r words.z shift at }
+
+-- ---- what is looked at: the current and the new program coordinates where the line needs them, and the machine coordinates
+
+-- a program and a machine coordinate at the place of a repeat
+abbrev pub repeated : ℤ → ℤ → ℤ → ℕ → List ℤ
+repeated program machine word r = (program +ℤ pos r *ℤ word) ∷ (machine +ℤ pos r *ℤ word) ∷ []
+
+abbrev pub place_lengths : Bool → Option ℤ → ℤ → ℤ → ℕ → List ℤ
+place_lengths incremental None shift at repeats = []
+place_lengths false (Some word) shift at repeats = (word +ℤ shift) ∷ []
+place_lengths true (Some word) shift at repeats =
+    (at -ℤ shift) ∷ flat_map (repeated (at -ℤ shift) at word) (numbers_from 1 repeats)
+
+abbrev pub r_lengths : Bool → Option ℤ → ℤ → ℤ → List ℤ
+r_lengths incremental None shift at = []
+r_lengths false (Some word) shift at = (word +ℤ shift) ∷ []
+r_lengths true (Some word) shift at = (at -ℤ shift) ∷ ((at -ℤ shift) +ℤ word) ∷ (at +ℤ word) ∷ []
+
+-- under G91 Z is none where R is missing
+abbrev pub z_lengths : Bool → Option ℤ → Option ℤ → ℤ → ℤ → List ℤ
+z_lengths incremental r None shift at = []
+z_lengths false r (Some word) shift at = (word +ℤ shift) ∷ []
+z_lengths true None (Some word) shift at = []
+z_lengths true (Some r) (Some word) shift at = (((at -ℤ shift) +ℤ r) +ℤ word) ∷ ((at +ℤ r) +ℤ word) ∷ []
+
+abbrev pub height_lengths : KeptWords → Setting → List ℤ
+height_lengths words s =
+    r_lengths s.is_incremental words.r (shift_z s.offsets) s.point.z
+    ++ z_lengths s.is_incremental words.r words.z (shift_z s.offsets) s.point.z
+
+abbrev pub lengths : CycleWords → Setting → List ℤ
+lengths w s =
+    place_lengths s.is_incremental w.x (shift_x s.offsets) s.point.x w.repeats
+    ++ (place_lengths s.is_incremental w.y (shift_y s.offsets) s.point.y w.repeats
+    ++ height_lengths (in_force w.own s.kept) s)
+
+-- beyond the range of lengths
+abbrev pub is_far : ℤ → Bool
+is_far n = not (nat_le (unsigned_abs n) greatest)
+
+-- what there is, unless one of some lengths is beyond the range
+abbrev pub far_unless : {X : Type 0} → List ℤ → X → Result X Fault
+far_unless lengths x = if list_any is_far lengths then Err OutOfRange else Ok x

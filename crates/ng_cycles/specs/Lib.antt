@@ -1,0 +1,8 @@
+pub mod Strokes
+pub mod Canned
+pub mod Segments
+pub mod Left
+pub mod Words
+pub mod Lengths
+pub mod Faults
+pub mod Inside

@@ -1,0 +1,57 @@
+-- The segments of a canned cycle: each begins where the one before it ended.
+use Rattle.std.specs.Prelude.{ℕ, ℤ, List, [], ◌∷◌, ◌++◌, take, drop, fold, if◌then◌else◌}
+use Rattle.std.specs.Ordering.{int_eq}
+use Rattle.ng_num.specs.declared.point.Point.{Point}
+use Rattle.ng_canon.specs.declared.pace.Pace.{Pace}
+use Rattle.ng_canon.specs.declared.pace.Pace.TheVariants as pace
+use Rattle.ng_canon.specs.declared.segment.Segment.{Segment}
+use Rattle.ng_canon.specs.declared.segment.Segment.TheVariants as segment
+use Rattle.ng_cycles.specs.declared.drill.Drill.{Drill}
+use Rattle.ng_cycles.specs.declared.standing.Standing.{Standing}
+use Rattle.ng_cycles.specs.Strokes.{Stroke, Across, ToR, TraverseTo, FeedTo, Wait, Turn, coordinate, strokes}
+
+-- where the machine stands behind a segment, and its outputs there
+abbrev pub stand_after : Standing → Segment → Standing
+stand_after at (segment.Line line) = record at { point = line.end }
+stand_after at (segment.Arc arc) = record at { point = arc.end }
+stand_after at (segment.Dwell seconds) = at
+stand_after at (segment.Switch outputs) = record at { outputs = outputs }
+
+-- the same behind some segments
+abbrev pub behind : Standing → List Segment → Standing
+behind at segments = fold stand_after at segments
+
+abbrev pub line_to : Pace → Point → Point → Segment
+line_to pace start end = segment.Line (record { start = start; end = end; pace = pace })
+
+-- a stroke is one segment, but that to R is none where Z is there
+abbrev pub segments_of : Drill → Standing → Stroke → List Segment
+segments_of d at (Across r) = line_to pace.Traverse at.point (record at.point { x = coordinate d.x r; y = coordinate d.y r }) ∷ []
+segments_of d at ToR = if int_eq at.point.z d.r then [] else line_to pace.Traverse at.point (record at.point { z = d.r }) ∷ []
+segments_of d at (TraverseTo z) = line_to pace.Traverse at.point (record at.point { z = z }) ∷ []
+segments_of d at (FeedTo z) = line_to (pace.Feed d.rate) at.point (record at.point { z = z }) ∷ []
+segments_of d at (Wait seconds) = segment.Dwell seconds ∷ []
+segments_of d at (Turn spindle) = segment.Switch (record d.outputs { spindle = spindle }) ∷ []
+
+abbrev pub traced : Drill → Standing → List Stroke → List Segment
+traced d at [] = []
+traced d at (s ∷ rest) = segments_of d at s ++ traced d (behind at (segments_of d at s)) rest
+
+abbrev pub begin : Drill → Standing
+begin d = record { point = d.start; outputs = d.outputs }
+
+-- all segments of a cycle
+abbrev pub cycle_segments : Drill → List Segment
+cycle_segments d = traced d (begin d) (strokes d)
+
+-- segments that are left, and how the machine stands before them
+pub record Ahead : Type 0 where
+  pub standing : Standing
+  pub segments : List Segment
+
+abbrev pub whole : Drill → Ahead
+whole d = record { standing = begin d; segments = cycle_segments d }
+
+-- the same with so many of them done
+abbrev pub later : ℕ → Ahead → Ahead
+later n a = record { standing = behind a.standing (take n a.segments); segments = drop n a.segments }

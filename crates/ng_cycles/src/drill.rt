@@ -1,0 +1,48 @@
+//! A canned cycle in machine coordinates.
+use crate::peck::Peck;
+use ng_canon::{Outputs, Rate};
+use ng_num::{Len, Num, Point};
+
+/// What a cycle does at each of its places (NISTIR 6556, 3.5.16.2 to 3.5.16.9). Dwells are in seconds.
+#[derive(Clone, Copy, Debug, PartialEq, Eq)]
+pub enum Work {
+    /// G81.
+    Drilling,
+    /// G82.
+    DrillingWithDwell(Num),
+    /// G83.
+    PeckDrilling(Peck),
+    /// G85.
+    Boring,
+    /// G86: the spindle stands still on the way out.
+    BoringWithStop(Num),
+    /// G89.
+    BoringWithDwell(Num),
+}
+
+/// An axis's coordinates at the places of a cycle: where they count from, and what is added for each repeat (NISTIR 6556,
+/// 3.5.16).
+#[derive(Clone, Copy, Debug, PartialEq, Eq)]
+pub struct Course {
+    pub from: Len,
+    pub step: Len,
+}
+
+/// What a canned cycle does, in machine coordinates.
+#[derive(Clone, Copy, Debug, PartialEq, Eq)]
+pub struct Drill {
+    pub work: Work,
+    /// Where the machine stands before it.
+    pub start: Point,
+    pub x: Course,
+    pub y: Course,
+    pub r: Len,
+    pub z: Len,
+    /// Where each repeat ends: at R, or at the old Z (NISTIR 6556, 3.5.20).
+    pub clear: Len,
+    /// 1 to 9,999,999.
+    pub repeats: u32,
+    pub rate: Rate,
+    /// The outputs before it, and behind it.
+    pub outputs: Outputs,
+}

@@ -1,0 +1,176 @@
+//! A cycle's lengths in machine coordinates. E3 where one of them is beyond the range.
+ghost use Rattle.std.specs.Prelude.{◌≡◌, ◌≤◌, ◌+ℤ◌, ◌-ℤ◌, ◌*ℤ◌, ◌||◌, ◌++◌, pos, true, false, flat_map, IfOk};
+ghost use Rattle.std.specs.List.{list_any};
+ghost use Rattle.ng_num.specs.Range.{IsCount};
+ghost use Rattle.ng_cycles.specs.Lengths.{course_of, r_of, heights_of, place_lengths, r_lengths, z_lengths, height_lengths, repeated, is_far, far_unless};
+ghost use Rattle.ng_cycles.specs.Strokes.{numbers_from, coordinate};
+ghost use Rattle.ng_offsets.specs.Points.{shift_z};
+
+use crate::drill::Course;
+use crate::places::times;
+use crate::words::{CycleWords, KeptWords, Setting};
+use ng_num::{Fault, Len};
+use ng_offsets::Shift;
+
+/// R and Z in machine coordinates, where their words are there. Under G91 Z is none where R is missing.
+#[derive(Clone, Copy, Debug, PartialEq, Eq)]
+pub struct Heights {
+    pub r: Option<Len>,
+    pub z: Option<Len>,
+}
+
+/// What a cycle's words name in machine coordinates.
+#[derive(Clone, Copy, Debug, PartialEq, Eq)]
+pub struct Lengths {
+    pub x: Course,
+    pub y: Course,
+    pub r: Len,
+    pub z: Len,
+}
+
+/// Whether a coordinate with a length added so many times is beyond the range of lengths.
+fn is_far(coordinate: Len, repeats: u32, length: Len) -> bool
+    ensures { result ≡ is_far (coordinate +ℤ pos repeats *ℤ length) }
+{
+    let added = times(repeats, length);
+    (coordinate.nm() as i128 + added).unsigned_abs() > 9_999_999_999_999
+}
+
+fn is_either(one: bool, other: bool) -> bool
+    ensures { result ≡ (one || other) }
+{
+    one || other
+}
+
+/// Whether the coordinates at some place are beyond the range: then those at the last one are.
+fn reaches_far(current: Len, at: Len, word: Len, repeats: u32) -> bool
+    requires { 1 ≤ repeats }
+    ensures far { result ≡ list_any is_far (flat_map (repeated current at word) (numbers_from 1 repeats)) }
+    ensures last { result ≡ false → IsCount (at +ℤ pos repeats *ℤ word) }
+{
+    let _range = (current.nm(), at.nm());
+    is_either(is_far(current, repeats, word), is_far(at, repeats, word))
+}
+
+/// The places along an axis from the current coordinate on.
+fn stepping(
+    word: Len,
+    shift: Shift,
+    at: Len,
+    repeats: u32,
+) -> Result<Course, Fault>
+    requires { 1 ≤ repeats }
+    ensures course { result ≡ far_unless (place_lengths true (Some word) shift at repeats) (course_of true (Some word) shift at) }
+    ensures reaches { IfOk result (λ course. IsCount (coordinate course repeats)) }
+{
+    let current = shift.to_program(at)?;
+    if reaches_far(current, at, word, repeats) {
+        return Err(Fault::OutOfRange);
+    }
+    Ok(Course {
+        from: at,
+        step: word,
+    })
+}
+
+/// The places along an axis.
+pub fn course_of(
+    is_incremental: bool,
+    word: Option<Len>,
+    shift: Shift,
+    at: Len,
+    repeats: u32,
+) -> Result<Course, Fault>
+    requires { 1 ≤ repeats }
+    ensures course { result ≡ far_unless (place_lengths is_incremental word shift at repeats) (course_of is_incremental word shift at) }
+    ensures reaches { IfOk result (λ course. IsCount (coordinate course repeats)) }
+{
+    match word {
+        None => {
+            let _range = at.nm();
+            Ok(Course {
+                from: at,
+                step: Len::zero(),
+            })
+        }
+        Some(word) => if is_incremental {
+            stepping(word, shift, at, repeats)
+        } else {
+            let from = shift.to_machine(word)?;
+            let _range = from.nm();
+            Ok(Course {
+                from,
+                step: Len::zero(),
+            })
+        },
+    }
+}
+
+/// R of a word.
+fn r_of(is_incremental: bool, word: Len, shift: Shift, at: Len) -> Result<Len, Fault>
+    ensures { result ≡ far_unless (r_lengths is_incremental (Some word) shift at) (r_of is_incremental word shift at) }
+{
+    if is_incremental {
+        let current = shift.to_program(at)?;
+        current.add(word)?;
+        at.add(word)
+    } else {
+        shift.to_machine(word)
+    }
+}
+
+/// Z of a word that counts from R.
+fn z_from(r: Len, word: Len, shift: Shift, at: Len) -> Result<Len, Fault>
+    requires current { IsCount (at -ℤ shift) }
+    requires r { IsCount ((at -ℤ shift) +ℤ r) }
+    requires machine { IsCount (at +ℤ r) }
+    ensures { result ≡ far_unless (z_lengths true (Some r) (Some word) shift at) ((at +ℤ r) +ℤ word) }
+{
+    let current = shift.to_program(at).unwrap();
+    current.add(r).unwrap().add(word)?;
+    at.add(r).unwrap().add(word)
+}
+
+/// R and Z under G91.
+fn heights_from(words: &KeptWords, shift: Shift, at: Len) -> Result<Heights, Fault>
+    ensures { result ≡ far_unless (r_lengths true words.now.r shift at ++ z_lengths true words.now.r words.now.z shift at) (heights_of true words.now shift at) }
+{
+    let (r, z) = match words.r {
+        None => (None, None),
+        Some(word) => {
+            let r = r_of(true, word, shift, at)?;
+            match words.z {
+                None => (Some(r), None),
+                Some(z) => (Some(r), Some(z_from(word, z, shift, at)?)),
+            }
+        }
+    };
+    Ok(Heights { r, z })
+}
+
+/// R and Z under G90.
+fn heights_at(words: &KeptWords, shift: Shift, at: Len) -> Result<Heights, Fault>
+    ensures { result ≡ far_unless (r_lengths false words.now.r shift at ++ z_lengths false words.now.r words.now.z shift at) (heights_of false words.now shift at) }
+{
+    let r = match words.r {
+        None => None,
+        Some(word) => Some(shift.to_machine(word)?),
+    };
+    let z = match words.z {
+        None => None,
+        Some(word) => Some(shift.to_machine(word)?),
+    };
+    Ok(Heights { r, z })
+}
+
+/// R and Z in machine coordinates.
+pub fn heights_of(words: &KeptWords, setting: &Setting) -> Result<Heights, Fault>
+    ensures { result ≡ far_unless (height_lengths words.now setting.now) (heights_of setting.now.is_incremental words.now (shift_z setting.now.offsets) setting.now.point.z) }
+{
+    let shift = setting.offsets.z();
+    if setting.is_incremental {
+        heights_from(words, shift, setting.point.z)
+    } else {
+        heights_at(words, shift, setting.point.z)
+    }
+}

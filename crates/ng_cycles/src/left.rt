@@ -1,0 +1,232 @@
+//! What is left of a cycle: a repeat and a phase of it.
+ghost use Rattle.std.specs.Prelude.{◌≡◌, ◌∷◌, [], ◌+◌, ◌<◌, ◌++◌, if◌then◌else◌};
+ghost use Rattle.std.specs.Ordering.{int_eq};
+ghost use Rattle.ng_canon.specs.declared.pace.Pace.TheVariants as pace;
+ghost use Rattle.ng_cycles.specs.Strokes.{strokes_of, TraverseTo};
+ghost use Rattle.ng_cycles.specs.Segments.{stand_after, line_to, whole};
+ghost use Rattle.ng_cycles.specs.Left.{ahead_of, strokes_in, seconds_of, way_out, pecks_behind, Gives, IsNext};
+ghost use Rattle.ng_cycles.specs.declared.drill.Drill.{Drill};
+
+use crate::canned::Canned;
+use crate::drill::Work;
+use crate::peck::Peck;
+use crate::phase::{Pecking, Phase};
+use crate::standing::Standing;
+use ng_canon::{Pace, Segment, Spindle};
+use ng_num::{Len, Num};
+
+/// What is left of a cycle.
+#[derive(Clone, Copy)]
+pub struct CycleLeft {
+    pub canned: Canned,
+    pub standing: Standing,
+    /// The repeats that have begun.
+    pub begun: u32,
+    pub repeats_left: u32,
+    pub phase: Phase,
+}
+
+/// What comes behind so many pecks, where so many are left.
+fn behind_peck(peck: Peck, done: u64, left: u64) -> Phase
+    requires { done + left < 40_000_000_000_000 }
+    ensures { (d : Drill) → strokes_in d result ≡ pecks_behind d peck done left }
+{
+    if left == 0 {
+        return Phase::Out;
+    }
+    Phase::PeckOut(Pecking {
+        peck,
+        done,
+        left: left - 1,
+    })
+}
+
+/// A dwell.
+fn dwell_in(seconds: Num) -> Segment
+    ensures { result ≡ Segment.Dwell seconds }
+{
+    Segment::Dwell(seconds)
+}
+
+/// How long a cycle waits at the bottom.
+fn seconds_of(work: Work) -> Num
+    ensures { result ≡ seconds_of work }
+{
+    match work {
+        Work::DrillingWithDwell(seconds) => seconds,
+        Work::BoringWithStop(seconds) => seconds,
+        Work::BoringWithDwell(seconds) => seconds,
+        Work::Drilling | Work::PeckDrilling(_) | Work::Boring => Num::zero(),
+    }
+}
+
+/// What comes first on the way out.
+fn way_out(work: Work) -> Phase
+    ensures { (d : Drill) → strokes_in d result ≡ way_out d work }
+{
+    match work {
+        Work::Drilling | Work::DrillingWithDwell(_) | Work::PeckDrilling(_) => Phase::Out,
+        Work::Boring | Work::BoringWithDwell(_) => Phase::FeedOut,
+        Work::BoringWithStop(_) => Phase::Stop,
+    }
+}
+
+impl Canned {
+    /// What comes at a place, at a height.
+    fn at_place(&self, z: Len) -> Phase
+        ensures { strokes_in self.now result ≡ (if int_eq z self.now.r then [] else TraverseTo self.now.r ∷ []) ++ strokes_of self.now self.now.work }
+    {
+        if z.nm() == self.drill().r.nm() {
+            Phase::Down
+        } else {
+            Phase::ToR
+        }
+    }
+}
+
+/// A cycle before all of it.
+pub fn cycle_left(canned: &Canned) -> CycleLeft
+    ensures ahead { ahead_of result ≡ whole canned.now }
+    ensures count { result.begun + result.repeats_left ≡ result.canned.repeats }
+{
+    let drill = canned.drill();
+    let standing = Standing {
+        point: drill.start,
+        outputs: drill.outputs,
+    };
+    let phase = if drill.start.z.nm() < drill.r.nm() {
+        Phase::Rise
+    } else {
+        Phase::Across
+    };
+    CycleLeft {
+        canned: *canned,
+        standing,
+        begun: 0,
+        repeats_left: drill.repeats,
+        phase,
+    }
+}
+
+impl CycleLeft {
+    /// Traverses in Z.
+    fn traverse(&mut self, z: Len, next: Phase) -> Segment
+        ensures segment { result ≡ line_to pace.Traverse self.old.standing.point (record self.old.standing.point { z = z }) }
+        ensures left { self.new ≡ record self.old { standing = stand_after self.old.standing result; phase = next } }
+    {
+        self.phase = next;
+        let end = self.standing.at_height(z);
+        self.standing.move_to(end, Pace::Traverse)
+    }
+
+    /// Feeds in Z.
+    fn feed(&mut self, z: Len, next: Phase) -> Segment
+        ensures segment { result ≡ line_to (pace.Feed self.old.canned.rate) self.old.standing.point (record self.old.standing.point { z = z }) }
+        ensures left { self.new ≡ record self.old { standing = stand_after self.old.standing result; phase = next } }
+    {
+        self.phase = next;
+        let end = self.standing.at_height(z);
+        let rate = self.canned.drill().rate;
+        self.standing.move_to(end, Pace::Feed(rate))
+    }
+
+    /// Turns the spindle.
+    fn turn(&mut self, spindle: Spindle, next: Phase) -> Segment
+        ensures segment { result ≡ Segment.Switch (record self.old.canned.outputs { spindle = spindle }) }
+        ensures left { self.new ≡ record self.old { standing = stand_after self.old.standing result; phase = next } }
+    {
+        self.phase = next;
+        let outputs = self.canned.drill().outputs;
+        self.standing.turn(spindle, outputs)
+    }
+
+    /// Moves to the place of the next repeat, if there is one.
+    fn across(&mut self) -> Option<Segment>
+        requires phase { self.old.phase ≡ Phase.Across }
+        requires count { self.old.begun + self.old.repeats_left ≡ self.old.canned.repeats }
+        ensures next { IsNext (ahead_of self.old) (ahead_of self.new) result }
+        ensures canned { self.new.canned ≡ self.old.canned }
+        ensures count { self.new.begun + self.new.repeats_left ≡ self.old.canned.repeats }
+    {
+        if self.repeats_left == 0 {
+            return None;
+        }
+        self.repeats_left -= 1;
+        self.begun += 1;
+        let end = self.canned.place(self.begun, self.standing.point.z);
+        self.phase = self.canned.at_place(end.z);
+        Some(self.standing.move_to(end, Pace::Traverse))
+    }
+
+    /// Down to Z, or to the bottom of the first peck.
+    fn down(&mut self) -> Segment
+        requires { self.old.phase ≡ Phase.Down }
+        ensures { Gives self.old self.new result }
+    {
+        let z = self.canned.drill().z;
+        match self.canned.drill().work {
+            Work::Drilling => self.feed(z, Phase::Out),
+            Work::DrillingWithDwell(_) => self.feed(z, Phase::Dwell),
+            Work::PeckDrilling(peck) => {
+                let bottom = self.canned.drill().bottom(peck, 1);
+                let left = self.canned.drill().pecks(peck) - 1;
+                self.feed(bottom, behind_peck(peck, 1, left))
+            }
+            Work::Boring => self.feed(z, Phase::FeedOut),
+            Work::BoringWithStop(_) => self.feed(z, Phase::Dwell),
+            Work::BoringWithDwell(_) => self.feed(z, Phase::Dwell),
+        }
+    }
+
+    /// Waits at the bottom.
+    fn dwell(&mut self) -> Segment
+        requires { self.old.phase ≡ Phase.Dwell }
+        ensures { Gives self.old self.new result }
+    {
+        let seconds = seconds_of(self.canned.drill().work);
+        self.phase = way_out(self.canned.drill().work);
+        dwell_in(seconds)
+    }
+
+    /// On to the bottom of the next peck.
+    fn peck(&mut self, pecking: Pecking) -> Segment
+        requires { self.old.phase ≡ Phase.PeckDown pecking }
+        ensures { Gives self.old self.new result }
+    {
+        let number = pecking.done + 1;
+        let bottom = self.canned.drill().bottom(pecking.peck, number);
+        self.feed(bottom, behind_peck(pecking.peck, number, pecking.left))
+    }
+
+    /// The next segment.
+    pub fn next(&mut self) -> Option<Segment>
+        requires { self.old.begun + self.old.repeats_left ≡ self.old.canned.repeats }
+        ensures next { IsNext (ahead_of self.old) (ahead_of self.new) result }
+        ensures canned { self.new.canned ≡ self.old.canned }
+        ensures count { self.new.begun + self.new.repeats_left ≡ self.old.canned.repeats }
+    {
+        let r = self.canned.r();
+        let clear = self.canned.clear();
+        match self.phase {
+            Phase::Across => self.across(),
+            Phase::Rise => Some(self.traverse(r, Phase::Across)),
+            Phase::ToR => Some(self.traverse(r, Phase::Down)),
+            Phase::Down => Some(self.down()),
+            Phase::Dwell => Some(self.dwell()),
+            Phase::Stop => Some(self.turn(Spindle::Stopped, Phase::OutStopped)),
+            Phase::OutStopped => Some(self.traverse(clear, Phase::Start)),
+            Phase::Start => {
+                let spindle = self.canned.spindle();
+                Some(self.turn(spindle, Phase::Across))
+            }
+            Phase::Out => Some(self.traverse(clear, Phase::Across)),
+            Phase::FeedOut => Some(self.feed(clear, Phase::Across)),
+            Phase::PeckOut(pecking) => Some(self.traverse(r, Phase::PeckBack(pecking))),
+            Phase::PeckBack(pecking) => {
+                let above = self.canned.drill().above_bottom(pecking.peck, pecking.done);
+                Some(self.traverse(above, Phase::PeckDown(pecking)))
+            }
+            Phase::PeckDown(pecking) => Some(self.peck(pecking)),
+        }
+    }
+}

@@ -1,0 +1,55 @@
+-- A device at rest, and a hand-out from there.
+use Rattle.std.proofs.Common.{◌≡◌, ◌⊎◌, ℕ, List, [], ◌∷◌, ◌++◌, Some, Result, Ok, Err, sym, ◌∙◌, ap, subst}
+use Rattle.std.specs.Prelude.{OnOk}
+use Rattle.ng_canon.specs.declared.item.Item.{Item}
+use Rattle.ng_rig.specs.Life.{Image, Life, Handed, reads, items, moment, StopSince}
+use Rattle.ng_rig.specs.Calls.{Hands}
+use Rattle.ng_rig.specs.Onward.{HasBesides}
+use Rattle.ng_rig.proofs.Running.{weaker, stop_now, one_image, hands}
+use Rattle.ng_layout.specs.declared.header.Header.{Header}
+use Rattle.ng_layout.specs.Stands.{in_force, stands, IsWritten}
+use Rattle.ng_layout.specs.Stored.{Standing}
+use Rattle.ng_journal.specs.AtRest.{IsAt}
+use Rattle.ng_journal.specs.Journal.{Logbook, RestsAt, StandsFor, HandsOut}
+
+stands_for : (life : Life) (header : Header) (standing : Standing) (given : List Item) (image : Image) (handed : List Item) → IsAt life header standing → image ≡ reads life → handed ≡ given → StandsFor standing given image handed
+stands_for life header standing given image handed at same is = record {
+  state = ap stands same ∙ at.stands_for;
+  written = subst IsWritten (sym same) at.written;
+  handed_is = is;
+}
+
+pub alone : (life : Life) (header : Header) (standing : Standing) (image : Image) (handed : List Item) → IsAt life header standing → StopSince life (moment life) image handed → StandsFor standing (items life) image handed
+alone life header standing image handed at since =
+    let stop = stop_now life image handed since in
+    stands_for life header standing (items life) image handed at (one_image life image handed at.synced stop) stop.1
+
+given_by : {T E : Type 0} (result : Result T E) (item : Item) (old new : Life) → Hands result item old new → OnOk result (items new ≡ items old ++ item ∷ [])
+given_by (Ok v) item old new is = ap items is
+given_by (Err e) item old new is = tt
+
+-- A hand-out changes nothing that is read.
+pub handed_out : {R T E : Type 0} (result : Result T E) (journal before : Logbook R) (standing : Standing) (item : Item) (old new : Life) → journal.header ≡ before.header → journal.saved ≡ before.saved → RestsAt old before standing → Hands result item old new → HandsOut result journal standing item old new
+handed_out result journal before standing item old new same saved_is rest is =
+    let h = hands result item old new rest.at.synced is in
+    record {
+      stops = weaker old new (HasBesides old item) (StandsFor standing (items old ++ item ∷ [])) h.stops (λ image handed p. stands_for old before.header standing (items old ++ item ∷ []) image handed rest.at p.image_is p.handed_is);
+      items_are = h.items_are;
+      given = given_by result item old new is;
+      at = record {
+        at = record {
+          synced = h.synced;
+          force = ap in_force h.reads_are ∙ rest.at.force ∙ ap (λ (x : Header). Some x) (sym same);
+          stands_for = ap stands h.reads_are ∙ rest.at.stands_for;
+          written = subst IsWritten (sym h.reads_are) rest.at.written;
+        };
+        saved_is = rest.saved_is ∙ sym saved_is;
+      };
+    }
+
+-- one that failed handed out its item or nothing
+pub perhaps_handed : {R T F : Type 0} (f : F) (journal before : Logbook R) (standing : Standing) (item : Item) (old new : Life) → journal.header ≡ before.header → journal.saved ≡ before.saved → RestsAt old before standing → (new ≡ old) ⊎ (new ≡ Handed item old) → HandsOut {T = T} (Err f) journal standing item old new
+perhaps_handed f journal before standing item old new same saved_is rest is =
+    let err : Result ℕ ℕ = Err 0 in
+    let out = handed_out err journal before standing item old new same saved_is rest is in
+    record { stops = out.stops; items_are = out.items_are; given = tt; at = out.at }

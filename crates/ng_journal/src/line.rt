@@ -1,0 +1,151 @@
+//! A line of the program in force, read where it begins.
+ghost use Rattle.std.specs.Prelude.{◌≡◌, ℕ, max, List, [], ◌≤◌, ◌<◌, ◌+◌, ◌*◌, ◌-◌, ◌++◌, take, drop, length, IfOk, IfSome};
+ghost use Rattle.std.specs.Option.{option_map};
+ghost use Rattle.std.specs.Str.Lines.{strip_carriage_return};
+ghost use Rattle.ng_rig.specs.Calls.{Promises, Counts};
+ghost use Rattle.ng_layout.specs.Sectors.{text_of};
+ghost use Rattle.ng_layout.specs.Stands.{program_size, stretch};
+ghost use Rattle.ng_journal.specs.Reading.{Reads};
+ghost use Rattle.ng_journal.specs.ProgramLines.{IsPart, TakesPart, IsEnd, line_at};
+
+use crate::reading::read_sector;
+use arrayvec::ArrayVec;
+use memchr::memchr;
+use ng_layout::BYTES;
+use ng_rig::{Failed, Rig};
+use std::marker::Model;
+
+/// How many bytes of a line are kept: one more than a line may have.
+pub const LINE: usize = 257;
+
+/// A line of a program (own). Contracts see a `Line`.
+#[derive(Debug, Drop)]
+pub struct ProgramLine {
+    /// Its bytes without the line's end, at most 257 of them.
+    pub text: ArrayVec<u8, LINE>,
+    /// The byte of the program at which the next line begins.
+    pub next: u64,
+}
+
+impl Model for ProgramLine {
+    ghost use Rattle.ng_journal.specs.ProgramLines.{Line};
+
+    ghost Value = { Line };
+
+    ghost view = { λ l. record { text = l.text.items; next = l.next } };
+}
+
+/// Keeps these bytes as far as there is room.
+fn keep(text: &mut ArrayVec<u8, LINE>, bytes: &[u8])
+    ensures { text.new.items ≡ take 257 (text.old.items ++ bytes.now) }
+{
+    let room = text.remaining_capacity();
+    let _ = text.try_extend_from_slice(&bytes[..bytes.len().min(room)]);
+}
+
+/// Keeps the bytes before the first newline, and says where that is; else all of them.
+fn take_part(text: &mut ArrayVec<u8, LINE>, part: &[u8]) -> Option<usize>
+    ensures found { IfSome result (λ end. end < length part.now) }
+    ensures taken { TakesPart text.old.items text.new.items part.now result }
+{
+    match memchr(b'\n', part) {
+        Some(end) => {
+            keep(text, &part[..end]);
+            Some(end)
+        }
+        None => {
+            keep(text, part);
+            None
+        }
+    }
+}
+
+/// The bytes of a program's sector that belong to the program from a place on.
+fn part_of(sector: &[u8; BYTES], n: usize, place: usize, program_end: usize) -> &[u8]
+    requires place { place ≤ program_end }
+    requires from { place < 512 * n + 512 }
+    requires to { 512 * n < program_end }
+    requires small { program_end ≤ 131_072 }
+    ensures within { max place (512 * n) + length result.now ≤ program_end }
+    ensures part { (row : ℕ → List ℕ) → sector.now ≡ row n → IsPart (text_of program_end row) place (512 * n) result.now }
+{
+    let start = BYTES * n;
+    &sector[place.max(start) - start..BYTES.min(program_end - start)]
+}
+
+/// Takes the carriage return off the end.
+fn drop_return(text: &mut ArrayVec<u8, LINE>)
+    ensures { text.new.items ≡ strip_carriage_return text.old.items }
+{
+    if let Some(b'\r') = text.as_slice().last() {
+        text.pop();
+    }
+}
+
+/// Reads the line at a place up to its newline, and keeps its bytes; behind how many of them the newline stands, where
+/// there is one.
+fn find_end<R: Rig>(
+    rig: &mut R,
+    first: usize,
+    place: usize,
+    program_end: usize,
+    text: &mut ArrayVec<u8, LINE>,
+) -> Result<Option<usize>, Failed>
+    requires room { first + 256 ≤ R.sectors rig.old }
+    requires area { first ≤ 430 }
+    requires place { place ≤ program_end }
+    requires small { program_end ≤ 131_072 }
+    requires empty { text.old.items ≡ [] }
+    ensures read { Promises (R.honest rig.old) (R.honest rig.new) (Reads result (λ image end. IsEnd (drop place (text_of program_end (stretch first program_size image))) text.new.items end) (R.life rig.old) (R.life rig.new)) }
+    // without honesty too
+    ensures within { IfOk result (λ end. IfSome end (λ n. place + n < program_end)) }
+    ensures size { R.sectors rig.new ≡ R.sectors rig.old }
+    ensures failures { Counts result (R.failed rig.old) (R.failed rig.new) }
+{
+    for n in place / BYTES..program_end.div_ceil(BYTES) {
+        let sector = read_sector(rig, first + n)?;
+        match take_part(text, part_of(&sector, n, place, program_end)) {
+            Some(end) => return Ok(Some((BYTES * n).saturating_sub(place) + end)),
+            None => (),
+        }
+    }
+    Ok(None)
+}
+
+/// The line that begins at a place of a program that ends here; none at its end.
+pub(crate) fn read_line<R: Rig>(
+    rig: &mut R,
+    first: usize,
+    place: usize,
+    program_end: usize,
+) -> Result<Option<ProgramLine>, Failed>
+    requires room { first + 256 ≤ R.sectors rig.old }
+    requires area { first ≤ 430 }
+    requires place { place ≤ program_end }
+    requires small { program_end ≤ 131_072 }
+    ensures read { Promises (R.honest rig.old) (R.honest rig.new) (Reads result (λ image line. line ≡ line_at (text_of program_end (stretch first program_size image)) place) (R.life rig.old) (R.life rig.new)) }
+    // without honesty too
+    ensures next { IfOk result (λ line. IfSome line (λ l. (place < l.next) × (l.next ≤ program_end))) }
+    ensures size { R.sectors rig.new ≡ R.sectors rig.old }
+    ensures failures { Counts result (R.failed rig.old) (R.failed rig.new) }
+{
+    if place == program_end {
+        return Ok(None);
+    }
+    let mut text = ArrayVec::new();
+    match find_end(rig, first, place, program_end, &mut text)? {
+        Some(end) => {
+            if end <= LINE {
+                drop_return(&mut text);
+            }
+            Ok(Some(ProgramLine {
+                text,
+                next: (place + end + 1) as u64,
+            }))
+        }
+        None => Ok(Some(ProgramLine {
+            text,
+            next: program_end as u64,
+        })),
+    }
+}

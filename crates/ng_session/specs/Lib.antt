@@ -1,0 +1,5 @@
+pub mod Programs
+pub mod Entries
+pub mod Session
+pub mod Kept
+pub mod Fold

@@ -1,0 +1,74 @@
+//! What a session is about, beside its block.
+ghost use Rattle.std.specs.Prelude.{◌≡◌};
+ghost use Rattle.ng_session.specs.Session.{activity_after, condition_of, idleness, is_running, stopped_by};
+
+use crate::reply::{Condition, Reply};
+use ng_block::Stop;
+use ng_layout::Source;
+
+/// Whether the program runs (own).
+#[derive(Clone, Copy, Debug, PartialEq, Eq)]
+pub enum Activity {
+    /// Nothing was started, or the program has ended.
+    Idle,
+    /// Its lines are begun one after the other.
+    Running,
+    /// It waits to go on: behind a stop, before a line that was refused, or since the operator's own line ended a hold.
+    Stopped,
+}
+
+impl Activity {
+    /// Whether lines of the program are begun.
+    pub fn is_running(self) -> bool
+        ensures { result ≡ is_running self }
+    {
+        match self {
+            Activity::Running => true,
+            Activity::Idle | Activity::Stopped => false,
+        }
+    }
+
+    /// The reply of a session that has nothing to do.
+    pub(crate) fn idleness(self) -> Reply
+        ensures { result ≡ idleness self }
+    {
+        match self {
+            Activity::Stopped => Reply::Stopped,
+            Activity::Idle | Activity::Running => Reply::Idle,
+        }
+    }
+
+    /// As the status shows it.
+    pub(crate) fn condition(self) -> Condition
+        ensures { result ≡ condition_of self }
+    {
+        match self {
+            Activity::Idle => Condition::Idle,
+            Activity::Running => Condition::Running,
+            Activity::Stopped => Condition::Stopped,
+        }
+    }
+
+    /// Behind a block: the program's end ends it, its stops stop it, the optional one where it is wanted. A line of the
+    /// operator stops nothing.
+    pub(crate) fn after(self, source: Source, stop: Stop, optional_stop: bool) -> Activity
+        ensures { result ≡ activity_after source stop optional_stop self }
+    {
+        match stop {
+            Stop::Ends => Activity::Idle,
+            Stop::GoesOn => self,
+            Stop::Stops => self.stopped_by(source, true),
+            Stop::StopsIfWanted => self.stopped_by(source, optional_stop),
+        }
+    }
+
+    /// Behind a stop that may be wanted or not.
+    fn stopped_by(self, source: Source, wanted: bool) -> Activity
+        ensures { result ≡ stopped_by source wanted self }
+    {
+        match source {
+            Source::Program => if wanted { Activity::Stopped } else { self },
+            Source::Mdi => self,
+        }
+    }
+}

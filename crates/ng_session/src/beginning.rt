@@ -1,0 +1,145 @@
+//! How a line is begun: by the operator, or by the program.
+ghost use Rattle.std.specs.Prelude.{◌≡◌, ◌≤◌, ℕ, List, Some, Ok, Err, IfOk, OnOk, OnErr, MatchResult, length};
+ghost use Rattle.ng_block.specs.Dry.{first_kind};
+ghost use Rattle.ng_block.specs.Effects.{Done, in_state};
+ghost use Rattle.ng_layout.specs.declared.half.Source.TheVariants as source;
+ghost use Rattle.ng_session.specs.Programs.{lines_before, place_behind};
+ghost use Rattle.ng_session.specs.Entries.{Equipment, equipment_of, done_of};
+
+use crate::activity::Activity;
+use crate::current::Current;
+use crate::reply::Reply;
+use crate::session::Session;
+use ng_block::{Places, Terms, Tools, missing_end};
+use ng_canon::Geometry;
+use ng_layout::{Source, Stored};
+use ng_num::Fault;
+use ng_words::Kind;
+use std::alloc::{AllocError, Allocator};
+
+/// What a line of the operator does, put into places, or the first fault that refuses it.
+#[tactic(auto, unfolding(crate::specs::Entries::done_of))]
+fn execute_alone<A: Allocator + Copy + Drop>(
+    places: &mut Places,
+    stored: &Stored<A>,
+    text: &[u8],
+    terms: &Terms<'_>,
+) -> Result<(), Fault>
+    ensures done { (program : List ℕ) → MatchResult result (λ _. done_of (equipment_of terms.now) program stored.now source.Mdi text.now terms.now.block_delete ≡ Ok (in_state stored.now.setup places.new.effect)) (λ fault. done_of (equipment_of terms.now) program stored.now source.Mdi text.now terms.now.block_delete ≡ Err fault) }
+    ensures short { OnOk result (length text.now ≤ 256) }
+{
+    places.execute_unless_deleted(terms, &stored.state, text)
+}
+
+/// What a line of the program does, put into places, or the first fault that refuses it; `first` is the kind of the first line
+/// before it that isn't blank.
+#[tactic(auto, unfolding(crate::specs::Entries::done_of))]
+fn execute_behind<A: Allocator + Copy + Drop>(
+    places: &mut Places,
+    stored: &Stored<A>,
+    first: Kind,
+    text: &[u8],
+    terms: &Terms<'_>,
+) -> Result<(), Fault>
+    ensures done { (program : List ℕ) → first ≡ first_kind (lines_before program stored.now.place) → MatchResult result (λ _. done_of (equipment_of terms.now) program stored.now source.Program text.now terms.now.block_delete ≡ Ok (in_state stored.now.setup places.new.effect)) (λ fault. done_of (equipment_of terms.now) program stored.now source.Program text.now terms.now.block_delete ≡ Err fault) }
+    ensures short { OnOk result (length text.now ≤ 256) }
+{
+    places.execute_behind(terms, first, &stored.state, text)
+}
+
+impl<A: Allocator + Copy + Drop> Session<A> {
+    ghost use Rattle.ng_session.specs.Session.{mdi, begin, break_off};
+
+    /// Begins a line of the operator; where the session was held, that ends, and a program that ran waits. K1 where a block is
+    /// current or half-done, or the program runs and isn't held, K3 where it isn't known where the machine stands, then the
+    /// line's own faults; nothing is changed then. `AllocError` where the state after the line found no memory: nothing is
+    /// changed then either.
+    pub fn mdi(
+        &mut self,
+        text: &[u8],
+        tools: &Tools,
+        geometry: &Geometry,
+    ) -> Result<Reply, AllocError>
+        ensures reply { IfOk result (λ reply. (program : List ℕ) → reply ≡ (mdi (record { tools = tools.now; geometry = geometry.now }) program self.old text.now).reply) }
+        ensures next { OnOk result ((program : List ℕ) → self.new ≡ (mdi (record { tools = tools.now; geometry = geometry.now }) program self.old text.now).next) }
+        ensures err { OnErr result (self.new ≡ self.old) }
+    {
+        if self.is_engaged() {
+            return Ok(Reply::Refused(Fault::Busy));
+        }
+        if !self.is_place_known() {
+            return Ok(Reply::Refused(Fault::PlaceUnknown));
+        }
+        let place = self.place();
+        let block_delete = self.block_delete;
+        let terms = Terms {
+            block_delete,
+            tools,
+            geometry,
+        };
+        if let Err(fault) = execute_alone(&mut self.places, &self.stored, text, &terms) {
+            return Ok(Reply::Refused(fault));
+        }
+        let current = Current::begun(
+            &self.stored,
+            Source::Mdi,
+            text,
+            block_delete,
+            place,
+            &self.places.effect,
+        )?;
+        self.current = Some(current);
+        if self.held && self.activity.is_running() {
+            self.activity = Activity::Stopped;
+        }
+        self.held = false;
+        Ok(Reply::Begun)
+    }
+
+    /// Begins the program's line at its place, where the next one begins at `next`; `first` is the kind of the first line before
+    /// it that isn't blank. A line that is refused, by its own faults, stops the program before it. `AllocError` where the state
+    /// after the line found no memory: nothing is changed then.
+    pub fn begin(
+        &mut self,
+        text: &[u8],
+        next: u64,
+        first: Kind,
+        tools: &Tools,
+        geometry: &Geometry,
+    ) -> Result<Reply, AllocError>
+        ensures reply { IfOk result (λ reply. (program : List ℕ) → next ≡ place_behind program self.old.stored.place → first ≡ first_kind (lines_before program self.old.stored.place) → reply ≡ (begin (record { tools = tools.now; geometry = geometry.now }) program self.old (Some text.now)).reply) }
+        ensures next { OnOk result ((program : List ℕ) → next ≡ place_behind program self.old.stored.place → first ≡ first_kind (lines_before program self.old.stored.place) → self.new ≡ (begin (record { tools = tools.now; geometry = geometry.now }) program self.old (Some text.now)).next) }
+        ensures err { OnErr result (self.new ≡ self.old) }
+    {
+        let block_delete = self.block_delete;
+        let terms = Terms {
+            block_delete,
+            tools,
+            geometry,
+        };
+        if let Err(fault) = execute_behind(&mut self.places, &self.stored, first, text, &terms) {
+            self.activity = Activity::Stopped;
+            return Ok(Reply::Refused(fault));
+        }
+        let current = Current::begun(
+            &self.stored,
+            Source::Program,
+            text,
+            block_delete,
+            next,
+            &self.places.effect,
+        )?;
+        self.current = Some(current);
+        Ok(Reply::Begun)
+    }
+
+    /// Stops the program at the end of its text, which has no program end: X4 where a percent line is missing, else X3. `first` is
+    /// the kind of its first line that isn't blank.
+    pub fn break_off(&mut self, first: Kind) -> Reply
+        ensures reply { (program : List ℕ) → first ≡ first_kind (lines_before program self.old.stored.place) → result ≡ (break_off program self.old).reply }
+        ensures next { (program : List ℕ) → self.new ≡ (break_off program self.old).next }
+    {
+        self.activity = Activity::Stopped;
+        Reply::Refused(missing_end(first))
+    }
+}

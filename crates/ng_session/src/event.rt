@@ -1,0 +1,65 @@
+//! What a session is given.
+ghost use Rattle.std.specs.Prelude.{◌≡◌};
+
+use std::alloc::Allocator;
+use std::marker::Model;
+
+/// The bytes that come with an event. Contracts see the list of them.
+#[derive(Drop)]
+pub struct Text<A: Allocator> {
+    bytes: Vec<u8, A>,
+}
+
+impl<A: Allocator> Model for Text<A> {
+    ghost use Rattle.std.specs.Prelude.{List, ℕ};
+
+    ghost Value = { List ℕ };
+
+    ghost view = { λ t. t.bytes.items };
+}
+
+impl<A: Allocator + Drop> Text<A> {
+    /// The text of these bytes. It takes no memory.
+    pub fn of(bytes: Vec<u8, A>) -> Text<A>
+        ensures { result ≡ bytes.items }
+    {
+        Text { bytes }
+    }
+
+    /// Its bytes.
+    pub fn bytes(&self) -> &[u8]
+        ensures { result.now ≡ self.now }
+    {
+        self.bytes.as_slice()
+    }
+
+    /// Gives its bytes back. It takes no memory.
+    pub fn into_bytes(self) -> Vec<u8, A>
+        ensures { result.items ≡ self }
+    {
+        let Text { bytes } = self;
+        bytes
+    }
+}
+
+/// What happens to a session (own).
+#[derive(Drop)]
+pub enum Event<A: Allocator> {
+    /// A program to be stored.
+    Load(Text<A>),
+    /// The program is to run from its place on.
+    Start,
+    /// Nothing more is to be handed out, for now.
+    Hold,
+    /// What was held or stopped goes on.
+    Continue,
+    /// A line of the operator, without its end.
+    Mdi(Text<A>),
+    /// Whether the program stops at M1.
+    OptionalStop(bool),
+    /// Whether lines that begin with a slash are deleted.
+    BlockDelete(bool),
+    Status,
+    /// The next thing that is to do is done.
+    Tick,
+}

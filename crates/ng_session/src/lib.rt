@@ -1,0 +1,20 @@
+//! A session: what a controller keeps between two events, and what each event leads to.
+//!
+//! `specs/Session.antt` says by `step` what an event answers, hands out and commits and what the session is then, and
+//! `specs/Fold.antt` what the plain interpreter makes of what was committed. `Session` has a method for each deed of which an
+//! event is made, and its contract says that it is the definition's. No device is named here: what is to be written or handed out
+//! is given to the caller, and the session changes once that is done.
+#![tactic(auto)]
+
+mod activity;
+mod beginning;
+mod current;
+mod event;
+mod reply;
+mod session;
+mod ticking;
+
+pub use activity::Activity;
+pub use event::{Event, Text};
+pub use reply::{Condition, HalfShown, Reply, Status};
+pub use session::Session;

@@ -1,0 +1,172 @@
+//! A session: what a controller keeps between two events.
+ghost use Rattle.std.specs.Prelude.{◌≡◌, ◌≤◌, List, ℕ, None, Some, MatchOption};
+
+use crate::activity::Activity;
+use crate::current::Current;
+use crate::reply::{HalfShown, Reply, Status};
+use ng_block::{Machine, Places};
+use ng_canon::{Geometry, Item};
+use ng_layout::{Half, Stored};
+use ng_num::{Fault, Point};
+use std::alloc::Allocator;
+use std::marker::Model;
+
+/// What a controller keeps between two events (own). Contracts see a `Sitting`.
+#[derive(Drop)]
+pub struct Session<A: Allocator> {
+    /// What the device stands for.
+    pub(crate) stored: Stored<A>,
+    pub(crate) activity: Activity,
+    pub(crate) held: bool,
+    pub(crate) optional_stop: bool,
+    pub(crate) block_delete: bool,
+    pub(crate) current: Option<Current<A>>,
+    /// The places that each line is executed in.
+    pub(crate) places: Places,
+}
+
+impl<A: Allocator> Model for Session<A> {
+    ghost use Rattle.std.specs.Prelude.{◌≤◌};
+    ghost use Rattle.ng_session.specs.Session.{Sitting};
+
+    ghost Value = { Sitting };
+
+    ghost view = { λ s. record { stored = s.stored; activity = s.activity; held = s.held; optional_stop = s.optional_stop; block_delete = s.block_delete; current = s.current } };
+
+    ghost invariant = { λ s. s.stored.entries ≤ 1_000_000_000_000 };
+}
+
+impl<A: Allocator + Copy + Drop> Session<A> {
+    ghost use Rattle.ng_session.specs.Session.{resting, is_at_rest, is_free, is_engaged, start, hold, goes_on, shown, step};
+
+    /// A session as power on leaves it: at rest, over what the device stands for. It takes no memory.
+    pub fn new(stored: Stored<A>) -> Session<A>
+        requires { stored.entries ≤ 1_000_000_000_000 }
+        ensures { result ≡ resting stored }
+    {
+        Session {
+            stored,
+            activity: Activity::Idle,
+            held: false,
+            optional_stop: false,
+            block_delete: false,
+            current: None,
+            places: Places::new(Machine::fresh()),
+        }
+    }
+
+    /// What the device stands for.
+    pub fn stored(&self) -> &Stored<A>
+        ensures value { result.now ≡ self.now.stored }
+        ensures count { self.now.stored.entries ≤ 1_000_000_000_000 }
+    {
+        &self.stored
+    }
+
+    /// Whether no block is current, the program doesn't run, and nothing is held.
+    pub fn is_at_rest(&self) -> bool
+        ensures { result ≡ is_at_rest self.now }
+    {
+        self.current.is_none() && !self.activity.is_running() && !self.held
+    }
+
+    /// Whether it is at rest with no half-done block.
+    pub fn is_free(&self) -> bool
+        ensures { result ≡ is_free self.now }
+    {
+        self.is_at_rest() && self.stored.half.is_none()
+    }
+
+    /// Whether a block is current or half-done, or the program runs and isn't held: then no line of the operator begins.
+    pub fn is_engaged(&self) -> bool
+        ensures { result ≡ is_engaged self.now }
+    {
+        self.current.is_some()
+            || (self.activity.is_running() && !self.held)
+            || self.stored.half.is_some()
+    }
+
+    /// Whether it is known where the machine stands.
+    pub fn is_place_known(&self) -> bool
+        ensures { result ≡ self.now.stored.setup.machine.place_known }
+    {
+        self.stored.state.machine.place_known
+    }
+
+    /// The byte of the program at which the next line begins.
+    pub fn place(&self) -> u64
+        ensures { result ≡ self.now.stored.place }
+    {
+        self.stored.place
+    }
+
+    /// The program is to run from its place on. K1 where the session isn't at rest or a block is half-done, K3 where it isn't
+    /// known where the machine stands, K2 where the program is empty; nothing is changed then.
+    pub fn start(&mut self) -> Reply
+        ensures reply { (program : List ℕ) → result ≡ (start program self.old).reply }
+        ensures next { (program : List ℕ) → self.new ≡ (start program self.old).next }
+    {
+        if !self.is_free() {
+            return Reply::Refused(Fault::Busy);
+        }
+        if !self.is_place_known() {
+            return Reply::Refused(Fault::PlaceUnknown);
+        }
+        if self.stored.length == 0 {
+            return Reply::Refused(Fault::NoProgram);
+        }
+        self.activity = Activity::Running;
+        Reply::Going
+    }
+
+    /// Nothing more is to be handed out for now, if the program runs or a block is current.
+    pub fn hold(&mut self) -> Reply
+        ensures reply { (program : List ℕ) → result ≡ (hold program self.old).reply }
+        ensures next { (program : List ℕ) → self.new ≡ (hold program self.old).next }
+    {
+        if self.activity.is_running() || self.current.is_some() {
+            self.held = true;
+            return Reply::Held;
+        }
+        self.activity.idleness()
+    }
+
+    /// What was held goes on, or the program that was stopped. K1 where neither waits, K2 where no program is on its way.
+    pub fn go_on(&mut self) -> Reply
+        ensures reply { (program : List ℕ) → result ≡ (goes_on program self.old).reply }
+        ensures next { (program : List ℕ) → self.new ≡ (goes_on program self.old).next }
+    {
+        if self.held {
+            self.held = false;
+            return Reply::Going;
+        }
+        if self.activity.is_running() || self.current.is_some() {
+            return Reply::Refused(Fault::Busy);
+        }
+        match self.activity {
+            Activity::Idle => Reply::Refused(Fault::NoProgram),
+            Activity::Running | Activity::Stopped => {
+                self.activity = Activity::Running;
+                Reply::Going
+            }
+        }
+    }
+
+    /// Whether the program stops at M1 from now on.
+    pub fn set_optional_stop(&mut self, wanted: bool) -> Reply
+        ensures reply { result ≡ Reply.Taken }
+        ensures next { self.new ≡ record self.old { optional_stop = wanted } }
+    {
+        self.optional_stop = wanted;
+        Reply::Taken
+    }
+
+    /// Whether lines that begin with a slash are deleted from now on.
+    pub fn set_block_delete(&mut self, on: bool) -> Reply
+        ensures reply { result ≡ Reply.Taken }
+        ensures next { self.new ≡ record self.old { block_delete = on } }
+    {
+        self.block_delete = on;
+        Reply::Taken
+    }
+}

@@ -1,0 +1,81 @@
+//! What a Tick is made of: an item, a segment, an entry.
+ghost use Rattle.std.specs.Prelude.{◌≡◌, ◌≤◌, List, ℕ, None, Some, MatchOption, IfSome};
+
+use crate::reply::Reply;
+use crate::session::Session;
+use ng_canon::{Geometry, Item};
+use ng_layout::{Half, Stored};
+use std::alloc::Allocator;
+
+impl<A: Allocator + Copy + Drop> Session<A> {
+    ghost use Rattle.ng_session.specs.Session.{Underway, item_of, handed, opening_of, opened, committed, rest};
+
+    /// Takes the next item of the open segment, to be handed out; none where none is left.
+    pub fn next_item(&mut self) -> Option<Item>
+        ensures item { result ≡ item_of self.old.current }
+        ensures next { self.new ≡ handed self.old }
+    {
+        let Some(current) = &mut self.current else {
+            return None;
+        };
+        current.next_item()
+    }
+
+    /// What is to be stored before the next segment is opened: its block, half-done; none where no segment is left. The session
+    /// stays as it is.
+    pub fn opening(&self) -> Option<Half>
+        ensures { result ≡ opening_of self.now.current }
+    {
+        match &self.current {
+            Some(current) => current.opening(),
+            None => None,
+        }
+    }
+
+    /// Opens that segment, once the half-done block is stored.
+    pub fn open(&mut self, half: Half, geometry: &Geometry) -> Reply
+        ensures reply { result ≡ Reply.Opened half.index }
+        ensures next { self.new ≡ opened geometry.now self.old half }
+    {
+        let index = half.index;
+        self.stored.half = Some(half);
+        if let Some(current) = &mut self.current {
+            current.open(geometry);
+        }
+        Reply::Opened(index)
+    }
+
+    /// What is to be stored once nothing is left of the current block; none where no block is current. The session stays as it
+    /// is.
+    pub fn after(&self) -> Option<&Stored<A>>
+        ensures { MatchOption result (self.now.current ≡ None) (λ stored. (c : Underway) × (self.now.current ≡ Some c) × (stored.now ≡ c.after)) }
+    {
+        match &self.current {
+            Some(current) => Some(&current.after),
+            None => None,
+        }
+    }
+
+    /// Goes on behind the current block, once that is stored.
+    pub fn commit(&mut self) -> Reply
+        requires { IfSome self.old.current (λ c. c.after.entries ≤ 1_000_000_000_000) }
+        ensures reply { (c : Underway) → self.old.current ≡ Some c → result ≡ Reply.Done c.after.entries }
+        ensures next { (c : Underway) → self.old.current ≡ Some c → self.new ≡ committed self.old c }
+    {
+        let Some(current) = self.current.take() else {
+            return self.rest();
+        };
+        self.activity = self
+            .activity
+            .after(current.source, current.stop, self.optional_stop);
+        self.stored = current.after;
+        Reply::Done(self.stored.entries)
+    }
+
+    /// The reply of a session that has nothing to do.
+    pub fn rest(&self) -> Reply
+        ensures { (program : List ℕ) → result ≡ (rest program self.now).reply }
+    {
+        self.activity.idleness()
+    }
+}
