@@ -56,7 +56,7 @@ stop_commands (Some word.Shuttle) origin = command.PalletShuttle ∷ command.Pro
 stop_commands (Some word.End) origin = command.OriginOffsets origin ∷ command.SelectPlane Xy ∷ command.StopSpindle ∷ command.MistOff ∷ command.FloodOff ∷ command.ProgramEnd ∷ []
 stop_commands (Some word.EndWithShuttle) origin = command.OriginOffsets origin ∷ command.SelectPlane Xy ∷ command.StopSpindle ∷ command.MistOff ∷ command.FloodOff ∷ command.PalletShuttle ∷ command.ProgramEnd ∷ []
 
--- what a step prints that has at most one command; nothing where none of its words has a command, and where its codes aren't built
+-- what a step prints that has at most one command; nothing where none of its words has a command
 abbrev pub command_at : Tasks → Step → List Command
 command_at t step.SpindleSpeed = command_for command.SpindleSpeed t.speed
 command_at t step.SelectTool = command_for command.SelectTool t.selected_slot

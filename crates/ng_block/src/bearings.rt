@@ -1,23 +1,23 @@
 //! All lengths that a line computes, found before any of its commands: its feed, the offsets after it, the parameters that it sets,
 //! and its path.
-ghost use Rattle.std.specs.Prelude.{◌≡◌, ◌≤◌, ◌<◌, ◌+◌, ◌++◌, length, Ok, Err, MatchResult, OnOk};
+ghost use Rattle.std.specs.Prelude.{◌≡◌, ◌≤◌, ◌+◌, ◌++◌, length, Ok, Err, MatchResult, OnOk};
 ghost use Rattle.ng_modal.specs.Accepted.{IsSlot};
-ghost use Rattle.ng_block.specs.Goals.{selecting, storing, bearings_of, ended, goal_of, bearings_by, goal_by};
+ghost use Rattle.ng_block.specs.Goals.{selecting, storing, bearings_of, way_of, ended, goal_of, bearings_by, way_by, goal_by};
 
-use crate::effect::{Changes, Effect};
+use crate::effect::{CHANGES, Changes, Effect};
 use crate::ends::ends;
-use crate::goal::{feed_of, path_of};
+use crate::goal::{feed_of, path_of, plain_path_of};
 use crate::shifts::{keeps_offsets, shift_of};
 use crate::state::State;
 use ng_modal::Block;
-use ng_num::{Fault, Point};
+use ng_num::{Fault, Len, Point};
 use ng_offsets::{Offsets, Tools};
 use ng_params::{Change, Params, System};
 use std::alloc::Allocator;
 
 /// Adds changes of parameters.
 fn put_changes(from: &[Change], changes: &mut Changes)
-    requires { length changes.old.items + length from.now ≤ 136 }
+    requires { length changes.old.items + length from.now ≤ CHANGES }
     ensures items { changes.new.items ≡ changes.old.items ++ from.now }
     ensures count { length changes.new.items ≡ length changes.old.items + length from.now }
 {
@@ -28,7 +28,7 @@ fn put_changes(from: &[Change], changes: &mut Changes)
 
 /// Adds the change that a word of group 12 makes.
 fn put_selection(system: Option<System>, changes: &mut Changes)
-    requires { length changes.old.items + 1 ≤ 136 }
+    requires { length changes.old.items + 1 ≤ CHANGES }
     ensures items { changes.new.items ≡ selecting system changes.old.items }
     ensures room { length changes.new.items ≤ length changes.old.items + 1 }
 {
@@ -39,7 +39,7 @@ fn put_selection(system: Option<System>, changes: &mut Changes)
 
 /// Adds the changes that axis data make.
 fn put_stored(stored: &Option<[Change; 3]>, changes: &mut Changes)
-    requires { length changes.old.items + 3 ≤ 136 }
+    requires { length changes.old.items + 3 ≤ CHANGES }
     ensures items { changes.new.items ≡ storing stored.now changes.old.items }
     ensures room { length changes.new.items ≤ length changes.old.items + 3 }
 {
@@ -49,8 +49,7 @@ fn put_stored(stored: &Option<[Change; 3]>, changes: &mut Changes)
 }
 
 impl Effect {
-    /// Finds the offsets behind a block's axis data, and the changes of parameters so far. Most lines leave the offsets as they
-    /// are, so this is looked at first.
+    /// Finds the offsets behind a block's axis data, and adds the changes of parameters to those of the settings.
     fn find_bearings<A: Allocator + Copy + Drop>(
         &mut self,
         state: &State<A>,
@@ -59,22 +58,65 @@ impl Effect {
         tools: &Tools,
     ) -> Result<(), Fault>
         requires short { length settings.now ≤ 128 }
+        requires settings { self.old.changes.items ≡ settings.now }
         requires slot { IsSlot block.now.values.h (length tools.now) }
         ensures value { MatchResult result (λ _. bearings_of block.now settings.now state.now tools.now ≡ Ok (bearings_by self.new)) (λ fault. bearings_of block.now settings.now state.now tools.now ≡ Err fault) }
         ensures room { OnOk result (length self.new.changes.items ≤ 132) }
     {
-        self.changes.clear();
-        put_changes(settings, &mut self.changes);
-        if keeps_offsets(block) {
-            self.machine.offsets = state.machine.offsets;
-            self.plan.shown = None;
-            return Ok(());
-        }
         let at = shift_of(block, &state.machine, &state.params, settings, tools)?;
         self.machine.offsets = at.offsets;
         self.plan.shown = Some(at.shown);
         put_selection(block.g.system, &mut self.changes);
         put_stored(&at.stored, &mut self.changes);
+        Ok(())
+    }
+
+    /// Finds the offsets and the path of a block that has a word for offsets or of group 0. A call of its own, so that nearly all
+    /// lines pass by its places.
+    #[inline(never)]
+    fn find_way<A: Allocator + Copy + Drop>(
+        &mut self,
+        state: &State<A>,
+        block: &Block,
+        settings: &[Change],
+        tools: &Tools,
+        feed_per_min: Len,
+    ) -> Result<(), Fault>
+        requires short { length settings.now ≤ 128 }
+        requires settings { self.old.changes.items ≡ settings.now }
+        requires slot { IsSlot block.now.values.h (length tools.now) }
+        ensures value { MatchResult result (λ _. way_of block.now settings.now state.now tools.now feed_per_min ≡ Ok (way_by self.new)) (λ fault. way_of block.now settings.now state.now tools.now feed_per_min ≡ Err fault) }
+        ensures room { OnOk result (length self.new.changes.items ≤ 132) }
+    {
+        self.find_bearings(state, block, settings, tools)?;
+        let offsets = &self.machine.offsets;
+        self.plan.path = path_of(block, state, settings, offsets, feed_per_min)?;
+        Ok(())
+    }
+
+    /// The same of any block. Most lines leave the offsets as they are, so this is looked at first.
+    #[inline]
+    fn find_any_way<A: Allocator + Copy + Drop>(
+        &mut self,
+        state: &State<A>,
+        block: &Block,
+        settings: &[Change],
+        tools: &Tools,
+        feed_per_min: Len,
+    ) -> Result<(), Fault>
+        requires short { length settings.now ≤ 128 }
+        requires slot { IsSlot block.now.values.h (length tools.now) }
+        ensures value { MatchResult result (λ _. way_of block.now settings.now state.now tools.now feed_per_min ≡ Ok (way_by self.new)) (λ fault. way_of block.now settings.now state.now tools.now feed_per_min ≡ Err fault) }
+        ensures room { OnOk result (length self.new.changes.items ≤ 132) }
+    {
+        self.changes.clear();
+        put_changes(settings, &mut self.changes);
+        if !keeps_offsets(block) {
+            return self.find_way(state, block, settings, tools, feed_per_min);
+        }
+        self.machine.offsets = state.machine.offsets;
+        self.plan.shown = None;
+        self.plan.path = plain_path_of(block, &state.machine, feed_per_min)?;
         Ok(())
     }
 
@@ -107,9 +149,7 @@ impl Effect {
         ensures { MatchResult result (λ _. goal_of block.now settings.now state.now tools.now ≡ Ok (goal_by self.new)) (λ fault. goal_of block.now settings.now state.now tools.now ≡ Err fault) }
     {
         let feed_per_min = feed_of(block, &state.machine)?;
-        self.find_bearings(state, block, settings, tools)?;
-        let offsets = &self.machine.offsets;
-        self.plan.path = path_of(block, state, settings, offsets, feed_per_min)?;
+        self.find_any_way(state, block, settings, tools, feed_per_min)?;
         if ends(block.m.stop) {
             self.end_bearings(&state.params);
         }

@@ -5,7 +5,7 @@ ghost use Rattle.ng_params.specs.Changes.{with_changes};
 ghost use Rattle.ng_modal.specs.Causes.{is_machine};
 ghost use Rattle.ng_modal.specs.Lines.{is_straight};
 ghost use Rattle.ng_block.specs.Blocks.{feed_mode_after, is_fed, feed_word, time_word, feed_of, fed_pace, pace_by, program_coordinate, coordinate, end_of, machine_end_of, straight_end_of};
-ghost use Rattle.ng_block.specs.Goals.{path_of};
+ghost use Rattle.ng_block.specs.Goals.{straight_to, plain_path_of, path_of};
 
 use crate::axis_data::{named_on, unit_after};
 use crate::homes::{home_on, way_home};
@@ -132,6 +132,7 @@ fn program_coordinate(
 }
 
 /// The machine coordinate of an axis after a move.
+#[inline]
 fn coordinate(word: Option<Num>, reading: Reading, shift: Shift, machine: Len) -> Result<Len, Fault>
     ensures { result ≡ coordinate word reading.unit reading.distance shift machine }
 {
@@ -145,7 +146,8 @@ fn coordinate(word: Option<Num>, reading: Reading, shift: Shift, machine: Len) -
     }
 }
 
-/// The end of a move under offsets.
+/// The end of a move under offsets. Nearly every line comes by here, so it stands in its caller.
+#[inline(always)]
 pub fn end_of(block: &Block, machine: &Machine, offsets: &Offsets) -> Result<Point, Fault>
     ensures { result ≡ end_of block.now machine.now offsets.now }
 {
@@ -206,6 +208,29 @@ fn is_straight(motion: Option<Motion>) -> bool
     }
 }
 
+/// A straight path to a point, with the feed after the line.
+#[inline]
+fn straight_to(block: &Block, machine: &Machine, feed_per_min: Len, end: Point) -> Path
+    ensures { result ≡ straight_to block.now machine.now feed_per_min end }
+{
+    let mode = feed_mode_after(block, &machine.modes);
+    let pace = pace_by(block.motion, mode, feed_per_min, block.values.f);
+    Path::moving_at(pace, machine.point, end)
+}
+
+/// Where a line's motion goes that has no word of group 0, with the feed after the line. E3 where a coordinate of it is beyond the
+/// range.
+#[inline]
+pub fn plain_path_of(block: &Block, machine: &Machine, feed_per_min: Len) -> Result<Path, Fault>
+    ensures { result ≡ plain_path_of block.now machine.now feed_per_min }
+{
+    if !is_straight(block.motion) {
+        return Ok(Path::Still);
+    }
+    let end = end_of(block, machine, &machine.offsets)?;
+    Ok(straight_to(block, machine, feed_per_min, end))
+}
+
 /// Where a line's motion goes under offsets, with the feed after the line, in the table that its settings leave. E3 where a
 /// coordinate of it is beyond the range.
 pub fn path_of<A: Allocator + Copy + Drop>(
@@ -223,7 +248,5 @@ pub fn path_of<A: Allocator + Copy + Drop>(
         return way_home(block, machine, offsets, home);
     }
     let end = straight_end_of(block, machine, offsets)?;
-    let mode = feed_mode_after(block, &machine.modes);
-    let pace = pace_by(block.motion, mode, feed_per_min, block.values.f);
-    Ok(Path::moving_at(pace, machine.point, end))
+    Ok(straight_to(block, machine, feed_per_min, end))
 }

@@ -7,9 +7,10 @@
 //! state, and writes the text of the commands as they come; its contract says exactly which text, for every reader
 //! and writer. The crate stands on the reader of lines, the parameter table, the offsets and the canonical text below it.
 //!
-//! Built are straight moves, both feed modes, spindle, tools, coolant, dwells, planes, units, modes that are only recorded, and
-//! all stops. What a line asks for, and whether it may, is `ng_modal`'s; the codes that it accepts and that aren't built here
-//! (G10, G28, G30, G43, G49, G53 to G59.3, G92 and its others, arcs, cycles) are refused behind it (B3).
+//! Built are straight moves, in machine coordinates too, both feed modes, spindle, tools, coolant, dwells, planes, units, tool lengths,
+//! coordinate systems, G10, G92 and its three others, the ways home, modes that are only recorded, and all stops. What a line asks
+//! for, and whether it may, is `ng_modal`'s; the codes that it accepts and that aren't built here (arcs, cycles) are refused behind
+//! it (B3).
 #![tactic(auto)]
 
 mod after;

@@ -6,7 +6,7 @@ use ng_canon::{Geometry, Pace, Segment, StraightMove};
 use ng_num::{Len, Point};
 use std::test::Fail;
 
-/// Programs of offsets, homes and tool lengths.
+/// Programs that change offsets, go home, or move in machine coordinates.
 pub const OFFSETS: Rows = &[
     // G92 counts from the offset before, absolute under G91 too, in the line's unit, and with the line's tool length
     (
@@ -41,7 +41,7 @@ pub const OFFSETS: Rows = &[
         "USE_TOOL_LENGTH_OFFSET(50.000000)\nSTRAIGHT_TRAVERSE(1.000000, 0.000000, 60.000000)\nUSE_TOOL_LENGTH_OFFSET(0.000000)\nSTRAIGHT_TRAVERSE(1.000000, 0.000000, 10.000000)\nUSE_TOOL_LENGTH_OFFSET(0.000000)\n",
         "REFUSED line 5: X3 NoProgramEnd\n",
     ),
-    ("G43 H2", "", "REFUSED line 1: B14 BadSlot\n"),
+    ("G43 H2", "", "1", "B14 BadSlot"),
     // G10 of the system in force acts at once, of another one once that is selected
     (
         "G10 L2 P1 X5\nG0 X1",
@@ -128,18 +128,14 @@ pub const OFFSETS: Rows = &[
         "REFUSED line 3: X3 NoProgramEnd\n",
     ),
     ("G28 X1000.000001", "", "REFUSED line 1: X2 OutsideTravel\n"),
-    (
-        "#5161=1000.000001 G28 X1",
-        "",
-        "REFUSED line 1: X2 OutsideTravel\n",
-    ),
-    (
-        "#5161=1000.000001 G28",
-        "",
-        "REFUSED line 1: X2 OutsideTravel\n",
-    ),
+    ("#5161=1000.000001 G28 X1", "", "REFUSED line 1: X2 OutsideTravel\n"),
+    ("#5161=1000.000001 G28", "", "REFUSED line 1: X2 OutsideTravel\n"),
     // computed lengths and offsets beyond the range, and what isn't looked at
-    ("G54 G20 G0 X1000000", "", "REFUSED line 1: E3 OutOfRange\n"),
+    (
+        "G54 G20 G0 X1000000",
+        "",
+        "REFUSED line 1: E3 OutOfRange\n",
+    ),
     (
         "G92 X-1\nG10 L2 P2 X9999999\nG55",
         "SET_ORIGIN_OFFSETS(1.000000, 0.000000, 0.000000)\n",
@@ -151,7 +147,7 @@ pub const OFFSETS: Rows = &[
         "REFUSED line 4: E3 OutOfRange\n",
     ),
     ("G20 G92 X1000000", "", "REFUSED line 1: E3 OutOfRange\n"),
-    // the end takes the origin that its line leaves system 1, and drops the G92 offset
+    // the program's end takes the origin that its line leaves system 1, and drops the G92 offset
     (
         "G10 L2 P1 X5\nG55 G92 X3\n#5222=4 M2",
         "SET_ORIGIN_OFFSETS(5.000000, 0.000000, 0.000000)\nSET_ORIGIN_OFFSETS(0.000000, 0.000000, 0.000000)\nSET_ORIGIN_OFFSETS(-3.000000, 0.000000, 0.000000)\nSET_ORIGIN_OFFSETS(5.000000, 4.000000, 0.000000)\nSELECT_PLANE(XY)\nSTOP_SPINDLE_TURNING()\nMIST_OFF()\nFLOOD_OFF()\nPROGRAM_END()\n",
