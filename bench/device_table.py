@@ -84,6 +84,31 @@ same("state field", ("docs", places(fields)), ("definition", defined("specs/Stat
 labels = [(byte, width, False) for byte, width, _ in places(rows("Log")) if byte < 32]
 same("part of a record", ("docs", labels), ("definition", [place for place in defined("specs/Log.antt") if place[0] < 32]))
 
+# What each number is called in the definitions, and the word that the document and the script have for it.
+NAMES = {
+    0: ("entries", "entry count"), 8: ("place", "place"), 16: ("point", "machine point"), 40: ("feed", "feed, nm per minute"),
+    48: ("speed", "spindle speed"), 56: ("g92", "G92 offset"), 80: ("origin", "origin in force"), 104: ("tool_length", "tool length in force"),
+    112: ("r", "kept R, Z, P, Q"), 144: ("motion", "motion mode"), 145: ("plane", "plane"), 146: ("distance", "distance mode"),
+    147: ("feed_mode", "feed mode"), 148: ("unit", "unit"), 149: ("retract", "retract mode"), 150: ("system", "coordinate system"),
+    151: ("path", "path mode"), 152: ("spindle", "spindle"), 153: ("mist", "mist"), 154: ("flood", "flood"), 155: ("overrides", "overrides allowed"),
+    156: ("place_known", "machine point"), 157: ("kept", "which of R, Z, P, Q are kept"), 158: ("selected_slot", "selected slot"),
+    160: ("spindle_slot", "slot in the spindle"), 162: ("source", "half-done block"), 163: ("opened", "what of it is open"),
+    164: ("at_known", "point"), 166: ("length", "bytes of the text"), 168: ("index", "segment"), 176: ("at", "where the machine stands"),
+    200: ("text", "text")}
+defined_names = {}
+for name, first, second in re.findall(r"(\w+) = \w+_at (\d+) ?(\d*)", (layout / "specs/StateField.antt").read_text()):
+    defined_names[int(second or first)] = name
+defined_names = {byte: defined_names[byte] for byte in sorted(defined_names) if byte not in (120, 128, 136)}
+same("names", ("this script", {byte: names[0] for byte, names in NAMES.items()}), ("definition", defined_names))
+same("kept words", ("this script", ["z", "p", "q"]),
+     ("definition", re.findall(r"(\w) = signed_at 1(?:20|28|36) ", (layout / "specs/StateField.antt").read_text())))
+words = {numbers(row[0])[0]: row[2] for row in fields}
+script_words = {int(byte): word for word, byte in re.findall(r'\("([^"]+)", (\d+), "', (root / "examples/read_device.py").read_text())}
+for byte, (_, word) in NAMES.items():
+    same(f"word for byte {byte}", ("this script", True), ("docs", word in words[byte]))
+    if byte in script_words and byte != 176:
+        same(f"word for byte {byte}", ("this script", True), ("examples/read_device.py", word in script_words[byte]))
+
 # The codes, in the order in which the document names them.
 codes = (layout / "specs/Codes.antt").read_text()
 known = {name: numbers(" ".join(re.findall(r"\((\d+),", line))) for name, line in re.findall(r"\n(\w+)_of code = (.*)", codes)}
