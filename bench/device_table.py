@@ -1,0 +1,142 @@
+#!/usr/bin/env python3
+"""Compares the tables of docs/DEVICE.md with the definitions, the reader and the writer of crates/ng_layout, and with
+examples/read_device.py: that all have the same numbers at the same bytes, in the same widths, with the same codes.
+
+    bench/device_table.py
+
+prints the fields, each with its byte, its width and its range, or what differs, with status 1."""
+import re
+import struct
+import sys
+from pathlib import Path
+
+root = Path(__file__).resolve().parent.parent
+layout = root / "crates/ng_layout"
+document = (root / "docs/DEVICE.md").read_text()
+differences = []
+
+
+def same(what, *sides):
+    """Each side: a name and a value; all values have to be equal."""
+    for name, value in sides[1:]:
+        if value != sides[0][1]:
+            differences.append(f"{what}: {sides[0][0]} has {sides[0][1]}, {name} has {value}")
+
+
+def rows(heading):
+    """The rows of the table under a heading."""
+    part = re.split(rf"\n#+ {heading}", document, maxsplit=1)[1].split("\n## ", 1)[0]
+    lines = [line for line in part.split("\n") if line.startswith("|")]
+    return [[cell.strip() for cell in line.strip("|").split("|")] for line in lines[2:]]
+
+
+def numbers(text):
+    return [int(word.replace(",", "").replace("_", "")) for word in re.findall(r"\d[\d,_]*\d|\d", text)]
+
+
+def places(table):
+    """Byte, width and whether it has a sign, of each number of a table of the document."""
+    return [(byte, numbers(row[1])[0], "signed" in row[2]) for row in table for byte in numbers(row[0])]
+
+
+def wide(kind, byte):
+    """The same of a word of the code or of the definitions."""
+    sizes = {"u64": 8, "u32": 4, "u16": 2, "u8": 1, "text": 256}
+    if kind == "triple":
+        return [(byte + 8 * k, 8, True) for k in range(3)]
+    return [(byte, 8, True)] if kind == "i64" else [(byte, sizes[kind], False)]
+
+
+def defined(path):
+    """The places that a file of definitions names."""
+    found = []
+    for word, first, second in re.findall(r"(number_at|signed_at|triple_at|bytes_at) (\d+) (\d+)?", (layout / path).read_text()):
+        if word in ("number_at", "bytes_at"):
+            found += [(int(second), int(first), False)] if second else []
+        else:
+            found += wide("triple" if word == "triple_at" else "i64", int(first))
+    return sorted(set(found))
+
+
+def coded(path, verb):
+    """The places that the code gets or puts."""
+    calls = re.findall(rf"{verb}_(\w+)\((?:&mut )?\w+, (\d+)", (layout / path).read_text())
+    return sorted(set(place for kind, byte in calls for place in wide(kind, int(byte))))
+
+
+def scripted():
+    """The places that the script for a stranger reads in a state field."""
+    text = (root / "examples/read_device.py").read_text()
+    found = [(200, 256, False)] if '"256s", state, 200' in text else []
+    found += [(int(byte), 2, False) for byte in re.findall(r'number\("H", state, (\d+)\)', text)]
+    for byte, times, kind in re.findall(r'", (\d+), "(\d?)([QqHB])"\)', text):
+        size = struct.calcsize(kind)
+        found += [(int(byte) + size * k, size, kind == "q") for k in range(int(times or 1))]
+    return sorted(set(found))
+
+
+header = [row + [""] * (4 - len(row)) for row in rows("Header")]
+fields = rows("State field")
+same("header", ("docs", places(header)), ("definition", defined("specs/Header.antt")),
+     ("reader", coded("src/header.rt", "get")), ("writer", coded("src/header.rt", "put")))
+same("state field", ("docs", places(fields)), ("definition", defined("specs/StateField.antt")),
+     ("reader", coded("src/field.rt", "get")), ("writer", coded("src/field.rt", "put")), ("script", scripted()))
+labels = [(byte, width, False) for byte, width, _ in places(rows("Log")) if byte < 32]
+same("part of a record", ("docs", labels), ("definition", [place for place in defined("specs/Log.antt") if place[0] < 32]))
+
+# What each number is called in the definitions, and the word that the document and the script have for it.
+NAMES = {
+    0: ("entries", "entry count"), 8: ("place", "place"), 16: ("point", "machine point"), 40: ("feed", "feed, nm per minute"),
+    48: ("speed", "spindle speed"), 56: ("g92", "G92 offset"), 80: ("origin", "origin in force"), 104: ("tool_length", "tool length in force"),
+    112: ("r", "kept R, Z, P, Q"), 144: ("motion", "motion mode"), 145: ("plane", "plane"), 146: ("distance", "distance mode"),
+    147: ("feed_mode", "feed mode"), 148: ("unit", "unit"), 149: ("retract", "retract mode"), 150: ("system", "coordinate system"),
+    151: ("path", "path mode"), 152: ("spindle", "spindle"), 153: ("mist", "mist"), 154: ("flood", "flood"), 155: ("overrides", "overrides allowed"),
+    156: ("place_known", "machine point"), 157: ("kept", "which of R, Z, P, Q are kept"), 158: ("selected_slot", "selected slot"),
+    160: ("spindle_slot", "slot in the spindle"), 162: ("source", "half-done block"), 163: ("opened", "what of it is open"),
+    164: ("at_known", "point"), 166: ("length", "bytes of the text"), 168: ("index", "segment"), 176: ("at", "where the machine stands"),
+    200: ("text", "text")}
+defined_names = {}
+for name, first, second in re.findall(r"(\w+) = \w+_at (\d+) ?(\d*)", (layout / "specs/StateField.antt").read_text()):
+    defined_names[int(second or first)] = name
+defined_names = {byte: defined_names[byte] for byte in sorted(defined_names) if byte not in (120, 128, 136)}
+same("names", ("this script", {byte: names[0] for byte, names in NAMES.items()}), ("definition", defined_names))
+same("kept words", ("this script", ["z", "p", "q"]),
+     ("definition", re.findall(r"(\w) = signed_at 1(?:20|28|36) ", (layout / "specs/StateField.antt").read_text())))
+words = {numbers(row[0])[0]: row[2] for row in fields}
+script_words = {int(byte): word for word, byte in re.findall(r'\("([^"]+)", (\d+), "', (root / "examples/read_device.py").read_text())}
+for byte, (_, word) in NAMES.items():
+    same(f"word for byte {byte}", ("this script", True), ("docs", word in words[byte]))
+    if byte in script_words and byte != 176:
+        same(f"word for byte {byte}", ("this script", True), ("examples/read_device.py", word in script_words[byte]))
+
+# The codes, in the order in which the document names them.
+codes = (layout / "specs/Codes.antt").read_text()
+known = {name: numbers(" ".join(re.findall(r"\((\d+),", line))) for name, line in re.findall(r"\n(\w+)_of code = (.*)", codes)}
+ranges = {numbers(row[0])[0]: row[3] for row in fields}
+for byte, name in [(144, "motion"), (145, "plane"), (146, "distance"), (147, "feed_mode"), (148, "unit"), (149, "retract"),
+                   (151, "path"), (152, "spindle"), (153, "truth"), (154, "truth"), (155, "truth"), (156, "truth"),
+                   (162, "source"), (163, "opened"), (164, "truth")]:
+    same(f"codes of byte {byte}", ("docs", numbers(ranges[byte])), ("definition", known[name]))
+
+# Limits, and where the areas lie.
+limits = dict(re.findall(r"\n(greatest_\w+|longest_\w+) = ([\d_]+)", (layout / "specs/Limits.antt").read_text()))
+stands = (layout / "specs/Stands.antt").read_text()
+log = (layout / "specs/Log.antt").read_text()
+bound = lambda row: numbers(row[3])[-1]
+for row, name in [(header[2], "greatest_count"), (header[4], "longest_program"), (fields[0], "greatest_count")]:
+    same(row[2], ("docs", bound(row)), ("definition", numbers(limits[name])[0]))
+for byte, name in [(158, "greatest_slot"), (160, "greatest_slot"), (166, "longest_text")]:
+    same(f"limit of byte {byte}", ("docs", numbers(ranges[byte])[-1]), ("definition", numbers(limits[name])[0]))
+value = lambda name, text: numbers(re.search(rf"\n{name}[^\n=]* = (.*)", text)[1])
+first, step, _ = value("snapshot_first", stands)
+area, size = value("program_first", stands)
+end, count = value("log_first", stands)[0], value("log_size", log)[0]
+same("sectors", ("docs", [numbers(row[0]) for row in rows("What the journal keeps")]),
+     ("definition", [[0, 1], [first, first + step - 1, first + step, first + 2 * step - 1],
+                     [area, area + size - 1, area + size, area + 2 * size - 1], [end, end + count - 1]]))
+same("least size", ("sectors", end + count), ("definition", value("least_size", stands)[0]))
+
+if differences:
+    sys.exit("\n".join(differences))
+for row in header + fields:
+    print("  ".join(row))
