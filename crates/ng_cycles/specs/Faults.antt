@@ -1,5 +1,5 @@
 -- What a cycle's line does, or the first cause for which it is refused (NISTIR 6556, 3.5.16; numbers own).
-use Rattle.std.specs.Prelude.{ℤ, pos, int_lt, Bool, true, false, not, ◌&&◌, ◌||◌, Option, Some, None, unwrap_or, List, [], ◌∷◌, Result, Ok, Err, if◌then◌else◌}
+use Rattle.std.specs.Prelude.{ℤ, pos, int_lt, Bool, true, false, not, ◌&&◌, ◌||◌, Option, Some, None, unwrap_or, List, [], ◌∷◌, ◌++◌, Result, Ok, Err, if◌then◌else◌}
 use Rattle.std.specs.Int.{int_max}
 use Rattle.std.specs.List.{list_any}
 use Rattle.std.specs.Option.{is_some, is_none, option_and_then}
@@ -115,17 +115,23 @@ ends_outside g _ = false
 abbrev pub leaves_travel : Geometry → Drill → Bool
 leaves_travel g d = list_any (ends_outside g) (cycle_segments d)
 
+-- Y6 to Y8
+abbrev pub work_causes : Kind → KeptWords → Spindle → List (Bool × Fault)
+work_causes kind words spindle =
+    (has_negative_p kind words, NegativeP)
+    ∷ ((has_bad_q kind words, BadQ)
+    ∷ ((finds_spindle_stopped kind spindle, SpindleStopped)
+    ∷ []))
+
 -- Y4 to Y8, X1 and X2 of a cycle that has its words
 abbrev pub hole_causes : CycleWords → Setting → KeptWords → Geometry → Drill → List (Bool × Fault)
 hole_causes w s words g d =
     (int_lt d.r d.z, RBelowZ)
     ∷ ((s.is_inverse_time, InverseTime)
-    ∷ ((has_negative_p w.kind words, NegativeP)
-    ∷ ((has_bad_q w.kind words, BadQ)
-    ∷ ((finds_spindle_stopped w.kind s.outputs.spindle, SpindleStopped)
-    ∷ ((is_none (above_zero s.feed_per_min), NoFeed)
+    ∷ (work_causes w.kind words s.outputs.spindle
+    ++ ((is_none (above_zero s.feed_per_min), NoFeed)
     ∷ ((leaves_travel g d, OutsideTravel)
-    ∷ []))))))
+    ∷ []))))
 
 -- each fault behind its cause: E3, Y1 to Y8, X1, X2
 abbrev pub causes : CycleWords → Setting → Geometry → List (Bool × Fault)

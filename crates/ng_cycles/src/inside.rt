@@ -23,6 +23,8 @@ impl Course {
 }
 
 impl Drill {
+    ghost use Rattle.std.specs.Prelude.{◌≤ℤ◌, ◌+ℤ◌, pos, false};
+    ghost use Rattle.ng_cycles.specs.Faults.{leaves_travel};
     ghost use Rattle.ng_cycles.specs.Inside.{top_of, rises_inside, extremes_inside};
 
     /// The highest end of a move: where the first move across goes.
@@ -41,14 +43,23 @@ impl Drill {
     }
 
     /// Whether the extreme coordinates lie within the travel.
-    pub fn extremes_inside(&self, geometry: &Geometry) -> bool
+    fn extremes_inside(&self, geometry: &Geometry) -> bool
         requires { IsMade self.now }
-        ensures inside { result ≡ extremes_inside geometry.now self.now }
+        ensures { result ≡ extremes_inside geometry.now self.now }
     {
         self.x.lies_on(&geometry.x, self.repeats)
             && self.y.lies_on(&geometry.y, self.repeats)
             && geometry.z.contains(self.z)
             && geometry.z.contains(self.top())
             && self.rises_inside(geometry)
+    }
+
+    /// Whether a move ends outside the travel. Nothing is walked: the extreme coordinates decide it.
+    pub fn leaves_travel(&self, geometry: &Geometry) -> bool
+        requires { IsMade self.now }
+        ensures leaves { result ≡ leaves_travel geometry.now self.now }
+        ensures near { result ≡ false → self.now.r ≤ℤ (self.now.z +ℤ pos 20_000_000_000) }
+    {
+        !self.extremes_inside(geometry)
     }
 }
