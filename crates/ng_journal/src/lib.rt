@@ -15,3 +15,4 @@ mod sectors;
 pub use formatting::format;
 pub use journal::{Journal, recover};
 pub use line::{LINE, ProgramLine};
+pub use ng_layout::{Half, Opened, Source, Stored};

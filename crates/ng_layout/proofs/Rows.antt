@@ -4,10 +4,10 @@ use Rattle.std.proofs.lemmas.Bool.{cases_eq}
 use Rattle.std.proofs.lemmas.List.{drop-replicate, length-replicate, get_or-set_same, get_or-set_other, get_or-take, get_or-drop, get_or_append_left, get_or-append_right, get_or_past, length-take-le}
 use Rattle.std.proofs.Common.{length-drop}
 use Rattle.byteorder.specs.Endian.{little_number, little_from}
-use Rattle.ng_num.specs.Range.{IsCount, greatest}
-use Rattle.ng_layout.specs.Fields.{number_at, signed_at, SameBelow, SameFrom, Puts}
+use Rattle.ng_num.specs.Range.{IsCount}
+use Rattle.ng_layout.specs.Fields.{number_at, signed_at, SameFrom, Puts}
 use Rattle.ng_layout.specs.Sectors.{HoldsValues, HoldsText}
-use Rattle.ng_layout.proofs.Places.{signed-below, signed-from, from-more, from-further, number-from}
+use Rattle.ng_layout.proofs.Places.{signed-below, signed-from, from-more, from-further}
 
 pub zero_at : (n i : ℕ) → ◌≡◌ {A = ℕ} (get_or (replicate n 0) i 0) 0
 zero_at zero i = refl
