@@ -19,6 +19,9 @@ pub(crate) struct Passage {
     square: u128,
 }
 
+/// The changes of quadrant of a full turn.
+const FULL_TURN: u8 = 4;
+
 impl Passage {
     /// The passage of an arc from a start to an end, which are seen from its centre.
     pub(crate) fn between(turn: Turn, start: Spot, end: Spot) -> Passage
@@ -64,13 +67,13 @@ fn changes(start: Spot, end: Spot) -> u8
 {
     let (from, to) = (Quadrant::of(start).number(), Quadrant::of(end).number());
     if start.is_same_way(end) {
-        4
+        FULL_TURN
     } else if from != to {
         (to + 4 - from) % 4
     } else if start.cross(end) > 0 {
         0
     } else {
-        4
+        FULL_TURN
     }
 }
 

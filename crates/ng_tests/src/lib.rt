@@ -6,6 +6,8 @@
 #![tactic(auto)]
 
 #[cfg(test)]
+mod arcs;
+#[cfg(test)]
 mod commands;
 #[cfg(test)]
 mod device;
