@@ -1,6 +1,6 @@
 -- R and Z are found exactly where their words are there.
-use Rattle.std.proofs.Common.{arith, ◌≡◌, ℤ, pos, ◌+ℤ◌, ◌≤ℤ◌, Bool, true, false, int_lt, Option, Some, None, unwrap_or, refl, sym, if◌then◌else◌}
-use Rattle.std.specs.Option.{is_none, option_map, option_and_then}
+use Rattle.std.proofs.Common.{arith, ◌≡◌, ℤ, pos, ◌≤ℤ◌, Bool, true, false, int_lt, Option, Some, None, unwrap_or, refl, if◌then◌else◌}
+use Rattle.std.specs.Option.{is_none, option_map}
 use Rattle.std.specs.Int.{int_max}
 use Rattle.std.proofs.lemmas.Int.{ints, clamps}
 use Rattle.ng_cycles.specs.declared.drill.Course.{Course}

@@ -161,11 +161,7 @@ impl Canned {
 
     /// The cycle of a line, or the first fault that holds of it: E3 where a length that it computes is beyond the range, Y1 to Y8,
     /// X1, X2. Places and pecks aren't walked, however many they are.
-    pub fn of(
-        words: &CycleWords,
-        setting: &Setting,
-        geometry: &Geometry,
-    ) -> Result<Canned, Fault>
+    pub fn of(words: &CycleWords, setting: &Setting, geometry: &Geometry) -> Result<Canned, Fault>
         ensures { result ≡ canned_of words.now setting.now geometry.now }
     {
         let in_force = words.own.over(&setting.kept);

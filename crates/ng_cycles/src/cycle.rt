@@ -43,11 +43,7 @@ impl Cycle {
     }
 
     /// All segments of the cycle of a line, or the first fault that holds of it, as `Canned::of`.
-    pub fn new(
-        words: &CycleWords,
-        setting: &Setting,
-        geometry: &Geometry,
-    ) -> Result<Cycle, Fault>
+    pub fn new(words: &CycleWords, setting: &Setting, geometry: &Geometry) -> Result<Cycle, Fault>
         ensures { result ≡ and_then (canned_of words.now setting.now geometry.now) (λ drill. Ok (whole drill)) }
     {
         match Canned::of(words, setting, geometry) {

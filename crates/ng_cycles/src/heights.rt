@@ -61,12 +61,7 @@ fn reaches_far(current: Len, at: Len, word: Len, repeats: u32) -> bool
 }
 
 /// The places along an axis from the current coordinate on.
-fn stepping(
-    word: Len,
-    shift: Shift,
-    at: Len,
-    repeats: u32,
-) -> Result<Course, Fault>
+fn stepping(word: Len, shift: Shift, at: Len, repeats: u32) -> Result<Course, Fault>
     requires { 1 ≤ repeats }
     ensures course { result ≡ far_unless (place_lengths true (Some word) shift at repeats) (course_of true (Some word) shift at) }
     ensures reaches { IfOk result (λ course. IsCount (coordinate course repeats)) }
@@ -204,22 +199,30 @@ impl Found {
 }
 
 /// All lengths of a cycle's words.
-pub fn found_of(
-    words: &CycleWords,
-    in_force: &KeptWords,
-    setting: &Setting,
-) -> Result<Found, Fault>
+pub fn found_of(words: &CycleWords, in_force: &KeptWords, setting: &Setting) -> Result<Found, Fault>
     ensures found { result ≡ far_unless (lengths words.now in_force.now setting.now) (found_of words.now in_force.now setting.now) }
     ensures x { IfOk result (λ found. IsCount (coordinate found.x words.now.repeats)) }
     ensures y { IfOk result (λ found. IsCount (coordinate found.y words.now.repeats)) }
 {
     let is_incremental = setting.is_incremental;
     let repeats = words.repeats;
-    let x = match course_of(is_incremental, words.x, setting.offsets.x(), setting.point.x, repeats) {
+    let x = match course_of(
+        is_incremental,
+        words.x,
+        setting.offsets.x(),
+        setting.point.x,
+        repeats,
+    ) {
         Ok(course) => course,
         Err(fault) => return Err(fault),
     };
-    let y = match course_of(is_incremental, words.y, setting.offsets.y(), setting.point.y, repeats) {
+    let y = match course_of(
+        is_incremental,
+        words.y,
+        setting.offsets.y(),
+        setting.point.y,
+        repeats,
+    ) {
         Ok(course) => course,
         Err(fault) => return Err(fault),
     };

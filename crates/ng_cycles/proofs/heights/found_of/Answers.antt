@@ -1,8 +1,6 @@
-use Rattle.std.proofs.Common.{◌≡◌, ◌∙◌, ◌++◌, ap, Ok, List, ℤ, Result}
-use Rattle.ng_num.specs.declared.fault.Fault.{Fault}
+use Rattle.std.proofs.Common.{◌∙◌, ◌++◌}
 use Rattle.ng_offsets.specs.Points.{shift_x, shift_y, shift_z}
-use Rattle.ng_cycles.specs.declared.heights.Found.{Found}
-use Rattle.ng_cycles.specs.Lengths.{course_of, heights_of, place_lengths, height_lengths, found_of, far_unless}
+use Rattle.ng_cycles.specs.Lengths.{course_of, heights_of, place_lengths, height_lengths, found_of}
 use Rattle.ng_cycles.proofs.Causes.{first_far, same_far, rest_far, none_far, far_ok}
 use Rattle.ng_cycles.proofs.heights.found_of.Goals as goal
 
