@@ -1,8 +1,9 @@
 -- Whether the places of a cycle are in range is decided by the last one.
-use Rattle.std.proofs.Common.{arith, ℕ, zero, suc, ◌+◌, ◌≡◌, ◌≤◌, ℤ, pos, ◌+ℤ◌, ◌*ℤ◌, unsigned_abs, Bool, true, false, not, ◌||◌, ◌&&◌, nat_le, List, [], ◌∷◌, ◌++◌, flat_map, refl, sym, ◌∙◌, ap}
+use Rattle.std.proofs.Common.{arith, ℕ, zero, suc, ◌+◌, ◌≡◌, ◌≤◌, ℤ, pos, ◌+ℤ◌, ◌*ℤ◌, Bool, true, false, ◌||◌, List, ◌++◌, flat_map, refl, sym}
 use Rattle.std.specs.List.{list_any}
+use Rattle.std.proofs.lemmas.List.Folds.{list_any-append}
 use Rattle.std.proofs.lemmas.Bool.Decides.{nat_tests}
-use Rattle.ng_num.specs.Range.{IsCount, greatest}
+use Rattle.ng_num.specs.Range.{IsCount}
 use Rattle.ng_cycles.specs.Lengths.{is_far, repeated}
 use Rattle.ng_cycles.specs.Strokes.{numbers_from}
 use Rattle.ng_cycles.proofs.Between.{between}
@@ -59,3 +60,7 @@ repeated_last p m w n some hp hm = sym (by_last p m w n some hp hm _ refl)
 
 pub last_near : (far : Bool) (n : ℤ) → (far || is_far n) ≡ false → IsCount n
 last_near far n e = is_far-near n (or_none far (is_far n) e).1
+
+-- lengths that are looked at one after another
+pub any_append : (xs ys : List ℤ) → list_any is_far (xs ++ ys) ≡ (list_any is_far xs || list_any is_far ys)
+any_append xs ys = list_any-append is_far xs ys

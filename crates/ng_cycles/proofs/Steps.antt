@@ -1,14 +1,14 @@
 -- A cycle's strokes, one by one.
-use Rattle.std.proofs.Common.{ℕ, suc, ◌≡◌, Bool, true, false, cond, ℤ, List, [], ◌∷◌, ◌++◌, flat_map, refl, ◌∙◌, sym, ap, append_assoc, if◌then◌else◌}
+use Rattle.std.proofs.Common.{ℕ, suc, ◌≡◌, Bool, true, false, List, [], ◌∷◌, ◌++◌, flat_map, refl, ◌∙◌, sym, ap, append_assoc, if◌then◌else◌}
 use Rattle.std.specs.Ordering.{int_eq}
 use Rattle.ng_canon.specs.declared.pace.Pace.TheVariants as pace
 use Rattle.ng_canon.specs.declared.segment.Segment.{Segment}
 use Rattle.ng_num.specs.declared.point.Point.{Point}
 use Rattle.ng_cycles.specs.declared.drill.Drill.{Drill}
 use Rattle.ng_cycles.specs.declared.standing.Standing.{Standing}
-use Rattle.ng_cycles.specs.Strokes.{Stroke, Across, ToR, TraverseTo, numbers_from, coordinate, again, strokes_of, repeat}
+use Rattle.ng_cycles.specs.Strokes.{Stroke, ToR, TraverseTo, numbers_from, coordinate, again, strokes_of, repeat}
 use Rattle.ng_cycles.specs.Left.{pecks_behind}
-use Rattle.ng_cycles.specs.Segments.{traced, segments_of, stand_after, behind, line_to}
+use Rattle.ng_cycles.specs.Segments.{traced, stand_after, behind, line_to}
 
 -- the point at the place of a repeat
 abbrev pub over : Drill → Standing → ℕ → Standing

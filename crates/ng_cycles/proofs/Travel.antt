@@ -1,20 +1,17 @@
 -- A cycle stays within the travel exactly where its extreme coordinates do.
-use Rattle.std.proofs.Common.{arith, ℕ, zero, suc, ◌+◌, ◌-◌, ◌*◌, ◌/◌, ◌%◌, max, ◌≡◌, ◌≤◌, ◌<◌, ℤ, pos, negsuc, ◌+ℤ◌, ◌-ℤ◌, ◌*ℤ◌, ◌≤ℤ◌, ◌<ℤ◌, unsigned_abs, Bool, true, false, not, ◌||◌, ◌&&◌, int_lt, int_le, List, [], ◌∷◌, ◌++◌, flat_map, refl, sym, ◌∙◌, ap, subst, ◌⊎◌, inl, inr, if◌then◌else◌}
+use Rattle.std.proofs.Common.{arith, ℕ, zero, suc, ◌+◌, ◌-◌, ◌*◌, ◌/◌, ◌%◌, max, ◌≡◌, ◌≤◌, ◌<◌, ℤ, pos, negsuc, ◌+ℤ◌, ◌-ℤ◌, ◌*ℤ◌, ◌≤ℤ◌, ◌<ℤ◌, unsigned_abs, Bool, true, false, not, ◌||◌, ◌&&◌, int_lt, int_le, List, [], ◌∷◌, ◌++◌, flat_map, refl, sym, ap, subst, if◌then◌else◌}
 use Rattle.std.specs.Int.{int_min, int_max}
 use Rattle.std.specs.List.{list_any}
 use Rattle.std.specs.Ordering.{int_eq}
-use Rattle.std.proofs.lemmas.Bool.Decides.{nat_tests}
 use Rattle.std.proofs.lemmas.Int.{ints, clamps}
 use Rattle.std.proofs.lemmas.Nat.{mul-le}
 use Rattle.std.proofs.Math.Nat.{div-add-mod, mod-lt, mul_comm}
 use Rattle.ng_cycles.specs.Canned.{IsDeep, IsMade}
-use Rattle.std.proofs.lemmas.List.Folds.{list_any-append}
 use Rattle.ng_num.specs.declared.point.Point.{Point}
 use Rattle.ng_canon.specs.Inside.{is_on, is_inside}
 use Rattle.ng_canon.specs.declared.geometry.Axis.{Axis}
 use Rattle.ng_canon.specs.declared.geometry.Geometry.{Geometry}
 use Rattle.ng_canon.specs.declared.segment.Segment.{Segment}
-use Rattle.ng_canon.specs.declared.outputs.Spindle.TheVariants.{Stopped}
 use Rattle.ng_cycles.specs.declared.drill.Course.{Course}
 use Rattle.ng_cycles.specs.declared.drill.Drill.{Drill}
 use Rattle.ng_cycles.specs.declared.drill.Work.{Work}
@@ -22,8 +19,8 @@ use Rattle.ng_cycles.specs.declared.drill.Work.TheVariants.{Drilling, DrillingWi
 use Rattle.ng_cycles.specs.declared.standing.Standing.{Standing}
 use Rattle.ng_cycles.specs.Inside.{top_of, rises_inside, extremes_inside}
 use Rattle.ng_cycles.specs.Faults.{ends_outside, leaves_travel}
-use Rattle.ng_cycles.specs.Strokes.{Stroke, Across, ToR, TraverseTo, FeedTo, Wait, Turn, numbers_from, coordinate, bottom, pecks, clearance, again, strokes_of, repeat, strokes}
-use Rattle.ng_cycles.specs.Segments.{traced, segments_of, behind, begin, cycle_segments}
+use Rattle.ng_cycles.specs.Strokes.{Stroke, Across, ToR, TraverseTo, FeedTo, Wait, Turn, numbers_from, coordinate, bottom, pecks, clearance, again, strokes_of, repeat}
+use Rattle.ng_cycles.specs.Segments.{traced, segments_of, behind, begin}
 
 abbrev On : Axis → ℤ → Type 0
 On axis n = is_on axis n ≡ true
@@ -149,7 +146,7 @@ stays g d at (Across k ∷ rest) r h all =
 stays g d at (ToR ∷ rest) r h all =
     let now : Stands g (height_at at d.r).point = (h.0, h.1, r) in
     by_test g d at rest (int_eq at.point.z d.r) (stays g d at rest r h all.1)
-        (both_none (is_inside g (height_at at d.r).point) _ (stands_inside g (height_at at d.r).point now) (stays g d (height_at at d.r) rest r now all.1))
+    (both_none (is_inside g (height_at at d.r).point) _ (stands_inside g (height_at at d.r).point now) (stays g d (height_at at d.r) rest r now all.1))
 stays g d at (TraverseTo z ∷ rest) r h all =
     let now : Stands g (height_at at z).point = (h.0, h.1, all.0) in
     both_none (is_inside g (height_at at z).point) _ (stands_inside g (height_at at z).point now) (stays g d (height_at at z) rest r now all.1)
@@ -315,7 +312,7 @@ inside_by g d true e made x =
     let rise : (is_on g.x d.start.x && is_on g.y d.start.y) ≡ true = or_here (not (int_lt d.start.z d.r)) _ (ap not e) x.rises in
     let now : Stands g (height_at (begin d) d.r).point = (and_left (is_on g.x d.start.x) (is_on g.y d.start.y) rise, and_right (is_on g.x d.start.x) (is_on g.y d.start.y) rise, r) in
     both_none (is_inside g (height_at (begin d) d.r).point) _ (stands_inside g (height_at (begin d) d.r).point now)
-        (stays g d (height_at (begin d) d.r) _ r now (repeats_end g d 1 d.repeats hole (places_on g d x) (omega arith) (omega arith)))
+    (stays g d (height_at (begin d) d.r) _ r now (repeats_end g d 1 d.repeats hole (places_on g d x) (omega arith) (omega arith)))
 inside_by g d false e made x =
     let over : d.r ≤ℤ d.start.z = not_lt d.start.z d.r e in
     let above = made.above in
@@ -339,7 +336,10 @@ extremes_by g d true n all e made none =
     let count : 1 + n ≡ d.repeats = omega (arith, all) in
     let last' : Ends g d (Across d.repeats) = rw count at last in
     record {
-      first_x = shows.1.0.0; last_x = last'.0; first_y = shows.1.0.1; last_y = last'.1;
+      first_x = shows.1.0.0;
+      last_x = last'.0;
+      first_y = shows.1.0.1;
+      last_y = last'.1;
       z = z_shown g d d.work above made.deep (end-before g d (strokes_of d d.work) _ shows.1.1.1);
       top = rw top now.2;
       rises = or_true (not (int_lt d.start.z d.r)) _ (and_true (is_on g.x d.start.x) (is_on g.y d.start.y) now.0 now.1);
@@ -354,7 +354,10 @@ extremes_by g d false n all e made none =
     let count : 1 + n ≡ d.repeats = omega (arith, all) in
     let last' : Ends g d (Across d.repeats) = rw count at last in
     record {
-      first_x = shows.0.0; last_x = last'.0; first_y = shows.0.1; last_y = last'.1;
+      first_x = shows.0.0;
+      last_x = last'.0;
+      first_y = shows.0.1;
+      last_y = last'.1;
       z = z_shown g d d.work above made.deep (end-before g d (strokes_of d d.work) _ shows.1.1);
       top = rw top now.2;
       rises = rw e refl;
@@ -373,7 +376,7 @@ extremes_shown : (g : Geometry) (d : Drill) → IsMade d → leaves_travel g d �
 extremes_shown g d made none =
     let m = some_repeats d.repeats made.some in
     let none' : outside g (traced d (begin d) ((if int_lt d.start.z d.r then TraverseTo d.r ∷ [] else []) ++ flat_map (repeat d) (numbers_from 1 (suc m.0)))) ≡ false =
-        subst (λ (n : ℕ). outside g (traced d (begin d) ((if int_lt d.start.z d.r then TraverseTo d.r ∷ [] else []) ++ flat_map (repeat d) (numbers_from 1 n))) ≡ false) (sym m.1) none in
+    subst (λ (n : ℕ). outside g (traced d (begin d) ((if int_lt d.start.z d.r then TraverseTo d.r ∷ [] else []) ++ flat_map (repeat d) (numbers_from 1 n))) ≡ false) (sym m.1) none in
     are_extremes g d (extremes_by g d (int_lt d.start.z d.r) m.0 m.1 refl made none')
 
 -- a cycle leaves the travel exactly where an extreme coordinate lies outside

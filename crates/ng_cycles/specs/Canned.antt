@@ -1,5 +1,5 @@
 -- What is true of a canned cycle that nothing forbids.
-use Rattle.std.specs.Prelude.{◌≡◌, ℕ, ◌≤◌, ◌<◌, ℤ, pos, ◌≤ℤ◌, ◌+ℤ◌}
+use Rattle.std.specs.Prelude.{◌≤◌, ◌<◌, pos, ◌≤ℤ◌, ◌+ℤ◌}
 use Rattle.std.specs.Int.{int_max}
 use Rattle.ng_num.specs.Range.{IsCount}
 use Rattle.ng_cycles.specs.declared.drill.Drill.{Drill}

@@ -123,25 +123,25 @@ work_causes kind words spindle =
     ∷ ((finds_spindle_stopped kind spindle, SpindleStopped)
     ∷ []))
 
--- Y4 to Y8, X1 and X2 of a cycle that has its words
-abbrev pub hole_causes : CycleWords → Setting → KeptWords → Geometry → Drill → List (Bool × Fault)
-hole_causes w s words g d =
-    (int_lt d.r d.z, RBelowZ)
+-- Y4 to Y8 and X1 of a cycle that has its words
+abbrev pub hole_causes : CycleWords → Setting → KeptWords → Bool → List (Bool × Fault)
+hole_causes w s words below =
+    (below, RBelowZ)
     ∷ ((s.is_inverse_time, InverseTime)
     ∷ (work_causes w.kind words s.outputs.spindle
     ++ ((is_none (above_zero s.feed_per_min), NoFeed)
-    ∷ ((leaves_travel g d, OutsideTravel)
-    ∷ []))))
+    ∷ [])))
 
 -- each fault behind its cause: E3, Y1 to Y8, X1, X2
 abbrev pub causes : CycleWords → Setting → Geometry → List (Bool × Fault)
 causes w s g =
     let words = in_force w.own s.kept in
-    (list_any is_far (lengths w s), OutOfRange)
+    let d = drill_of w s in
+    (list_any is_far (lengths w words s), OutOfRange)
     ∷ ((names_no_axis w, CycleNoAxis)
     ∷ ((is_none words.z, NoZ)
     ∷ ((is_none words.r, NoR)
-    ∷ hole_causes w s words g (drill_of w s))))
+    ∷ (hole_causes w s words (int_lt d.r d.z) ++ ((leaves_travel g d, OutsideTravel) ∷ [])))))
 
 -- the first fault whose cause holds
 abbrev pub first_fault : List (Bool × Fault) → Option Fault

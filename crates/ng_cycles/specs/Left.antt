@@ -9,8 +9,7 @@ use Rattle.ng_cycles.specs.declared.drill.Work.TheVariants.{Drilling, DrillingWi
 use Rattle.ng_cycles.specs.declared.left.CycleLeft.{CycleLeft}
 use Rattle.ng_cycles.specs.declared.phase.Phase.{Phase}
 use Rattle.ng_cycles.specs.declared.phase.Phase.TheVariants as phase
-use Rattle.ng_cycles.specs.declared.phase.Pecking.{Pecking}
-use Rattle.ng_cycles.specs.Strokes.{Stroke, ToR, TraverseTo, FeedTo, Wait, Turn, numbers_from, bottom, clearance, again, strokes_of, repeat}
+use Rattle.ng_cycles.specs.Strokes.{Stroke, TraverseTo, FeedTo, Wait, Turn, numbers_from, bottom, clearance, again, strokes_of, repeat}
 use Rattle.ng_cycles.specs.Segments.{traced, stand_after, Ahead}
 
 -- how long it waits at the bottom

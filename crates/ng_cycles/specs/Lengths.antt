@@ -1,19 +1,20 @@
 -- What a cycle's words name in machine coordinates, and the lengths that are looked at for their range (NISTIR 6556, 3.5.16,
 -- 3.5.17; ranges own).
-use Rattle.std.specs.Prelude.{ℕ, ℤ, pos, ◌+ℤ◌, ◌-ℤ◌, ◌*ℤ◌, unsigned_abs, Bool, true, false, not, nat_le, if◌then◌else◌, Option, Some, None, unwrap_or, List, [], ◌∷◌, ◌++◌, flat_map, Result, Ok, Err}
+use Rattle.std.specs.Prelude.{ℕ, ℤ, pos, ◌+ℤ◌, ◌-ℤ◌, ◌*ℤ◌, unsigned_abs, Bool, true, false, not, nat_le, if◌then◌else◌, Option, Some, None, List, [], ◌∷◌, ◌++◌, flat_map, Result, Ok, Err}
 use Rattle.std.specs.List.{list_any}
-use Rattle.std.specs.Option.{option_map}
+use Rattle.std.specs.Option.{option_map, option_and_then}
 use Rattle.ng_num.specs.Range.{greatest}
 use Rattle.ng_num.specs.declared.fault.Fault.{Fault}
 use Rattle.ng_num.specs.declared.fault.Fault.TheVariants.{OutOfRange}
 use Rattle.ng_offsets.specs.Points.{shift_x, shift_y, shift_z}
 use Rattle.ng_cycles.specs.declared.drill.Course.{Course}
+use Rattle.ng_cycles.specs.declared.heights.Found.{Found}
 use Rattle.ng_cycles.specs.declared.heights.Heights.{Heights}
+use Rattle.ng_cycles.specs.declared.heights.Lengths.{Lengths}
 use Rattle.ng_cycles.specs.declared.words.CycleWords.{CycleWords}
 use Rattle.ng_cycles.specs.declared.words.KeptWords.{KeptWords}
 use Rattle.ng_cycles.specs.declared.words.Setting.{Setting}
 use Rattle.ng_cycles.specs.Strokes.{numbers_from}
-use Rattle.ng_cycles.specs.Words.{in_force}
 
 -- ---- machine coordinates
 
@@ -42,6 +43,17 @@ z_by true (Some r) (Some word) shift at = Some ((at +ℤ r) +ℤ word)
 -- the same of words that may be missing; under G91 Z is none where R is missing
 abbrev pub heights_of : Bool → KeptWords → ℤ → ℤ → Heights
 heights_of incremental words shift at = record { r = option_map (λ r. r_of incremental r shift at) words.r; z = z_by incremental words.r words.z shift at }
+
+abbrev pub found_of : CycleWords → KeptWords → Setting → Found
+found_of w words s = record {
+  x = course_of s.is_incremental w.x (shift_x s.offsets) s.point.x;
+  y = course_of s.is_incremental w.y (shift_y s.offsets) s.point.y;
+  heights = heights_of s.is_incremental words (shift_z s.offsets) s.point.z;
+}
+
+-- all of them, where R and Z are there
+abbrev pub lengths_in : Found → Option Lengths
+lengths_in f = option_and_then (λ r. option_map (λ z. record { x = f.x; y = f.y; r = r; z = z }) f.heights.z) f.heights.r
 
 -- ---- what is looked at: the current and the new program coordinates where the line needs them, and the machine coordinates
 
@@ -72,11 +84,12 @@ height_lengths words s =
     r_lengths s.is_incremental words.r (shift_z s.offsets) s.point.z
     ++ z_lengths s.is_incremental words.r words.z (shift_z s.offsets) s.point.z
 
-abbrev pub lengths : CycleWords → Setting → List ℤ
-lengths w s =
+-- with the words in force
+abbrev pub lengths : CycleWords → KeptWords → Setting → List ℤ
+lengths w words s =
     place_lengths s.is_incremental w.x (shift_x s.offsets) s.point.x w.repeats
     ++ (place_lengths s.is_incremental w.y (shift_y s.offsets) s.point.y w.repeats
-    ++ height_lengths (in_force w.own s.kept) s)
+    ++ height_lengths words s)
 
 -- beyond the range of lengths
 abbrev pub is_far : ℤ → Bool

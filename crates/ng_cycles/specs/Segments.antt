@@ -1,5 +1,5 @@
 -- The segments of a canned cycle: each begins where the one before it ended.
-use Rattle.std.specs.Prelude.{ℕ, ℤ, List, [], ◌∷◌, ◌++◌, take, drop, fold, if◌then◌else◌}
+use Rattle.std.specs.Prelude.{ℕ, List, [], ◌∷◌, ◌++◌, take, drop, fold, if◌then◌else◌}
 use Rattle.std.specs.Ordering.{int_eq}
 use Rattle.ng_num.specs.declared.point.Point.{Point}
 use Rattle.ng_canon.specs.declared.pace.Pace.{Pace}

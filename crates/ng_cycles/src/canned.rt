@@ -1,12 +1,15 @@
 //! A canned cycle that nothing forbids, or why it is refused.
-ghost use Rattle.std.specs.Prelude.{◌≡◌, ◌∷◌, [], pos, unwrap_or, IfOk};
+ghost use Rattle.std.specs.Prelude.{◌≡◌, ◌∷◌, [], pos, int_lt, unwrap_or, IfOk, if◌then◌else◌};
+ghost use Rattle.std.specs.Int.{int_max};
 ghost use Rattle.std.specs.Option.{is_none, option_and_then};
 ghost use Rattle.ng_canon.specs.Rates.{above_zero};
-ghost use Rattle.ng_cycles.specs.Canned.{IsDeep};
-ghost use Rattle.ng_cycles.specs.Faults.{work_of, work_causes, is_negative, is_stopped, first_fault, unless};
+ghost use Rattle.ng_num.specs.Range.{IsCount};
+ghost use Rattle.ng_cycles.specs.Strokes.{coordinate};
+ghost use Rattle.ng_cycles.specs.Canned.{IsDeep, IsMade};
+ghost use Rattle.ng_cycles.specs.Faults.{work_of, work_causes, is_negative, is_stopped, hole_causes, drill_by, first_fault, unless};
 
 use crate::drill::{Drill, Work};
-use crate::heights::{Lengths, course_of, heights_of};
+use crate::heights::{Lengths, found_of};
 use crate::peck::Peck;
 use crate::words::{CycleWords, KeptWords, Kind, Setting};
 use ng_canon::{Geometry, Rate, Spindle};
@@ -90,8 +93,101 @@ fn work_of(kind: Kind, words: &KeptWords, spindle: Spindle) -> Result<Work, Faul
     }
 }
 
+/// Where each repeat ends.
+fn clear_of(setting: &Setting, r: Len) -> Len
+    ensures { result ≡ (if setting.now.keeps_old_z then int_max setting.now.point.z r else r) }
+{
+    if setting.keeps_old_z && r.nm() < setting.point.z.nm() {
+        setting.point.z
+    } else {
+        r
+    }
+}
+
+impl CycleWords {
+    ghost use Rattle.std.specs.Prelude.{not};
+    ghost use Rattle.ng_cycles.specs.Faults.{names_no_axis};
+
+    /// Whether the line has an X, Y or Z.
+    fn names_axis(&self) -> bool
+        ensures { result ≡ not (names_no_axis self.now) }
+    {
+        self.x.is_some() || self.y.is_some() || self.own.z.is_some()
+    }
+}
+
+/// The cycle of a line that has its words; Y4 to Y8 and X1.
+fn drill_in(
+    words: &CycleWords,
+    in_force: &KeptWords,
+    setting: &Setting,
+    lengths: &Lengths,
+) -> Result<Drill, Fault>
+    requires x { IsCount (coordinate lengths.now.x words.now.repeats) }
+    requires y { IsCount (coordinate lengths.now.y words.now.repeats) }
+    ensures drill { result ≡ unless (first_fault (hole_causes words.now setting.now in_force.now (int_lt lengths.now.r lengths.now.z))) (drill_by words.now setting.now in_force.now lengths.now) }
+    ensures made { IfOk result IsMade }
+{
+    if lengths.r.nm() < lengths.z.nm() {
+        return Err(Fault::RBelowZ);
+    }
+    if setting.is_inverse_time {
+        return Err(Fault::InverseTime);
+    }
+    let work = match work_of(words.kind, in_force, setting.outputs.spindle) {
+        Ok(work) => work,
+        Err(fault) => return Err(fault),
+    };
+    match Rate::of(setting.feed_per_min) {
+        None => Err(Fault::NoFeed),
+        Some(rate) => Ok(Drill {
+            work,
+            start: setting.point,
+            x: lengths.x,
+            y: lengths.y,
+            r: lengths.r,
+            z: lengths.z,
+            clear: clear_of(setting, lengths.r),
+            repeats: words.repeats,
+            rate,
+            outputs: setting.outputs,
+        }),
+    }
+}
+
 impl Canned {
     ghost use Rattle.ng_cycles.specs.Canned.{IsCanned};
+    ghost use Rattle.ng_cycles.specs.Faults.{canned_of};
+
+    /// The cycle of a line, or the first fault that holds of it: E3 where a length that it computes is beyond the range, Y1 to Y8,
+    /// X1, X2. Places and pecks aren't walked, however many they are.
+    pub fn of(words: &CycleWords, setting: &Setting, geometry: &Geometry) -> Result<Canned, Fault>
+        ensures { result ≡ canned_of words.now setting.now geometry.now }
+    {
+        let in_force = words.own.over(&setting.kept);
+        let found = match found_of(words, &in_force, setting) {
+            Ok(found) => found,
+            Err(fault) => return Err(fault),
+        };
+        if !words.names_axis() {
+            return Err(Fault::CycleNoAxis);
+        }
+        if in_force.z.is_none() {
+            return Err(Fault::NoZ);
+        }
+        let lengths = match found.lengths() {
+            Some(lengths) => lengths,
+            None => return Err(Fault::NoR),
+        };
+        let drill = match drill_in(words, &in_force, setting, &lengths) {
+            Ok(drill) => drill,
+            Err(fault) => return Err(fault),
+        };
+        if drill.leaves_travel(geometry) {
+            return Err(Fault::OutsideTravel);
+        }
+        Ok(Canned { drill })
+    }
 
     /// What it does.
     pub fn drill(&self) -> &Drill

@@ -1,10 +1,12 @@
 //! A cycle's segments, one at a time.
-ghost use Rattle.std.specs.Prelude.{◌≡◌};
+ghost use Rattle.std.specs.Prelude.{◌≡◌, Ok};
 
 use crate::canned::Canned;
 use crate::left::{CycleLeft, cycle_left};
 use crate::standing::Standing;
-use ng_canon::Segment;
+use crate::words::{CycleWords, Setting};
+use ng_canon::{Geometry, Segment};
+use ng_num::Fault;
 use std::marker::Model;
 
 /// The segments that are left of a canned cycle, and how the machine stands before them. None of them is stored.
@@ -28,6 +30,8 @@ impl Model for Cycle {
 impl Cycle {
     ghost use Rattle.ng_cycles.specs.Segments.{whole};
     ghost use Rattle.ng_cycles.specs.Left.{IsNext};
+    ghost use Rattle.ng_cycles.specs.Faults.{canned_of};
+    ghost use Rattle.ng_num.specs.Results.{and_then};
 
     /// All segments of a cycle.
     pub fn of(canned: &Canned) -> Cycle
@@ -35,6 +39,16 @@ impl Cycle {
     {
         Cycle {
             left: cycle_left(canned),
+        }
+    }
+
+    /// All segments of the cycle of a line, or the first fault that holds of it, as `Canned::of`.
+    pub fn new(words: &CycleWords, setting: &Setting, geometry: &Geometry) -> Result<Cycle, Fault>
+        ensures { result ≡ and_then (canned_of words.now setting.now geometry.now) (λ drill. Ok (whole drill)) }
+    {
+        match Canned::of(words, setting, geometry) {
+            Ok(canned) => Ok(Cycle::of(&canned)),
+            Err(fault) => Err(fault),
         }
     }
 

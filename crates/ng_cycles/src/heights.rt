@@ -2,7 +2,7 @@
 ghost use Rattle.std.specs.Prelude.{◌≡◌, ◌≤◌, ◌+ℤ◌, ◌-ℤ◌, ◌*ℤ◌, ◌||◌, ◌++◌, pos, true, false, flat_map, IfOk};
 ghost use Rattle.std.specs.List.{list_any};
 ghost use Rattle.ng_num.specs.Range.{IsCount};
-ghost use Rattle.ng_cycles.specs.Lengths.{course_of, r_of, heights_of, place_lengths, r_lengths, z_lengths, height_lengths, repeated, is_far, far_unless};
+ghost use Rattle.ng_cycles.specs.Lengths.{course_of, r_of, heights_of, place_lengths, r_lengths, z_lengths, height_lengths, lengths, lengths_in, found_of, repeated, is_far, far_unless};
 ghost use Rattle.ng_cycles.specs.Strokes.{numbers_from, coordinate};
 ghost use Rattle.ng_offsets.specs.Points.{shift_z};
 
@@ -17,6 +17,14 @@ use ng_offsets::Shift;
 pub struct Heights {
     pub r: Option<Len>,
     pub z: Option<Len>,
+}
+
+/// What a cycle's words name in machine coordinates, where R and Z may be missing.
+#[derive(Clone, Copy, Debug, PartialEq, Eq)]
+pub struct Found {
+    pub x: Course,
+    pub y: Course,
+    pub heights: Heights,
 }
 
 /// What a cycle's words name in machine coordinates.
@@ -53,12 +61,7 @@ fn reaches_far(current: Len, at: Len, word: Len, repeats: u32) -> bool
 }
 
 /// The places along an axis from the current coordinate on.
-fn stepping(
-    word: Len,
-    shift: Shift,
-    at: Len,
-    repeats: u32,
-) -> Result<Course, Fault>
+fn stepping(word: Len, shift: Shift, at: Len, repeats: u32) -> Result<Course, Fault>
     requires { 1 ≤ repeats }
     ensures course { result ≡ far_unless (place_lengths true (Some word) shift at repeats) (course_of true (Some word) shift at) }
     ensures reaches { IfOk result (λ course. IsCount (coordinate course repeats)) }
@@ -172,5 +175,59 @@ pub fn heights_of(words: &KeptWords, setting: &Setting) -> Result<Heights, Fault
         heights_from(words, shift, setting.point.z)
     } else {
         heights_at(words, shift, setting.point.z)
+    }
+}
+
+impl Found {
+    /// All of them, where R and Z are there.
+    pub fn lengths(&self) -> Option<Lengths>
+        ensures { result ≡ lengths_in self.now }
+    {
+        match self.heights.r {
+            None => None,
+            Some(r) => match self.heights.z {
+                None => None,
+                Some(z) => Some(Lengths {
+                    x: self.x,
+                    y: self.y,
+                    r,
+                    z,
+                }),
+            },
+        }
+    }
+}
+
+/// All lengths of a cycle's words.
+pub fn found_of(words: &CycleWords, in_force: &KeptWords, setting: &Setting) -> Result<Found, Fault>
+    ensures found { result ≡ far_unless (lengths words.now in_force.now setting.now) (found_of words.now in_force.now setting.now) }
+    ensures x { IfOk result (λ found. IsCount (coordinate found.x words.now.repeats)) }
+    ensures y { IfOk result (λ found. IsCount (coordinate found.y words.now.repeats)) }
+{
+    let is_incremental = setting.is_incremental;
+    let repeats = words.repeats;
+    let x = match course_of(
+        is_incremental,
+        words.x,
+        setting.offsets.x(),
+        setting.point.x,
+        repeats,
+    ) {
+        Ok(course) => course,
+        Err(fault) => return Err(fault),
+    };
+    let y = match course_of(
+        is_incremental,
+        words.y,
+        setting.offsets.y(),
+        setting.point.y,
+        repeats,
+    ) {
+        Ok(course) => course,
+        Err(fault) => return Err(fault),
+    };
+    match heights_of(in_force, setting) {
+        Ok(heights) => Ok(Found { x, y, heights }),
+        Err(fault) => Err(fault),
     }
 }

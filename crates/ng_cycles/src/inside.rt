@@ -18,7 +18,8 @@ impl Course {
         requires last { IsCount (coordinate self.now repeats) }
         ensures { result ≡ (is_on axis.now (coordinate self.now 1) && is_on axis.now (coordinate self.now repeats)) }
     {
-        axis.contains(self.coordinate(1, repeats)) && axis.contains(self.coordinate(repeats, repeats))
+        axis.contains(self.coordinate(1, repeats))
+            && axis.contains(self.coordinate(repeats, repeats))
     }
 }
 
@@ -31,7 +32,11 @@ impl Drill {
     fn top(&self) -> Len
         ensures { result ≡ top_of self.now }
     {
-        if self.r.nm() < self.start.z.nm() { self.start.z } else { self.r }
+        if self.r.nm() < self.start.z.nm() {
+            self.start.z
+        } else {
+            self.r
+        }
     }
 
     /// Whether its first traverse, if it has one, ends within the travel across.

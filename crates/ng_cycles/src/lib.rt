@@ -13,8 +13,8 @@ mod places;
 mod standing;
 mod words;
 
-pub use cycle::Cycle;
 pub use canned::Canned;
+pub use cycle::Cycle;
 pub use drill::{Course, Drill, Work};
 pub use peck::Peck;
 pub use standing::Standing;

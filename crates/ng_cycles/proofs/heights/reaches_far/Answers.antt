@@ -1,4 +1,4 @@
-use Rattle.std.proofs.Common.{◌≡◌, ◌∙◌, sym, false, pos, ◌+ℤ◌, ◌*ℤ◌}
+use Rattle.std.proofs.Common.{◌∙◌, sym, pos, ◌+ℤ◌, ◌*ℤ◌}
 use Rattle.ng_cycles.proofs.Far.{repeated_last, last_near}
 use Rattle.ng_cycles.proofs.heights.reaches_far.Goals as goal
 

@@ -1,4 +1,4 @@
-use Rattle.std.proofs.Common.{◌≡◌, ◌∙◌, sym, ap, not}
+use Rattle.std.proofs.Common.{◌∙◌, sym, ap, not}
 use Rattle.ng_cycles.proofs.Travel.{leaves-extremes, near_by, not_false}
 use Rattle.ng_cycles.proofs.drill.Drill.leaves_travel.Goals as goal
 
