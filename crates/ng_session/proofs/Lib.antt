@@ -3,3 +3,4 @@ pub mod Firsts
 pub mod Worked
 pub mod Tying
 pub mod Cutting
+pub mod Keeping
