@@ -1,2 +1,6 @@
 pub mod ShortLines
 pub mod Firsts
+pub mod Worked
+pub mod Tying
+pub mod Cutting
+pub mod Keeping

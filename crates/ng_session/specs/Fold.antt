@@ -1,7 +1,8 @@
 -- The plain interpreter: one fold over what was committed. It knows no session.
-use Rattle.std.specs.Prelude.{List, [], ◌∷◌, ◌++◌, Result, Ok, Err, length, flat_map}
+use Rattle.std.specs.Prelude.{List, [], ◌∷◌, ◌++◌, Result, Ok, Err, length}
 use Rattle.ng_num.specs.declared.fault.Fault.{Fault}
 use Rattle.ng_canon.specs.declared.item.Item.{Item}
+use Rattle.ng_canon.specs.declared.segment.Segment.{Segment}
 use Rattle.ng_step.specs.Hands.{hand}
 use Rattle.ng_block.specs.Effects.{Done}
 use Rattle.ng_layout.specs.Stored.{Standing}
@@ -19,10 +20,15 @@ abbrev pub after : Equipment → Standing → Entry → Standing
 after equipment x (Block source text block_delete) = standing_behind x source (done_of equipment x.program x.saved source text block_delete)
 after equipment x (Loaded text) = record { saved = after_load x.saved (length text); program = text }
 
--- the items of all its segments
+-- the items of some segments, one after the other
+abbrev pub hand_all : Equipment → List Segment → List Item
+hand_all equipment [] = []
+hand_all equipment (segment ∷ segments) = hand segment equipment.geometry ++ hand_all equipment segments
+
+-- the items of a line
 abbrev pub items_done : Equipment → Result Done Fault → List Item
 items_done equipment (Err fault) = []
-items_done equipment (Ok done) = flat_map (λ segment. hand segment equipment.geometry) done.segments
+items_done equipment (Ok done) = hand_all equipment done.segments
 
 -- what an entry hands out
 abbrev pub items : Equipment → Standing → Entry → List Item

@@ -2,3 +2,5 @@ pub mod Entries
 pub mod Session
 pub mod Kept
 pub mod Fold
+pub mod Runs
+pub mod Cuts

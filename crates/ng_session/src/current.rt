@@ -85,6 +85,8 @@ fn after_block<A: Allocator + Copy + Drop>(
 }
 
 impl<A: Allocator + Copy + Drop> Current<A> {
+    ghost use Rattle.std.specs.Prelude.{IfSome};
+    ghost use Rattle.ng_layout.specs.Storable.{CanWait};
     ghost use Rattle.ng_session.specs.Session.{begun, first_of, rest_of, opening_on, opened_on};
 
     /// The block of a line, before its first segment, by its effect. `AllocError` where the state after it found no memory.
@@ -130,7 +132,8 @@ impl<A: Allocator + Copy + Drop> Current<A> {
 
     /// The half-done block that it is while its next segment is open; none where no segment is left.
     pub fn opening(&self) -> Option<Half>
-        ensures { result ≡ opening_on self.now self.now.left }
+        ensures half { result ≡ opening_on self.now self.now.left }
+        ensures waits { IfSome result CanWait }
     {
         match self.upcoming {
             Some(_) => Some(Half {

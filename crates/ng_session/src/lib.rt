@@ -11,6 +11,7 @@ mod answering;
 mod beginning;
 mod current;
 mod event;
+pub mod laws;
 mod loading;
 mod reply;
 mod session;

@@ -29,12 +29,15 @@ fn after_load<A: Allocator + Copy + Drop>(
 }
 
 impl<A: Allocator + Copy + Drop> Session<A> {
-    ghost use Rattle.ng_session.specs.Session.{load, load_refusal, loaded};
+    ghost use Rattle.std.specs.Prelude.{None, true, IfNone};
+    ghost use Rattle.ng_session.specs.Kept.{IsKept};
+    ghost use Rattle.ng_session.specs.Session.{is_free, load, load_refusal, loaded};
 
     /// Why a program of these bytes isn't loaded now: K1 where the session isn't at rest or a block is half-done, J5 where it is
     /// too long.
     pub fn load_refusal(&self, text: &[u8]) -> Option<Fault>
-        ensures { result ≡ load_refusal self.now text.now }
+        ensures value { result ≡ load_refusal self.now text.now }
+        ensures none { IfNone result ((is_free self.now ≡ true) × (length text.now ≤ 131_072)) }
     {
         if !self.is_free() {
             return Some(Fault::Busy);
@@ -54,8 +57,10 @@ impl<A: Allocator + Copy + Drop> Session<A> {
     }
 
     /// Goes on with a program, once that is stored.
+    #[tactic(auto, using(crate::proofs::Keeping::kept_free))]
     pub fn load(&mut self, stored: Stored<A>) -> Reply
-        requires { stored.entries ≤ 1_000_000_000_000 }
+        requires free { is_free self.old ≡ true }
+        requires kept { IsKept stored None }
         ensures reply { result ≡ Reply.Done stored.entries }
         ensures next { self.new ≡ loaded self.old stored }
     {

@@ -27,22 +27,24 @@ pub struct Session<A: Allocator> {
 }
 
 impl<A: Allocator> Model for Session<A> {
-    ghost use Rattle.std.specs.Prelude.{◌≤◌};
     ghost use Rattle.ng_session.specs.Session.{Sitting};
+    ghost use Rattle.ng_session.specs.Kept.{IsKept};
 
     ghost Value = { Sitting };
 
     ghost view = { λ s. record { stored = s.stored; activity = s.activity; held = s.held; optional_stop = s.optional_stop; block_delete = s.block_delete; current = s.current } };
 
-    ghost invariant = { λ s. s.stored.entries ≤ 1_000_000_000_000 };
+    ghost invariant = { λ s. IsKept s.stored s.current };
 }
 
 impl<A: Allocator + Copy + Drop> Session<A> {
+    ghost use Rattle.std.specs.Prelude.{None};
+    ghost use Rattle.ng_session.specs.Kept.{IsKept};
     ghost use Rattle.ng_session.specs.Session.{resting, is_at_rest, is_free, is_engaged, start, hold, goes_on, shown, step};
 
     /// A session as power on leaves it: at rest, over what the device stands for. It takes no memory.
     pub fn new(stored: Stored<A>) -> Session<A>
-        requires { stored.entries ≤ 1_000_000_000_000 }
+        requires { IsKept stored None }
         ensures { result ≡ resting stored }
     {
         Session {
@@ -59,7 +61,7 @@ impl<A: Allocator + Copy + Drop> Session<A> {
     /// What the device stands for.
     pub fn stored(&self) -> &Stored<A>
         ensures value { result.now ≡ self.now.stored }
-        ensures count { self.now.stored.entries ≤ 1_000_000_000_000 }
+        ensures kept { IsKept self.now.stored self.now.current }
     {
         &self.stored
     }

@@ -8,6 +8,8 @@ use ng_layout::{Half, Stored};
 use std::alloc::Allocator;
 
 impl<A: Allocator + Copy + Drop> Session<A> {
+    ghost use Rattle.ng_layout.specs.Storable.{CanWait};
+    ghost use Rattle.ng_session.specs.Kept.{IsNext};
     ghost use Rattle.ng_session.specs.Session.{Underway, item_of, handed, opening_of, opened, committed, rest};
 
     /// Takes the next item of the open segment, to be handed out; none where none is left.
@@ -24,7 +26,8 @@ impl<A: Allocator + Copy + Drop> Session<A> {
     /// What is to be stored before the next segment is opened: its block, half-done; none where no segment is left. The session
     /// stays as it is.
     pub fn opening(&self) -> Option<Half>
-        ensures { result ≡ opening_of self.now.current }
+        ensures half { result ≡ opening_of self.now.current }
+        ensures waits { IfSome result CanWait }
     {
         match &self.current {
             Some(current) => current.opening(),
@@ -48,7 +51,8 @@ impl<A: Allocator + Copy + Drop> Session<A> {
     /// What is to be stored once nothing is left of the current block; none where no block is current. The session stays as it
     /// is.
     pub fn after(&self) -> Option<&Stored<A>>
-        ensures { MatchOption result (self.now.current ≡ None) (λ stored. (c : Underway) × (self.now.current ≡ Some c) × (stored.now ≡ c.after)) }
+        ensures after { MatchOption result (self.now.current ≡ None) (λ stored. (c : Underway) × (self.now.current ≡ Some c) × (stored.now ≡ c.after)) }
+        ensures next { IfSome result (λ stored. IsNext self.now.stored stored.now) }
     {
         match &self.current {
             Some(current) => Some(&current.after),
