@@ -41,7 +41,7 @@ pub const OFFSETS: Rows = &[
         "USE_TOOL_LENGTH_OFFSET(50.000000)\nSTRAIGHT_TRAVERSE(1.000000, 0.000000, 60.000000)\nUSE_TOOL_LENGTH_OFFSET(0.000000)\nSTRAIGHT_TRAVERSE(1.000000, 0.000000, 10.000000)\nUSE_TOOL_LENGTH_OFFSET(0.000000)\n",
         "REFUSED line 5: X3 NoProgramEnd\n",
     ),
-    ("G43 H2", "", "1", "B14 BadSlot"),
+    ("G43 H2", "", "REFUSED line 1: B14 BadSlot\n"),
     // G10 of the system in force acts at once, of another one once that is selected
     (
         "G10 L2 P1 X5\nG0 X1",
@@ -128,14 +128,18 @@ pub const OFFSETS: Rows = &[
         "REFUSED line 3: X3 NoProgramEnd\n",
     ),
     ("G28 X1000.000001", "", "REFUSED line 1: X2 OutsideTravel\n"),
-    ("#5161=1000.000001 G28 X1", "", "REFUSED line 1: X2 OutsideTravel\n"),
-    ("#5161=1000.000001 G28", "", "REFUSED line 1: X2 OutsideTravel\n"),
-    // computed lengths and offsets beyond the range, and what isn't looked at
     (
-        "G54 G20 G0 X1000000",
+        "#5161=1000.000001 G28 X1",
         "",
-        "REFUSED line 1: E3 OutOfRange\n",
+        "REFUSED line 1: X2 OutsideTravel\n",
     ),
+    (
+        "#5161=1000.000001 G28",
+        "",
+        "REFUSED line 1: X2 OutsideTravel\n",
+    ),
+    // computed lengths and offsets beyond the range, and what isn't looked at
+    ("G54 G20 G0 X1000000", "", "REFUSED line 1: E3 OutOfRange\n"),
     (
         "G92 X-1\nG10 L2 P2 X9999999\nG55",
         "SET_ORIGIN_OFFSETS(1.000000, 0.000000, 0.000000)\n",
