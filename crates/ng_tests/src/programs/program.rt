@@ -119,19 +119,16 @@ fn runs_a_file(rt: HostRuntime) -> Result<(), Fail> {
     let path = name.as_str();
     for (program, block_delete, status, moves, end) in FILES {
         fs::write(&rt, path, program)?;
-        let given: [&[&str]; 2] = if block_delete {
-            [
-                &["ngc", "dry", path, "--block-delete"],
-                &["ngc", "dry", "--block-delete", path],
-            ]
-        } else {
-            [&["ngc", "dry", path], &["ngc", "dry", "--", path]]
-        };
         let wanted = joined(rt.alloc(), moves.as_bytes(), end.as_bytes())?;
-        for words in given {
-            let mut text = Vec::new(rt.alloc());
-            assert!(rt; ngc(&rt, words, &mut text) == status, "{words:?}");
-            assert!(rt; text == wanted, "{words:?}");
+        let plain = ["ngc", "dry", path];
+        let before = ["ngc", "dry", "--block-delete", path];
+        let behind = ["ngc", "dry", path, "--block-delete"];
+        for (given, deletes) in [(&plain[..], false), (&before, true), (&behind, true)] {
+            if deletes == block_delete {
+                let mut text = Vec::new(rt.alloc());
+                assert!(rt; ngc(&rt, given, &mut text) == status, "{given:?}");
+                assert!(rt; text == wanted, "{given:?}");
+            }
         }
         fs::remove_file(&rt, path)?;
     }
