@@ -177,6 +177,20 @@ const FUSES: [(u64, [bool; 4], usize, u64); 5] = [
     (4, [true, true, true, true], 3, 0),
 ];
 
+#[test]
+fn a_fuse_passes_so_many_calls(rt: HostRuntime) -> Result<(), Fail> {
+    for (passed, want, calls, failures) in FUSES {
+        let mut fuse = FuseRig::new(MemoryRig::new(rt.alloc(), 1)?, passed);
+        assert_eq!(rt; four_calls(&mut fuse, 5).0, want, "{passed}");
+        assert_eq!(rt; fuse.failures(), failures, "{passed}");
+        assert_eq!(rt; four_calls(&mut fuse, 6).0, [false; 4], "{passed}");
+        assert_eq!(rt; fuse.failures(), failures.saturating_add(4), "{passed}");
+        let mut inner = fuse.into_inner();
+        assert_eq!(rt; (inner.calls(), inner.failures()), (calls, 0), "{passed}");
+    }
+    Ok(())
+}
+
 /// Behind how many calls one fails, which of four calls then succeed, which of the next four, and how many of the first
 /// four are made.
 const ONE_FAILS: [(u64, [bool; 4], [bool; 4], usize); 5] = [
@@ -188,16 +202,7 @@ const ONE_FAILS: [(u64, [bool; 4], [bool; 4], usize); 5] = [
 ];
 
 #[test]
-fn calls_fail_where_they_are_told_to(rt: HostRuntime) -> Result<(), Fail> {
-    for (passed, want, calls, failures) in FUSES {
-        let mut fuse = FuseRig::new(MemoryRig::new(rt.alloc(), 1)?, passed);
-        assert_eq!(rt; four_calls(&mut fuse, 5).0, want, "{passed}");
-        assert_eq!(rt; fuse.failures(), failures, "{passed}");
-        assert_eq!(rt; four_calls(&mut fuse, 6).0, [false; 4], "{passed}");
-        assert_eq!(rt; fuse.failures(), failures.saturating_add(4), "{passed}");
-        let mut inner = fuse.into_inner();
-        assert_eq!(rt; (inner.calls(), inner.failures()), (calls, 0), "{passed}");
-    }
+fn one_call_fails_once(rt: HostRuntime) -> Result<(), Fail> {
     for (passed, want, then, calls) in ONE_FAILS {
         let mut once = FailRig::new(MemoryRig::new(rt.alloc(), 1)?, passed);
         assert_eq!(rt; four_calls(&mut once, 5).0, want, "{passed}");

@@ -427,6 +427,12 @@ fn lines_are_read_as_they_stand(rt: HostRuntime) -> Result<(), Fail> {
             "comment {i}"
         );
     }
+    Ok(())
+}
+
+#[test]
+fn what_is_no_line_is_refused(rt: HostRuntime) -> Result<(), Fail> {
+    let mut line = Line::new();
     for (i, text) in UNREADABLE.iter().enumerate() {
         assert_eq!(rt; line.read(text), Err(Fault::Unreadable), "line {i}");
         assert_eq!(rt; count(&line), 0, "line {i}");

@@ -1,5 +1,6 @@
 //! Each operation on many counts, and lengths.
 use ng_num::{Fault, Len, Num, Unit, nm_of};
+use std::test::Fail;
 
 /// An operation on counts of millionths.
 #[derive(Clone, Copy, Debug)]
@@ -18,14 +19,6 @@ enum Operation {
     Whole(i64),
     Inches(i64),
     Millimetres(i64),
-    /// The number of a count, of any size.
-    OfCount(i64),
-    IsBelow(i64, i64),
-    LengthOf(i64),
-    AddLength(i64, i64),
-    SubLength(i64, i64),
-    NegLength(i64),
-    IsLengthBelow(i64, i64),
 }
 
 /// What it answers: a count of millionths or nanometres, or a whole number; or why there is none.
@@ -34,13 +27,11 @@ enum Answer {
     Is(i64),
     Not(Fault),
     NotWhole,
-    Holds(bool),
 }
 
-use Answer::{Holds, Is, Not, NotWhole};
+use Answer::{Is, Not, NotWhole};
 use Operation::{
-    Abs, Add, AddLength, Div, Fix, Fup, Inches, IsBelow, IsLengthBelow, LengthOf, Millimetres,
-    Modulo, Mul, NegLength, OfCount, Power, Round, Sqrt, Sub, SubLength, Whole,
+    Abs, Add, Div, Fix, Fup, Inches, Millimetres, Modulo, Mul, Power, Round, Sqrt, Sub, Whole,
 };
 
 const GREATEST: i64 = 9_999_999_999_999;
@@ -58,14 +49,9 @@ fn number(answer: Result<Num, Fault>) -> Answer {
     }
 }
 
-/// The length of a count of nanometres in range.
-fn len(count: i64) -> Len {
-    Len::of_nm(count as i128).unwrap_or_default()
-}
-
-/// The answer that is a length, or its fault.
-fn length(answer: Result<Len, Fault>) -> Answer {
-    match answer {
+/// The answer that is the length of a count in a unit, or its fault.
+fn length(count: i64, unit: Unit) -> Answer {
+    match nm_of(num(count), unit) {
         Ok(length) => Is(length.nm()),
         Err(fault) => Not(fault),
     }
@@ -89,15 +75,8 @@ fn answered(operation: Operation) -> Answer {
             Some(n) => Is(n),
             None => NotWhole,
         },
-        Inches(a) => length(nm_of(num(a), Unit::Inches)),
-        Millimetres(a) => length(nm_of(num(a), Unit::Millimetres)),
-        OfCount(a) => number(Num::of(a as i128)),
-        IsBelow(a, b) => Holds(num(a) < num(b)),
-        LengthOf(a) => length(Len::of_nm(a as i128)),
-        AddLength(a, b) => length(len(a).add(len(b))),
-        SubLength(a, b) => length(len(a).sub(len(b))),
-        NegLength(a) => Is(len(a).neg().nm()),
-        IsLengthBelow(a, b) => Holds(len(a) < len(b)),
+        Inches(a) => length(a, Unit::Inches),
+        Millimetres(a) => length(a, Unit::Millimetres),
     }
 }
 
@@ -257,18 +236,23 @@ fn operations_answer_what_exact_fractions_say(rt: HostRuntime) {
         (Inches(-393_700_787_402), Not(Fault::OutOfRange)),
         (Millimetres(1), Is(1)),
         (Millimetres(GREATEST), Is(GREATEST)),
-        (OfCount(GREATEST), Is(GREATEST)),
-        (OfCount(-10_000_000_000_000), Not(Fault::OutOfRange)),
-        (IsBelow(-1, 0), Holds(true)),
-        (LengthOf(GREATEST), Is(GREATEST)),
-        (LengthOf(10_000_000_000_000), Not(Fault::OutOfRange)),
-        (AddLength(GREATEST, -5), Is(GREATEST - 5)),
-        (SubLength(GREATEST, -5), Not(Fault::OutOfRange)),
-        (SubLength(-5, GREATEST), Not(Fault::OutOfRange)),
-        (NegLength(-5), Is(5)),
-        (IsLengthBelow(-5, 0), Holds(true)),
-        (IsLengthBelow(5, GREATEST), Holds(true)),
     ] {
         assert_eq!(rt; answered(operation), answer, "{operation:?}");
     }
+}
+
+#[test]
+fn lengths_add_and_compare(rt: HostRuntime) -> Result<(), Fail> {
+    let longest = Len::of_nm(GREATEST as i128)?;
+    let short = Len::of_nm(-5)?;
+    assert_eq!(rt; longest.add(short)?.nm(), GREATEST - 5);
+    assert_eq!(rt; longest.sub(short), Err(Fault::OutOfRange));
+    assert_eq!(rt; short.sub(longest), Err(Fault::OutOfRange));
+    assert_eq!(rt; short.neg().nm(), 5);
+    assert!(rt; short < Len::zero());
+    assert!(rt; longest > short.neg());
+    assert!(rt; num(-1) < num(0));
+    assert_eq!(rt; Len::of_nm(10_000_000_000_000), Err(Fault::OutOfRange));
+    assert_eq!(rt; Num::of(-10_000_000_000_000), Err(Fault::OutOfRange));
+    Ok(())
 }

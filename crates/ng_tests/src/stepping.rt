@@ -111,6 +111,39 @@ fn items(alloc: Global, segment: &Segment, machine: &Geometry) -> Text {
     Ok(text)
 }
 
+/// Whether a segment gives just these items.
+fn gives(alloc: Global, segment: &Segment, machine: &Geometry, want: &str) -> Result<bool, Fail> {
+    Ok(items(alloc, segment, machine)?.as_str() == want)
+}
+
+#[test]
+fn lines_dwells_and_switches_give_their_items(rt: HostRuntime) -> Result<(), Fail> {
+    let machine = Geometry::standard();
+    let origin = Point::zero();
+    let inverse = InverseTime::of(Num::of(60_000_000)?).map_or(Pace::Traverse, Pace::InverseTime);
+    for ([x, y, z], pace, want) in [
+        ([5_000, 2_000, 0], feed(), "1078: +X +X+Y +X +X+Y +X"),
+        ([5_000, 0, 0], inverse, "200000: +X +X +X +X +X"),
+        ([2_000, 0, 0], Pace::Traverse, "50: +X +X"),
+        ([-3_000, 1_499, 3_000], feed(), "1500: -X+Z -X+Y+Z -X+Z"),
+        ([0, 0, 0], feed(), ""),
+        ([499, -499, 0], feed(), ""),
+    ] {
+        let segment = line(origin, point(x, y, z), pace);
+        assert!(rt; gives(rt.alloc(), &segment, &machine, want)?, "{want:?}");
+    }
+    let mut outputs = Outputs::fresh();
+    outputs.selected_slot = 7;
+    for (segment, want) in [
+        (Segment::Dwell(Num::of(1_500_000)?), "dwell 1500000"),
+        (Segment::Dwell(Num::of(-1)?), "dwell 0"),
+        (Segment::Switch(outputs), "switch 7"),
+    ] {
+        assert!(rt; gives(rt.alloc(), &segment, &machine, want)?, "{want:?}");
+    }
+    Ok(())
+}
+
 /// An arc's plane, way round, start, end and centre, the step of Y, and the items.
 type ArcRow = (
     Plane,
@@ -265,46 +298,11 @@ const ARCS: [ArcRow; 15] = [
 ];
 
 #[test]
-fn each_segment_gives_its_items(rt: HostRuntime) -> Result<(), Fail> {
-    let machine = Geometry::standard();
-    let origin = Point::zero();
-    let inverse = InverseTime::of(Num::of(60_000_000)?).map_or(Pace::Traverse, Pace::InverseTime);
-    for ([x, y, z], pace, want) in [
-        ([5_000, 2_000, 0], feed(), "1078: +X +X+Y +X +X+Y +X"),
-        ([5_000, 0, 0], inverse, "200000: +X +X +X +X +X"),
-        ([2_000, 0, 0], Pace::Traverse, "50: +X +X"),
-        ([-3_000, 1_499, 3_000], feed(), "1500: -X+Z -X+Y+Z -X+Z"),
-        ([0, 0, 0], feed(), ""),
-        ([499, -499, 0], feed(), ""),
-    ] {
-        let segment = line(origin, point(x, y, z), pace);
-        assert_eq!(rt;
-            items(rt.alloc(), &segment, &machine)?.as_str(),
-            want,
-            "{want}"
-        );
-    }
+fn arcs_give_their_items(rt: HostRuntime) -> Result<(), Fail> {
     for (plane, turn, [a, b, c], [x, y, z], centre, step, want) in ARCS {
         let segment = arc(plane, turn, point(a, b, c), point(x, y, z), centre);
         let machine = steps_of(1_000, step, 1_000);
-        assert_eq!(rt;
-            items(rt.alloc(), &segment, &machine)?.as_str(),
-            want,
-            "{want}"
-        );
-    }
-    let mut outputs = Outputs::fresh();
-    outputs.selected_slot = 7;
-    for (segment, want) in [
-        (Segment::Dwell(Num::of(1_500_000)?), "dwell 1500000"),
-        (Segment::Dwell(Num::of(-1)?), "dwell 0"),
-        (Segment::Switch(outputs), "switch 7"),
-    ] {
-        assert_eq!(rt;
-            items(rt.alloc(), &segment, &machine)?.as_str(),
-            want,
-            "{want}"
-        );
+        assert!(rt; gives(rt.alloc(), &segment, &machine, want)?, "{want:?}");
     }
     Ok(())
 }

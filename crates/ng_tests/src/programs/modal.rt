@@ -2,14 +2,15 @@
 //! worked out by hand from the language.
 use super::grammar::{FAULTS, UNREADABLE};
 use super::rows::Rows;
-use super::{NO_END, dry_text, writes};
+use super::{dry_text, writes};
 use ng_block::{State, Stop, Tools, execute};
 use ng_canon::{Geometry, Outputs, Segment, Spindle};
 use ng_num::{Len, Num};
+use std::alloc::Global;
 use std::test::Fail;
 
 /// Programs of one line and what they write in front of the refusal that their end is missing.
-const PRINTED: [(&str, &str); 27] = [
+pub const PRINTED: [(&str, &str); 27] = [
     (
         "G4 P0.5 M3 S1000",
         "SET_SPINDLE_SPEED(1000.000000)\nSTART_SPINDLE_CLOCKWISE()\nDWELL(0.500000)\n",
@@ -131,21 +132,18 @@ pub const LASTING: Rows = &[
     ),
 ];
 
+/// Whether a line alone is refused by a fault's name.
+fn is_refused(alloc: Global, line: &str, name: &str) -> Result<bool, Fail> {
+    let end = format!(in alloc; "REFUSED line 1: {name}\n")?;
+    writes(alloc, line, false, "", end.as_str())
+}
+
 #[test]
-fn each_line_prints_or_is_refused_alone(rt: HostRuntime) -> Result<(), Fail> {
-    for (line, text) in PRINTED {
-        assert!(rt; writes(rt.alloc(), line, false, text, NO_END)?, "{line:?}");
-    }
-    for (line, name) in REFUSED.iter().chain(&FAULTS) {
-        let end = format!(in rt.alloc(); "REFUSED line 1: {name}\n")?;
-        assert!(rt;
-            writes(rt.alloc(), line, false, "", end.as_str())?,
-            "{line:?}"
-        );
-    }
-    for line in UNREADABLE {
-        let end = "REFUSED line 1: E1 Unreadable\n";
-        assert!(rt; writes(rt.alloc(), line, false, "", end)?, "{line:?}");
+fn each_fault_refuses_a_line_alone(rt: HostRuntime) -> Result<(), Fail> {
+    for rows in [&REFUSED[..], &FAULTS, &UNREADABLE] {
+        for (line, name) in rows {
+            assert!(rt; is_refused(rt.alloc(), line, name)?, "{line:?}");
+        }
     }
     Ok(())
 }

@@ -1,6 +1,6 @@
 //! Programs and what they write.
 use super::grammar::{COMMENTS, PERCENTS, VALUES};
-use super::modal::LASTING;
+use super::modal::{LASTING, PRINTED};
 use super::offsets::OFFSETS;
 use super::{NO_END, PROGRAM_END, writes};
 use std::test::Fail;
@@ -173,6 +173,9 @@ fn programs_write_their_texts(rt: HostRuntime) -> Result<(), Fail> {
                 "{program:?} {block_delete}"
             );
         }
+    }
+    for (line, text) in PRINTED {
+        assert!(rt; writes(rt.alloc(), line, false, text, NO_END)?, "{line:?}");
     }
     Ok(())
 }
