@@ -70,7 +70,7 @@ block_done b goal remark s =
     record { setup = changed s (machine_after b goal tasks s.machine) goal.changes; before = plan.before; segments = segments_of plan; commands = commands_of plan; stop = stop_of b.m.stop }
 
 -- what the values of a line do. It is refused by B1 to B19 of its words, then for a code that isn't built (B3), then for a computed
--- length or offset (E3), then for its move (X1, X2); of each of these by the first whose cause holds
+-- length or offset (E3), then for the shape of its arc (C1 to C4), then for its move (X1, X2); of each of these by the first whose cause holds
 unfoldable pub executed_values : Setup → List Canonical → Settled → List ℤ → Geometry → Result Done Fault
 executed_values s remark values tools geometry =
     and_then (checked values.words s.machine.modes (length tools)) (λ b.

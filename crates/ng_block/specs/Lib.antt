@@ -7,6 +7,7 @@ pub mod AxisData
 pub mod Shifts
 pub mod Blocks
 pub mod Homes
+pub mod Arcs
 pub mod Goals
 pub mod Faults
 pub mod Remarks

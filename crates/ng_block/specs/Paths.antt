@@ -11,7 +11,7 @@ use Rattle.ng_canon.specs.declared.segment.Segment.{Segment}
 use Rattle.ng_canon.specs.declared.segment.Segment.TheVariants as segment
 use Rattle.ng_canon.specs.declared.segment.StraightMove.{StraightMove}
 use Rattle.ng_block.specs.declared.path.Path.{Path}
-use Rattle.ng_block.specs.declared.path.Path.TheVariants.{Still, WithoutFeed, Straight, Homing}
+use Rattle.ng_block.specs.declared.path.Path.TheVariants.{Still, WithoutFeed, Straight, Round, Homing}
 
 -- a straight move at a pace; a block that moves without one is refused
 abbrev pub moving_at : Option Pace → Point → Point → Path
@@ -21,6 +21,7 @@ moving_at (Some pace) start end = Straight (record { start = start; end = end; p
 -- where the machine stands behind a path
 abbrev pub point_after : Path → Point → Point
 point_after (Straight line) start = line.end
+point_after (Round arc) start = arc.end
 point_after (Homing way) start = way.home
 point_after _ start = start
 
@@ -31,6 +32,7 @@ abbrev pub path_segments : Path → List Segment
 path_segments Still = []
 path_segments WithoutFeed = []
 path_segments (Straight line) = segment.Line line ∷ []
+path_segments (Round arc) = segment.Arc arc ∷ []
 path_segments (Homing way) = segment.Line (traverse way.start way.between) ∷ segment.Line (traverse way.between way.home) ∷ []
 
 abbrev pub pace_command : Pace → Point → Command

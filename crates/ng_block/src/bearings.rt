@@ -136,7 +136,7 @@ impl Effect {
     }
 
     /// Finds all lengths that a block's words come to in a state: the feed and the offsets after it, the parameters that it
-    /// sets, and its path. E3 where one of them is beyond the range.
+    /// sets, and its path. E3 where one of them is beyond the range; else C1 to C4, where its arc is none.
     pub(crate) fn find_goal<A: Allocator + Copy + Drop>(
         &mut self,
         state: &State<A>,

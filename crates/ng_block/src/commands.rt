@@ -212,6 +212,7 @@ impl Effect {
             Path::Straight(line) => Some(line),
             Path::Still => None,
             Path::WithoutFeed => None,
+            Path::Round(_) => None,
             Path::Homing(_) => None,
         }
     }

@@ -3,10 +3,11 @@
 ghost use Rattle.std.specs.Prelude.{◌≡◌, ◌-ℤ◌};
 ghost use Rattle.ng_params.specs.Changes.{with_changes};
 ghost use Rattle.ng_modal.specs.Causes.{is_machine};
-ghost use Rattle.ng_modal.specs.Lines.{is_straight};
+ghost use Rattle.ng_modal.specs.Lines.{is_straight, is_arc};
 ghost use Rattle.ng_block.specs.Blocks.{feed_mode_after, is_fed, feed_word, time_word, feed_of, fed_pace, pace_by, program_coordinate, coordinate, end_of, machine_end_of, straight_end_of};
 ghost use Rattle.ng_block.specs.Goals.{straight_to, plain_path_of, path_of};
 
+use crate::arcs::way_round;
 use crate::axis_data::{named_on, unit_after};
 use crate::homes::{home_on, way_home};
 use crate::machine::Machine;
@@ -98,7 +99,7 @@ fn fed_pace(mode: FeedMode, feed_per_min: Len, word: Option<Num>) -> Option<Pace
 
 /// How fast a line's move goes; none where its feed or its time is missing.
 #[inline]
-fn pace_by(
+pub fn pace_by(
     motion: Option<Motion>,
     mode: FeedMode,
     feed_per_min: Len,
@@ -208,6 +209,17 @@ fn is_straight(motion: Option<Motion>) -> bool
     }
 }
 
+/// Whether a motion is G2 or G3.
+#[inline]
+fn is_arc(motion: Option<Motion>) -> bool
+    ensures { result ≡ is_arc motion }
+{
+    match motion {
+        Some(Motion::ClockwiseArc) | Some(Motion::CounterclockwiseArc) => true,
+        _ => false,
+    }
+}
+
 /// A straight path to a point, with the feed after the line.
 #[inline]
 fn straight_to(block: &Block, machine: &Machine, feed_per_min: Len, end: Point) -> Path
@@ -219,20 +231,20 @@ fn straight_to(block: &Block, machine: &Machine, feed_per_min: Len, end: Point) 
 }
 
 /// Where a line's motion goes that has no word of group 0, with the feed after the line. E3 where a coordinate of it is beyond the
-/// range.
+/// range; of an arc else C1 to C4.
 #[inline]
 pub fn plain_path_of(block: &Block, machine: &Machine, feed_per_min: Len) -> Result<Path, Fault>
     ensures { result ≡ plain_path_of block.now machine.now feed_per_min }
 {
     if !is_straight(block.motion) {
-        return Ok(Path::Still);
+        return way_round(block, machine, &machine.offsets, feed_per_min);
     }
     let end = end_of(block, machine, &machine.offsets)?;
     Ok(straight_to(block, machine, feed_per_min, end))
 }
 
 /// Where a line's motion goes under offsets, with the feed after the line, in the table that its settings leave. E3 where a
-/// coordinate of it is beyond the range.
+/// coordinate of it is beyond the range; of an arc else C1 to C4.
 pub fn path_of<A: Allocator + Copy + Drop>(
     block: &Block,
     state: &State<A>,
@@ -243,6 +255,9 @@ pub fn path_of<A: Allocator + Copy + Drop>(
     ensures { result ≡ path_of block.now state.now.machine offsets.now (with_changes state.now.params settings.now) feed_per_min }
 {
     let machine = &state.machine;
+    if is_arc(block.motion) {
+        return way_round(block, machine, offsets, feed_per_min);
+    }
     if !is_straight(block.motion) {
         let home = home_on(block.g.non_modal, &state.params, settings);
         return way_home(block, machine, offsets, home);

@@ -7,13 +7,14 @@
 //! state, and writes the text of the commands as they come; its contract says exactly which text, for every reader
 //! and writer. The crate stands on the reader of lines, the parameter table, the offsets and the canonical text below it.
 //!
-//! Built are straight moves, in machine coordinates too, both feed modes, spindle, tools, coolant, dwells, planes, units, tool lengths,
+//! Built are straight moves, in machine coordinates too, arcs, both feed modes, spindle, tools, coolant, dwells, planes, units, tool lengths,
 //! coordinate systems, G10, G92 and its three others, the ways home, modes that are only recorded, and all stops. What a line asks
-//! for, and whether it may, is `ng_modal`'s; the codes that it accepts and that aren't built here (arcs, cycles) are refused behind
-//! it (B3).
+//! for, and whether it may, is `ng_modal`'s; which arcs are lawful is `ng_arc`'s; the codes that are accepted and that aren't built
+//! here (cycles) are refused behind that (B3).
 #![tactic(auto)]
 
 mod after;
+mod arcs;
 mod axis_data;
 mod bearings;
 mod commands;

@@ -22,6 +22,7 @@ pub enum Path {
     /// A move whose feed or time is missing: its block is refused (X1).
     WithoutFeed,
     Straight(StraightMove),
+    Round(Arc),
     Homing(WayHome),
 }
 
@@ -44,6 +45,7 @@ impl Path {
     {
         match self {
             Path::Straight(line) => *place = line.end,
+            Path::Round(arc) => *place = arc.end,
             Path::Homing(way) => *place = way.home,
             Path::Still => *place = *start,
             Path::WithoutFeed => *place = *start,
@@ -101,6 +103,10 @@ impl Moves {
             Path::WithoutFeed => Moves::none(),
             Path::Straight(line) => Moves {
                 next: Some(Segment::Line(*line)),
+                behind: None,
+            },
+            Path::Round(arc) => Moves {
+                next: Some(Segment::Arc(*arc)),
                 behind: None,
             },
             Path::Homing(way) => Moves {

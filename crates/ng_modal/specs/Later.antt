@@ -1,8 +1,8 @@
 -- Codes of the language that blocks don't do yet; this shrinks with each that they learn.
-use Rattle.std.specs.Prelude.{Bool, ◌||◌}
-use Rattle.ng_modal.specs.Lines.{is_arc, is_cycle}
+use Rattle.std.specs.Prelude.{Bool}
+use Rattle.ng_modal.specs.Lines.{is_cycle}
 use Rattle.ng_modal.specs.declared.block.Block.{Block}
 
--- arcs and cycles
+-- cycles
 abbrev pub is_later : Block → Bool
-is_later b = is_arc b.motion || is_cycle b.motion
+is_later b = is_cycle b.motion

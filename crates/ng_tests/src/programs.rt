@@ -1,4 +1,5 @@
 //! Whole programs, from bytes to text. What they write is worked out by hand from the language, in millimetres.
+mod arcs;
 mod bad_input;
 mod blocks;
 mod grammar;

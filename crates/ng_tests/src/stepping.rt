@@ -1,3 +1,4 @@
+use ng_block::{State, Tools, execute};
 use ng_canon::{
     Arc, Axis, Geometry, InverseTime, Item, Outputs, Pace, Plane, Pulse, Rate, Segment, Step,
     StraightMove, Turn,
@@ -297,12 +298,47 @@ const ARCS: [ArcRow; 15] = [
     ),
 ];
 
+/// Lines in the fresh state whose motion is an arc, and what it gives.
+const LINES: [(&str, &str); 5] = [
+    (
+        "G3 X0 I-0.002 F60",
+        "1000: +Y -X +Y -X -X -Y -X -Y -Y +X -Y +X +X +Y +X +Y",
+    ),
+    (
+        "G2 X0 I-0.002 F60",
+        "1000: -Y -X -Y -X -X +Y -X +Y +Y +X +Y +X +X -Y +X -Y",
+    ),
+    (
+        "G3 X0 Z0.004 I-0.002 F60",
+        "1000: +Y -X+Z +Y -X -X -Y+Z -X -Y -Y +X+Z -Y +X +X +Y+Z +X +Y",
+    ),
+    ("G3 X0 I-0.001 F60", ""),
+    (
+        "G3 X-0.008 Y0.004 I-0.005 F60",
+        "1000: +Y -X +Y +Y +Y -X +Y -X -X -X -X -Y -X -X",
+    ),
+];
+
+/// Whether the first segment of a line gives just these items.
+fn line_gives(alloc: Global, line: &str, want: &str) -> Result<bool, Fail> {
+    let state = State::fresh(alloc)?;
+    let machine = Geometry::standard();
+    let effect = execute(&state, line.as_bytes(), &Tools::new(), &machine)?;
+    match effect.segments().next() {
+        Some(segment) => gives(alloc, &segment, &machine, want),
+        None => Ok(false),
+    }
+}
+
 #[test]
 fn arcs_give_their_items(rt: HostRuntime) -> Result<(), Fail> {
     for (plane, turn, [a, b, c], [x, y, z], centre, step, want) in ARCS {
         let segment = arc(plane, turn, point(a, b, c), point(x, y, z), centre);
         let machine = steps_of(1_000, step, 1_000);
         assert!(rt; gives(rt.alloc(), &segment, &machine, want)?, "{want:?}");
+    }
+    for (line, want) in LINES {
+        assert!(rt; line_gives(rt.alloc(), line, want)?, "{line:?}");
     }
     Ok(())
 }

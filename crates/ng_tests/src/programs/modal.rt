@@ -68,7 +68,7 @@ pub const PRINTED: [(&str, &str); 27] = [
 ];
 
 /// Lines and the fault that refuses each of them alone, by a program of one line.
-const REFUSED: [(&str, &str); 32] = [
+const REFUSED: [(&str, &str); 31] = [
     ("F1 F1", "B1 RepeatedLetter"),
     ("G21.1", "B2 UnknownCode"),
     ("M1.5", "B2 UnknownCode"),
@@ -96,7 +96,6 @@ const REFUSED: [(&str, &str); 32] = [
     ("G43", "B18 NoH"),
     ("G18 G81 X1", "B19 CyclePlane"),
     // codes that aren't built, behind all of these, and in front of what the block comes to
-    ("G2 X1 J1", "B3 LeftOutCode"),
     ("G83 X0 Z-2 R1 Q2 L3 F100", "B3 LeftOutCode"),
     ("G1 X1", "X1 NoFeed"),
     ("G93 G1 X1", "X1 NoFeed"),

@@ -1,4 +1,5 @@
 //! Programs and what they write.
+use super::arcs::ARCS;
 use super::grammar::{COMMENTS, PERCENTS, VALUES};
 use super::modal::{LASTING, PRINTED};
 use super::offsets::OFFSETS;
@@ -166,6 +167,7 @@ fn programs_write_their_texts(rt: HostRuntime) -> Result<(), Fail> {
         (false, PERCENTS),
         (false, LASTING),
         (false, OFFSETS),
+        (false, ARCS),
     ] {
         for (program, text, end) in rows {
             assert!(rt;

@@ -1,0 +1,115 @@
+//! G2 and G3: the arc that a line asks for (NISTIR 6556, 3.5.3).
+ghost use Rattle.std.specs.Prelude.{◌≡◌};
+ghost use Rattle.ng_block.specs.Arcs.{turn_of, axes_on, centre_offsets_on, asked_by, turned, way_round};
+
+use crate::axis_data::unit_after;
+use crate::goal::{end_of, feed_mode_after, pace_by};
+use crate::machine::Machine;
+use crate::path::Path;
+use ng_arc::{AskedArc, CentreOffsets, NamedAxes, check_arc};
+use ng_canon::{Pace, Turn};
+use ng_modal::{Block, ByLetter, Modes, Motion};
+use ng_num::{Fault, Len, Point};
+use ng_offsets::{Named, Offsets};
+
+/// The way round that a motion goes; none where it is no arc.
+fn turn_of(motion: Option<Motion>) -> Option<Turn>
+    ensures { result ≡ turn_of motion }
+{
+    match motion {
+        Some(Motion::ClockwiseArc) => Some(Turn::Clockwise),
+        Some(Motion::CounterclockwiseArc) => Some(Turn::Counterclockwise),
+        _ => None,
+    }
+}
+
+/// The axes that a line names.
+fn axes_on(values: &ByLetter) -> NamedAxes
+    ensures { result ≡ axes_on values.now }
+{
+    NamedAxes {
+        x: values.x.is_some(),
+        y: values.y.is_some(),
+        z: values.z.is_some(),
+    }
+}
+
+/// How far an arc's centre lies from its start, in the unit after the line.
+fn centre_offsets_on(block: &Block, modes: &Modes) -> Result<CentreOffsets, Fault>
+    ensures { result ≡ centre_offsets_on block.now modes.now }
+{
+    let values = &block.values;
+    let named = Named::of(values.i, values.j, values.k, unit_after(block, modes))?;
+    Ok(CentreOffsets {
+        i: named.x,
+        j: named.y,
+        k: named.z,
+    })
+}
+
+/// The arc that a line asks for, from where the machine stands.
+fn asked_by(
+    block: &Block,
+    machine: &Machine,
+    turn: Turn,
+    end: Point,
+    offsets: CentreOffsets,
+    pace: &Option<Pace>,
+) -> AskedArc
+    ensures { result ≡ asked_by block.now machine.now turn end offsets pace.now }
+{
+    AskedArc {
+        plane: block.plane_after(&machine.modes),
+        turn,
+        start: machine.point,
+        end,
+        named: axes_on(&block.values),
+        offsets,
+        unit: unit_after(block, &machine.modes),
+        pace: match pace {
+            Some(pace) => *pace,
+            None => Pace::Traverse,
+        },
+    }
+}
+
+/// Round to the end of a line. E3 where a coordinate of its end or its centre is beyond the range, else C1 to C4.
+fn turned(
+    block: &Block,
+    machine: &Machine,
+    offsets: &Offsets,
+    pace: Option<Pace>,
+    turn: Turn,
+) -> Result<Path, Fault>
+    ensures { result ≡ turned block.now machine.now offsets.now pace turn }
+{
+    let end = end_of(block, machine, offsets)?;
+    let centre = centre_offsets_on(block, &machine.modes)?;
+    let asked = asked_by(block, machine, turn, end, centre, &pace);
+    let arc = check_arc(&asked)?;
+    match pace {
+        Some(_) => Ok(Path::Round(arc)),
+        None => Ok(Path::WithoutFeed),
+    }
+}
+
+/// Where a line's motion goes round under offsets, with the feed after the line; still, where it is no arc. E3 where a
+/// coordinate of its end or its centre is beyond the range, else C1 to C4: an arc without an end or without an offset in its
+/// plane, with radii that differ, or with none.
+#[inline(never)]
+#[tactic(auto, unfolding(crate::specs::Arcs::way_round))]
+pub fn way_round(
+    block: &Block,
+    machine: &Machine,
+    offsets: &Offsets,
+    feed_per_min: Len,
+) -> Result<Path, Fault>
+    ensures { result ≡ way_round block.now machine.now offsets.now feed_per_min }
+{
+    let Some(turn) = turn_of(block.motion) else {
+        return Ok(Path::Still);
+    };
+    let mode = feed_mode_after(block, &machine.modes);
+    let pace = pace_by(block.motion, mode, feed_per_min, block.values.f);
+    turned(block, machine, offsets, pace, turn)
+}
