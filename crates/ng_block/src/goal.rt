@@ -236,11 +236,14 @@ fn straight_to(block: &Block, machine: &Machine, feed_per_min: Len, end: Point) 
 pub fn plain_path_of(block: &Block, machine: &Machine, feed_per_min: Len) -> Result<Path, Fault>
     ensures { result ≡ plain_path_of block.now machine.now feed_per_min }
 {
-    if !is_straight(block.motion) {
+    if is_straight(block.motion) {
+        let end = end_of(block, machine, &machine.offsets)?;
+        return Ok(straight_to(block, machine, feed_per_min, end));
+    }
+    if is_arc(block.motion) {
         return way_round(block, machine, &machine.offsets, feed_per_min);
     }
-    let end = end_of(block, machine, &machine.offsets)?;
-    Ok(straight_to(block, machine, feed_per_min, end))
+    Ok(Path::Still)
 }
 
 /// Where a line's motion goes under offsets, with the feed after the line, in the table that its settings leave. E3 where a
