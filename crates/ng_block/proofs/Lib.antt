@@ -7,3 +7,4 @@ pub mod DrainLemmas
 pub mod CloseLemmas
 pub mod TaskLemmas
 pub mod ModeLemmas
+pub mod WayLemmas

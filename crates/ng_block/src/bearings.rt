@@ -96,6 +96,7 @@ impl Effect {
 
     /// The same of any block. Most lines leave the offsets as they are, so this is looked at first.
     #[inline]
+    #[tactic(auto, using(crate::proofs::WayLemmas::way_kept))]
     fn find_any_way<A: Allocator + Copy + Drop>(
         &mut self,
         state: &State<A>,
