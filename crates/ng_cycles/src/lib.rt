@@ -10,6 +10,7 @@ mod left;
 mod peck;
 mod phase;
 mod places;
+mod skip;
 mod standing;
 mod words;
 
