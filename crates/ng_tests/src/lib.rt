@@ -8,6 +8,8 @@
 #[cfg(test)]
 mod commands;
 #[cfg(test)]
+mod cycles;
+#[cfg(test)]
 mod device;
 #[cfg(test)]
 mod faults;
