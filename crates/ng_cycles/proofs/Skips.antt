@@ -95,7 +95,7 @@ repeat-length : (d : Drill) (p : Point) (r : ℕ) → p.z ≡ d.clear → repeat
 repeat-length d p r e =
     let here = if int_eq p.z d.r then 0 else 1 in
     let long : length (traced d (stand d p) (repeat d r)) ≡ suc (here + work_length d d.work) =
-        ap suc (r-length d (record p { x = coordinate d.x r; y = coordinate d.y r }) (int_eq p.z d.r) (strokes_of d d.work) (work_length d d.work) (λ q. work-length d q d.work)) in
+    ap suc (r-length d (record p { x = coordinate d.x r; y = coordinate d.y r }) (int_eq p.z d.r) (strokes_of d d.work) (work_length d d.work) (λ q. work-length d q d.work)) in
     let same : repeat_length d ≡ 1 + (here + work_length d d.work) = ap (λ (z : ℤ). 1 + ((if int_eq z d.r then 0 else 1) + work_length d d.work)) (sym e) in
     let one : 1 + (here + work_length d d.work) ≡ suc (here + work_length d d.work) = omega arith in
     same ∙ (one ∙ sym long)
@@ -152,7 +152,7 @@ peck_skips d at q a (suc j) m k rest =
     let n : 3 * suc (suc j) + k ≡ 3 + (3 * suc j + k) = omega arith in
     let to : a + suc (suc j) ≡ suc a + suc j = omega arith in
     rw (all, n, to) (one_peck d at q a (3 * suc j + k) (flat_map (again d q) (numbers_from (suc a) (suc j + m)) ++ rest)
-        ∙ peck_skips d (record at { point = record at.point { z = bottom d q (suc a) } }) q (suc a) j m k rest)
+    ∙ peck_skips d (record at { point = record at.point { z = bottom d q (suc a) } }) q (suc a) j m k rest)
 
 pecks_at : (d : Drill) (at : Standing) (q a j left' done k : ℕ) (rest : List Stroke) → done ≡ a + suc j →
     later k (ahead d (record at { point = record at.point { z = bottom d q done } }) (flat_map (again d q) (numbers_from done (suc left')) ++ rest))
