@@ -1,5 +1,5 @@
 -- Whole repeats and whole pecks of a cycle are passed at once.
-use Rattle.std.proofs.Common.{arith, ℕ, zero, suc, ◌+◌, ◌-◌, ◌*◌, ◌/◌, min, ◌≡◌, ◌≤◌, Bool, true, false, ℤ, List, [], ◌∷◌, ◌++◌, length, take, drop, flat_map, refl, sym, ◌∙◌, ap, append_assoc, if◌then◌else◌}
+use Rattle.std.proofs.Common.{arith, ℕ, zero, suc, ◌+◌, ◌-◌, ◌*◌, ◌/◌, min, ◌≡◌, ◌≤◌, Bool, true, false, ℤ, List, [], ◌∷◌, ◌++◌, length, take, drop, flat_map, refl, sym, ◌∙◌, ap, append_assoc, if◌then◌else◌, int_lt}
 use Rattle.std.specs.Ordering.{int_eq}
 use Rattle.std.proofs.lemmas.List.Sums.{fold-append}
 use Rattle.std.proofs.lemmas.Nat.{mul-le}
@@ -14,7 +14,7 @@ use Rattle.ng_cycles.specs.declared.drill.Work.TheVariants.{Drilling, DrillingWi
 use Rattle.ng_cycles.specs.declared.standing.Standing.{Standing}
 use Rattle.ng_cycles.specs.Left.{pecks_behind, work_length, repeat_length}
 use Rattle.ng_cycles.specs.Strokes.{Stroke, Across, ToR, TraverseTo, FeedTo, numbers_from, coordinate, bottom, pecks, again, strokes_of, repeat}
-use Rattle.ng_cycles.specs.Segments.{traced, segments_of, stand_after, behind, Ahead, later}
+use Rattle.ng_cycles.specs.Segments.{begin, cycle_segments, traced, segments_of, stand_after, behind, Ahead, later}
 
 abbrev pub ahead : Drill → Standing → List Stroke → Ahead
 ahead d at ss = record { standing = at; segments = traced d at ss }
@@ -198,3 +198,29 @@ parts_fit n l most =
     let h = mul-le (min (n / l) most) l (n / l) l (omega arith) (omega arith) in
     let g = div-mul-le_self n l in
     omega (arith, h, g)
+
+-- ---- behind all of it
+
+behind-append : (d : Drill) (at : Standing) (xs ys : List Stroke) → behind at (traced d at (xs ++ ys)) ≡ behind (behind at (traced d at xs)) (traced d (behind at (traced d at xs)) ys)
+behind-append d at xs ys =
+    ap (λ (segments : List Segment). behind at segments) (traced-append d at xs ys)
+    ∙ fold-append stand_after at (traced d at xs) (traced d (behind at (traced d at xs)) ys)
+
+repeats-end : (d : Drill) (p : Point) (b m : ℕ) → behind (stand d p) (traced d (stand d p) (flat_map (repeat d) (numbers_from (suc b) (suc m)))) ≡ stand d (place d (b + suc m))
+repeats-end d p b zero =
+    let to : suc b ≡ b + suc zero = omega arith in
+    behind-append d (stand d p) (repeat d (suc b)) [] ∙ (repeat-end d p (suc b) ∙ ap (λ (r : ℕ). stand d (place d r)) to)
+repeats-end d p b (suc m) =
+    let rest = flat_map (repeat d) (numbers_from (suc (suc b)) (suc m)) in
+    let to : suc b + suc m ≡ b + suc (suc m) = omega arith in
+    behind-append d (stand d p) (repeat d (suc b)) rest
+    ∙ (ap (λ (at : Standing). behind at (traced d at rest)) (repeat-end d p (suc b))
+    ∙ (repeats-end d (place d (suc b)) (suc b) m ∙ ap (λ (r : ℕ). stand d (place d r)) to))
+
+ends-by : (d : Drill) (rises : Bool) (n : ℕ) → 1 ≤ n → behind (begin d) (traced d (begin d) ((if rises then TraverseTo d.r ∷ [] else []) ++ flat_map (repeat d) (numbers_from 1 n))) ≡ stand d (place d n)
+ends-by d rises zero some = absurd (omega arith)
+ends-by d true (suc n) some = let to : 0 + suc n ≡ suc n = omega arith in repeats-end d (record d.start { z = d.r }) 0 n ∙ ap (λ (r : ℕ). stand d (place d r)) to
+ends-by d false (suc n) some = let to : 0 + suc n ≡ suc n = omega arith in repeats-end d d.start 0 n ∙ ap (λ (r : ℕ). stand d (place d r)) to
+
+pub cycle_end : (d : Drill) → 1 ≤ d.repeats → behind (begin d) (cycle_segments d) ≡ stand d (place d d.repeats)
+cycle_end d some = ends-by d (int_lt d.start.z d.r) d.repeats some

@@ -3,9 +3,11 @@ ghost use Rattle.std.specs.Prelude.{◌≡◌, ◌≤◌, ◌<◌, ◌+◌, ◌*
 ghost use Rattle.ng_cycles.specs.Segments.{later};
 ghost use Rattle.ng_cycles.specs.Left.{ahead_of, work_length, repeat_length};
 
+use crate::canned::Canned;
 use crate::drill::{Drill, Work};
 use crate::left::CycleLeft;
 use crate::phase::{Pecking, Phase};
+use ng_num::Point;
 
 /// Whole lengths in a number, at most so many, and what is left of it.
 #[tactic(auto, using(crate::proofs::Skips::parts_fit))]
@@ -41,6 +43,18 @@ impl Drill {
     {
         let to_r = if self.clear.nm() == self.r.nm() { 0 } else { 1 };
         1 + (to_r + self.work_length())
+    }
+}
+
+impl Canned {
+    ghost use Rattle.ng_cycles.specs.Segments.{begin, behind, cycle_segments};
+
+    /// Where the machine stands behind all of it; its outputs are then those before it.
+    pub fn end(&self) -> Point
+        ensures { behind (begin self.now) (cycle_segments self.now) ≡ record { point = result; outputs = self.now.outputs } }
+    {
+        let drill = self.drill();
+        self.place(drill.repeats, drill.clear)
     }
 }
 
