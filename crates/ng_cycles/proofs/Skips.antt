@@ -13,7 +13,7 @@ use Rattle.ng_cycles.specs.declared.drill.Work.{Work}
 use Rattle.ng_cycles.specs.declared.drill.Work.TheVariants.{Drilling, DrillingWithDwell, PeckDrilling, Boring, BoringWithStop, BoringWithDwell}
 use Rattle.ng_cycles.specs.declared.standing.Standing.{Standing}
 use Rattle.ng_cycles.specs.Left.{pecks_behind, work_length, repeat_length}
-use Rattle.ng_cycles.specs.Strokes.{Stroke, Across, ToR, TraverseTo, FeedTo, numbers_from, coordinate, bottom, pecks, again, strokes_of, repeat}
+use Rattle.ng_cycles.specs.Strokes.{Stroke, TraverseTo, numbers_from, coordinate, bottom, pecks, again, strokes_of, repeat}
 use Rattle.ng_cycles.specs.Segments.{begin, cycle_segments, traced, segments_of, stand_after, behind, Ahead, later}
 
 abbrev pub ahead : Drill → Standing → List Stroke → Ahead

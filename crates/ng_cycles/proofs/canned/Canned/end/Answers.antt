@@ -1,4 +1,3 @@
-use Rattle.std.proofs.Common.{◌≡◌, ◌∙◌, sym, ap}
 use Rattle.ng_cycles.proofs.Skips.{cycle_end}
 use Rattle.ng_cycles.proofs.canned.Canned.end.Goals as goal
 
