@@ -5,3 +5,4 @@ pub mod Travel
 pub mod Causes
 pub mod HasWords
 pub mod Lawful
+pub mod Skips

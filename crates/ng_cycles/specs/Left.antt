@@ -1,6 +1,7 @@
 -- What a cursor over a cycle's segments has left.
-use Rattle.std.specs.Prelude.{◌≡◌, ℕ, suc, ℤ, pos, ◌+ℤ◌, Option, MatchOption, List, [], ◌∷◌, ◌++◌, flat_map}
+use Rattle.std.specs.Prelude.{◌≡◌, ℕ, suc, ◌+◌, ◌-◌, ◌*◌, if◌then◌else◌, ℤ, pos, ◌+ℤ◌, Option, MatchOption, List, [], ◌∷◌, ◌++◌, flat_map}
 use Rattle.std.specs.Int.{int_min}
+use Rattle.std.specs.Ordering.{int_eq}
 use Rattle.ng_canon.specs.declared.outputs.Spindle.TheVariants.{Stopped}
 use Rattle.ng_canon.specs.declared.segment.Segment.{Segment}
 use Rattle.ng_cycles.specs.declared.drill.Drill.{Drill}
@@ -9,7 +10,7 @@ use Rattle.ng_cycles.specs.declared.drill.Work.TheVariants.{Drilling, DrillingWi
 use Rattle.ng_cycles.specs.declared.left.CycleLeft.{CycleLeft}
 use Rattle.ng_cycles.specs.declared.phase.Phase.{Phase}
 use Rattle.ng_cycles.specs.declared.phase.Phase.TheVariants as phase
-use Rattle.ng_cycles.specs.Strokes.{Stroke, TraverseTo, FeedTo, Wait, Turn, numbers_from, bottom, clearance, again, strokes_of, repeat}
+use Rattle.ng_cycles.specs.Strokes.{Stroke, TraverseTo, FeedTo, Wait, Turn, numbers_from, bottom, pecks, clearance, again, strokes_of, repeat}
 use Rattle.ng_cycles.specs.Segments.{traced, stand_after, Ahead}
 
 -- how long it waits at the bottom
@@ -27,6 +28,19 @@ way_out d (PeckDrilling peck) = TraverseTo d.clear ∷ []
 way_out d Boring = FeedTo d.clear ∷ []
 way_out d (BoringWithStop seconds) = Turn Stopped ∷ TraverseTo d.clear ∷ Turn d.outputs.spindle ∷ []
 way_out d (BoringWithDwell seconds) = FeedTo d.clear ∷ []
+
+-- how many segments a cycle has at a place, from R on
+abbrev pub work_length : Drill → Work → ℕ
+work_length d Drilling = 2
+work_length d (DrillingWithDwell seconds) = 3
+work_length d (PeckDrilling peck) = 3 * (pecks d peck - 1) + 2
+work_length d Boring = 2
+work_length d (BoringWithStop seconds) = 5
+work_length d (BoringWithDwell seconds) = 3
+
+-- how many a repeat has that begins where repeats end
+abbrev pub repeat_length : Drill → ℕ
+repeat_length d = 1 + ((if int_eq d.clear d.r then 0 else 1) + work_length d d.work)
 
 -- so many pecks behind peck k, and out
 abbrev pub pecks_behind : Drill → ℕ → ℕ → ℕ → List Stroke

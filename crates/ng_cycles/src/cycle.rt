@@ -28,7 +28,7 @@ impl Model for Cycle {
 }
 
 impl Cycle {
-    ghost use Rattle.ng_cycles.specs.Segments.{whole};
+    ghost use Rattle.ng_cycles.specs.Segments.{whole, later};
     ghost use Rattle.ng_cycles.specs.Left.{IsNext};
     ghost use Rattle.ng_cycles.specs.Faults.{canned_of};
     ghost use Rattle.ng_num.specs.Results.{and_then};
@@ -50,6 +50,16 @@ impl Cycle {
             Ok(canned) => Ok(Cycle::of(&canned)),
             Err(fault) => Err(fault),
         }
+    }
+
+    /// A cycle before its segment n, from 0, or behind its last one. The segments before aren't walked: whole repeats and whole
+    /// pecks are passed at once.
+    pub fn from(canned: &Canned, n: u64) -> Cycle
+        ensures { result ≡ later n (whole canned.now) }
+    {
+        let mut left = cycle_left(canned);
+        left.advance(n);
+        Cycle { left }
     }
 
     /// The next segment.

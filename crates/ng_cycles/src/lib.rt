@@ -1,4 +1,13 @@
-//! Canned cycles: G81, G82, G83, G85, G86 and G89, whose segments come one at a time and are stored nowhere.
+//! Canned cycles: G81, G82, G83, G85, G86 and G89 (NISTIR 6556, 3.5.16), whose segments come one at a time and are stored nowhere.
+//!
+//! `Canned::of` makes a cycle of a line's words, or answers the first fault of it: E3, Y1 to Y8, X1, X2. It looks at the extreme
+//! coordinates alone, however many repeats and pecks there are. `Cycle` gives the segments: all of them, or those from a given one on,
+//! with where the machine stands and what its outputs are before each. What a cycle does is said stroke by stroke in
+//! `specs/Strokes.antt`.
+//!
+//! Which words a line may have, how they are read in its unit, and which words are kept, is for the crates above; `KeptWords` and
+//! `KeptWords::over` serve them. Nothing here takes memory. The crate stands on `ng_offsets` for what stands between program and
+//! machine coordinates.
 #![tactic(auto)]
 
 mod canned;
@@ -10,6 +19,7 @@ mod left;
 mod peck;
 mod phase;
 mod places;
+mod skip;
 mod standing;
 mod words;
 

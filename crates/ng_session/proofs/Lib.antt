@@ -4,3 +4,4 @@ pub mod Worked
 pub mod Tying
 pub mod Cutting
 pub mod Keeping
+pub mod Living

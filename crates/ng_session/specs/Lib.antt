@@ -4,3 +4,4 @@ pub mod Kept
 pub mod Fold
 pub mod Runs
 pub mod Cuts
+pub mod Lives

@@ -1,11 +1,13 @@
 //! Laws over the definitions, for proofs above this crate to cite: the call does nothing, and its contract is the law.
 ghost use Rattle.ng_session.specs.Cuts.{CutsBehindEvents, CutsWithinEvent};
+ghost use Rattle.ng_session.specs.Lives.{CutsOfLife};
 
 use std::alloc::Allocator;
 
-/// Wherever power is cut, what is found and what was handed out is the fold's, over a beginning of the entries that has all
-/// acknowledged ones and at most one more, with a beginning of one further block behind it.
+/// Wherever power is cut, and however often, what is found and what was handed out is the fold's, over a beginning of the entries
+/// that has all acknowledged ones and at most one more, with a beginning of one further block behind it.
 pub fn cuts<A: Allocator>()
     ensures behind { CutsBehindEvents A }
     ensures within { CutsWithinEvent A }
+    ensures life { CutsOfLife }
 {}

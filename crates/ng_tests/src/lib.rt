@@ -10,9 +10,15 @@ mod arcs;
 #[cfg(test)]
 mod commands;
 #[cfg(test)]
+mod cycles;
+#[cfg(test)]
 mod device;
 #[cfg(test)]
 mod faults;
+#[cfg(test)]
+mod images;
+#[cfg(test)]
+mod journal;
 #[cfg(test)]
 mod lines;
 #[cfg(test)]

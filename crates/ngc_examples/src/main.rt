@@ -1,5 +1,8 @@
-//! Runs each program of examples/ as `ngc` does, and compares what it writes with the text that stands beside it.
+//! Runs each program of examples/ as `ngc` does, and compares what it writes with the text that stands beside it. Then
+//! writes a device of a first entry, and compares its sectors with those of examples/device.hex.
 #![tactic(auto)]
+
+mod device;
 
 use ng_console::ngc;
 use std::{fs, io};
@@ -24,5 +27,8 @@ fn main(rt: HostRuntime) -> io::Result<()> {
         let same = text == fs::read(&rt, wanted)?;
         println!(rt; "{program}: status {status}, as the text beside it: {same}")?;
     }
+    let sectors = device::after_one_entry(rt.alloc())?;
+    let same = sectors == fs::read(&rt, "device.hex")?;
+    println!(rt; "device.hex: as a device after its first entry: {same}")?;
     Ok(())
 }

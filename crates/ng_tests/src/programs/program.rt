@@ -2,6 +2,7 @@
 use super::rows::{ALL_MOVES, LEFT_MOVES, SLASHES};
 use super::{CUTS, CUTS_TEXT, PROGRAM_END, joined};
 use ng_console::{Job, ngc, words};
+use std::alloc::{AllocError, Global};
 use std::rt::Files;
 use std::test::Fail;
 use std::{env, fs, io};
@@ -204,6 +205,24 @@ fn remove_file<R: Files>(rt: &R, path: &str, text: Option<&str>) -> io::Result<(
     }
 }
 
+/// The words of a dry run.
+fn words_of<'a>(
+    alloc: Global,
+    program: &'a str,
+    settings: Option<&'a str>,
+    block_delete: bool,
+) -> Result<Vec<&'a str>, AllocError> {
+    let mut words = vec![in alloc; "ngc", "dry", program]?;
+    if let Some(settings) = settings {
+        words.push("--settings")?;
+        words.push(settings)?;
+    }
+    if block_delete {
+        words.push("--block-delete")?;
+    }
+    Ok(words)
+}
+
 #[test]
 fn runs_files(rt: HostRuntime) -> Result<(), Fail> {
     let folder = env::temp_dir(&rt)?;
@@ -214,13 +233,12 @@ fn runs_files(rt: HostRuntime) -> Result<(), Fail> {
     for (settings, program, block_delete, status, text, end) in FILES {
         put_file(&rt, path, program)?;
         put_file(&rt, machine, settings)?;
-        let mut words = vec![in rt.alloc(); "ngc", "dry", path]?;
-        if settings.is_some() {
-            words.extend_from_slice(&["--settings", machine])?;
-        }
-        if block_delete {
-            words.push("--block-delete")?;
-        }
+        let named = if settings.is_some() {
+            Some(machine)
+        } else {
+            None
+        };
+        let words = words_of(rt.alloc(), path, named, block_delete)?;
         let wanted = joined(rt.alloc(), text.as_bytes(), end.as_bytes())?;
         let mut written = Vec::new(rt.alloc());
         assert!(rt;

@@ -1,0 +1,397 @@
+use ng_journal::recover;
+use ng_num::Fault;
+use ng_rig::{MemoryRig, Rig};
+use std::alloc::{AllocError, Allocator};
+use std::test::Fail;
+
+/// A device of format 1 before one of its numbers is changed. Its program has 131,072 bytes, and all that isn't named
+/// is as in a fresh state.
+#[derive(Clone, Copy, Debug, PartialEq, Eq)]
+pub enum Base {
+    /// Epoch 1: the header in sector 1, its snapshot in sectors 88 to 173.
+    Odd,
+    /// Epoch 2: the header in sector 0, its snapshot in sectors 2 to 87.
+    Even,
+    /// Epoch 1, with all words of a cycle kept and a half-done block of 256 bytes; it is known where the machine stands.
+    Full,
+    /// Epoch 1, with a half-done block of 3 bytes; it isn't known where the machine stands.
+    Lost,
+}
+
+/// What power on answers to an image with a number changed, and what it writes in that number's place.
+#[derive(Clone, Copy, Debug, PartialEq, Eq)]
+enum Answer {
+    /// It stands, and the same number is written again.
+    Same,
+    /// It stands, and the next number is written.
+    Next,
+    /// It stands; the number isn't looked at or doesn't last, and 0 is written.
+    Zero,
+    Refused(Fault),
+}
+
+const SAME: Answer = Answer::Same;
+
+const NEXT: Answer = Answer::Next;
+
+const ZERO: Answer = Answer::Zero;
+
+const J2: Answer = Answer::Refused(Fault::NotFormatted);
+
+const J3: Answer = Answer::Refused(Fault::Damaged);
+
+const J4: Answer = Answer::Refused(Fault::CountersUsed);
+
+/// The text that a header begins with, as a number.
+const TEXT: i64 = 0x4347_4e34_3732_5352;
+/// The greatest epoch and entry count.
+const COUNT: i64 = 1_000_000_000_000;
+/// The longest program.
+const LONGEST: i64 = 131_072;
+/// The greatest length in nanometres and number in millionths.
+const MOST: i64 = 9_999_999_999_999;
+/// Both ends of their range, and what lies one past it or as far as can be.
+const ENDS: &[i64] = &[-MOST, MOST];
+
+const PAST: &[i64] = &[-MOST - 1, MOST + 1, i64::MIN, i64::MAX];
+/// The same of what isn't negative.
+const FROM_0: &[i64] = &[0, MOST];
+
+const PAST_0: &[i64] = &[MOST + 1, -1];
+/// Every number of a kept word's bits.
+const BITS: &[i64] = &[0, 1, 2, 3, 4, 5, 6, 7, 8, 9, 10, 11, 12, 13, 14, 15];
+
+const MOTIONS: &[i64] = &[0, 1, 2, 3, 80, 81, 82, 83, 85, 86, 89];
+
+const NO_MOTIONS: &[i64] = &[4, 79, 84, 87, 88, 90, 255];
+
+/// Each field at its limits and past them: its name, the device, its sector, byte and width, what stands there, and what
+/// power on makes of each such device. -1 is the greatest number of its width where that has no sign.
+static CASES: [(&str, Base, usize, usize, usize, &[i64], Answer); 150] = [
+    ("text", Base::Odd, 1, 0, 8, &[TEXT], SAME),
+    (
+        "text",
+        Base::Odd,
+        1,
+        0,
+        8,
+        &[0, TEXT + 1, TEXT + 0x20, TEXT - (1 << 56)],
+        J2,
+    ),
+    ("format", Base::Odd, 1, 8, 4, &[1], SAME),
+    ("format", Base::Odd, 1, 8, 4, &[0, 2, 257, 0x100_0001], J2),
+    ("unnamed, 12", Base::Odd, 1, 12, 4, &[1, -1], ZERO),
+    ("epoch", Base::Odd, 1, 16, 8, &[1, 3, COUNT - 1], NEXT),
+    (
+        "epoch",
+        Base::Odd,
+        1,
+        16,
+        8,
+        &[0, 2, COUNT, COUNT + 1, -1],
+        J2,
+    ),
+    ("epoch", Base::Even, 0, 16, 8, &[2, 4, COUNT - 2], NEXT),
+    ("epoch", Base::Even, 0, 16, 8, &[COUNT], J4),
+    ("epoch", Base::Even, 0, 16, 8, &[0, 1, COUNT + 2, -2], J2),
+    ("program area", Base::Odd, 1, 24, 8, &[0, 1], SAME),
+    ("program area", Base::Odd, 1, 24, 8, &[2, 256, -1], J2),
+    ("program length", Base::Odd, 1, 32, 8, &[0, LONGEST], SAME),
+    (
+        "program length",
+        Base::Odd,
+        1,
+        32,
+        8,
+        &[LONGEST + 1, -1],
+        J2,
+    ),
+    ("unnamed, 40", Base::Odd, 1, 40, 8, &[-1], ZERO),
+    ("unnamed, 504", Base::Odd, 1, 504, 8, &[-1], ZERO),
+    ("entry count", Base::Odd, 88, 0, 8, &[0, COUNT], SAME),
+    ("entry count", Base::Odd, 88, 0, 8, &[COUNT + 1, -1], J3),
+    ("entry count", Base::Even, 2, 0, 8, &[0, COUNT], SAME),
+    ("place", Base::Odd, 88, 8, 8, &[0, LONGEST], SAME),
+    ("place", Base::Odd, 88, 8, 8, &[LONGEST + 1, -1], J3),
+    ("point X", Base::Odd, 88, 16, 8, ENDS, SAME),
+    ("point X", Base::Odd, 88, 16, 8, PAST, J3),
+    ("point Y", Base::Odd, 88, 24, 8, ENDS, SAME),
+    ("point Y", Base::Odd, 88, 24, 8, PAST, J3),
+    ("point Z", Base::Odd, 88, 32, 8, ENDS, SAME),
+    ("point Z", Base::Odd, 88, 32, 8, PAST, J3),
+    ("feed", Base::Odd, 88, 40, 8, FROM_0, SAME),
+    ("feed", Base::Odd, 88, 40, 8, PAST_0, J3),
+    ("speed", Base::Odd, 88, 48, 8, FROM_0, SAME),
+    ("speed", Base::Odd, 88, 48, 8, PAST_0, J3),
+    ("G92 X", Base::Odd, 88, 56, 8, ENDS, SAME),
+    ("G92 X", Base::Odd, 88, 56, 8, PAST, J3),
+    ("G92 Y", Base::Odd, 88, 64, 8, ENDS, SAME),
+    ("G92 Y", Base::Odd, 88, 64, 8, PAST, J3),
+    ("G92 Z", Base::Odd, 88, 72, 8, ENDS, SAME),
+    ("G92 Z", Base::Odd, 88, 72, 8, PAST, J3),
+    ("origin X", Base::Odd, 88, 80, 8, ENDS, SAME),
+    ("origin X", Base::Odd, 88, 80, 8, PAST, J3),
+    ("origin Y", Base::Odd, 88, 88, 8, ENDS, SAME),
+    ("origin Y", Base::Odd, 88, 88, 8, PAST, J3),
+    ("origin Z", Base::Odd, 88, 96, 8, ENDS, SAME),
+    ("origin Z", Base::Odd, 88, 96, 8, PAST, J3),
+    ("tool length", Base::Odd, 88, 104, 8, ENDS, SAME),
+    ("tool length", Base::Odd, 88, 104, 8, PAST, J3),
+    ("kept R", Base::Full, 88, 112, 8, ENDS, SAME),
+    ("kept R", Base::Odd, 88, 112, 8, ENDS, ZERO),
+    ("kept R", Base::Full, 88, 112, 8, PAST, J3),
+    ("kept R", Base::Odd, 88, 112, 8, PAST, J3),
+    ("kept Z", Base::Full, 88, 120, 8, ENDS, SAME),
+    ("kept Z", Base::Odd, 88, 120, 8, ENDS, ZERO),
+    ("kept Z", Base::Full, 88, 120, 8, PAST, J3),
+    ("kept Z", Base::Odd, 88, 120, 8, PAST, J3),
+    ("kept P", Base::Full, 88, 128, 8, ENDS, SAME),
+    ("kept P", Base::Odd, 88, 128, 8, ENDS, ZERO),
+    ("kept P", Base::Full, 88, 128, 8, PAST, J3),
+    ("kept P", Base::Odd, 88, 128, 8, PAST, J3),
+    ("kept Q", Base::Full, 88, 136, 8, ENDS, SAME),
+    ("kept Q", Base::Odd, 88, 136, 8, ENDS, ZERO),
+    ("kept Q", Base::Full, 88, 136, 8, PAST, J3),
+    ("kept Q", Base::Odd, 88, 136, 8, PAST, J3),
+    ("motion", Base::Odd, 88, 144, 1, MOTIONS, SAME),
+    ("motion", Base::Odd, 88, 144, 1, NO_MOTIONS, J3),
+    ("plane", Base::Odd, 88, 145, 1, &[17, 18, 19], SAME),
+    ("plane", Base::Odd, 88, 145, 1, &[0, 16, 20, 255], J3),
+    ("distance", Base::Odd, 88, 146, 1, &[90, 91], SAME),
+    ("distance", Base::Odd, 88, 146, 1, &[0, 89, 92, 255], J3),
+    ("feed mode", Base::Odd, 88, 147, 1, &[93, 94], SAME),
+    ("feed mode", Base::Odd, 88, 147, 1, &[0, 92, 95, 255], J3),
+    ("unit", Base::Odd, 88, 148, 1, &[20, 21], SAME),
+    ("unit", Base::Odd, 88, 148, 1, &[0, 19, 22, 255], J3),
+    ("retract", Base::Odd, 88, 149, 1, &[98, 99], SAME),
+    ("retract", Base::Odd, 88, 149, 1, &[0, 97, 100, 255], J3),
+    (
+        "system",
+        Base::Odd,
+        88,
+        150,
+        1,
+        &[1, 2, 3, 4, 5, 6, 7, 8, 9],
+        SAME,
+    ),
+    ("system", Base::Odd, 88, 150, 1, &[0, 10, 54, 255], J3),
+    ("path", Base::Odd, 88, 151, 1, &[0, 1, 2], SAME),
+    ("path", Base::Odd, 88, 151, 1, &[3, 61, 255], J3),
+    ("spindle", Base::Odd, 88, 152, 1, &[0, 1, 2], SAME),
+    ("spindle", Base::Odd, 88, 152, 1, &[3, 5, 255], J3),
+    ("mist", Base::Odd, 88, 153, 1, &[0, 1], SAME),
+    ("mist", Base::Odd, 88, 153, 1, &[2, 128, 255], J3),
+    ("flood", Base::Odd, 88, 154, 1, &[0, 1], SAME),
+    ("flood", Base::Odd, 88, 154, 1, &[2, 128, 255], J3),
+    ("overrides", Base::Odd, 88, 155, 1, &[0, 1], SAME),
+    ("overrides", Base::Odd, 88, 155, 1, &[2, 128, 255], J3),
+    ("known", Base::Odd, 88, 156, 1, &[0, 1], SAME),
+    ("known", Base::Odd, 88, 156, 1, &[2, 128, 255], J3),
+    ("kept", Base::Odd, 88, 157, 1, BITS, SAME),
+    ("kept", Base::Odd, 88, 157, 1, &[16, 32, 128, 255], J3),
+    ("selected slot", Base::Odd, 88, 158, 2, &[0, 64], SAME),
+    ("selected slot", Base::Odd, 88, 158, 2, &[65, 256, -1], J3),
+    ("held slot", Base::Odd, 88, 160, 2, &[0, 64], SAME),
+    ("held slot", Base::Odd, 88, 160, 2, &[65, 256, -1], J3),
+    ("half-done", Base::Odd, 88, 162, 1, &[0, 1, 2], SAME),
+    ("half-done", Base::Odd, 88, 162, 1, &[3, 128, 255], J3),
+    ("half-done", Base::Full, 88, 162, 1, &[1, 2], SAME),
+    ("half-done", Base::Full, 88, 162, 1, &[0, 3], J3),
+    ("half-done", Base::Lost, 88, 162, 1, &[0, 1, 2], SAME),
+    ("open", Base::Odd, 88, 163, 1, &[0], SAME),
+    ("open", Base::Odd, 88, 163, 1, &[1, 2, 3], J3),
+    ("open", Base::Lost, 88, 163, 1, &[0, 1, 2], ZERO),
+    ("open", Base::Lost, 88, 163, 1, &[3, 128, 255], J3),
+    ("open", Base::Full, 88, 163, 1, &[1, 2, 3], J3),
+    ("point known", Base::Odd, 88, 164, 1, &[0], SAME),
+    ("point known", Base::Odd, 88, 164, 1, &[1, 2], J3),
+    ("point known", Base::Full, 88, 164, 1, &[0, 1], SAME),
+    ("point known", Base::Full, 88, 164, 1, &[2, 128, 255], J3),
+    ("unnamed, 165", Base::Odd, 88, 165, 1, &[1, 255], ZERO),
+    ("unnamed, 165", Base::Full, 88, 165, 1, &[1, 255], ZERO),
+    ("bytes of text", Base::Full, 88, 166, 2, &[0, 256], SAME),
+    ("bytes of text", Base::Full, 88, 166, 2, &[257, 512, -1], J3),
+    ("bytes of text", Base::Odd, 88, 166, 2, &[257, -1], ZERO),
+    ("segment", Base::Full, 88, 168, 8, &[0, i64::MAX, -1], SAME),
+    ("segment", Base::Odd, 88, 168, 8, &[-1], ZERO),
+    ("stands X", Base::Full, 88, 176, 8, ENDS, SAME),
+    ("stands X", Base::Full, 88, 176, 8, PAST, J3),
+    ("stands X", Base::Lost, 88, 176, 8, PAST, ZERO),
+    ("stands X", Base::Odd, 88, 176, 8, PAST, ZERO),
+    ("stands Y", Base::Full, 88, 184, 8, ENDS, SAME),
+    ("stands Y", Base::Full, 88, 184, 8, PAST, J3),
+    ("stands Y", Base::Lost, 88, 184, 8, PAST, ZERO),
+    ("stands Y", Base::Odd, 88, 184, 8, PAST, ZERO),
+    ("stands Z", Base::Full, 88, 192, 8, ENDS, SAME),
+    ("stands Z", Base::Full, 88, 192, 8, PAST, J3),
+    ("stands Z", Base::Lost, 88, 192, 8, PAST, ZERO),
+    ("stands Z", Base::Odd, 88, 192, 8, PAST, ZERO),
+    ("text, 200", Base::Full, 88, 200, 1, &[0, 10, 255], SAME),
+    ("text, 200", Base::Odd, 88, 200, 1, &[255], ZERO),
+    ("text, 455", Base::Full, 88, 455, 1, &[0, 10, 255], SAME),
+    ("text, 455", Base::Odd, 88, 455, 1, &[255], ZERO),
+    ("text, 202", Base::Lost, 88, 202, 1, &[255], SAME),
+    ("text, 203", Base::Lost, 88, 203, 1, &[255], ZERO),
+    ("unnamed, 456", Base::Odd, 88, 456, 8, &[-1], ZERO),
+    ("unnamed, 504", Base::Full, 88, 504, 8, &[-1], ZERO),
+    ("#1", Base::Odd, 89, 0, 8, ENDS, SAME),
+    ("#1", Base::Odd, 89, 0, 8, PAST, J3),
+    ("#64", Base::Odd, 89, 504, 8, ENDS, SAME),
+    ("#64", Base::Odd, 89, 504, 8, PAST, J3),
+    ("#65", Base::Odd, 90, 0, 8, ENDS, SAME),
+    ("#65", Base::Odd, 90, 0, 8, PAST, J3),
+    ("#5399", Base::Odd, 173, 176, 8, ENDS, SAME),
+    ("#5399", Base::Odd, 173, 176, 8, PAST, J3),
+    ("#1", Base::Even, 3, 0, 8, ENDS, SAME),
+    ("#1", Base::Even, 3, 0, 8, PAST, J3),
+    ("unnamed, 184", Base::Odd, 173, 184, 8, PAST, ZERO),
+    ("unnamed, 504", Base::Odd, 173, 504, 8, PAST, ZERO),
+    ("log", Base::Odd, 686, 0, 8, &[0], SAME),
+    ("log", Base::Odd, 686, 0, 8, &[1], J3),
+    ("log", Base::Even, 686, 0, 8, &[0, 1], SAME),
+    ("log", Base::Even, 686, 0, 8, &[2], J3),
+];
+
+/// Puts a number of so many bytes into a sector, its lowest byte first.
+pub fn put(sector: &mut [u8; 512], at: usize, width: usize, number: i64) {
+    let bytes = number.to_le_bytes();
+    for k in 0..width.min(8) {
+        if let Some(place) = sector.get_mut(at.saturating_add(k)) {
+            *place = bytes[k];
+        }
+    }
+}
+
+/// A sector that holds these numbers, each with its byte and width, and is 0 elsewhere.
+pub fn sector_with(fields: &[(usize, usize, i64)]) -> [u8; 512] {
+    let mut sector = [0; 512];
+    for (at, width, number) in fields {
+        put(&mut sector, *at, *width, *number);
+    }
+    sector
+}
+
+/// What a sector reads as; all 255 where it can't be read.
+pub fn sector_of<R: Rig>(rig: &mut R, sector: usize) -> [u8; 512] {
+    let mut bytes = [0; 512];
+    if sector < rig.size() && rig.read(sector, &mut bytes).is_ok() {
+        bytes
+    } else {
+        [255; 512]
+    }
+}
+
+/// Writes a sector; false where that can't be.
+pub fn store<R: Rig>(rig: &mut R, sector: usize, bytes: &[u8; 512]) -> bool {
+    sector < rig.size() && rig.write(sector, bytes).is_ok()
+}
+
+/// The modes of a fresh state: G80 G17 G90 G94 G21 G98 G54 G64 M48, and the place known.
+pub const FRESH: [(usize, usize, i64); 10] = [
+    (144, 1, 80),
+    (145, 1, 17),
+    (146, 1, 90),
+    (147, 1, 94),
+    (148, 1, 21),
+    (149, 1, 98),
+    (150, 1, 1),
+    (151, 1, 2),
+    (155, 1, 1),
+    (156, 1, 1),
+];
+
+/// A program's block that is half-done before its segment 2, at (1, 2, 3) nm, with 256 bytes of text; words kept.
+const HALF: [(usize, usize, i64); 8] = [
+    (157, 1, 15),
+    (162, 1, 1),
+    (164, 1, 1),
+    (166, 2, 256),
+    (168, 8, 2),
+    (176, 8, 1),
+    (184, 8, 2),
+    (192, 8, 3),
+];
+
+/// An Mdi block that is half-done before its first segment, with the text `G0X`.
+const LOST_HALF: [(usize, usize, i64); 3] = [(162, 1, 2), (166, 2, 3), (200, 3, 0x58_3047)];
+
+/// Makes a device of this kind, with one number changed.
+fn lay<R: Rig>(rig: &mut R, base: Base, at: (usize, usize, usize), number: i64) -> bool {
+    let (epoch, header, area) = match base {
+        Base::Even => (2, 0, 2),
+        Base::Odd | Base::Full | Base::Lost => (1, 1, 88),
+    };
+    let mut state = sector_with(&FRESH);
+    let more = match base {
+        Base::Odd | Base::Even => [].as_slice(),
+        Base::Full => HALF.as_slice(),
+        Base::Lost => LOST_HALF.as_slice(),
+    };
+    for (byte, width, number) in more {
+        put(&mut state, *byte, *width, *number);
+    }
+    let named = sector_with(&[(0, 8, TEXT), (8, 4, 1), (16, 8, epoch), (32, 8, LONGEST)]);
+    let is_laid = store(rig, header, &named) && store(rig, area, &state);
+    let mut changed = sector_of(rig, at.0);
+    put(&mut changed, at.1, at.2, number);
+    is_laid && store(rig, at.0, &changed) && rig.sync().is_ok()
+}
+
+/// Where the next epoch writes what stands in this sector: headers and snapshot areas change places.
+fn twin(sector: usize) -> usize {
+    match sector {
+        0 => 1,
+        1 => 0,
+        2..=87 => sector + 86,
+        88..=173 => sector - 86,
+        _ => sector,
+    }
+}
+
+/// Powers on; why not, if so, and the device.
+pub fn powered<A: Allocator + Copy + Drop, R: Rig>(alloc: A, rig: R) -> (Option<Fault>, R) {
+    match recover(alloc, rig) {
+        Ok((journal, _)) => (None, journal.into_rig()),
+        Err((fault, rig)) => (Some(fault), rig),
+    }
+}
+
+/// Whether power on makes this of a device with a number changed: its answer, its calls, and what stands in the number's
+/// place afterwards.
+fn answers<A: Allocator + Copy + Drop>(
+    alloc: A,
+    base: Base,
+    at: (usize, usize, usize),
+    number: i64,
+    answer: Answer,
+) -> Result<bool, AllocError> {
+    let mut rig = MemoryRig::new(alloc, 1_710)?;
+    let is_laid = lay(&mut rig, base, at, number);
+    let before = rig.calls();
+    let (fault, mut rig) = powered(alloc, rig);
+    let (refusal, again, calls) = match answer {
+        Answer::Same => (None, number, 90),
+        Answer::Next => (None, number.saturating_add(1), 90),
+        Answer::Zero => (None, 0, 90),
+        // the sync before the first read, and no write
+        Answer::Refused(fault) => (Some(fault), number, 1),
+    };
+    let place = if fault.is_none() { twin(at.0) } else { at.0 };
+    let found = sector_of(&mut rig, place);
+    let mut wanted = found;
+    put(&mut wanted, at.1, at.2, again);
+    let is_called = rig.calls() == before.saturating_add(calls);
+    Ok(is_laid && fault == refusal && is_called && found == wanted)
+}
+
+#[test]
+fn each_field_at_its_limits_and_past_them(rt: HostRuntime) -> Result<(), Fail> {
+    for (field, base, sector, byte, width, numbers, answer) in &CASES {
+        let at = (*sector, *byte, *width);
+        for number in *numbers {
+            let is_so = answers(rt.alloc(), *base, at, *number, *answer)?;
+            assert!(rt; is_so, "{field}: {number}");
+        }
+    }
+    Ok(())
+}
