@@ -4,6 +4,7 @@ use Rattle.std.specs.Prelude.{not, ◌||◌}
 use Rattle.std.specs.Option.{is_some}
 use Rattle.ng_num.specs.Results.{and_then}
 use Rattle.ng_params.specs.declared.change.Change.{Change}
+use Rattle.ng_canon.specs.declared.geometry.Geometry.{Geometry}
 use Rattle.ng_modal.specs.declared.asks.NonModal.{NonModal}
 use Rattle.ng_modal.specs.declared.asks.ToolLength.{ToolLength}
 use Rattle.ng_modal.specs.declared.block.Block.{Block}
@@ -23,9 +24,9 @@ missing (Some _) system word h = absurd (cc h)
 missing None (Some _) word h = absurd (cc h)
 missing None None (Some _) h = absurd (cc h)
 
-pub way_kept : (b : Block) (settings : List Change) (s : Setup) (lengths : List ℤ) (feed : ℤ) → keeps_offsets b ≡ true →
-    way_of b settings s lengths feed
-    ≡ and_then (plain_path_of b s.machine feed) (λ path. Ok (record { offsets = s.machine.offsets; shown = nothing_shown; changes = settings }, path))
-way_kept b settings s lengths feed h =
+pub way_kept : (b : Block) (settings : List Change) (s : Setup) (lengths : List ℤ) (feed : ℤ) (geometry : Geometry) → keeps_offsets b ≡ true →
+    way_of b settings s lengths feed geometry
+    ≡ and_then (plain_path_of b s.machine feed geometry) (λ path. Ok (record { offsets = s.machine.offsets; shown = nothing_shown; changes = settings }, path))
+way_kept b settings s lengths feed geometry h =
     let n = missing b.g.tool_length b.g.system b.g.non_modal h in
     rw (n.length_is, n.system_is, n.word_is) refl

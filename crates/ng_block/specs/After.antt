@@ -9,12 +9,10 @@ use Rattle.ng_modal.specs.declared.modes.Motion.TheVariants.{Feed}
 use Rattle.ng_modal.specs.declared.modes.Distance.TheVariants.{Absolute}
 use Rattle.ng_modal.specs.declared.modes.FeedMode.TheVariants.{PerMinute}
 use Rattle.ng_block.specs.declared.machine.Machine.{Machine}
-use Rattle.ng_block.specs.declared.machine.KeptWords.{KeptWords}
 use Rattle.ng_block.specs.declared.tasks.Tasks.{Tasks}
 use Rattle.ng_block.specs.AxisData.{system_after}
 use Rattle.ng_block.specs.Blocks.{feed_mode_after}
 use Rattle.ng_block.specs.Ends.{ends}
-use Rattle.ng_block.specs.Fresh.{no_words}
 use Rattle.ng_block.specs.Goals.{Goal}
 use Rattle.ng_block.specs.Order.{outputs_behind}
 use Rattle.ng_block.specs.Paths.{point_after}
@@ -40,17 +38,13 @@ keeps_modes b =
     not (is_some b.g.plane || is_some b.g.distance || is_some b.g.feed_mode || is_some b.g.unit || is_some b.g.retract || is_some b.g.path || is_some b.g.system
     || is_some b.m.overrides || is_some b.m.stop)
 
--- another motion and the program's end drop the words that a cycle keeps
-abbrev pub kept_after : Block → KeptWords → KeptWords
-kept_after b k = if is_some b.g.motion || ends b.m.stop then no_words else k
-
 abbrev pub machine_after : Block → Goal → Tasks → Machine → Machine
 machine_after b goal tasks m = record {
   modes = modes_after b m.modes;
   feed_per_min = goal.feed_per_min;
   outputs = outputs_behind tasks m.outputs order;
   offsets = goal.offsets;
-  kept = kept_after b m.kept;
+  kept = goal.kept;
   point = point_after goal.path m.point;
   place_known = m.place_known;
 }

@@ -1,7 +1,6 @@
 -- What a line does in a state (NISTIR 6556, 3.8).
-use Rattle.std.specs.Prelude.{ℕ, ℤ, List, [], ◌∷◌, length, Option, Some, None, Result, Ok, Err}
+use Rattle.std.specs.Prelude.{ℕ, ℤ, List, length, Option, Some, None, Result, Ok, Err}
 use Rattle.ng_num.specs.declared.fault.Fault.{Fault}
-use Rattle.ng_num.specs.declared.fault.Fault.TheVariants.{LeftOutCode}
 use Rattle.ng_canon.specs.Text.{Canonical}
 use Rattle.ng_canon.specs.declared.outputs.Outputs.{Outputs}
 use Rattle.ng_canon.specs.declared.segment.Segment.{Segment}
@@ -12,7 +11,6 @@ use Rattle.ng_words.specs.Lines.{last_comment}
 use Rattle.ng_num.specs.Results.{and_then}
 use Rattle.ng_expr.specs.Settle.{Settled, settled}
 use Rattle.ng_modal.specs.Check.{checked, first_fault}
-use Rattle.ng_modal.specs.Later.{is_later}
 use Rattle.ng_modal.specs.declared.block.Block.{Block}
 use Rattle.ng_block.specs.declared.effect.Effect.{Effect}
 use Rattle.ng_block.specs.declared.effect.Stop.{Stop}
@@ -69,14 +67,13 @@ block_done b goal remark s =
     let plan = plan_of remark (feed_set b mode goal.feed_per_min) tasks goal s.machine in
     record { setup = changed s (machine_after b goal tasks s.machine) goal.changes; before = plan.before; segments = segments_of plan; commands = commands_of plan; stop = stop_of b.m.stop }
 
--- what the values of a line do. It is refused by B1 to B19 of its words, then for a code that isn't built (B3), then for a computed
--- length or offset (E3), then for the shape of its arc (C1 to C4), then for its move (X1, X2); of each of these by the first whose cause holds
+-- what the values of a line do. It is refused by B1 to B19 of its words, then for a computed length or offset (E3), then for the shape
+-- of its arc (C1 to C4) or for its cycle (Y1 to Y8), then for its move (X1, X2); of each of these by the first whose cause holds
 unfoldable pub executed_values : Setup → List Canonical → Settled → List ℤ → Geometry → Result Done Fault
 executed_values s remark values tools geometry =
     and_then (checked values.words s.machine.modes (length tools)) (λ b.
-    lawful (first_fault ((is_later b, LeftOutCode) ∷ []))
-    (and_then (goal_of b values.settings s tools) (λ goal.
-    lawful (first_fault (path_faults goal.path geometry)) (Ok (block_done b goal remark s)))))
+    and_then (goal_of b values.settings s tools geometry) (λ goal.
+    lawful (first_fault (path_faults goal.path geometry)) (Ok (block_done b goal remark s))))
 
 -- what the pieces of a line do: the faults of their values come first
 unfoldable pub executed_pieces : Setup → List Piece → List ℤ → Geometry → Result Done Fault

@@ -18,7 +18,8 @@ lacks_feed _ = false
 unfoldable pub stays_inside : Arc → Geometry → Bool
 stays_inside arc geometry = is_inside geometry arc.end && extremes_inside arc geometry
 
--- X2: a move ends outside the travel; on the way home each of two; an arc also where an extreme that it passes does
+-- X2: a move ends outside the travel; on the way home each of two; an arc also where an extreme that it passes does. A cycle is found
+-- within the travel, and with a feed, or not at all
 abbrev pub leaves_travel : Path → Geometry → Bool
 leaves_travel (Straight line) geometry = not (is_inside geometry line.end)
 leaves_travel (Round arc) geometry = not (stays_inside arc geometry)

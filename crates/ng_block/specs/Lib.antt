@@ -8,13 +8,14 @@ pub mod Shifts
 pub mod Blocks
 pub mod Homes
 pub mod Arcs
-pub mod Goals
 pub mod Faults
 pub mod Remarks
 pub mod Tasks
 pub mod Moves
 pub mod Steps
 pub mod Order
+pub mod Cycles
+pub mod Goals
 pub mod After
 pub mod Effects
 pub mod Commands

@@ -11,7 +11,8 @@ use Rattle.ng_canon.specs.declared.segment.Segment.{Segment}
 use Rattle.ng_canon.specs.declared.segment.Segment.TheVariants as segment
 use Rattle.ng_canon.specs.declared.segment.StraightMove.{StraightMove}
 use Rattle.ng_block.specs.declared.path.Path.{Path}
-use Rattle.ng_block.specs.declared.path.Path.TheVariants.{Still, WithoutFeed, Straight, Round, Homing}
+use Rattle.ng_cycles.specs.Segments.{begin, behind, cycle_segments}
+use Rattle.ng_block.specs.declared.path.Path.TheVariants.{Still, WithoutFeed, Straight, Round, Homing, Cycle}
 
 -- a straight move at a pace; a block that moves without one is refused
 abbrev pub moving_at : Option Pace → Point → Point → Path
@@ -23,6 +24,7 @@ abbrev pub point_after : Path → Point → Point
 point_after (Straight line) start = line.end
 point_after (Round arc) start = arc.end
 point_after (Homing way) start = way.home
+point_after (Cycle drill) start = (behind (begin drill) (cycle_segments drill)).point
 point_after _ start = start
 
 abbrev pub traverse : Point → Point → StraightMove
@@ -34,6 +36,7 @@ path_segments WithoutFeed = []
 path_segments (Straight line) = segment.Line line ∷ []
 path_segments (Round arc) = segment.Arc arc ∷ []
 path_segments (Homing way) = segment.Line (traverse way.start way.between) ∷ segment.Line (traverse way.between way.home) ∷ []
+path_segments (Cycle drill) = cycle_segments drill
 
 abbrev pub pace_command : Pace → Point → Command
 pace_command pace.Traverse end = command.Traverse end

@@ -1,11 +1,10 @@
-//! The modes after a block, and the words that a cycle keeps.
+//! The modes after a block.
 ghost use Rattle.std.specs.Prelude.{◌≡◌};
-ghost use Rattle.ng_block.specs.After.{keeps_modes, modes_after, kept_after};
+ghost use Rattle.ng_block.specs.After.{keeps_modes, modes_after};
 
 use crate::axis_data::system_after;
 use crate::ends::ends;
 use crate::goal::feed_mode_after;
-use crate::machine::KeptWords;
 use ng_canon::Plane;
 use ng_modal::{Block, Distance, FeedMode, Modes, Motion};
 use ng_params::System;
@@ -69,17 +68,5 @@ fn modes_by(block: &Block, modes: &Modes) -> Modes
         }
     } else {
         after
-    }
-}
-
-/// Puts the words that a cycle keeps after a block into a place: another motion and the program's end drop them.
-#[inline]
-pub fn put_kept_after(block: &Block, kept: &KeptWords, place: &mut KeptWords)
-    ensures { place.new ≡ kept_after block.now kept.now }
-{
-    if block.g.motion.is_some() || ends(block.m.stop) {
-        *place = KeptWords::none();
-    } else {
-        *place = *kept;
     }
 }

@@ -2,13 +2,19 @@
 //! and its path.
 ghost use Rattle.std.specs.Prelude.{◌≡◌, ◌≤◌, ◌+◌, ◌++◌, length, Ok, Err, MatchResult, OnOk};
 ghost use Rattle.ng_modal.specs.Accepted.{IsSlot};
+ghost use Rattle.ng_block.specs.Paths.{moving_at};
 ghost use Rattle.ng_block.specs.Goals.{selecting, storing, bearings_of, way_of, ended, goal_of, bearings_by, way_by, goal_by};
 
+use crate::cycles::{kept_beside, kept_in, kind_of};
 use crate::effect::{CHANGES, Changes, Effect};
 use crate::ends::ends;
-use crate::goal::{feed_of, path_of, plain_path_of};
+use crate::goal::{
+    end_of, feed_mode_after, feed_of, is_straight, pace_by, path_of, turning_path_of,
+};
+use crate::path::Path;
 use crate::shifts::{keeps_offsets, shift_of};
 use crate::state::State;
+use ng_canon::{Geometry, Pace, StraightMove};
 use ng_modal::Block;
 use ng_num::{Fault, Len, Point};
 use ng_offsets::{Offsets, Tools};
@@ -71,6 +77,17 @@ impl Effect {
         Ok(())
     }
 
+    /// Takes a straight path at a pace; without one, that it is missing.
+    #[inline]
+    fn go_straight(&mut self, pace: Option<Pace>, start: Point, end: Point)
+        ensures { self.new ≡ record self.old { plan = record self.old.plan { path = moving_at pace start end } } }
+    {
+        match pace {
+            None => self.plan.path = Path::WithoutFeed,
+            Some(pace) => self.plan.path = Path::Straight(StraightMove { start, end, pace }),
+        }
+    }
+
     /// Finds the offsets and the path of a block that has a word for offsets or of group 0. A call of its own, so that nearly all
     /// lines pass by its places.
     #[inline(never)]
@@ -81,16 +98,17 @@ impl Effect {
         settings: &[Change],
         tools: &Tools,
         feed_per_min: Len,
+        geometry: &Geometry,
     ) -> Result<(), Fault>
         requires short { length settings.now ≤ 128 }
         requires settings { self.old.changes.items ≡ settings.now }
         requires slot { IsSlot block.now.values.h (length tools.now) }
-        ensures value { MatchResult result (λ _. way_of block.now settings.now state.now tools.now feed_per_min ≡ Ok (way_by self.new)) (λ fault. way_of block.now settings.now state.now tools.now feed_per_min ≡ Err fault) }
+        ensures value { MatchResult result (λ _. way_of block.now settings.now state.now tools.now feed_per_min geometry.now ≡ Ok (way_by self.new)) (λ fault. way_of block.now settings.now state.now tools.now feed_per_min geometry.now ≡ Err fault) }
         ensures room { OnOk result (length self.new.changes.items ≤ 132) }
     {
         self.find_bearings(state, block, settings, tools)?;
         let offsets = &self.machine.offsets;
-        self.plan.path = path_of(block, state, settings, offsets, feed_per_min)?;
+        self.plan.path = path_of(block, state, settings, offsets, feed_per_min, geometry)?;
         Ok(())
     }
 
@@ -104,20 +122,29 @@ impl Effect {
         settings: &[Change],
         tools: &Tools,
         feed_per_min: Len,
+        geometry: &Geometry,
     ) -> Result<(), Fault>
         requires short { length settings.now ≤ 128 }
         requires slot { IsSlot block.now.values.h (length tools.now) }
-        ensures value { MatchResult result (λ _. way_of block.now settings.now state.now tools.now feed_per_min ≡ Ok (way_by self.new)) (λ fault. way_of block.now settings.now state.now tools.now feed_per_min ≡ Err fault) }
+        ensures value { MatchResult result (λ _. way_of block.now settings.now state.now tools.now feed_per_min geometry.now ≡ Ok (way_by self.new)) (λ fault. way_of block.now settings.now state.now tools.now feed_per_min geometry.now ≡ Err fault) }
         ensures room { OnOk result (length self.new.changes.items ≤ 132) }
     {
         self.changes.clear();
         put_changes(settings, &mut self.changes);
         if !keeps_offsets(block) {
-            return self.find_way(state, block, settings, tools, feed_per_min);
+            return self.find_way(state, block, settings, tools, feed_per_min, geometry);
         }
         self.machine.offsets = state.machine.offsets;
         self.plan.shown = None;
-        self.plan.path = plain_path_of(block, &state.machine, feed_per_min)?;
+        let machine = &state.machine;
+        if !is_straight(block.motion) {
+            self.plan.path = turning_path_of(block, machine, feed_per_min, geometry)?;
+            return Ok(());
+        }
+        let end = end_of(block, machine, &machine.offsets)?;
+        let mode = feed_mode_after(block, &machine.modes);
+        let pace = pace_by(block.motion, mode, feed_per_min, block.values.f);
+        self.go_straight(pace, machine.point, end);
         Ok(())
     }
 
@@ -137,24 +164,30 @@ impl Effect {
     }
 
     /// Finds all lengths that a block's words come to in a state: the feed and the offsets after it, the parameters that it
-    /// sets, and its path. E3 where one of them is beyond the range; else C1 to C4, where its arc is none.
+    /// sets, its path, and the words that a cycle keeps after it. E3 where one of them is beyond the range; else C1 to C4 where its
+    /// arc is none, and Y1 to Y8, X1, X2 where its cycle is.
     pub(crate) fn find_goal<A: Allocator + Copy + Drop>(
         &mut self,
         state: &State<A>,
         block: &Block,
         settings: &[Change],
         tools: &Tools,
+        geometry: &Geometry,
     ) -> Result<(), Fault>
         requires short { length settings.now ≤ 128 }
         requires slot { IsSlot block.now.values.h (length tools.now) }
-        ensures { MatchResult result (λ _. goal_of block.now settings.now state.now tools.now ≡ Ok (goal_by self.new)) (λ fault. goal_of block.now settings.now state.now tools.now ≡ Err fault) }
+        ensures { MatchResult result (λ _. goal_of block.now settings.now state.now tools.now geometry.now ≡ Ok (goal_by self.new)) (λ fault. goal_of block.now settings.now state.now tools.now geometry.now ≡ Err fault) }
     {
         let feed_per_min = feed_of(block, &state.machine)?;
-        self.find_any_way(state, block, settings, tools, feed_per_min)?;
+        self.find_any_way(state, block, settings, tools, feed_per_min, geometry)?;
         if ends(block.m.stop) {
             self.end_bearings(&state.params);
         }
         self.machine.feed_per_min = feed_per_min;
+        match kind_of(block.motion) {
+            None => self.machine.kept = kept_beside(block, &state.machine),
+            Some(kind) => self.machine.kept = kept_in(kind, block, &state.machine)?,
+        }
         Ok(())
     }
 }

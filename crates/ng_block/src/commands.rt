@@ -214,6 +214,7 @@ impl Effect {
             Path::WithoutFeed => None,
             Path::Round(_) => None,
             Path::Homing(_) => None,
+            Path::Cycle(_) => None,
         }
     }
 }

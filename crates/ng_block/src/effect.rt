@@ -8,7 +8,7 @@ ghost use Rattle.ng_block.specs.Remarks.{remark_of};
 ghost use Rattle.ng_block.specs.Dry.{idle};
 ghost use Rattle.ng_block.specs.declared.effect.Stop.TheVariants.{GoesOn};
 
-use crate::after::{put_kept_after, put_modes_after};
+use crate::after::put_modes_after;
 use crate::ends::{ends, stop_of};
 use crate::goal::feed_mode_after;
 use crate::machine::Machine;
@@ -110,7 +110,6 @@ impl Effect {
             &mut self.machine.outputs,
         );
         put_modes_after(block, &machine.modes, &mut self.machine.modes);
-        put_kept_after(block, &machine.kept, &mut self.machine.kept);
         self.plan
             .path
             .put_point_after(&machine.point, &mut self.machine.point);

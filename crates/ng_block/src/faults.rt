@@ -35,6 +35,7 @@ pub fn path_fault(path: &Path, geometry: &Geometry) -> Option<Fault>
         } else {
             Some(Fault::OutsideTravel)
         },
+        Path::Cycle(_) => None,
         Path::Homing(way) => if geometry.contains(way.between) && geometry.contains(way.home) {
             None
         } else {

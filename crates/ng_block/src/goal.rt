@@ -4,16 +4,17 @@ ghost use Rattle.std.specs.Prelude.{◌≡◌, ◌-ℤ◌};
 ghost use Rattle.ng_params.specs.Changes.{with_changes};
 ghost use Rattle.ng_modal.specs.Causes.{is_machine};
 ghost use Rattle.ng_modal.specs.Lines.{is_straight, is_arc};
-ghost use Rattle.ng_block.specs.Blocks.{feed_mode_after, is_fed, feed_word, time_word, feed_of, fed_pace, pace_by, program_coordinate, coordinate, end_of, machine_end_of, straight_end_of};
-ghost use Rattle.ng_block.specs.Goals.{straight_to, plain_path_of, path_of};
+ghost use Rattle.ng_block.specs.Blocks.{feed_mode_after, is_inverse, is_fed, feed_word, time_word, feed_of, fed_pace, pace_by, program_coordinate, coordinate, end_of, machine_end_of, straight_end_of};
+ghost use Rattle.ng_block.specs.Goals.{straight_to, turning_path_of, path_of};
 
 use crate::arcs::way_round;
 use crate::axis_data::{named_on, unit_after};
+use crate::cycles::{kind_of, way_of_cycle};
 use crate::homes::{home_on, way_home};
 use crate::machine::Machine;
 use crate::path::Path;
 use crate::state::State;
-use ng_canon::{InverseTime, Pace, Rate};
+use ng_canon::{Geometry, InverseTime, Pace, Rate};
 use ng_modal::{Block, Distance, FeedMode, Modes, Motion, NonModal};
 use ng_num::{Fault, Len, Num, Point, Unit, nm_of};
 use ng_offsets::{Offsets, Shift};
@@ -33,6 +34,17 @@ pub fn feed_mode_after(block: &Block, modes: &Modes) -> FeedMode
     ensures { result ≡ feed_mode_after block.now modes.now }
 {
     block.g.feed_mode.unwrap_or(modes.feed_mode)
+}
+
+/// Whether an F is a time: G93.
+#[inline]
+pub fn is_inverse(mode: FeedMode) -> bool
+    ensures { result ≡ is_inverse mode }
+{
+    match mode {
+        FeedMode::PerMinute => false,
+        FeedMode::InverseTime => true,
+    }
 }
 
 /// Whether a motion goes at a feed: G1, G2, G3.
@@ -200,7 +212,7 @@ fn straight_end_of(block: &Block, machine: &Machine, offsets: &Offsets) -> Resul
 
 /// Whether a motion is G0 or G1.
 #[inline]
-fn is_straight(motion: Option<Motion>) -> bool
+pub fn is_straight(motion: Option<Motion>) -> bool
     ensures { result ≡ is_straight motion }
 {
     match motion {
@@ -230,36 +242,44 @@ fn straight_to(block: &Block, machine: &Machine, feed_per_min: Len, end: Point) 
     Path::moving_at(pace, machine.point, end)
 }
 
-/// Where a line's motion goes that has no word of group 0, with the feed after the line. E3 where a coordinate of it is beyond the
-/// range; of an arc else C1 to C4.
-#[inline]
-pub fn plain_path_of(block: &Block, machine: &Machine, feed_per_min: Len) -> Result<Path, Fault>
-    ensures { result ≡ plain_path_of block.now machine.now feed_per_min }
+/// Where a line's motion goes that isn't straight, on a line without a word of group 0, with the feed after the line. E3 where a
+/// coordinate of it is beyond the range; of an arc else C1 to C4, of a cycle Y1 to Y8, X1, X2.
+#[inline(never)]
+pub fn turning_path_of(
+    block: &Block,
+    machine: &Machine,
+    feed_per_min: Len,
+    geometry: &Geometry,
+) -> Result<Path, Fault>
+    ensures { result ≡ turning_path_of block.now machine.now feed_per_min geometry.now }
 {
-    if is_straight(block.motion) {
-        let end = end_of(block, machine, &machine.offsets)?;
-        return Ok(straight_to(block, machine, feed_per_min, end));
-    }
     if is_arc(block.motion) {
         return way_round(block, machine, &machine.offsets, feed_per_min);
+    }
+    if kind_of(block.motion).is_some() {
+        return way_of_cycle(block, machine, &machine.offsets, feed_per_min, geometry);
     }
     Ok(Path::Still)
 }
 
 /// Where a line's motion goes under offsets, with the feed after the line, in the table that its settings leave. E3 where a
-/// coordinate of it is beyond the range; of an arc else C1 to C4.
+/// coordinate of it is beyond the range; of an arc else C1 to C4, of a cycle Y1 to Y8, X1, X2.
 pub fn path_of<A: Allocator + Copy + Drop>(
     block: &Block,
     state: &State<A>,
     settings: &[Change],
     offsets: &Offsets,
     feed_per_min: Len,
+    geometry: &Geometry,
 ) -> Result<Path, Fault>
-    ensures { result ≡ path_of block.now state.now.machine offsets.now (with_changes state.now.params settings.now) feed_per_min }
+    ensures { result ≡ path_of block.now state.now.machine offsets.now (with_changes state.now.params settings.now) feed_per_min geometry.now }
 {
     let machine = &state.machine;
     if is_arc(block.motion) {
         return way_round(block, machine, offsets, feed_per_min);
+    }
+    if kind_of(block.motion).is_some() {
+        return way_of_cycle(block, machine, offsets, feed_per_min, geometry);
     }
     if !is_straight(block.motion) {
         let home = home_on(block.g.non_modal, &state.params, settings);

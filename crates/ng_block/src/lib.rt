@@ -7,10 +7,8 @@
 //! state, and writes the text of the commands as they come; its contract says exactly which text, for every reader
 //! and writer. The crate stands on the reader of lines, the parameter table, the offsets and the canonical text below it.
 //!
-//! Built are straight moves, in machine coordinates too, arcs, both feed modes, spindle, tools, coolant, dwells, planes, units, tool lengths,
-//! coordinate systems, G10, G92 and its three others, the ways home, modes that are only recorded, and all stops. What a line asks
-//! for, and whether it may, is `ng_modal`'s; which arcs are lawful is `ng_arc`'s; the codes that are accepted and that aren't built
-//! here (cycles) are refused behind that (B3).
+//! Each code that `ng_modal` accepts is done here. What a line asks for, and whether it may, is `ng_modal`'s; which arcs are lawful is
+//! `ng_arc`'s; what a canned cycle does, and whether it is lawful, is `ng_cycles`'s.
 #![tactic(auto)]
 
 mod after;
@@ -19,6 +17,7 @@ mod axis_data;
 mod bearings;
 mod commands;
 mod course;
+mod cycles;
 mod dry_run;
 mod effect;
 mod ending;
@@ -49,7 +48,8 @@ pub use course::Course;
 pub use dry_run::{READS, dry};
 pub use effect::{CHANGES, Changes, Effect, Stop};
 pub use ending::{DryFault, Ended};
-pub use machine::{KeptWords, Machine};
+pub use machine::Machine;
+pub use ng_cycles::KeptWords;
 pub use ng_modal::{Distance, FeedMode, Modes, Motion, PathMode, Retract};
 pub use ng_offsets::{Offsets, SLOTS, Tools};
 pub use output::put_canon;

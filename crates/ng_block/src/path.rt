@@ -1,8 +1,11 @@
 //! The path of a block's motion, and its segments one at a time.
 ghost use Rattle.std.specs.Prelude.{◌≡◌, ◌∷◌, [], MatchOption};
+ghost use Rattle.ng_cycles.specs.Segments.{begin, behind, cycle_segments};
+ghost use Rattle.ng_block.specs.Moves.{left_in};
 ghost use Rattle.ng_block.specs.Paths.{moving_at, point_after, traverse, path_segments, pace_command, spindle_command, command_of};
 
 use ng_canon::{Arc, ArcFeed, Command, Pace, Segment, Spindle, StraightMove};
+use ng_cycles::{Canned, Cycle};
 use ng_num::Point;
 use std::marker::Model;
 
@@ -24,6 +27,16 @@ pub enum Path {
     Straight(StraightMove),
     Round(Arc),
     Homing(WayHome),
+    /// A canned cycle that nothing forbids.
+    Cycle(Canned),
+}
+
+/// Puts into a place where the machine stands behind a cycle.
+#[inline(never)]
+fn put_end(canned: &Canned, place: &mut Point)
+    ensures { place.new ≡ (behind (begin canned.now) (cycle_segments canned.now)).point }
+{
+    *place = canned.end();
 }
 
 impl Path {
@@ -47,6 +60,7 @@ impl Path {
             Path::Straight(line) => *place = line.end,
             Path::Round(arc) => *place = arc.end,
             Path::Homing(way) => *place = way.home,
+            Path::Cycle(canned) => put_end(canned, place),
             Path::Still => *place = *start,
             Path::WithoutFeed => *place = *start,
         }
@@ -65,22 +79,34 @@ pub fn traverse(start: Point, end: Point) -> StraightMove
     }
 }
 
+/// The next segment of a cycle.
+fn next_in(cycle: &mut Option<Cycle>) -> Option<Segment>
+    ensures { MatchOption result ((left_in cycle.old ≡ []) × (left_in cycle.new ≡ [])) (λ segment. left_in cycle.old ≡ segment ∷ left_in cycle.new) }
+{
+    match cycle {
+        None => None,
+        Some(cycle) => cycle.next_segment(),
+    }
+}
+
 /// The segments that are left of a path.
 #[derive(Drop)]
 pub struct Moves {
     next: Option<Segment>,
     /// The straight move behind the next segment.
     behind: Option<StraightMove>,
+    /// The segments that are left of a cycle.
+    cycle: Option<Cycle>,
 }
 
 impl Model for Moves {
-    ghost use Rattle.std.specs.Prelude.{List};
+    ghost use Rattle.std.specs.Prelude.{List, ◌++◌};
     ghost use Rattle.ng_canon.specs.declared.segment.Segment.{Segment};
-    ghost use Rattle.ng_block.specs.Moves.{left_of};
+    ghost use Rattle.ng_block.specs.Moves.{left_of, left_in};
 
     ghost Value = { List Segment };
 
-    ghost view = { λ m. left_of m.next m.behind };
+    ghost view = { λ m. left_of m.next m.behind ++ left_in m.cycle };
 }
 
 impl Moves {
@@ -91,6 +117,18 @@ impl Moves {
         Moves {
             next: None,
             behind: None,
+            cycle: None,
+        }
+    }
+
+    /// One segment.
+    fn one(segment: Segment) -> Moves
+        ensures { result ≡ segment ∷ [] }
+    {
+        Moves {
+            next: Some(segment),
+            behind: None,
+            cycle: None,
         }
     }
 
@@ -101,17 +139,17 @@ impl Moves {
         match path {
             Path::Still => Moves::none(),
             Path::WithoutFeed => Moves::none(),
-            Path::Straight(line) => Moves {
-                next: Some(Segment::Line(*line)),
-                behind: None,
-            },
-            Path::Round(arc) => Moves {
-                next: Some(Segment::Arc(*arc)),
-                behind: None,
-            },
+            Path::Straight(line) => Moves::one(Segment::Line(*line)),
+            Path::Round(arc) => Moves::one(Segment::Arc(*arc)),
             Path::Homing(way) => Moves {
                 next: Some(Segment::Line(traverse(way.start, way.between))),
                 behind: Some(traverse(way.between, way.home)),
+                cycle: None,
+            },
+            Path::Cycle(canned) => Moves {
+                next: None,
+                behind: None,
+                cycle: Some(Cycle::of(canned)),
             },
         }
     }
@@ -133,7 +171,7 @@ impl Moves {
             }
             None => match behind {
                 Some(line) => Some(Segment::Line(line)),
-                None => None,
+                None => next_in(&mut self.cycle),
             },
         }
     }

@@ -49,10 +49,7 @@ fn execute_values<A: Allocator + Copy + Drop>(
 {
     sorted.check(values, &state.machine.modes, tools.slots() as u8)?;
     let block = &sorted.block;
-    if block.is_later() {
-        return Err(Fault::LeftOutCode);
-    }
-    effect.find_goal(state, block, values.settings.as_slice(), tools)?;
+    effect.find_goal(state, block, values.settings.as_slice(), tools, geometry)?;
     if let Some(fault) = path_fault(&effect.plan.path, geometry) {
         return Err(fault);
     }

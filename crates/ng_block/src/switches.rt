@@ -2,7 +2,7 @@
 ghost use Rattle.std.specs.Prelude.{◌≡◌, ◌∷◌, [], MatchOption};
 ghost use Rattle.ng_block.specs.Tasks.{tasks_in};
 ghost use Rattle.ng_block.specs.Order.{speed_outputs, selected_outputs, changed_outputs, spindle_outputs, coolant_outputs, stop_outputs, outputs_through, outputs_behind, switch_where, task_segments};
-ghost use Rattle.ng_block.specs.Steps.{order};
+ghost use Rattle.ng_block.specs.Steps.{before_motion, order};
 
 use crate::ends::ends;
 use crate::steps::Step;
@@ -109,17 +109,23 @@ pub fn outputs_through(tasks: &Option<Tasks>, outputs: Outputs, step: Step) -> O
     }
 }
 
-/// The outputs behind all steps that switch.
-#[inline(never)]
-fn outputs_of(tasks: &Tasks, before: Outputs) -> Outputs
-    ensures { result ≡ outputs_behind tasks.now before order }
+/// The outputs behind all steps before the motion.
+pub fn outputs_before_motion(tasks: &Tasks, before: Outputs) -> Outputs
+    ensures { result ≡ outputs_behind tasks.now before before_motion }
 {
     let turning = speed_outputs(tasks.speed, before);
     let selected = selected_outputs(tasks.selected_slot, turning);
     let changed = changed_outputs(tasks.changed_slot, selected);
     let spun = spindle_outputs(tasks.spindle, changed);
-    let cooled = coolant_outputs(tasks.coolant, spun);
-    stop_outputs(tasks.stop, cooled)
+    coolant_outputs(tasks.coolant, spun)
+}
+
+/// The outputs behind all steps.
+#[inline(never)]
+fn outputs_of(tasks: &Tasks, before: Outputs) -> Outputs
+    ensures { result ≡ outputs_behind tasks.now before order }
+{
+    stop_outputs(tasks.stop, outputs_before_motion(tasks, before))
 }
 
 /// Puts the outputs behind all steps into a place.

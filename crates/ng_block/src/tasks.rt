@@ -1,10 +1,9 @@
 //! What a block's words give its steps to do, but for its remark and its motion; the feed that its F sets stands apart, since
 //! most lines that do more than move set a feed and move.
 ghost use Rattle.std.specs.Prelude.{◌≡◌};
-ghost use Rattle.ng_block.specs.Blocks.{is_inverse};
 ghost use Rattle.ng_block.specs.Tasks.{feed_set, tasks_of, tasks_in, gives_nothing};
 
-use crate::goal::{feed_word, time_word};
+use crate::goal::{feed_word, is_inverse, time_word};
 use ng_canon::{Outputs, Plane, Spindle};
 use ng_modal::{Block, Coolant, FeedMode, NonModal, Stop as StopWord};
 use ng_num::{Len, Num, Unit};
@@ -27,15 +26,6 @@ pub struct Tasks {
     /// F, where it is the time of the move.
     pub time: Option<Num>,
     pub stop: Option<StopWord>,
-}
-
-fn is_inverse(mode: FeedMode) -> bool
-    ensures { result ≡ is_inverse mode }
-{
-    match mode {
-        FeedMode::PerMinute => false,
-        FeedMode::InverseTime => true,
-    }
 }
 
 /// The feed that F prints: that after the line.
@@ -70,7 +60,7 @@ fn gives_nothing(block: &Block, mode: FeedMode) -> bool
 impl Tasks {
     /// What a block's words give to do, with the outputs before it.
     #[inline(never)]
-    fn of(block: &Block, mode: FeedMode, before: &Outputs) -> Tasks
+    pub(crate) fn of(block: &Block, mode: FeedMode, before: &Outputs) -> Tasks
         ensures { result ≡ tasks_of block.now mode before.now }
     {
         let selected_slot = block.selected_slot();

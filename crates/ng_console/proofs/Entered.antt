@@ -1,6 +1,6 @@
 -- A walk over words in which clap finds no fault doesn't stop at the subcommand `help`, which always answers with help.
 use Rattle.std.proofs.Common.{◌≡◌, sym, subst, Bool, true, false, List, [], ◌∷◌, Option, Some, None, codes, refl}
-use Rattle.std.specs.Prelude.{◌&&◌, ◌||◌, not, ⊤, fold, if◌then◌else◌, is_some}
+use Rattle.std.specs.Prelude.{◌&&◌, not, ⊤, fold, if◌then◌else◌, is_some}
 use Rattle.std.specs.Str.{bytes_eq}
 use Rattle.clap.specs.Lexer.{long_of, short_of}
 use Rattle.clap.specs.Faults.{other_fault, step_fault, turn_fault, walk_fault, word_fault}

@@ -1,4 +1,6 @@
 mod Walked
 mod Entered
-mod DryWords
+mod DeviceWalked
+mod JobWords
+mod Formatted
 mod Runs

@@ -1,3 +1,5 @@
 pub mod Words
 pub mod Chosen
+pub mod Refusals
+pub mod Formatting
 pub mod Status

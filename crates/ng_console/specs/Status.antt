@@ -1,18 +1,19 @@
 -- How `ngc` ends (own): 0 done, 1 a refused program, 2 anything that kept it from running the program. Faults of status 2 are
 -- looked for in the order words, settings file, program file, the run.
-use Rattle.std.specs.Prelude.{ℕ, ◌≡◌, Bool, List, ◌++◌, Option, Result, Ok, Err, IfSome, is_some, codes}
-use Rattle.std.specs.Io.KnownBytes.{Appends}
-use Rattle.ng_num.specs.declared.fault.Fault.{Fault}
-use Rattle.ng_num.specs.FaultText.{text as fault_text}
+use Rattle.std.specs.Prelude.{ℕ, ◌≡◌, Bool, List, Option, Result, Ok, Err, IfSome, is_some}
 use Rattle.std.specs.declared.io.Error.{Error}
 use Rattle.ng_settings.specs.declared.standard.Settings.{Settings}
 use Rattle.ng_block.specs.Dry.{Terms, Output, Finishes, output_of}
 use Rattle.ng_block.specs.declared.ending.Ended.{Ended}
 use Rattle.ng_block.specs.declared.ending.Ended.TheVariants as ended
 use Rattle.ng_block.specs.declared.ending.DryFault.{DryFault}
+use Rattle.ng_file.specs.declared.device.NoDevice.{NoDevice}
+use Rattle.ng_file.specs.declared.opened.OpenedFile.{OpenedFile}
 use Rattle.ng_console.specs.Chosen.{GivesChoice}
+use Rattle.ng_console.specs.Formatting.{FormatsOpened}
+use Rattle.ng_console.specs.Refusals.{IsBroken, IsRefusedWith}
 use Rattle.ng_console.specs.declared.command_line.Job.{Job}
-use Rattle.ng_console.specs.declared.command_line.Job.TheVariants.{Dry}
+use Rattle.ng_console.specs.declared.command_line.Job.TheVariants.{Dry, Format}
 use Rattle.ng_console.specs.declared.settings_file.NoSettings.{NoSettings}
 use Rattle.ng_console.specs.declared.settings_file.NoSettings.TheVariants.{Unread, Refused}
 
@@ -35,17 +36,6 @@ abbrev pub IsDryRun : Settings → Bool → Option (List ℕ) → Option (List �
 IsDryRun settings block_delete given old new status =
     IfSome given (λ program. Reports old new (output_of (terms_of block_delete settings) program) status)
 
--- a file that can't be opened or read: nothing is written
-abbrev pub IsBroken : Option (List ℕ) → Option (List ℕ) → ℕ → Type 0
-IsBroken old new status = (status ≡ 2) × (new ≡ old)
-
--- what is written of a settings file that is refused
-abbrev pub refused_text : Fault → List ℕ
-refused_text fault = codes "refused " ++ (fault_text fault ++ codes "\n")
-
-abbrev pub IsRefusedWith : Fault → Option (List ℕ) → Option (List ℕ) → ℕ → Type 0
-IsRefusedWith fault old new status = (status ≡ 2) × Appends old new (refused_text fault)
-
 module _ {F : Type 0} (bytes_of : F → Option (List ℕ)) where
   -- a dry run of a program's file, as it was opened
   abbrev pub RunsFile : Settings → Bool → Result F Error → Option (List ℕ) → Option (List ℕ) → ℕ → Type 0
@@ -63,3 +53,4 @@ module _ {F : Type 0} (bytes_of : F → Option (List ℕ)) where
   Does (Dry program settings block_delete) old new status =
       (settings_file : Option (Result F Error)) × (program_file : Result F Error) × (is_some settings_file ≡ is_some settings)
       × ((chosen : Result Settings NoSettings) × GivesChoice bytes_of settings_file chosen × RunsChosen chosen block_delete program_file old new status)
+  Does (Format device) old new status = (opened : Result (OpenedFile F) NoDevice) × FormatsOpened opened old new status

@@ -1,7 +1,7 @@
 //! The words of the command line, read with clap.
 ghost use Rattle.std.specs.Prelude.{◌≡◌, IfOk, IfErr, true, is_some, map, codes};
 ghost use Rattle.clap.specs.Words.{app_of, first_of, found_of, kind_of, rows_of, takes};
-ghost use Rattle.ng_console.specs.Words.{Asks, HasFiles, HasFlag, HasFlags, dry_app, ngc_app};
+ghost use Rattle.ng_console.specs.Words.{Asks, HasFiles, HasFlag, HasFlags, dry_app, format_app, ngc_app, subcommand_name};
 
 use clap::error::ErrorKind;
 use clap::{Arg, ArgAction, ArgMatches, Command, Error};
@@ -13,6 +13,10 @@ const VERSION: &str = "0.1.0";
 /// What stands below each help text: how a run ends.
 const ENDINGS: &str =
     "Exit status:\n  0  the program ran to its end\n  1  a line was refused; the last line printed says which one and why\n  2  the words are wrong, or ask for help or the version; or a file can't be\n     read, the settings are refused, the output can't be written, or memory\n     is wanting\n\nRefused settings print why. A file that can't be read prints nothing.";
+
+/// What stands below the help text of `format`.
+const DEVICE_ENDINGS: &str =
+    "Exit status:\n  0  the device is fresh\n  2  the words are wrong, or ask for help; or the file can't be opened or made, is\n     too short, is a directory, is held by another process, or fails\n\nA file that can't be opened prints nothing; the others print why.";
 
 /// What a command line asks for.
 #[derive(Clone, Copy, Debug, PartialEq, Eq)]
@@ -26,6 +30,11 @@ pub enum Job<'a> {
         /// Whether the lines that begin with a slash are deleted.
         block_delete: bool,
     },
+    /// `ngc format DEVICE`: a device is made fresh, with no program.
+    Format {
+        /// The path of the device's file.
+        device: &'a str,
+    },
 }
 
 /// What a line of words asks for. The first word is the program's own name, as the system gives it.
@@ -37,8 +46,11 @@ pub fn words<'a>(alloc: Global, words: &'a [&'a str]) -> Result<Job<'a>, Error>
     ensures taken { IfErr result (λ e. takes ngc_app (map (λ s. s.now) words.entry.now) ≡ true → kind_of e ≡ ErrorKind.OutOfMemory) }
 {
     let matches = command(alloc)?.try_get_matches_from(words)?;
-    match matches.subcommand_matches("dry") {
-        Some(dry) => Ok(dry_job(dry)),
+    if let Some(dry) = matches.subcommand_matches("dry") {
+        return Ok(dry_job(dry));
+    }
+    match matches.subcommand_matches("format") {
+        Some(format) => Ok(format_job(format)),
         None => unreachable!(),
     }
 }
@@ -49,6 +61,7 @@ fn dry_job<'a>(matches: &ArgMatches<'a>) -> Job<'a>
     requires flag { HasFlag (codes "block-delete") (rows_of (found_of matches.now)) }
     ensures files { HasFiles (rows_of (found_of matches.now)) result }
     ensures flags { HasFlags (rows_of (found_of matches.now)) result }
+    ensures name { subcommand_name result ≡ codes "dry" }
 {
     let settings = matches.get_str("settings");
     let block_delete = matches.get_flag("block-delete");
@@ -58,6 +71,19 @@ fn dry_job<'a>(matches: &ArgMatches<'a>) -> Job<'a>
             settings,
             block_delete,
         },
+        None => unreachable!(),
+    }
+}
+
+/// The job of the matches of `format`.
+fn format_job<'a>(matches: &ArgMatches<'a>) -> Job<'a>
+    requires { is_some (first_of (codes "DEVICE") (rows_of (found_of matches.now))) ≡ true }
+    ensures files { HasFiles (rows_of (found_of matches.now)) result }
+    ensures flags { HasFlags (rows_of (found_of matches.now)) result }
+    ensures name { subcommand_name result ≡ codes "format" }
+{
+    match matches.get_str("DEVICE") {
+        Some(device) => Job::Format { device },
         None => unreachable!(),
     }
 }
@@ -72,7 +98,8 @@ fn command<'a>(alloc: Global) -> Result<Command<'a>, AllocError>
         .after_help(ENDINGS)
         .subcommand_required(true)
         .arg_required_else_help(true)
-        .subcommand(dry_command(alloc)?)
+        .subcommand(dry_command(alloc)?)?
+        .subcommand(format_command(alloc)?)
 }
 
 /// The subcommand `dry`.
@@ -98,4 +125,18 @@ fn dry_command<'a>(alloc: Global) -> Result<Command<'a>, AllocError>
         .arg(program)?
         .arg(settings)?
         .arg(block_delete)
+}
+
+/// The subcommand `format`.
+fn format_command<'a>(alloc: Global) -> Result<Command<'a>, AllocError>
+    ensures { IfOk result (λ command. app_of command ≡ format_app) }
+{
+    let device = Arg::new(alloc, "DEVICE")
+        .help("The file of the device; it is made where there is none")
+        .required(true)
+        .action(ArgAction::Set);
+    Command::new(alloc, "format")
+        .about("Make a device fresh; whatever it held is gone")
+        .after_help(DEVICE_ENDINGS)
+        .arg(device)
 }

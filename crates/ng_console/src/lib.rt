@@ -8,8 +8,10 @@
 #![tactic(auto)]
 
 mod command_line;
+mod format;
 mod program;
 mod settings_file;
 
 pub use command_line::{Job, words};
+pub use format::format_rig;
 pub use program::{ngc, run_dry, start};

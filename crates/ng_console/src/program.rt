@@ -1,12 +1,15 @@
 //! The program: from its words to its exit status.
 ghost use Rattle.std.specs.Prelude.{ℕ, ◌≡◌, ◌⊎◌, ◌≤◌, List, IfOk, OnOk, map};
 ghost use Rattle.std.specs.Io.KnownBytes.{Appends};
-ghost use Rattle.ng_console.specs.Status.{Does, IsDryRun, RunsChosen, RunsFile, refused_text, status_of};
+ghost use Rattle.ng_console.specs.Status.{Does, IsDryRun, RunsChosen, RunsFile, status_of};
+ghost use Rattle.ng_console.specs.Refusals.{refused_text};
 ghost use Rattle.ng_console.specs.Words.{Asks};
 
 use crate::command_line::{Job, words};
+use crate::format::format_opened;
 use crate::settings_file::{NoSettings, chosen_settings};
 use ng_block::{DryFault, Ended, dry};
+use ng_file::{Hold, make_device};
 use ng_num::Fault;
 use ng_settings::Settings;
 use std::alloc::{Allocator, Global};
@@ -14,19 +17,21 @@ use std::io::{Read, Write};
 use std::rt::{Env, Files};
 use std::{env, fs, io};
 
-/// The program's work is done.
-const DONE: u8 = 0;
+/// What was asked for is done.
+pub(crate) const DONE: u8 = 0;
 
 /// The program that was to be run is refused.
 const REFUSED: u8 = 1;
 
 /// The words, a file, the settings, the reader, the writer or memory kept the program from its work.
-const BROKEN: u8 = 2;
+pub(crate) const BROKEN: u8 = 2;
 
 /// Does what the words that the process was started with ask for, and gives the exit status.
 ///
 /// Words that are not text, and memory wanting for them, print nothing and give 2; for the rest see `ngc`.
 pub fn start<R: Env + Files + AllocGlobal, W: Write>(rt: &R, writer: &mut W) -> u8
+where
+    R::File: Hold,
     ensures status { result ≤ 2 }
     ensures run { (result ≡ 2) ⊎ ((texts : List (List ℕ)) × ((job : Job) × Asks texts job × Does R.File.remaining job (W.contents writer.old) (W.contents writer.new) result)) }
 {
@@ -56,6 +61,8 @@ fn given_words<R: Env + AllocGlobal>(rt: &R) -> io::Result<Vec<String>> {
 /// program's file can't be opened or read, the writer fails, or memory is wanting, and nothing more is written. Source:
 /// own.
 pub fn ngc<R: Files + AllocGlobal, W: Write>(rt: &R, given: &[&str], writer: &mut W) -> u8
+where
+    R::File: Hold,
     ensures status { result ≤ 2 }
     ensures refused { ((job : Job) → Asks (map (λ s. s.now) given.now) job → ⊥) → result ≡ 2 }
     ensures run { (result ≡ 2) ⊎ ((job : Job) × Asks (map (λ s. s.now) given.now) job × Does R.File.remaining job (W.contents writer.old) (W.contents writer.new) result) }
@@ -72,6 +79,8 @@ pub fn ngc<R: Files + AllocGlobal, W: Write>(rt: &R, given: &[&str], writer: &mu
 
 /// Does a job, and gives the exit status.
 fn carry_out<R: Files + AllocGlobal, W: Write>(rt: &R, job: Job<'_>, writer: &mut W) -> u8
+where
+    R::File: Hold,
     ensures status { result ≤ 2 }
     ensures run { (result ≡ 2) ⊎ Does R.File.remaining job.entry (W.contents writer.old) (W.contents writer.new) result }
 {
@@ -88,6 +97,10 @@ fn carry_out<R: Files + AllocGlobal, W: Write>(rt: &R, job: Job<'_>, writer: &mu
             let program = fs::open(rt, program);
             let chosen = chosen_settings(rt.alloc(), settings);
             run_chosen(rt.alloc(), chosen, program, writer, block_delete).unwrap_or(BROKEN)
+        }
+        Job::Format { device } => {
+            let opened = make_device(rt, device);
+            format_opened(rt.alloc(), opened, writer).unwrap_or(BROKEN)
         }
     }
 }
@@ -116,7 +129,7 @@ fn run_chosen<R: Read + Drop, W: Write, A: Allocator + Copy + Drop>(
 }
 
 /// Writes the line of a fault.
-fn refuse<W: Write>(writer: &mut W, fault: Fault) -> io::Result<()>
+pub(crate) fn refuse<W: Write>(writer: &mut W, fault: Fault) -> io::Result<()>
     ensures { OnOk result (Appends (W.contents writer.old) (W.contents writer.new) (refused_text fault)) }
 {
     writer.write_all(b"refused ")?;

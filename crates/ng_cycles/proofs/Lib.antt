@@ -6,3 +6,5 @@ pub mod Causes
 pub mod HasWords
 pub mod Lawful
 pub mod Skips
+pub mod CountLemmas
+pub mod StoodLemmas

@@ -19,7 +19,7 @@ use Rattle.ng_cycles.specs.Segments.{begin, cycle_segments, traced, segments_of,
 abbrev pub ahead : Drill → Standing → List Stroke → Ahead
 ahead d at ss = record { standing = at; segments = traced d at ss }
 
-traced-append : (d : Drill) (at : Standing) (xs ys : List Stroke) → traced d at (xs ++ ys) ≡ traced d at xs ++ traced d (behind at (traced d at xs)) ys
+pub traced-append : (d : Drill) (at : Standing) (xs ys : List Stroke) → traced d at (xs ++ ys) ≡ traced d at xs ++ traced d (behind at (traced d at xs)) ys
 traced-append d at [] ys = refl
 traced-append d at (s ∷ xs) ys =
     let here = segments_of d at s in
@@ -63,7 +63,7 @@ work-end d p Boring = refl
 work-end d p (BoringWithStop seconds) = refl
 work-end d p (BoringWithDwell seconds) = refl
 
-work-length : (d : Drill) (p : Point) (w : Work) → length (traced d (stand d p) (strokes_of d w)) ≡ work_length d w
+pub work-length : (d : Drill) (p : Point) (w : Work) → length (traced d (stand d p) (strokes_of d w)) ≡ work_length d w
 work-length d p Drilling = refl
 work-length d p (DrillingWithDwell seconds) = refl
 work-length d p (PeckDrilling q) =
@@ -83,15 +83,15 @@ r-end : (d : Drill) (p : Point) (there : Bool) (ss : List Stroke) → ((p : Poin
 r-end d p true ss ends = ends p
 r-end d p false ss ends = ends (record p { z = d.r })
 
-repeat-end : (d : Drill) (p : Point) (r : ℕ) → behind (stand d p) (traced d (stand d p) (repeat d r)) ≡ stand d (place d r)
+pub repeat-end : (d : Drill) (p : Point) (r : ℕ) → behind (stand d p) (traced d (stand d p) (repeat d r)) ≡ stand d (place d r)
 repeat-end d p r = r-end d (record p { x = coordinate d.x r; y = coordinate d.y r }) (int_eq p.z d.r) (strokes_of d d.work) (λ q. work-end d q d.work)
 
-r-length : (d : Drill) (p : Point) (there : Bool) (ss : List Stroke) (n : ℕ) → ((p : Point) → length (traced d (stand d p) ss) ≡ n) →
+pub r-length : (d : Drill) (p : Point) (there : Bool) (ss : List Stroke) (n : ℕ) → ((p : Point) → length (traced d (stand d p) ss) ≡ n) →
     length (to_r d (stand d p) there ++ traced d (behind (stand d p) (to_r d (stand d p) there)) ss) ≡ (if there then 0 else 1) + n
 r-length d p true ss n long = let e = long p in omega (arith, e)
 r-length d p false ss n long = let e = long (record p { z = d.r }) in omega (arith, e)
 
-repeat-length : (d : Drill) (p : Point) (r : ℕ) → p.z ≡ d.clear → repeat_length d ≡ length (traced d (stand d p) (repeat d r))
+pub repeat-length : (d : Drill) (p : Point) (r : ℕ) → p.z ≡ d.clear → repeat_length d ≡ length (traced d (stand d p) (repeat d r))
 repeat-length d p r e =
     let here = if int_eq p.z d.r then 0 else 1 in
     let long : length (traced d (stand d p) (repeat d r)) ≡ suc (here + work_length d d.work) =
@@ -180,7 +180,7 @@ skip_pecks d at q a n (suc j) left done left' k out rest some e f g =
 pub later-next : (old new : Ahead) (segment : Segment) (n k : ℕ) → n ≡ suc k → old.segments ≡ segment ∷ new.segments → new.standing ≡ stand_after old.standing segment → later k new ≡ later n old
 later-next old new segment n k e s t = rw (e, s, t) refl
 
-take-nothing : (n : ℕ) → take {A = Segment} n [] ≡ []
+pub take-nothing : (n : ℕ) → take {A = Segment} n [] ≡ []
 take-nothing zero = refl
 take-nothing (suc n) = refl
 

@@ -15,7 +15,6 @@ IsDeep _ = Unit {0}
 -- it has a place for each repeat, the last one in range, and R lies above Z
 pub record IsMade (d : Drill) : Type 0 where
   pub some : 1 ≤ d.repeats
-  pub few : d.repeats ≤ 9_999_999
   pub x : IsCount (coordinate d.x d.repeats)
   pub y : IsCount (coordinate d.y d.repeats)
   pub deep : IsDeep d.work

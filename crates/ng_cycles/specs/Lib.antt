@@ -2,6 +2,7 @@ pub mod Strokes
 pub mod Canned
 pub mod Segments
 pub mod Left
+pub mod Counts
 pub mod Words
 pub mod Lengths
 pub mod Faults

@@ -1,5 +1,5 @@
 //! A canned cycle that nothing forbids, or why it is refused.
-ghost use Rattle.std.specs.Prelude.{◌≡◌, ◌∷◌, [], pos, int_lt, unwrap_or, IfOk, if◌then◌else◌};
+ghost use Rattle.std.specs.Prelude.{◌≡◌, ◌≤◌, ◌∷◌, [], pos, int_lt, unwrap_or, IfOk, if◌then◌else◌};
 ghost use Rattle.std.specs.Int.{int_max};
 ghost use Rattle.std.specs.Option.{is_none, option_and_then};
 ghost use Rattle.ng_canon.specs.Rates.{above_zero};
@@ -123,6 +123,7 @@ fn drill_in(
     setting: &Setting,
     lengths: &Lengths,
 ) -> Result<Drill, Fault>
+    requires some { 1 ≤ words.now.repeats }
     requires x { IsCount (coordinate lengths.now.x words.now.repeats) }
     requires y { IsCount (coordinate lengths.now.y words.now.repeats) }
     ensures drill { result ≡ unless (first_fault (hole_causes words.now setting.now in_force.now (int_lt lengths.now.r lengths.now.z))) (drill_by words.now setting.now in_force.now lengths.now) }
@@ -162,6 +163,7 @@ impl Canned {
     /// The cycle of a line, or the first fault that holds of it: E3 where a length that it computes is beyond the range, Y1 to Y8,
     /// X1, X2. Places and pecks aren't walked, however many they are.
     pub fn of(words: &CycleWords, setting: &Setting, geometry: &Geometry) -> Result<Canned, Fault>
+        requires { 1 ≤ words.now.repeats }
         ensures { result ≡ canned_of words.now setting.now geometry.now }
     {
         let in_force = words.own.over(&setting.kept);

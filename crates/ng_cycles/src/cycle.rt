@@ -1,5 +1,5 @@
 //! A cycle's segments, one at a time.
-ghost use Rattle.std.specs.Prelude.{◌≡◌, Ok};
+ghost use Rattle.std.specs.Prelude.{◌≡◌, ◌≤◌, Ok};
 
 use crate::canned::Canned;
 use crate::left::{CycleLeft, cycle_left};
@@ -44,6 +44,7 @@ impl Cycle {
 
     /// All segments of the cycle of a line, or the first fault that holds of it, as `Canned::of`.
     pub fn new(words: &CycleWords, setting: &Setting, geometry: &Geometry) -> Result<Cycle, Fault>
+        requires { 1 ≤ words.now.repeats }
         ensures { result ≡ and_then (canned_of words.now setting.now geometry.now) (λ drill. Ok (whole drill)) }
     {
         match Canned::of(words, setting, geometry) {

@@ -40,7 +40,7 @@ pub struct Drill {
     pub z: Len,
     /// Where each repeat ends: at R, or at the old Z (NISTIR 6556, 3.5.20).
     pub clear: Len,
-    /// 1 to 9,999,999.
+    /// At least 1.
     pub repeats: u32,
     pub rate: Rate,
     /// The outputs before it, and behind it.

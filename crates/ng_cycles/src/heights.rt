@@ -200,6 +200,7 @@ impl Found {
 
 /// All lengths of a cycle's words.
 pub fn found_of(words: &CycleWords, in_force: &KeptWords, setting: &Setting) -> Result<Found, Fault>
+    requires { 1 ≤ words.now.repeats }
     ensures found { result ≡ far_unless (lengths words.now in_force.now setting.now) (found_of words.now in_force.now setting.now) }
     ensures x { IfOk result (λ found. IsCount (coordinate found.x words.now.repeats)) }
     ensures y { IfOk result (λ found. IsCount (coordinate found.y words.now.repeats)) }

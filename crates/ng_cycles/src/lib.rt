@@ -11,6 +11,7 @@
 #![tactic(auto)]
 
 mod canned;
+mod count;
 mod cycle;
 mod drill;
 mod heights;
@@ -21,6 +22,7 @@ mod phase;
 mod places;
 mod skip;
 mod standing;
+mod stood;
 mod words;
 
 pub use canned::Canned;

@@ -22,7 +22,7 @@ fn parts(n: u64, length: u64, most: u64) -> (u64, u64)
 
 impl Drill {
     /// How many segments it has at a place, from R on.
-    fn work_length(&self) -> u64
+    pub(crate) fn work_length(&self) -> u64
         ensures value { result ≡ work_length self.now self.now.work }
         ensures few { result < 2 ^ 60 }
     {
@@ -37,7 +37,7 @@ impl Drill {
     }
 
     /// How many segments a repeat has that begins where repeats end.
-    fn repeat_length(&self) -> u64
+    pub(crate) fn repeat_length(&self) -> u64
         ensures value { result ≡ repeat_length self.now }
         ensures some { 1 ≤ result }
     {

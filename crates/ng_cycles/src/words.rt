@@ -1,5 +1,4 @@
 //! What a line asks of a canned cycle, and what it meets.
-ghost use Rattle.std.specs.Prelude.{◌≤◌};
 
 use ng_canon::Outputs;
 use ng_num::{Len, Num, Point};
@@ -70,10 +69,8 @@ pub struct CycleWords {
     pub y: Option<Len>,
     /// Its own R, Z, P and Q.
     pub own: KeptWords,
-    /// L, 1 to 9,999,999.
+    /// L, at least 1.
     pub repeats: u32,
-    pub ghost some: { 1 ≤ repeats },
-    pub ghost few: { repeats ≤ 9_999_999 },
 }
 
 /// What a cycle's line meets: the modes, offsets and outputs after its other words.

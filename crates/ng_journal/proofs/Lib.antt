@@ -1,5 +1,7 @@
 pub mod Beginning
 pub mod Finding
+pub mod FirstLineLemmas
+pub mod FirstLinesRead
 pub mod Moving
 pub mod LinesRead
 pub mod Overwriting

@@ -16,14 +16,15 @@ use Rattle.ng_layout.proofs.Images.{stretch-at}
 use Rattle.std.specs.Str.Lines.{lines, strip_carriage_return}
 use Rattle.ng_block.specs.Parts.{HasNoNewline}
 use Rattle.ng_block.proofs.LineLemmas.{HasNoNewline-append, parted, lines-newline, lines-alone}
-use Rattle.ng_journal.specs.ProgramLines.{Line, IsPart, Keeps, IsEnd, TakesPart, span, first_line, line_at}
+use Rattle.ng_layout.specs.Programs.{Line, span, place_behind, first_line, line_at}
+use Rattle.ng_journal.specs.ProgramLines.{IsPart, Keeps, IsEnd, TakesPart}
 
 take_over : (xs ys : List ℕ) (room n : ℕ) → length xs + room ≡ n → take n (xs ++ ys) ≡ xs ++ take room ys
 take_over [] ys room n is = let e : n ≡ room = omega arith in ap (λ (k : ℕ). take k ys) e
 take_over (x ∷ xs) ys room zero is = absurd (omega arith)
 take_over (x ∷ xs) ys room (suc n) is = ap (λ (l : List ℕ). x ∷ l) (take_over xs ys room n (omega arith))
 
-take_min : (ys : List ℕ) (room : ℕ) → take (min (length ys) room) ys ≡ take room ys
+pub take_min : (ys : List ℕ) (room : ℕ) → take (min (length ys) room) ys ≡ take room ys
 take_min ys room = elim (le_cases (length ys) room) [
   | inl short ↦ let e : min (length ys) room ≡ length ys = omega arith in ap (λ (k : ℕ). take k ys) e ∙ take_all (length ys) ys (omega arith) ∙ sym (take_all room ys short)
   | inr long ↦ let e : min (length ys) room ≡ room = omega arith in ap (λ (k : ℕ). take k ys) e
@@ -43,14 +44,14 @@ kept_more r xs ys new room m is m_is fits ok =
     let e = on_ok r (fits.1 (omega arith)) ok in
     e ∙ ap (λ (k : ℕ). xs ++ take k ys) m_is ∙ ap (λ (l : List ℕ). xs ++ l) (take_min ys room) ∙ sym (take_over xs ys room 257 (omega arith))
 
-same_lists : (n : ℕ) (xs ys : List ℕ) → length xs ≡ n → length ys ≡ n → ((k : ℕ) → k < n → get_or xs k 0 ≡ get_or ys k 0) → xs ≡ ys
+pub same_lists : (n : ℕ) (xs ys : List ℕ) → length xs ≡ n → length ys ≡ n → ((k : ℕ) → k < n → get_or xs k 0 ≡ get_or ys k 0) → xs ≡ ys
 same_lists n xs ys long_xs long_ys each = fill_by_all (λ k. get_or ys k 0) xs n 0 long_xs each ∙ sym (fill_by_all (λ k. get_or ys k 0) ys n 0 long_ys (λ k lt. refl))
 
 pub length-text : (n : ℕ) (row : ℕ → List ℕ) → length (text_of n row) ≡ n
 unfolding text_of
 length-text n row = length-map-range_with_len (λ i. get_or (row (i / 512)) (i % 512) 0) 0 n
 
-text-at : (n : ℕ) (row : ℕ → List ℕ) (i : ℕ) → i < n → get_or (text_of n row) i 0 ≡ get_or (row (i / 512)) (i % 512) 0
+pub text-at : (n : ℕ) (row : ℕ → List ℕ) (i : ℕ) → i < n → get_or (text_of n row) i 0 ≡ get_or (row (i / 512)) (i % 512) 0
 unfolding text_of
 text-at n row i lt = get_or-map-range_with_len (λ i. get_or (row (i / 512)) (i % 512) 0) 0 n i i 0 lt (omega arith)
 
@@ -111,7 +112,7 @@ rest_of text place = drop place text
 within_rest : (text : List ℕ) (place start : ℕ) (part : List ℕ) → IsPart text place start part → start - place + length part ≤ length (rest_of text place)
 within_rest text place start part p = omega (arith, p.whole, length-drop place text)
 
-front : (text : List ℕ) (place start n : ℕ) (part : List ℕ) → IsPart text place start part → n ≤ length part → take (start - place + n) (rest_of text place) ≡ take (start - place) (rest_of text place) ++ take n part
+pub front : (text : List ℕ) (place start n : ℕ) (part : List ℕ) → IsPart text place start part → n ≤ length part → take (start - place + n) (rest_of text place) ≡ take (start - place) (rest_of text place) ++ take n part
 front text place start n part p le =
     let m = start - place in
     let rest = rest_of text place in
@@ -190,7 +191,7 @@ whole_rest : (rest kept : List ℕ) (n : ℕ) → IsEnd rest kept (Some n) → r
 whole_rest rest kept n e = parted rest n e.1 (let is = e.2 in grind (arith, nat_tests))
 
 found_line : (program kept text : List ℕ) (place n : ℕ) → IsEnd (drop place program) kept (Some n) → take 257 (strip_carriage_return (take n (drop place program))) ≡ text → Some (record { text = text; next = place + n + 1 }) ≡ line_at program place
-unfolding line_at
+unfolding line_at place_behind
 found_line program kept text place n e is =
     let rest = drop place program in
     let raw = take n rest in
@@ -223,7 +224,7 @@ alone (b ∷ rest) kept next some k =
     ∙ ap (λ (l : List ℕ). Some (record { text = l; next = next })) (sym (k.kept_is ∙ ap (λ (l : List ℕ). take 257 l) all))
 
 pub last_line : (program kept : List ℕ) (place size : ℕ) → length program ≡ size → place < size → IsEnd (drop place program) kept None → Some (record { text = kept; next = size }) ≡ line_at program place
-unfolding line_at
+unfolding line_at place_behind
 last_line program kept place size long lt k =
     let rest = drop place program in
     let all : take (length rest) rest ≡ rest = take_all (length rest) rest (omega arith) in
@@ -236,7 +237,7 @@ empty [] none = refl
 empty (x ∷ l) none = absurd (omega arith)
 
 pub no_line : (program : List ℕ) (place size : ℕ) → length program ≡ size → place ≡ size → None ≡ line_at program place
-unfolding line_at
+unfolding line_at place_behind
 no_line program place size long end =
     let none = empty (drop place program) (omega (arith, length-drop place program)) in
     sym (ap (λ (l : List ℕ). first_line (lines l) (place + span l)) none)

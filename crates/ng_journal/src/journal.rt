@@ -7,11 +7,12 @@ ghost use Rattle.ng_layout.specs.Storable.{CanWait, IsStorable};
 ghost use Rattle.ng_layout.specs.Stored.{Standing};
 ghost use Rattle.ng_journal.specs.Recover.{Recovers, rig_of, fault_of};
 ghost use Rattle.ng_journal.specs.Journal.{Tells};
-ghost use Rattle.ng_journal.specs.ProgramLines.{ReadsLine};
+ghost use Rattle.ng_journal.specs.ProgramLines.{FindsFirst, ReadsLine};
 ghost use Rattle.ng_journal.specs.AtRest.{IsOwn, Checkpoints, next_header};
 
 use crate::checkpoint::checkpoint;
 use crate::line::{ProgramLine, read_line};
+use crate::lines_before::read_first_kind;
 use crate::loading::load;
 use crate::recovery::restore;
 use crate::sectors::{LEAST, program_first};
@@ -19,6 +20,7 @@ use ng_canon::Item;
 use ng_layout::{GREATEST_COUNT, Half, Header, LONGEST_PROGRAM, Stored};
 use ng_num::Fault;
 use ng_rig::{Failed, Rig};
+use ng_words::Kind;
 use std::alloc::{AllocError, Allocator};
 use std::marker::Model;
 
@@ -122,6 +124,7 @@ impl<R: Rig, A: Allocator + Copy + Drop> Journal<R, A> {
             → Moves result self.new before (record before { saved = stored.now }) (R.life self.old.rig) (R.life self.new.rig)) }
         ensures saved { OnOk result (self.new.saved ≡ stored.now) }
         ensures broken { IsBrokenBy result self.new.broken }
+        ensures errors { IfErr result (λ e. (e ≡ CountersUsed) ⊎ (e ≡ DeviceFailed)) }
         ensures used_up { IsErrOf result CountersUsed ↔ (greatest_count ≤ self.old.header.epoch ⊎ greatest_count < stored.now.entries) }
         ensures unchanged { IsErrOf result CountersUsed → self.new ≡ self.old }
         ensures failures { Tells result (R.failed self.old.rig) (R.failed self.new.rig) }
@@ -144,6 +147,7 @@ impl<R: Rig, A: Allocator + Copy + Drop> Journal<R, A> {
             → Moves result self.new before (record before { saved = record self.old.saved { half = Some half.now } }) (R.life self.old.rig) (R.life self.new.rig)) }
         ensures saved { OnOk result (self.new.saved ≡ record self.old.saved { half = Some half.now }) }
         ensures broken { IsBrokenBy result self.new.broken }
+        ensures errors { IfErr result (λ e. (e ≡ CountersUsed) ⊎ (e ≡ DeviceFailed)) }
         ensures used_up { IsErrOf result CountersUsed ↔ (greatest_count ≤ self.old.header.epoch) }
         ensures unchanged { IsErrOf result CountersUsed → self.new ≡ self.old }
         ensures failures { Tells result (R.failed self.old.rig) (R.failed self.new.rig) }
@@ -168,6 +172,7 @@ impl<R: Rig, A: Allocator + Copy + Drop> Journal<R, A> {
             → Moves result self.new before (record { saved = stored.now; program = text.now }) (R.life self.old.rig) (R.life self.new.rig)) }
         ensures saved { OnOk result (self.new.saved ≡ stored.now) }
         ensures broken { IsBrokenBy result self.new.broken }
+        ensures errors { IfErr result (λ e. (e ≡ ProgramTooLong) ⊎ ((e ≡ CountersUsed) ⊎ (e ≡ DeviceFailed))) }
         ensures too_long { IsErrOf result ProgramTooLong ↔ (131_072 < length text.now) }
         ensures used_up { IsErrOf result CountersUsed ↔ ((length text.now ≤ 131_072) × (greatest_count ≤ self.old.header.epoch ⊎ greatest_count < stored.now.entries)) }
         ensures unchanged { (IsErrOf result CountersUsed ⊎ IsErrOf result ProgramTooLong) → self.new ≡ self.old }
@@ -223,6 +228,30 @@ impl<R: Rig, A: Allocator + Copy + Drop> Journal<R, A> {
         ensures { (result ≡ true) ↔ (greatest_count ≤ self.now.header.epoch ⊎ greatest_count < entries) }
     {
         self.header.epoch >= GREATEST_COUNT || entries > GREATEST_COUNT
+    }
+
+    /// The kind of the first line before a place of the program in force that isn't blank; blank where all are. It reads no further
+    /// than to that line's end.
+    ///
+    /// J1 where the device failed: the journal is broken then. Nothing is written. It takes no memory.
+    pub fn first_kind(&mut self, place: u64) -> Result<Kind, Fault>
+        requires whole { self.old.broken ≡ false }
+        requires place { place ≤ self.old.saved.length }
+        ensures kind { Promises (R.honest self.old.rig) (R.honest self.new.rig) ((standing : Standing) → RestsAt (R.life self.old.rig) self.old standing
+            → FindsFirst result self.new standing place (R.life self.old.rig) (R.life self.new.rig)) }
+        ensures saved { self.new.saved ≡ self.old.saved }
+        ensures broken { IsBrokenBy result self.new.broken }
+        ensures errors { IfErr result (λ e. e ≡ DeviceFailed) }
+        ensures failures { Tells result (R.failed self.old.rig) (R.failed self.new.rig) }
+    {
+        let start = program_first(self.header.area);
+        match read_first_kind(&mut self.rig, start, place as usize) {
+            Ok(kind) => Ok(kind),
+            Err(Failed) => {
+                self.broken = true;
+                Err(Fault::DeviceFailed)
+            }
+        }
     }
 
     /// The line of the program in force that begins at a place, and where the next one begins; none at the program's

@@ -3,10 +3,12 @@
 #![tactic(auto)]
 
 mod checkpoint;
+mod first_line;
 mod formatting;
 mod journal;
 pub mod laws;
 mod line;
+mod lines_before;
 mod loading;
 mod reading;
 mod recovery;

@@ -6,7 +6,8 @@ ghost use Rattle.ng_rig.specs.Calls.{Promises, Counts};
 ghost use Rattle.ng_layout.specs.Sectors.{text_of};
 ghost use Rattle.ng_layout.specs.Stands.{program_size, stretch};
 ghost use Rattle.ng_journal.specs.Reading.{Reads};
-ghost use Rattle.ng_journal.specs.ProgramLines.{IsPart, TakesPart, IsEnd, line_at};
+ghost use Rattle.ng_layout.specs.Programs.{line_at};
+ghost use Rattle.ng_journal.specs.ProgramLines.{IsPart, TakesPart, IsEnd};
 
 use crate::reading::read_sector;
 use arrayvec::ArrayVec;
@@ -28,7 +29,7 @@ pub struct ProgramLine {
 }
 
 impl Model for ProgramLine {
-    ghost use Rattle.ng_journal.specs.ProgramLines.{Line};
+    ghost use Rattle.ng_layout.specs.Programs.{Line};
 
     ghost Value = { Line };
 
@@ -61,7 +62,7 @@ fn take_part(text: &mut ArrayVec<u8, LINE>, part: &[u8]) -> Option<usize>
 }
 
 /// The bytes of a program's sector that belong to the program from a place on.
-fn part_of(sector: &[u8; BYTES], n: usize, place: usize, program_end: usize) -> &[u8]
+pub(crate) fn part_of(sector: &[u8; BYTES], n: usize, place: usize, program_end: usize) -> &[u8]
     requires place { place ≤ program_end }
     requires from { place < 512 * n + 512 }
     requires to { 512 * n < program_end }

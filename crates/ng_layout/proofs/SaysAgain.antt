@@ -6,7 +6,7 @@ use Rattle.ng_num.specs.Range.{IsCount, greatest, in_range}
 use Rattle.ng_canon.specs.declared.outputs.Spindle.{Spindle}
 use Rattle.ng_canon.specs.declared.outputs.Spindle.TheVariants.{Stopped, Clockwise, Counterclockwise}
 use Rattle.ng_params.specs.Numbers.{system_of}
-use Rattle.ng_block.specs.declared.machine.KeptWords.{KeptWords}
+use Rattle.ng_cycles.specs.declared.words.KeptWords.{KeptWords}
 use Rattle.ng_block.specs.declared.machine.Machine.{Machine}
 use Rattle.ng_num.specs.declared.unit.Unit.{Unit as LengthUnit}
 use Rattle.ng_num.specs.declared.unit.Unit.TheVariants.{Inches, Millimetres}

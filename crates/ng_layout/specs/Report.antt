@@ -9,7 +9,7 @@ use Rattle.ng_params.specs.Numbers.{system_of}
 use Rattle.ng_modal.specs.declared.modes.Modes.{Modes}
 use Rattle.ng_block.specs.declared.machine.Machine.{Machine}
 use Rattle.ng_offsets.specs.declared.offsets.Offsets.{Offsets}
-use Rattle.ng_block.specs.declared.machine.KeptWords.{KeptWords}
+use Rattle.ng_cycles.specs.declared.words.KeptWords.{KeptWords}
 use Rattle.ng_layout.specs.Codes.{motion_of, plane_of, distance_of, feed_mode_of, unit_of, retract_of, path_of, spindle_of, truth_of, source_of, opened_of}
 use Rattle.ng_layout.specs.Limits.{greatest_count, greatest_slot, longest_text}
 use Rattle.ng_layout.specs.Stored.{HalfDone, Report}

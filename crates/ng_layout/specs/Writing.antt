@@ -3,7 +3,7 @@ use Rattle.std.specs.Prelude.{ℕ, ◌+◌, ◌-◌, ◌++◌, ℤ, pos, unsigne
 use Rattle.ng_num.specs.Points.{zero_point}
 use Rattle.ng_num.specs.declared.point.Point.{Point}
 use Rattle.ng_block.specs.declared.machine.Machine.{Machine}
-use Rattle.ng_block.specs.declared.machine.KeptWords.{KeptWords}
+use Rattle.ng_cycles.specs.declared.words.KeptWords.{KeptWords}
 use Rattle.ng_layout.specs.Codes.{code_of_motion, code_of_plane, code_of_distance, code_of_feed_mode, code_of_unit, code_of_retract, code_of_path, code_of_spindle, code_of_truth, code_of_source, code_of_opened}
 use Rattle.ng_layout.specs.Limits.{longest_text}
 use Rattle.ng_layout.specs.Stored.{HalfDone, Report}

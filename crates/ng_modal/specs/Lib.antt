@@ -11,5 +11,4 @@ pub mod WordCauses
 pub mod Causes
 pub mod Sorted
 pub mod Check
-pub mod Later
 pub mod Accepted

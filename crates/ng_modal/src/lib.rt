@@ -7,8 +7,7 @@
 //!
 //! What a code is, its group and what it asks for stand in `specs/Codes.antt`, `Groups.antt` and `Meanings.antt`; each cause
 //! is a sentence in `WordCauses.antt` (B1 to B5, of the words alone) or `Causes.antt` (B6 to B19, of what they ask for), and
-//! their order is the list in `Check.antt`. All codes of the language are known here. `Block::is_later` says which of them
-//! the crates above don't do yet.
+//! their order is the list in `Check.antt`. All codes of the language are known here.
 //!
 //! The crate stands on `ng_expr` for the values of words, on `ng_params` for the numbers of coordinate systems and on
 //! `ng_canon` for planes and the spindle. It knows nothing of parameters, offsets, arcs and cycles beyond their words.
@@ -22,7 +21,6 @@ mod causes;
 mod checking;
 mod codes;
 mod groups;
-mod later;
 mod looks;
 mod lookup;
 mod meanings;

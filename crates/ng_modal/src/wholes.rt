@@ -1,5 +1,5 @@
 //! The whole numbers that a block's words name.
-ghost use Rattle.std.specs.Prelude.{◌≡◌, ◌≤◌};
+ghost use Rattle.std.specs.Prelude.{◌≡◌, ◌≤◌, unsigned_abs, IfSome};
 ghost use Rattle.std.specs.Option.{option_and_then};
 ghost use Rattle.ng_num.specs.Whole.{whole_of};
 ghost use Rattle.ng_modal.specs.Accepted.{slot_of, slot_on, system_on, repeats_by, repeats_on};
@@ -20,13 +20,17 @@ fn slot_of(number: i64) -> Option<u8>
     }
 }
 
-/// The whole number that a word's value counts as.
+/// The whole number that a word's value counts as, at most 10,000,000 in size.
 #[inline]
 fn whole_on(word: Option<Num>) -> Option<i64>
-    ensures { result ≡ option_and_then whole_of word }
+    ensures value { result ≡ option_and_then whole_of word }
+    ensures range { IfSome result (λ n. unsigned_abs n ≤ 10_000_000) }
 {
     match word {
-        Some(value) => value.whole(),
+        Some(value) => {
+            let _count = value.count();
+            value.whole()
+        }
         None => None,
     }
 }
@@ -44,11 +48,14 @@ fn slot_on(word: Option<Num>) -> Option<u8>
 
 /// At least one of a number of repeats.
 #[inline]
-fn repeats_by(number: Option<i64>) -> u64
-    ensures { result ≡ repeats_by number }
+fn repeats_by(number: Option<i64>) -> u32
+    requires { IfSome number (λ n. unsigned_abs n ≤ 10_000_000) }
+    ensures value { result ≡ repeats_by number }
+    ensures some { 1 ≤ result }
+    ensures few { result ≤ 10_000_000 }
 {
     match number {
-        Some(number) => if number < 1 { 1 } else { number as u64 },
+        Some(number) => if number < 1 { 1 } else { number as u32 },
         None => 1,
     }
 }
@@ -83,10 +90,13 @@ impl Block {
         }
     }
 
-    /// How often a cycle is done: L, or once without it; at least once (NISTIR 6556, 3.5.16).
+    /// How often a cycle is done: L, or once without it; at least once, and at most 10,000,000 times, which is what an L of
+    /// 9,999,999.9999 counts as (NISTIR 6556, 3.5.16).
     #[inline]
-    pub fn repeats(&self) -> u64
-        ensures { result ≡ repeats_on self.now.values.l }
+    pub fn repeats(&self) -> u32
+        ensures value { result ≡ repeats_on self.now.values.l }
+        ensures some { 1 ≤ result }
+        ensures few { result ≤ 10_000_000 }
     {
         repeats_by(whole_on(self.values.l))
     }

@@ -5,3 +5,6 @@ pub mod Tying
 pub mod Cutting
 pub mod Keeping
 pub mod Living
+pub mod LinesBehind
+pub mod Limits
+pub mod Standing

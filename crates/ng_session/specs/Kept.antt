@@ -1,7 +1,8 @@
 -- What the code keeps of a session: its lists, and what holds of each session.
 use Rattle.std.specs.Prelude.{◌≡◌, ◌≤◌, ◌+◌, List, [], ◌∷◌, Option, Some, None, IfSome}
 use Rattle.ng_canon.specs.declared.segment.Segment.{Segment}
-use Rattle.ng_layout.specs.Limits.{greatest_count, longest_program}
+use Rattle.ng_layout.specs.Limits.{greatest_count}
+use Rattle.ng_layout.specs.Storable.{IsStorable}
 use Rattle.ng_layout.specs.Stored.{Saved}
 use Rattle.ng_session.specs.Session.{Underway}
 
@@ -10,15 +11,14 @@ abbrev pub left_of : Option Segment → List Segment → List Segment
 left_of None rest = []
 left_of (Some segment) rest = segment ∷ rest
 
--- one entry further in the same program
+-- one entry further in the same program, which can be stored
 pub record IsNext (x y : Saved) : Type 0 where
   pub count : y.entries ≡ x.entries + 1
   pub same : y.length ≡ x.length
-  pub place : y.place ≤ y.length
+  pub storable : IsStorable y
 
--- within the limits of what can be stored, and what stands behind the current block is the next entry
+-- it can be stored, and what stands behind the current block is the next entry
 pub record IsKept (x : Saved) (current : Option Underway) : Type 0 where
   pub count : x.entries ≤ greatest_count
-  pub place : x.place ≤ x.length
-  pub program : x.length ≤ longest_program
+  pub storable : IsStorable x
   pub next : IfSome current (λ c. IsNext x c.after)

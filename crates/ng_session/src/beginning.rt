@@ -4,6 +4,7 @@ ghost use Rattle.ng_block.specs.Dry.{first_kind};
 ghost use Rattle.ng_block.specs.Effects.{Done, in_state};
 ghost use Rattle.ng_layout.specs.declared.half.Source.TheVariants as source;
 ghost use Rattle.ng_layout.specs.Programs.{Line, lines_before};
+ghost use Rattle.ng_layout.specs.Storable.{CanStand};
 ghost use Rattle.ng_session.specs.Entries.{Equipment, equipment_of, done_of};
 
 use crate::activity::Activity;
@@ -27,7 +28,10 @@ fn execute_alone<A: Allocator + Copy + Drop>(
 ) -> Result<(), Fault>
     ensures done { (program : List ℕ) → MatchResult result (λ _. done_of (equipment_of terms.now) program stored.now source.Mdi text.now terms.now.block_delete ≡ Ok (in_state stored.now.setup places.new.effect)) (λ fault. done_of (equipment_of terms.now) program stored.now source.Mdi text.now terms.now.block_delete ≡ Err fault) }
     ensures short { OnOk result (length text.now ≤ 256) }
+    ensures stands { OnOk result (CanStand stored.now.setup.machine → CanStand places.new.effect.machine) }
 {
+    // a table has at most 64 slots, and no more are stored
+    let _ = terms.tools.slots();
     places.execute_unless_deleted(terms, &stored.state, text)
 }
 
@@ -43,7 +47,10 @@ fn execute_behind<A: Allocator + Copy + Drop>(
 ) -> Result<(), Fault>
     ensures done { (program : List ℕ) → first ≡ first_kind (lines_before program stored.now.place) → MatchResult result (λ _. done_of (equipment_of terms.now) program stored.now source.Program text.now terms.now.block_delete ≡ Ok (in_state stored.now.setup places.new.effect)) (λ fault. done_of (equipment_of terms.now) program stored.now source.Program text.now terms.now.block_delete ≡ Err fault) }
     ensures short { OnOk result (length text.now ≤ 256) }
+    ensures stands { OnOk result (CanStand stored.now.setup.machine → CanStand places.new.effect.machine) }
 {
+    // a table has at most 64 slots, and no more are stored
+    let _ = terms.tools.slots();
     places.execute_behind(terms, first, &stored.state, text)
 }
 

@@ -1,7 +1,9 @@
 //! The block that is worked.
 ghost use Rattle.std.specs.Prelude.{◌≡◌, ◌≤◌, ◌<◌, ◌+◌, ◌^◌, length, IfOk, IsSome, MatchOption, Some, None, min};
 ghost use Rattle.ng_block.specs.Effects.{in_state};
+ghost use Rattle.ng_layout.specs.Storable.{CanStand, IsStorable};
 ghost use Rattle.ng_session.specs.Entries.{place_by, place_after, after_block};
+ghost use Rattle.ng_session.specs.Kept.{IsNext};
 
 use arrayvec::ArrayVec;
 use ng_block::{Course, Effect, Stop};
@@ -64,14 +66,19 @@ fn place_by(next: u64, place: u64, source: Source) -> u64
 }
 
 /// What is to be stored behind a block, by its effect. `AllocError` where its table found no memory.
+#[tactic(auto, using(crate::proofs::Standing::next_storable))]
 fn after_block<A: Allocator + Copy + Drop>(
     next: u64,
     stored: &Stored<A>,
     source: Source,
     effect: &Effect,
 ) -> Result<Stored<A>, AllocError>
-    requires { stored.now.entries ≤ 1_000_000_000_000 }
-    ensures { IfOk result (λ x. x ≡ after_block next stored.now source (in_state stored.now.setup effect.now)) }
+    requires count { stored.now.entries ≤ 1_000_000_000_000 }
+    requires storable { IsStorable stored.now }
+    requires within { next ≤ stored.now.length }
+    requires stands { CanStand effect.now.machine }
+    ensures value { IfOk result (λ x. x ≡ after_block next stored.now source (in_state stored.now.setup effect.now)) }
+    ensures next { IfOk result (λ x. IsNext stored.now x) }
 {
     let mut state = stored.state.copy()?;
     state.apply(effect);
@@ -99,8 +106,12 @@ impl<A: Allocator + Copy + Drop> Current<A> {
         effect: &Effect,
     ) -> Result<Current<A>, AllocError>
         requires count { stored.now.entries ≤ 1_000_000_000_000 }
+        requires storable { IsStorable stored.now }
+        requires within { next ≤ stored.now.length }
+        requires stands { CanStand effect.now.machine }
         requires short { length text.now ≤ 256 }
-        ensures { IfOk result (λ c. c ≡ begun stored.now source text.now block_delete next (in_state stored.now.setup effect.now)) }
+        ensures value { IfOk result (λ c. c ≡ begun stored.now source text.now block_delete next (in_state stored.now.setup effect.now)) }
+        ensures next { IfOk result (λ c. IsNext stored.now c.after) }
     {
         let after = after_block(next, stored, source, effect)?;
         let mut left = effect.course();

@@ -12,6 +12,7 @@ mod beginning;
 mod current;
 mod event;
 pub mod laws;
+mod lines_before;
 mod loading;
 mod reply;
 mod session;
@@ -19,5 +20,6 @@ mod ticking;
 
 pub use activity::Activity;
 pub use event::{Event, Text};
+pub use lines_before::LinesBefore;
 pub use reply::{Condition, HalfShown, Reply, Status};
 pub use session::Session;

@@ -1,5 +1,6 @@
 //! How a program is loaded.
 ghost use Rattle.std.specs.Prelude.{◌≡◌, ◌≤◌, ℕ, List, Ok, Err, IfOk, OnErr, MatchResult, length};
+ghost use Rattle.ng_layout.specs.Storable.{IsStorable};
 ghost use Rattle.ng_session.specs.Entries.{after_load};
 
 use crate::activity::Activity;
@@ -48,10 +49,12 @@ impl<A: Allocator + Copy + Drop> Session<A> {
         None
     }
 
-    /// What is to be stored with a program of these bytes. The session stays as it is. `AllocError` where its table found no
+    /// What is to be stored with a program of these bytes, which can be stored unless it is too long. The session stays as it is. `AllocError` where its table found no
     /// memory.
+    #[tactic(auto, using(crate::proofs::Standing::load_storable))]
     pub fn loading(&self, text: &[u8]) -> Result<Stored<A>, AllocError>
-        ensures { IfOk result (λ x. x ≡ after_load self.now.stored (length text.now)) }
+        ensures value { IfOk result (λ x. x ≡ after_load self.now.stored (length text.now)) }
+        ensures storable { IfOk result (λ x. length text.now ≤ 131_072 → IsStorable x) }
     {
         after_load(&self.stored, text.len() as u64)
     }

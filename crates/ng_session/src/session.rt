@@ -98,7 +98,8 @@ impl<A: Allocator + Copy + Drop> Session<A> {
 
     /// The byte of the program at which the next line begins.
     pub fn place(&self) -> u64
-        ensures { result ≡ self.now.stored.place }
+        ensures value { result ≡ self.now.stored.place }
+        ensures within { result ≤ self.now.stored.length }
     {
         self.stored.place
     }

@@ -1,5 +1,5 @@
 //! What a Tick is made of: an item, a segment, an entry.
-ghost use Rattle.std.specs.Prelude.{◌≡◌, ◌≤◌, List, ℕ, None, Some, MatchOption, IfSome};
+ghost use Rattle.std.specs.Prelude.{◌≡◌, ◌≤◌, List, ℕ, None, Some, MatchOption, IfSome, IfNone};
 
 use crate::reply::Reply;
 use crate::session::Session;
@@ -8,14 +8,32 @@ use ng_layout::{Half, Stored};
 use std::alloc::Allocator;
 
 impl<A: Allocator + Copy + Drop> Session<A> {
+    ghost use Rattle.std.specs.Prelude.{true};
     ghost use Rattle.ng_layout.specs.Storable.{CanWait};
+    ghost use Rattle.ng_session.specs.Entries.{Equipment};
     ghost use Rattle.ng_session.specs.Kept.{IsNext};
-    ghost use Rattle.ng_session.specs.Session.{Underway, item_of, handed, opening_of, opened, committed, rest};
+    ghost use Rattle.ng_session.specs.Session.{Underway, answers, tick, is_running, item_of, handed, opening_of, opened, committed, rest};
 
-    /// Takes the next item of the open segment, to be handed out; none where none is left.
+    /// Whether it is held: then a Tick moves, opens, commits and begins nothing.
+    pub fn is_held(&self) -> bool
+        ensures held { result ≡ self.now.held }
+        ensures tick { (equipment : Equipment) (program : List ℕ) → result ≡ true → tick equipment program self.now ≡ answers program Reply.Held self.now }
+    {
+        self.held
+    }
+
+    /// Whether the program runs: then its lines are begun one after the other, unless it is held.
+    pub fn is_running(&self) -> bool
+        ensures { result ≡ is_running self.now.activity }
+    {
+        self.activity.is_running()
+    }
+
+    /// Takes the next item of the open segment, to be handed out; none where none is left: the session stays as it is then.
     pub fn next_item(&mut self) -> Option<Item>
         ensures item { result ≡ item_of self.old.current }
         ensures next { self.new ≡ handed self.old }
+        ensures none { IfNone result (self.new ≡ self.old) }
     {
         let Some(current) = &mut self.current else {
             return None;
@@ -36,7 +54,9 @@ impl<A: Allocator + Copy + Drop> Session<A> {
     }
 
     /// Opens that segment, once the half-done block is stored.
+    #[tactic(auto, using(crate::proofs::Standing::half_storable))]
     pub fn open(&mut self, half: Half, geometry: &Geometry) -> Reply
+        requires { CanWait half }
         ensures reply { result ≡ Reply.Opened half.index }
         ensures next { self.new ≡ opened geometry.now self.old half }
     {

@@ -73,261 +73,270 @@ fn outcome(asked: &AskedArc) -> Outcome {
     }
 }
 
+const ORIGIN: At = (0, 0, 0);
+
+const I10: Option<i64> = Some(10_000_000);
+
+/// The greatest length.
+const FAR: i64 = 9_999_999_999_999;
+
+/// An arc's plane, its line's unit, start and end, what the line writes of it, and whether it is lawful.
+type LawRow = (Plane, Unit, At, At, Words, Outcome);
+
+const LAWFUL: &[LawRow] = &[
+    // The radii differ by the tolerance, and by more, to either side and in either unit.
+    (
+        XY,
+        MM,
+        ORIGIN,
+        (20_002_000, 0, 0),
+        ("X", I10, None, None),
+        Ok((10_000_000, 0)),
+    ),
+    (
+        XY,
+        MM,
+        ORIGIN,
+        (20_002_000, 1, 0),
+        ("XY", I10, None, None),
+        Err(Fault::RadiiDiffer),
+    ),
+    (
+        XY,
+        MM,
+        ORIGIN,
+        (20_002_001, 0, 0),
+        ("X", I10, None, None),
+        Err(Fault::RadiiDiffer),
+    ),
+    (
+        XY,
+        MM,
+        ORIGIN,
+        (19_998_000, 0, 0),
+        ("X", I10, None, None),
+        Ok((10_000_000, 0)),
+    ),
+    (
+        XY,
+        MM,
+        ORIGIN,
+        (19_997_999, 0, 0),
+        ("X", I10, None, None),
+        Err(Fault::RadiiDiffer),
+    ),
+    (
+        XY,
+        INCHES,
+        ORIGIN,
+        (20_005_080, 0, 0),
+        ("X", I10, None, None),
+        Ok((10_000_000, 0)),
+    ),
+    (
+        XY,
+        INCHES,
+        ORIGIN,
+        (20_005_081, 0, 0),
+        ("X", I10, None, None),
+        Err(Fault::RadiiDiffer),
+    ),
+    (
+        XY,
+        MM,
+        (-FAR, 0, 0),
+        (FAR, 0, 0),
+        ("X", Some(1), None, None),
+        Err(Fault::RadiiDiffer),
+    ),
+    // A full turn, and a part of one.
+    (
+        XY,
+        MM,
+        ORIGIN,
+        ORIGIN,
+        ("X", Some(-2_000), None, None),
+        Ok((-2_000, 0)),
+    ),
+    (
+        XY,
+        MM,
+        (0, 400, 0),
+        (0, 400, 0),
+        ("X", Some(-2_000), Some(-100), None),
+        Ok((-2_000, 300)),
+    ),
+    (
+        XY,
+        MM,
+        ORIGIN,
+        (-8_000, 4_000, 0),
+        ("XY", Some(-5_000), None, None),
+        Ok((-5_000, 0)),
+    ),
+    // The start or the end is the centre.
+    (
+        XY,
+        MM,
+        ORIGIN,
+        (1_000, 0, 0),
+        ("X", Some(0), None, None),
+        Err(Fault::ZeroRadius),
+    ),
+    (
+        XY,
+        MM,
+        ORIGIN,
+        (1_000, 0, 0),
+        ("X", Some(1_000), None, None),
+        Err(Fault::ZeroRadius),
+    ),
+    (
+        XY,
+        MM,
+        ORIGIN,
+        (1_000_000, 0, 0),
+        ("X", Some(0), None, None),
+        Err(Fault::RadiiDiffer),
+    ),
+    // No end or no centre, in each plane.
+    (
+        XY,
+        MM,
+        ORIGIN,
+        ORIGIN,
+        ("", Some(5_000_000), None, None),
+        Err(Fault::NoEnd),
+    ),
+    (
+        XY,
+        MM,
+        ORIGIN,
+        (0, 0, 7),
+        ("Z", Some(5_000_000), None, None),
+        Err(Fault::NoEnd),
+    ),
+    (
+        XZ,
+        MM,
+        ORIGIN,
+        (0, 7, 0),
+        ("Y", Some(5_000_000), None, None),
+        Err(Fault::NoEnd),
+    ),
+    (
+        YZ,
+        MM,
+        ORIGIN,
+        (7, 0, 0),
+        ("X", None, Some(5_000_000), None),
+        Err(Fault::NoEnd),
+    ),
+    (
+        XY,
+        MM,
+        ORIGIN,
+        (1_000_000, 0, 0),
+        ("X", None, None, None),
+        Err(Fault::NoCentre),
+    ),
+    (
+        XY,
+        MM,
+        ORIGIN,
+        (1_000_000, 0, 0),
+        ("X", None, None, I10),
+        Err(Fault::NoCentre),
+    ),
+    (
+        XZ,
+        MM,
+        ORIGIN,
+        (1_000_000, 0, 0),
+        ("X", None, I10, None),
+        Err(Fault::NoCentre),
+    ),
+    (
+        YZ,
+        MM,
+        ORIGIN,
+        (0, 1_000_000, 0),
+        ("Y", I10, None, None),
+        Err(Fault::NoCentre),
+    ),
+    (
+        XY,
+        MM,
+        ORIGIN,
+        ORIGIN,
+        ("", None, None, None),
+        Err(Fault::NoEnd),
+    ),
+    // The planes' axes are X Y, Z X and Y Z.
+    (
+        XY,
+        MM,
+        (5, 6, 7),
+        (5, 6, 9),
+        ("Y", None, Some(3), None),
+        Ok((5, 9)),
+    ),
+    (
+        XZ,
+        MM,
+        (5, 6, 7),
+        (5, 6, 7),
+        ("Z", None, None, I10),
+        Ok((10_000_007, 5)),
+    ),
+    (
+        XZ,
+        MM,
+        ORIGIN,
+        (20_000_000, 0, 0),
+        ("X", I10, None, None),
+        Ok((0, 10_000_000)),
+    ),
+    (
+        YZ,
+        MM,
+        (5, 6, 7),
+        (5, 6, 7),
+        ("Z", None, I10, Some(3)),
+        Ok((10_000_006, 10)),
+    ),
+    // A centre beyond the range of lengths comes first.
+    (
+        XY,
+        MM,
+        (FAR, 0, 0),
+        (FAR, 0, 0),
+        ("", Some(1), None, None),
+        Err(Fault::OutOfRange),
+    ),
+    (
+        XY,
+        MM,
+        (0, -FAR, 0),
+        (0, -FAR, 0),
+        ("Y", None, Some(-1), None),
+        Err(Fault::OutOfRange),
+    ),
+    (
+        XY,
+        MM,
+        (FAR - 1, 0, 0),
+        (FAR - 1, 0, 0),
+        ("X", Some(1), None, None),
+        Ok((FAR, 0)),
+    ),
+];
+
 #[test]
 fn lawful_arcs(rt: HostRuntime) {
-    let origin = (0, 0, 0);
-    let i10 = Some(10_000_000);
-    let far = 9_999_999_999_999;
-    let rows: [(Plane, Unit, At, At, Words, Outcome); 30] = [
-        // The radii differ by the tolerance, and by more, to either side and in either unit.
-        (
-            XY,
-            MM,
-            origin,
-            (20_002_000, 0, 0),
-            ("X", i10, None, None),
-            Ok((10_000_000, 0)),
-        ),
-        (
-            XY,
-            MM,
-            origin,
-            (20_002_000, 1, 0),
-            ("XY", i10, None, None),
-            Err(Fault::RadiiDiffer),
-        ),
-        (
-            XY,
-            MM,
-            origin,
-            (20_002_001, 0, 0),
-            ("X", i10, None, None),
-            Err(Fault::RadiiDiffer),
-        ),
-        (
-            XY,
-            MM,
-            origin,
-            (19_998_000, 0, 0),
-            ("X", i10, None, None),
-            Ok((10_000_000, 0)),
-        ),
-        (
-            XY,
-            MM,
-            origin,
-            (19_997_999, 0, 0),
-            ("X", i10, None, None),
-            Err(Fault::RadiiDiffer),
-        ),
-        (
-            XY,
-            INCHES,
-            origin,
-            (20_005_080, 0, 0),
-            ("X", i10, None, None),
-            Ok((10_000_000, 0)),
-        ),
-        (
-            XY,
-            INCHES,
-            origin,
-            (20_005_081, 0, 0),
-            ("X", i10, None, None),
-            Err(Fault::RadiiDiffer),
-        ),
-        (
-            XY,
-            MM,
-            (-far, 0, 0),
-            (far, 0, 0),
-            ("X", Some(1), None, None),
-            Err(Fault::RadiiDiffer),
-        ),
-        // A full turn, and a part of one.
-        (
-            XY,
-            MM,
-            origin,
-            origin,
-            ("X", Some(-2_000), None, None),
-            Ok((-2_000, 0)),
-        ),
-        (
-            XY,
-            MM,
-            (0, 400, 0),
-            (0, 400, 0),
-            ("X", Some(-2_000), Some(-100), None),
-            Ok((-2_000, 300)),
-        ),
-        (
-            XY,
-            MM,
-            origin,
-            (-8_000, 4_000, 0),
-            ("XY", Some(-5_000), None, None),
-            Ok((-5_000, 0)),
-        ),
-        // The start or the end is the centre.
-        (
-            XY,
-            MM,
-            origin,
-            (1_000, 0, 0),
-            ("X", Some(0), None, None),
-            Err(Fault::ZeroRadius),
-        ),
-        (
-            XY,
-            MM,
-            origin,
-            (1_000, 0, 0),
-            ("X", Some(1_000), None, None),
-            Err(Fault::ZeroRadius),
-        ),
-        (
-            XY,
-            MM,
-            origin,
-            (1_000_000, 0, 0),
-            ("X", Some(0), None, None),
-            Err(Fault::RadiiDiffer),
-        ),
-        // No end or no centre, in each plane.
-        (
-            XY,
-            MM,
-            origin,
-            origin,
-            ("", Some(5_000_000), None, None),
-            Err(Fault::NoEnd),
-        ),
-        (
-            XY,
-            MM,
-            origin,
-            (0, 0, 7),
-            ("Z", Some(5_000_000), None, None),
-            Err(Fault::NoEnd),
-        ),
-        (
-            XZ,
-            MM,
-            origin,
-            (0, 7, 0),
-            ("Y", Some(5_000_000), None, None),
-            Err(Fault::NoEnd),
-        ),
-        (
-            YZ,
-            MM,
-            origin,
-            (7, 0, 0),
-            ("X", None, Some(5_000_000), None),
-            Err(Fault::NoEnd),
-        ),
-        (
-            XY,
-            MM,
-            origin,
-            (1_000_000, 0, 0),
-            ("X", None, None, None),
-            Err(Fault::NoCentre),
-        ),
-        (
-            XY,
-            MM,
-            origin,
-            (1_000_000, 0, 0),
-            ("X", None, None, i10),
-            Err(Fault::NoCentre),
-        ),
-        (
-            XZ,
-            MM,
-            origin,
-            (1_000_000, 0, 0),
-            ("X", None, i10, None),
-            Err(Fault::NoCentre),
-        ),
-        (
-            YZ,
-            MM,
-            origin,
-            (0, 1_000_000, 0),
-            ("Y", i10, None, None),
-            Err(Fault::NoCentre),
-        ),
-        (
-            XY,
-            MM,
-            origin,
-            origin,
-            ("", None, None, None),
-            Err(Fault::NoEnd),
-        ),
-        // The planes' axes are X Y, Z X and Y Z.
-        (
-            XY,
-            MM,
-            (5, 6, 7),
-            (5, 6, 9),
-            ("Y", None, Some(3), None),
-            Ok((5, 9)),
-        ),
-        (
-            XZ,
-            MM,
-            (5, 6, 7),
-            (5, 6, 7),
-            ("Z", None, None, i10),
-            Ok((10_000_007, 5)),
-        ),
-        (
-            XZ,
-            MM,
-            origin,
-            (20_000_000, 0, 0),
-            ("X", i10, None, None),
-            Ok((0, 10_000_000)),
-        ),
-        (
-            YZ,
-            MM,
-            (5, 6, 7),
-            (5, 6, 7),
-            ("Z", None, i10, Some(3)),
-            Ok((10_000_006, 10)),
-        ),
-        // A centre beyond the range of lengths comes first.
-        (
-            XY,
-            MM,
-            (far, 0, 0),
-            (far, 0, 0),
-            ("", Some(1), None, None),
-            Err(Fault::OutOfRange),
-        ),
-        (
-            XY,
-            MM,
-            (0, -far, 0),
-            (0, -far, 0),
-            ("Y", None, Some(-1), None),
-            Err(Fault::OutOfRange),
-        ),
-        (
-            XY,
-            MM,
-            (far - 1, 0, 0),
-            (far - 1, 0, 0),
-            ("X", Some(1), None, None),
-            Ok((far, 0)),
-        ),
-    ];
-    for (plane, unit, start, end, words, want) in rows {
-        assert_eq!(rt; outcome(&asked(plane, unit, start, end, words)), want);
+    for (plane, unit, start, end, words, want) in LAWFUL {
+        let found = outcome(&asked(*plane, *unit, *start, *end, *words));
+        assert!(rt; found == *want, "{found:?} in place of {want:?}");
     }
 }
 
@@ -368,53 +377,74 @@ fn without_y() -> Geometry {
     }
 }
 
+/// A spot of a plane, seen from a centre.
+type Spot = (i64, i64);
+
+// Half a millimetre inside each limit, for a radius of a millimetre.
+const RIGHT: Spot = (999_500_000, 0);
+
+const LEFT: Spot = (-999_500_000, 0);
+
+const TOP: Spot = (0, 999_500_000);
+
+const BOTTOM: Spot = (0, -999_500_000);
+
+const EAST: Spot = (1_000_000, 0);
+
+const WEST: Spot = (-1_000_000, 0);
+
+const NORTH: Spot = (0, 1_000_000);
+
+const SOUTH: Spot = (0, -1_000_000);
+
+const STEEP: Spot = (300_000, 400_000);
+
+const FLAT: Spot = (400_000, 300_000);
+
+/// Arcs of the XY plane: which way round, centre, start and end, and whether the extremes that they pass lie inside the travel.
+const EXTREMES: &[(Turn, Spot, Spot, Spot, bool)] = &[
+    (CCW, RIGHT, NORTH, WEST, true),
+    (CW, RIGHT, NORTH, WEST, false),
+    (CW, RIGHT, NORTH, EAST, false),
+    (CCW, RIGHT, NORTH, SOUTH, true),
+    (CW, RIGHT, NORTH, SOUTH, false),
+    (CCW, RIGHT, SOUTH, NORTH, false),
+    (CW, RIGHT, SOUTH, NORTH, true),
+    // The start is not passed, but by a full turn.
+    (CCW, RIGHT, EAST, WEST, true),
+    (CW, RIGHT, EAST, WEST, true),
+    (CCW, RIGHT, EAST, EAST, false),
+    (CW, RIGHT, WEST, WEST, false),
+    (CCW, (0, 0), WEST, WEST, true),
+    (CCW, LEFT, NORTH, SOUTH, false),
+    (CW, LEFT, NORTH, SOUTH, true),
+    (CW, TOP, WEST, EAST, false),
+    (CCW, TOP, WEST, EAST, true),
+    (CCW, BOTTOM, WEST, EAST, false),
+    (CW, BOTTOM, WEST, EAST, true),
+    // Within a quadrant, and all the way round to it; the extreme on the limit, and past it.
+    (CCW, (999_500_001, 0), FLAT, STEEP, true),
+    (CW, (999_500_001, 0), FLAT, STEEP, false),
+    (CCW, (999_500_001, 0), STEEP, FLAT, false),
+    (CW, (999_500_001, 0), STEEP, FLAT, true),
+    (CCW, (999_500_000, 0), STEEP, FLAT, true),
+    (CCW, (-999_500_001, 0), STEEP, FLAT, false),
+    (CCW, (0, 999_500_001), STEEP, FLAT, false),
+    (CCW, (0, -999_500_001), STEEP, FLAT, false),
+    // From the edge of the travel outward and back.
+    (CCW, (999_000_000, 1_000_000), SOUTH, NORTH, true),
+    (CCW, (999_000_001, 1_000_000), SOUTH, NORTH, false),
+];
+
 #[test]
 fn extremes(rt: HostRuntime) {
-    // Half a millimetre inside each limit, for a radius of a millimetre.
-    let (right, left) = ((999_500_000, 0), (-999_500_000, 0));
-    let (top, bottom) = ((0, 999_500_000), (0, -999_500_000));
-    let (east, west) = ((1_000_000, 0), (-1_000_000, 0));
-    let (north, south) = ((0, 1_000_000), (0, -1_000_000));
-    let (steep, flat) = ((300_000, 400_000), (400_000, 300_000));
-    for (turn, centre, start, end, want) in [
-        (CCW, right, north, west, true),
-        (CW, right, north, west, false),
-        (CW, right, north, east, false),
-        (CCW, right, north, south, true),
-        (CW, right, north, south, false),
-        (CCW, right, south, north, false),
-        (CW, right, south, north, true),
-        // The start is not passed, but by a full turn.
-        (CCW, right, east, west, true),
-        (CW, right, east, west, true),
-        (CCW, right, east, east, false),
-        (CW, right, west, west, false),
-        (CCW, (0, 0), west, west, true),
-        (CCW, left, north, south, false),
-        (CW, left, north, south, true),
-        (CW, top, west, east, false),
-        (CCW, top, west, east, true),
-        (CCW, bottom, west, east, false),
-        (CW, bottom, west, east, true),
-        // Within a quadrant, and all the way round to it; the extreme on the limit, and past it.
-        (CCW, (999_500_001, 0), flat, steep, true),
-        (CW, (999_500_001, 0), flat, steep, false),
-        (CCW, (999_500_001, 0), steep, flat, false),
-        (CW, (999_500_001, 0), steep, flat, true),
-        (CCW, (999_500_000, 0), steep, flat, true),
-        (CCW, (-999_500_001, 0), steep, flat, false),
-        (CCW, (0, 999_500_001), steep, flat, false),
-        (CCW, (0, -999_500_001), steep, flat, false),
-        // From the edge of the travel outward and back.
-        (CCW, (999_000_000, 1_000_000), south, north, true),
-        (CCW, (999_000_001, 1_000_000), south, north, false),
-    ] {
-        let arc = around(XY, turn, centre, start, end);
-        assert_eq!(rt; extremes_inside(&arc, &Geometry::standard()), want);
+    for (turn, centre, start, end, want) in EXTREMES {
+        let arc = around(XY, *turn, *centre, *start, *end);
+        assert_eq!(rt; extremes_inside(&arc, &Geometry::standard()), *want);
     }
     for (plane, want) in [(XY, false), (XZ, true), (YZ, false)] {
-        let arc = around(plane, CW, (0, 0), steep, flat);
-        let circle = around(plane, CCW, (0, 0), steep, steep);
+        let arc = around(plane, CW, (0, 0), STEEP, FLAT);
+        let circle = around(plane, CCW, (0, 0), STEEP, STEEP);
         assert_eq!(rt; extremes_inside(&arc, &without_y()), true);
         assert_eq!(rt; extremes_inside(&circle, &without_y()), want);
     }

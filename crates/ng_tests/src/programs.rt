@@ -2,6 +2,7 @@
 mod arcs;
 mod bad_input;
 mod blocks;
+mod cycles;
 mod grammar;
 mod memory;
 mod modal;

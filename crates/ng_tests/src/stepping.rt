@@ -298,8 +298,8 @@ const ARCS: [ArcRow; 15] = [
     ),
 ];
 
-/// Lines in the fresh state whose motion is an arc, and what it gives.
-const LINES: [(&str, &str); 5] = [
+/// Programs of one move that steps, and what it gives.
+const PROGRAMS: [(&str, &str); 8] = [
     (
         "G3 X0 I-0.002 F60",
         "1000: +Y -X +Y -X -X -Y -X -Y -Y +X -Y +X +X +Y +X +Y",
@@ -312,6 +312,12 @@ const LINES: [(&str, &str); 5] = [
         "G3 X0 Z0.004 I-0.002 F60",
         "1000: +Y -X+Z +Y -X -X -Y+Z -X -Y -Y +X+Z -Y +X +X +Y+Z +X +Y",
     ),
+    (
+        "G0 Y0.0004\nG3 X0 I-0.002 J-0.0001 F60",
+        "1000: +Y -X +Y +Y -X -Y -X -X -Y -Y +X -Y -Y +X +Y +X +X +Y +Y -Y",
+    ),
+    ("G1 X0.005 Y0.002 F60", "1078: +X +X+Y +X +X+Y +X"),
+    ("G93 G1 X0.005 F60", "200000: +X +X +X +X +X"),
     ("G3 X0 I-0.001 F60", ""),
     (
         "G3 X-0.008 Y0.004 I-0.005 F60",
@@ -319,15 +325,26 @@ const LINES: [(&str, &str); 5] = [
     ),
 ];
 
-/// Whether the first segment of a line gives just these items.
-fn line_gives(alloc: Global, line: &str, want: &str) -> Result<bool, Fail> {
-    let state = State::fresh(alloc)?;
+/// All items of a line's first segment; the state becomes that behind the line.
+fn line_items(alloc: Global, state: &mut State<Global>, line: &str) -> Text {
     let machine = Geometry::standard();
-    let effect = execute(&state, line.as_bytes(), &Tools::new(), &machine)?;
-    match effect.segments().next() {
-        Some(segment) => gives(alloc, &segment, &machine, want),
-        None => Ok(false),
+    let effect = execute(state, line.as_bytes(), &Tools::new(), &machine)?;
+    let text = match effect.segments().next() {
+        Some(segment) => items(alloc, &segment, &machine),
+        None => Ok(String::new(alloc)),
+    };
+    state.apply(&effect);
+    text
+}
+
+/// Whether the moves of a program, one a line, give just these items.
+fn program_gives(alloc: Global, program: &str, want: &str) -> Result<bool, Fail> {
+    let mut state = State::fresh(alloc)?;
+    let mut text = String::new(alloc);
+    for line in program.lines() {
+        text.push_str(line_items(alloc, &mut state, line)?.as_str())?;
     }
+    Ok(text.as_str() == want)
 }
 
 #[test]
@@ -337,8 +354,8 @@ fn arcs_give_their_items(rt: HostRuntime) -> Result<(), Fail> {
         let machine = steps_of(1_000, step, 1_000);
         assert!(rt; gives(rt.alloc(), &segment, &machine, want)?, "{want:?}");
     }
-    for (line, want) in LINES {
-        assert!(rt; line_gives(rt.alloc(), line, want)?, "{line:?}");
+    for (program, want) in PROGRAMS {
+        assert!(rt; program_gives(rt.alloc(), program, want)?, "{program:?}");
     }
     Ok(())
 }

@@ -8,11 +8,14 @@ use ng_console::ngc;
 use std::{fs, io};
 
 /// A program, the text beside it, and the words in front of the program that it is run with.
-const EXAMPLES: [(&str, &str, &[&str]); 6] = [
+const EXAMPLES: [(&str, &str, &[&str]); 9] = [
     ("first.ngc", "first.txt", &[]),
     ("face.ngc", "face.txt", &[]),
     ("pocket.ngc", "pocket.txt", &[]),
     ("parameters.ngc", "parameters.txt", &[]),
+    ("ring.ngc", "ring.txt", &[]),
+    ("bolts.ngc", "bolts.txt", &[]),
+    ("bores.ngc", "bores.txt", &[]),
     ("percent.ngc", "percent.txt", &["--block-delete"]),
     ("mill.ngc", "mill.txt", &["--settings", "mill.toml"]),
 ];

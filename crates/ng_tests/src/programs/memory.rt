@@ -4,19 +4,40 @@ use linked_list_allocator::LocalHeap;
 use ng_block::{DryFault, Ended, put_canon};
 use ng_canon::{Canon, Command};
 use ng_num::Point;
+use std::alloc::Global;
 use std::io;
-use std::io::Write;
+use std::io::{ErrorKind, Write};
 use std::test::Fail;
 
-/// A writer that counts what it takes.
+/// A writer that counts what it takes, and fails once it has taken so many bytes.
 #[derive(Drop)]
 struct Counted {
     bytes: usize,
+    lines: usize,
+    at_most: usize,
+}
+
+impl Counted {
+    fn new(at_most: usize) -> Counted {
+        Counted {
+            bytes: 0,
+            lines: 0,
+            at_most,
+        }
+    }
 }
 
 impl Write for Counted {
     fn write(&mut self, buf: &[u8]) -> io::Result<usize> {
+        if self.bytes >= self.at_most {
+            return Err(io::Error::from(ErrorKind::Other));
+        }
         self.bytes = self.bytes.saturating_add(buf.len());
+        for byte in buf {
+            if *byte == b'\n' {
+                self.lines = self.lines.saturating_add(1);
+            }
+        }
         Ok(buf.len())
     }
 
@@ -48,11 +69,63 @@ fn runs_in_flat_memory_and_writes_a_beginning_without_it(rt: HostRuntime) -> Res
     assert!(rt; whole > 3 && cut > 3);
     let heap = LocalHeap::new(rt.alloc(), 40_000)?;
     let mut text = Vec::new(&heap);
-    let mut writer = Counted { bytes: 0 };
+    let mut writer = Counted::new(usize::MAX);
     let traverse = Canon::Command(Command::Traverse(Point::zero()));
     for n in 0..1_000_000 {
         assert!(rt; put_canon(&mut text, &mut writer, &traverse).is_ok(), "{n}");
     }
     assert_eq!(rt; writer.bytes.saturating_add(text.len()), 48_000_000);
+    Ok(())
+}
+
+/// The lines that a dry run writes in a heap of so many bytes, until so many bytes are taken, and how it ends.
+fn lines_in(
+    alloc: Global,
+    size: usize,
+    program: &str,
+    at_most: usize,
+) -> Result<(usize, Result<Ended, DryFault>), Fail> {
+    let heap = LocalHeap::new(alloc, size)?;
+    let mut reader = program.as_bytes();
+    let mut writer = Counted::new(at_most);
+    let ended = dry_run(&heap, &mut reader, &mut writer, false);
+    Ok((writer.lines, ended))
+}
+
+/// A thousand traverses: enough that the text that waits is written in between.
+fn traverses(alloc: Global) -> Result<String<Global>, Fail> {
+    let mut program = String::new(alloc);
+    for _ in 0..1_000 {
+        program.push_str("G0 X1\n")?;
+    }
+    program.push_str("M2")?;
+    Ok(program)
+}
+
+/// The bytes of a heap in which each of these programs runs.
+const HEAP: usize = 131_072;
+
+/// 10,000 pecks, which are 30,000 segments.
+const PECKS: &str = "G83 X0 Z-1000 R0 Q0.1 F100\nM2";
+
+/// 9,999,999 holes of 10,000,000 pecks each: nobody walks them to their end.
+const ENDLESS: &str = "G91 G83 X0.0001 Z-1000 R0 Q0.0001 L9999999 F100\nM2";
+
+#[test]
+fn cycles_run_in_flat_memory_and_begin_at_once(rt: HostRuntime) -> Result<(), Fail> {
+    let (_, ended) = lines_in(
+        rt.alloc(),
+        HEAP,
+        traverses(rt.alloc())?.as_str(),
+        usize::MAX,
+    )?;
+    assert!(rt; matches!(ended, Ok(Ended::Done)));
+    let (lines, ended) = lines_in(rt.alloc(), HEAP, PECKS, usize::MAX)?;
+    assert!(rt; matches!(ended, Ok(Ended::Done)));
+    // the feed, the segments, and the six commands of the end
+    assert_eq!(rt; lines, 30_007);
+    let (lines, ended) = lines_in(rt.alloc(), HEAP, ENDLESS, 1_000_000)?;
+    assert!(rt; matches!(ended, Err(DryFault::Writer)));
+    assert!(rt; lines > 10_000);
     Ok(())
 }

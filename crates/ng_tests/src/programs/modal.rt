@@ -95,8 +95,8 @@ const REFUSED: [(&str, &str); 31] = [
     ("G4", "B17 NoDwell"),
     ("G43", "B18 NoH"),
     ("G18 G81 X1", "B19 CyclePlane"),
-    // codes that aren't built, behind all of these, and in front of what the block comes to
-    ("G83 X0 Z-2 R1 Q2 L3 F100", "B3 LeftOutCode"),
+    // what the block comes to, behind all of these
+    ("G83 X0 Z-2 R1 L3 F100", "Y7 BadQ"),
     ("G1 X1", "X1 NoFeed"),
     ("G93 G1 X1", "X1 NoFeed"),
     ("G93 G1 X2000 F0", "X1 NoFeed"),

@@ -41,6 +41,11 @@ pub const OFFSETS: Rows = &[
         "USE_TOOL_LENGTH_OFFSET(50.000000)\nSTRAIGHT_TRAVERSE(1.000000, 0.000000, 60.000000)\nUSE_TOOL_LENGTH_OFFSET(0.000000)\nSTRAIGHT_TRAVERSE(1.000000, 0.000000, 10.000000)\nUSE_TOOL_LENGTH_OFFSET(0.000000)\n",
         "REFUSED line 5: X3 NoProgramEnd\n",
     ),
+    (
+        "G43 H1\nG0 Z10",
+        "USE_TOOL_LENGTH_OFFSET(50.000000)\nSTRAIGHT_TRAVERSE(0.000000, 0.000000, 60.000000)\n",
+        "REFUSED line 3: X3 NoProgramEnd\n",
+    ),
     ("G43 H2", "", "REFUSED line 1: B14 BadSlot\n"),
     // G10 of the system in force acts at once, of another one once that is selected
     (

@@ -1,5 +1,6 @@
 //! Programs and what they write.
 use super::arcs::ARCS;
+use super::cycles::CYCLES;
 use super::grammar::{COMMENTS, PERCENTS, VALUES};
 use super::modal::{LASTING, PRINTED};
 use super::offsets::OFFSETS;
@@ -168,6 +169,7 @@ fn programs_write_their_texts(rt: HostRuntime) -> Result<(), Fail> {
         (false, LASTING),
         (false, OFFSETS),
         (false, ARCS),
+        (false, CYCLES),
     ] {
         for (program, text, end) in rows {
             assert!(rt;

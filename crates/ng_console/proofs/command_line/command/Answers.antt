@@ -4,7 +4,7 @@ use Rattle.clap.specs.Words.{App, app_of, new_app, with_subcommand}
 use Rattle.clap.specs.Simple.{app_of_fields}
 use Rattle.clap.specs.declared.builder.command.Command.TheViews.{out-Command}
 use Rattle.clap.proofs.SimpleLemmas.{plain_fields}
-use Rattle.ng_console.specs.Words.{dry_app, only_by_subcommands}
+use Rattle.ng_console.specs.Words.{dry_app, format_app, only_by_subcommands}
 use Rattle.ng_console.proofs.command_line.command.Goals as goal
 
 -- a command with a version has a flag for it
@@ -22,4 +22,8 @@ returns c =
     ∙ ap only_by_subcommands c.new.ensures.app)))) in
     let dry_is : app_of c.in_ok-dry_command.field-0 ≡ dry_app = c.in_ok-dry_command.ensures in
     let local : (out-Command c.in_ok-dry_command.field-0).has_globals ≡ false = (plain_fields c.in_ok-dry_command.field-0 (ap (λ (a : App). a.top.is_plain) dry_is)).globals in
-    IfOk-weaker c.subcommand.result _ _ (λ r h. h.shape local ∙ ap₂ with_subcommand ngc_is (ap (λ (a : App). a.top) dry_is)) c.subcommand.ensures
+    let with_dry : app_of c.in_ok-subcommand.field-0 ≡ with_subcommand (only_by_subcommands (new_app (codes "ngc"))) dry_app.top =
+    c.in_ok-subcommand.ensures.shape local ∙ ap₂ with_subcommand ngc_is (ap (λ (a : App). a.top) dry_is) in
+    let format_is : app_of c.in_ok-format_command.field-0 ≡ format_app = c.in_ok-format_command.ensures in
+    let format_local : (out-Command c.in_ok-format_command.field-0).has_globals ≡ false = (plain_fields c.in_ok-format_command.field-0 (ap (λ (a : App). a.top.is_plain) format_is)).globals in
+    IfOk-weaker c.subcommand-2.result _ _ (λ r h. h.shape format_local ∙ ap₂ with_subcommand with_dry (ap (λ (a : App). a.top) format_is)) c.subcommand-2.ensures

@@ -23,8 +23,7 @@ returns-in-Some-clause-made c =
     let s = c.args.setting.now in
     let l = c.args.lengths.now in
     record {
-      some = c.args.words.now.some;
-      few = c.args.words.now.few;
+      some = c.requires.some;
       x = c.requires.x;
       y = c.requires.y;
       deep = c.in-Ok.ensures.deep;

@@ -1,0 +1,135 @@
+-- G81 to G89: the canned cycle that a line asks for, and the words that it keeps (NISTIR 6556, 3.5.16).
+use Rattle.std.specs.Prelude.{ℤ, Bool, true, false, ◌||◌, Option, Some, None, unwrap_or, Result, Ok, if◌then◌else◌}
+use Rattle.std.specs.Option.{is_some}
+use Rattle.ng_num.specs.Results.{and_then}
+use Rattle.ng_num.specs.declared.fault.Fault.{Fault}
+use Rattle.ng_canon.specs.declared.geometry.Geometry.{Geometry}
+use Rattle.ng_canon.specs.declared.outputs.Outputs.{Outputs}
+use Rattle.ng_modal.specs.Accepted.{repeats_on}
+use Rattle.ng_modal.specs.declared.block.Block.{Block}
+use Rattle.ng_modal.specs.declared.modes.Modes.{Modes}
+use Rattle.ng_modal.specs.declared.modes.Motion.{Motion}
+use Rattle.ng_modal.specs.declared.modes.Motion.TheVariants as motion
+use Rattle.ng_modal.specs.declared.modes.Distance.{Distance}
+use Rattle.ng_modal.specs.declared.modes.Distance.TheVariants.{Absolute, Incremental}
+use Rattle.ng_modal.specs.declared.modes.Retract.{Retract}
+use Rattle.ng_modal.specs.declared.modes.Retract.TheVariants.{OldZ, ToR}
+use Rattle.ng_offsets.specs.Named.{length_by}
+use Rattle.ng_offsets.specs.declared.offsets.Offsets.{Offsets}
+use Rattle.ng_cycles.specs.Faults.{canned_of}
+use Rattle.ng_cycles.specs.Words.{no_words, in_force}
+use Rattle.ng_cycles.specs.declared.words.CycleWords.{CycleWords}
+use Rattle.ng_cycles.specs.declared.words.KeptWords.{KeptWords}
+use Rattle.ng_cycles.specs.declared.words.Kind.{Kind}
+use Rattle.ng_cycles.specs.declared.words.Kind.TheVariants.{Drilling, DrillingWithDwell, PeckDrilling, Boring, BoringWithStop, BoringWithDwell}
+use Rattle.ng_cycles.specs.declared.words.Setting.{Setting}
+use Rattle.ng_block.specs.declared.machine.Machine.{Machine}
+use Rattle.ng_block.specs.declared.path.Path.{Path}
+use Rattle.ng_block.specs.declared.path.Path.TheVariants.{Still, Cycle}
+use Rattle.ng_block.specs.AxisData.{unit_after, named_on}
+use Rattle.ng_block.specs.Blocks.{feed_mode_after, is_inverse}
+use Rattle.ng_block.specs.Ends.{ends}
+use Rattle.ng_block.specs.Order.{outputs_behind}
+use Rattle.ng_block.specs.Steps.{before_motion}
+use Rattle.ng_block.specs.Tasks.{tasks_of}
+
+-- the kind of cycle that a motion is; none where it is no cycle
+abbrev pub kind_of : Option Motion → Option Kind
+kind_of (Some motion.Drilling) = Some Drilling
+kind_of (Some motion.DrillingWithDwell) = Some DrillingWithDwell
+kind_of (Some motion.PeckDrilling) = Some PeckDrilling
+kind_of (Some motion.Boring) = Some Boring
+kind_of (Some motion.BoringWithStop) = Some BoringWithStop
+kind_of (Some motion.BoringWithDwell) = Some BoringWithDwell
+kind_of _ = None
+
+abbrev pub is_same : Kind → Kind → Bool
+is_same Drilling Drilling = true
+is_same DrillingWithDwell DrillingWithDwell = true
+is_same PeckDrilling PeckDrilling = true
+is_same Boring Boring = true
+is_same BoringWithStop BoringWithStop = true
+is_same BoringWithDwell BoringWithDwell = true
+is_same _ _ = false
+
+-- ---- the words
+
+-- R, Z, P and Q of the line: lengths in the unit after it, and a time
+abbrev pub own_words : Block → Modes → Result KeptWords Fault
+own_words b m =
+    and_then (length_by b.values.r (unit_after b m)) (λ r.
+    and_then (length_by b.values.z (unit_after b m)) (λ z.
+    and_then (length_by b.values.q (unit_after b m)) (λ q.
+    Ok (record { r = r; z = z; p = b.values.p; q = q }))))
+
+-- the words that were kept for a cycle: none where the motion mode before the line is another
+abbrev pub kept_by : Kind → Option Kind → KeptWords → KeptWords
+kept_by kind None kept = no_words
+kept_by kind (Some before) kept = if is_same kind before then kept else no_words
+
+abbrev pub kept_for : Kind → Machine → KeptWords
+kept_for kind m = kept_by kind (kind_of (Some m.modes.motion)) m.kept
+
+-- another motion, G80 and the program's end drop the words that were kept
+abbrev pub kept_beside : Block → Machine → KeptWords
+kept_beside b m = if is_some b.g.motion || ends b.m.stop then no_words else m.kept
+
+-- a cycle keeps its own words, and those that were kept for it where the line has none
+abbrev pub kept_in : Kind → Block → Machine → Result KeptWords Fault
+kept_in kind b m = and_then (own_words b m.modes) (λ own. Ok (if ends b.m.stop then no_words else in_force own (kept_for kind m)))
+
+-- the words kept after the line
+abbrev pub kept_where : Option Kind → Block → Machine → Result KeptWords Fault
+kept_where None b m = Ok (kept_beside b m)
+kept_where (Some kind) b m = kept_in kind b m
+
+abbrev pub kept_of : Block → Machine → Result KeptWords Fault
+kept_of b m = kept_where (kind_of b.motion) b m
+
+-- ---- the cycle
+
+abbrev pub cycle_words : Block → Modes → Kind → KeptWords → Result CycleWords Fault
+cycle_words b m kind own =
+    and_then (named_on b m) (λ named.
+    Ok (record { kind = kind; x = named.x; y = named.y; own = own; repeats = repeats_on b.values.l }))
+
+abbrev pub is_incremental : Distance → Bool
+is_incremental Absolute = false
+is_incremental Incremental = true
+
+abbrev pub is_old_z : Retract → Bool
+is_old_z OldZ = true
+is_old_z ToR = false
+
+-- the outputs that the motion meets: behind the line's spindle, tool and coolant words
+abbrev pub outputs_at_motion : Block → Machine → Outputs
+outputs_at_motion b m = outputs_behind (tasks_of b (feed_mode_after b m.modes) m.outputs) m.outputs before_motion
+
+-- what the cycle meets: the offsets, the feed, the modes and the outputs after the line's other words
+abbrev pub setting_of : Block → Machine → Offsets → ℤ → KeptWords → Setting
+setting_of b m o feed kept = record {
+  point = m.point;
+  offsets = o;
+  is_incremental = is_incremental (unwrap_or b.g.distance m.modes.distance);
+  keeps_old_z = is_old_z (unwrap_or b.g.retract m.modes.retract);
+  is_inverse_time = is_inverse (feed_mode_after b m.modes);
+  feed_per_min = feed;
+  outputs = outputs_at_motion b m;
+  kept = kept;
+}
+
+-- the cycle; or that a computed length is beyond the range, or else the first of Y1 to Y8, X1 and X2
+abbrev pub cycle_of : Block → Machine → Offsets → ℤ → Geometry → Kind → Result Path Fault
+cycle_of b m o feed geometry kind =
+    and_then (own_words b m.modes) (λ own.
+    and_then (cycle_words b m.modes kind own) (λ words.
+    and_then (canned_of words (setting_of b m o feed (kept_for kind m)) geometry) (λ drill.
+    Ok (Cycle drill))))
+
+-- the same of a line's motion; still where it is no cycle
+abbrev pub cycle_where : Option Kind → Block → Machine → Offsets → ℤ → Geometry → Result Path Fault
+cycle_where None b m o feed geometry = Ok Still
+cycle_where (Some kind) b m o feed geometry = cycle_of b m o feed geometry kind
+
+unfoldable pub way_of_cycle : Block → Machine → Offsets → ℤ → Geometry → Result Path Fault
+way_of_cycle b m o feed geometry = cycle_where (kind_of b.motion) b m o feed geometry

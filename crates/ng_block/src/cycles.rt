@@ -1,0 +1,209 @@
+//! G81 to G89: the canned cycle that a line asks for, and the words that it keeps (NISTIR 6556, 3.5.16).
+ghost use Rattle.std.specs.Prelude.{◌≡◌, ◌≤◌, IfOk};
+ghost use Rattle.ng_offsets.specs.Named.{length_by};
+ghost use Rattle.ng_block.specs.Cycles.{kind_of, is_same, own_words, kept_for, kept_beside, kept_in, cycle_words, is_incremental, is_old_z, outputs_at_motion, setting_of, way_of_cycle};
+
+use crate::axis_data::{named_on, unit_after};
+use crate::ends::ends;
+use crate::goal::{feed_mode_after, is_inverse};
+use crate::machine::Machine;
+use crate::path::Path;
+use crate::switches::outputs_before_motion;
+use crate::tasks::Tasks;
+use ng_canon::{Geometry, Outputs};
+use ng_cycles::{Canned, CycleWords, KeptWords, Kind, Setting};
+use ng_modal::{Block, Distance, Modes, Motion, Retract};
+use ng_num::{Fault, Len, Num, Unit, nm_of};
+use ng_offsets::Offsets;
+
+/// The kind of cycle that a motion is; none where it is no cycle.
+#[inline]
+pub fn kind_of(motion: Option<Motion>) -> Option<Kind>
+    ensures { result ≡ kind_of motion }
+{
+    match motion {
+        Some(Motion::Drilling) => Some(Kind::Drilling),
+        Some(Motion::DrillingWithDwell) => Some(Kind::DrillingWithDwell),
+        Some(Motion::PeckDrilling) => Some(Kind::PeckDrilling),
+        Some(Motion::Boring) => Some(Kind::Boring),
+        Some(Motion::BoringWithStop) => Some(Kind::BoringWithStop),
+        Some(Motion::BoringWithDwell) => Some(Kind::BoringWithDwell),
+        _ => None,
+    }
+}
+
+fn is_same(one: Kind, other: Kind) -> bool
+    ensures { result ≡ is_same one other }
+{
+    match (one, other) {
+        (Kind::Drilling, Kind::Drilling)
+        | (Kind::DrillingWithDwell, Kind::DrillingWithDwell)
+        | (Kind::PeckDrilling, Kind::PeckDrilling)
+        | (Kind::Boring, Kind::Boring)
+        | (Kind::BoringWithStop, Kind::BoringWithStop)
+        | (Kind::BoringWithDwell, Kind::BoringWithDwell) => true,
+        _ => false,
+    }
+}
+
+/// The length that a word names in a unit, where there is a word.
+fn length_by(word: Option<Num>, unit: Unit) -> Result<Option<Len>, Fault>
+    ensures { result ≡ length_by word unit }
+{
+    match word {
+        None => Ok(None),
+        Some(number) => Ok(Some(nm_of(number, unit)?)),
+    }
+}
+
+/// R, Z, P and Q of a line: lengths in the unit after it, and a time.
+fn own_words(block: &Block, modes: &Modes) -> Result<KeptWords, Fault>
+    ensures { result ≡ own_words block.now modes.now }
+{
+    let values = &block.values;
+    let unit = unit_after(block, modes);
+    let r = length_by(values.r, unit)?;
+    let z = length_by(values.z, unit)?;
+    let q = length_by(values.q, unit)?;
+    Ok(KeptWords {
+        r,
+        z,
+        p: values.p,
+        q,
+    })
+}
+
+/// The words that were kept for a cycle: none where the motion mode before the line is another.
+fn kept_for(kind: Kind, machine: &Machine) -> KeptWords
+    ensures { result ≡ kept_for kind machine.now }
+{
+    match kind_of(Some(machine.modes.motion)) {
+        None => KeptWords::none(),
+        Some(before) => if is_same(kind, before) {
+            machine.kept
+        } else {
+            KeptWords::none()
+        },
+    }
+}
+
+/// The words kept after a line that has no cycle: another motion, G80 and the program's end drop those that were kept.
+#[inline]
+pub fn kept_beside(block: &Block, machine: &Machine) -> KeptWords
+    ensures { result ≡ kept_beside block.now machine.now }
+{
+    if block.g.motion.is_some() || ends(block.m.stop) {
+        KeptWords::none()
+    } else {
+        machine.kept
+    }
+}
+
+/// The words kept after a cycle's line: its own, and those that were kept for it where the line has none; the program's end drops
+/// them. E3 where a length of its own is beyond the range.
+#[inline(never)]
+pub fn kept_in(kind: Kind, block: &Block, machine: &Machine) -> Result<KeptWords, Fault>
+    ensures { result ≡ kept_in kind block.now machine.now }
+{
+    let own = own_words(block, &machine.modes)?;
+    if ends(block.m.stop) {
+        Ok(KeptWords::none())
+    } else {
+        Ok(own.over(&kept_for(kind, machine)))
+    }
+}
+
+/// What a line asks of a cycle.
+fn cycle_words(
+    block: &Block,
+    modes: &Modes,
+    kind: Kind,
+    own: KeptWords,
+) -> Result<CycleWords, Fault>
+    ensures words { result ≡ cycle_words block.now modes.now kind own }
+    ensures some { IfOk result (λ words. 1 ≤ words.repeats) }
+{
+    let named = named_on(block, modes)?;
+    Ok(CycleWords {
+        kind,
+        x: named.x,
+        y: named.y,
+        own,
+        repeats: block.repeats(),
+    })
+}
+
+fn is_incremental(distance: Distance) -> bool
+    ensures { result ≡ is_incremental distance }
+{
+    match distance {
+        Distance::Absolute => false,
+        Distance::Incremental => true,
+    }
+}
+
+fn is_old_z(retract: Retract) -> bool
+    ensures { result ≡ is_old_z retract }
+{
+    match retract {
+        Retract::OldZ => true,
+        Retract::ToR => false,
+    }
+}
+
+/// The outputs that a line's motion meets: behind its spindle, tool and coolant words.
+fn outputs_at_motion(block: &Block, machine: &Machine) -> Outputs
+    ensures { result ≡ outputs_at_motion block.now machine.now }
+{
+    let mode = feed_mode_after(block, &machine.modes);
+    let tasks = Tasks::of(block, mode, &machine.outputs);
+    outputs_before_motion(&tasks, machine.outputs)
+}
+
+/// What a cycle meets: the offsets, the feed, the modes and the outputs after the line's other words.
+fn setting_of(
+    block: &Block,
+    machine: &Machine,
+    offsets: &Offsets,
+    feed_per_min: Len,
+    kept: KeptWords,
+) -> Setting
+    ensures { result ≡ setting_of block.now machine.now offsets.now feed_per_min kept }
+{
+    let modes = &machine.modes;
+    Setting {
+        point: machine.point,
+        offsets: *offsets,
+        is_incremental: is_incremental(block.g.distance.unwrap_or(modes.distance)),
+        keeps_old_z: is_old_z(block.g.retract.unwrap_or(modes.retract)),
+        is_inverse_time: is_inverse(feed_mode_after(block, modes)),
+        feed_per_min,
+        outputs: outputs_at_motion(block, machine),
+        kept,
+    }
+}
+
+/// The canned cycle of a line's motion under offsets, with the feed after the line; still, where it is no cycle. E3 where a length
+/// that it computes is beyond the range, else the first of Y1 to Y8, X1 and X2: the extreme coordinates decide it, and neither
+/// repeats nor pecks are walked.
+#[inline(never)]
+#[tactic(auto, unfolding(crate::specs::Cycles::way_of_cycle))]
+pub fn way_of_cycle(
+    block: &Block,
+    machine: &Machine,
+    offsets: &Offsets,
+    feed_per_min: Len,
+    geometry: &Geometry,
+) -> Result<Path, Fault>
+    ensures { result ≡ way_of_cycle block.now machine.now offsets.now feed_per_min geometry.now }
+{
+    let Some(kind) = kind_of(block.motion) else {
+        return Ok(Path::Still);
+    };
+    let own = own_words(block, &machine.modes)?;
+    let words = cycle_words(block, &machine.modes, kind, own)?;
+    let kept = kept_for(kind, machine);
+    let setting = setting_of(block, machine, offsets, feed_per_min, kept);
+    let canned = Canned::of(&words, &setting, geometry)?;
+    Ok(Path::Cycle(canned))
+}

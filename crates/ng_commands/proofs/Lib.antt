@@ -1,0 +1,3 @@
+pub mod Written
+pub mod Fixed
+pub mod Blanks

@@ -1,0 +1,27 @@
+/// The most bytes of a command's line, without its end.
+pub const LONGEST: usize = 300;
+
+/// What a line of the console asks for (own).
+#[derive(Clone, Copy, Debug, PartialEq, Eq)]
+pub enum Command<'a> {
+    /// `load N`: a program of so many bytes, which follow the line; below 10,000,000.
+    Load(u32),
+    /// `start`
+    Start,
+    /// `hold`
+    Hold,
+    /// `continue`
+    Continue,
+    /// `mdi LINE`: a line of the language, the bytes behind the blank.
+    Mdi(&'a [u8]),
+    /// `optional on`, `optional off`
+    OptionalStop(bool),
+    /// `delete on`, `delete off`
+    BlockDelete(bool),
+    /// `tick N`: up to so many ticks, 1 to 1,000,000.
+    Tick(u32),
+    /// `status`
+    Status,
+    /// `quit`
+    Quit,
+}

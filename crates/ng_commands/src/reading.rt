@@ -1,0 +1,109 @@
+//! Commands read from lines.
+ghost use Rattle.std.specs.Prelude.{◌≡◌, ◌≤◌, ◌<◌, ℕ, MatchOption, length};
+ghost use Rattle.ng_commands.specs.Commands.{Asks, IsCommand, IsNoCommand, IsNoSwitch, IsPlain, Writes};
+ghost use Rattle.ng_commands.specs.declared.asked.Command.{Command};
+
+use crate::asked::{Command, LONGEST};
+use crate::digits::whole;
+use crate::words::{behind, is};
+
+/// The most digits of a program's length, and the greatest number of so many.
+const LENGTH_DIGITS: usize = 7;
+
+const GREATEST_LENGTH: u32 = 9_999_999;
+
+/// The most ticks of one command.
+const MOST_TICKS: u32 = 1_000_000;
+
+/// What a line asks for, without its end; none where it is no command. It is read as it stands: a carriage return belongs
+/// to it. Source: own.
+#[tactic(auto, using(crate::proofs::Fixed::not_loaded, crate::proofs::Fixed::not_ticked, crate::proofs::Fixed::not_asked))]
+pub fn command_of(line: &[u8]) -> Option<Command<'_>>
+    ensures { MatchOption result (IsNoCommand line.now) (IsCommand line.now) }
+{
+    if line.len() > LONGEST {
+        return None;
+    }
+    if let Some(text) = behind(line, b"mdi ") {
+        return Some(Command::Mdi(text));
+    }
+    if let Some(digits) = behind(line, b"load ") {
+        return match loading(digits) {
+            Some(length) => Some(Command::Load(length)),
+            None => None,
+        };
+    }
+    if let Some(digits) = behind(line, b"tick ") {
+        return match ticks(digits) {
+            Some(ticks) => Some(Command::Tick(ticks)),
+            None => None,
+        };
+    }
+    plain(line)
+}
+
+/// The length of a program, by its digits.
+#[tactic(auto, using(crate::proofs::Written::no_length))]
+fn loading(digits: &[u8]) -> Option<u32>
+    ensures { MatchOption result ((n : ℕ) → Writes digits.now n → length digits.now ≤ 7 → ⊥) (λ n. Writes digits.now n × (length digits.now ≤ 7)) }
+{
+    if digits.len() > LENGTH_DIGITS {
+        return None;
+    }
+    match whole(digits, GREATEST_LENGTH) {
+        Some(length) => Some(length),
+        None => None,
+    }
+}
+
+/// The number of ticks, by its digits.
+fn ticks(digits: &[u8]) -> Option<u32>
+    ensures { MatchOption result ((n : ℕ) → Writes digits.now n → 1 ≤ n → n ≤ 1_000_000 → ⊥) (λ n. Writes digits.now n × (1 ≤ n) × (n ≤ 1_000_000)) }
+{
+    match whole(digits, MOST_TICKS) {
+        None | Some(0) => None,
+        Some(ticks) => Some(ticks),
+    }
+}
+
+/// The command of these words, where they are fixed.
+#[tactic(auto, using(crate::proofs::Fixed::plain_of))]
+fn plain(line: &[u8]) -> Option<Command<'static>>
+    ensures { MatchOption result ((c : Command) → IsPlain c → Asks line.now c → ⊥) (λ c. Asks line.now c) }
+{
+    if is(line, b"start") {
+        return Some(Command::Start);
+    }
+    if is(line, b"hold") {
+        return Some(Command::Hold);
+    }
+    if is(line, b"continue") {
+        return Some(Command::Continue);
+    }
+    if is(line, b"status") {
+        return Some(Command::Status);
+    }
+    if is(line, b"quit") {
+        return Some(Command::Quit);
+    }
+    switch(line)
+}
+
+/// The switch of these words.
+fn switch(line: &[u8]) -> Option<Command<'static>>
+    ensures { MatchOption result (IsNoSwitch line.now) (Asks line.now) }
+{
+    if is(line, b"optional on") {
+        return Some(Command::OptionalStop(true));
+    }
+    if is(line, b"optional off") {
+        return Some(Command::OptionalStop(false));
+    }
+    if is(line, b"delete on") {
+        return Some(Command::BlockDelete(true));
+    }
+    if is(line, b"delete off") {
+        return Some(Command::BlockDelete(false));
+    }
+    None
+}

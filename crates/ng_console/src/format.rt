@@ -1,0 +1,66 @@
+//! The job `format`: a device is made fresh.
+ghost use Rattle.std.specs.Prelude.{IfOk, ◌≤◌};
+ghost use Rattle.ng_console.specs.Formatting.{FormatsDevice, FormatsOpened, FormatsRig};
+
+use crate::program::{BROKEN, DONE, refuse};
+use ng_file::{FileRig, NoDevice, Storage};
+use ng_journal::format;
+use ng_num::Fault;
+use ng_rig::Rig;
+use std::alloc::Global;
+use std::io;
+use std::io::Write;
+
+/// Makes the device in a file that was opened fresh, and gives the exit status: 0 where that is done. Where the file couldn't be
+/// opened nothing is written; where it can't be used, is too short or fails, the line of the fault is. The error is that of
+/// the writer.
+pub(crate) fn format_opened<S: Storage + Drop, W: Write>(
+    alloc: Global,
+    opened: Result<S, NoDevice>,
+    writer: &mut W,
+) -> io::Result<u8>
+    ensures run { IfOk result (FormatsOpened opened (W.contents writer.old) (W.contents writer.new)) }
+    ensures range { IfOk result (λ status. status ≤ 2) }
+{
+    match opened {
+        Ok(file) => format_storage(alloc, file, writer),
+        Err(NoDevice::Unopened) => Ok(BROKEN),
+        Err(NoDevice::Unusable) => {
+            refuse(writer, Fault::DeviceFailed)?;
+            Ok(BROKEN)
+        }
+    }
+}
+
+/// Makes the device over these bytes fresh.
+fn format_storage<S: Storage + Drop, W: Write>(
+    alloc: Global,
+    file: S,
+    writer: &mut W,
+) -> io::Result<u8>
+    ensures run { IfOk result (FormatsDevice (W.contents writer.old) (W.contents writer.new)) }
+    ensures range { IfOk result (λ status. status ≤ 2) }
+{
+    match FileRig::over(alloc, file, io::sink()) {
+        Ok(mut rig) => format_rig(&mut rig, writer),
+        Err(_) => {
+            refuse(writer, Fault::DeviceFailed)?;
+            Ok(BROKEN)
+        }
+    }
+}
+
+/// Makes a device fresh, and gives the exit status: 0 where that is done, else 2, and the line of the fault is written. The
+/// error is that of the writer.
+pub fn format_rig<R: Rig, W: Write>(rig: &mut R, writer: &mut W) -> io::Result<u8>
+    ensures range { IfOk result (λ status. status ≤ 2) }
+    ensures run { IfOk result (FormatsRig R.sectors R.failed R.honest R.life rig.old rig.new (W.contents writer.old) (W.contents writer.new)) }
+{
+    match format(rig) {
+        Ok(()) => Ok(DONE),
+        Err(fault) => {
+            refuse(writer, fault)?;
+            Ok(BROKEN)
+        }
+    }
+}

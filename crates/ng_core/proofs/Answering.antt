@@ -1,0 +1,73 @@
+-- The other events, by what their calls promise.
+use Rattle.std.proofs.Common.{◌≡◌, ◌⊎◌, ◌↔◌, inl, inr, ℕ, ◌<◌, ◌≤◌, List, length, Option, Some, None, Result, Ok, Err, refl, sym, ◌∙◌, ap, subst, arith}
+use Rattle.std.specs.Prelude.{IsErrOf}
+use Rattle.ng_num.specs.declared.fault.Fault.{Fault}
+use Rattle.ng_num.specs.declared.fault.Fault.TheVariants.{DeviceFailed, CountersUsed, ProgramTooLong}
+use Rattle.ng_rig.specs.Life.{Life}
+use Rattle.ng_rig.specs.Calls.{Promises}
+use Rattle.ng_rig.proofs.Promise.{meaning}
+use Rattle.ng_layout.specs.Stored.{Saved, Standing}
+use Rattle.ng_journal.specs.Journal.{Logbook, RestsAt, Moves}
+use Rattle.ng_session.specs.Entries.{after_load}
+use Rattle.ng_session.specs.Session.{refuses, load, load_unless, load_refusal, loaded, step, IsQuiet}
+use Rattle.ng_session.specs.declared.event.Event.{Event}
+use Rattle.ng_session.specs.declared.reply.Reply.{Reply}
+use Rattle.ng_session.specs.declared.reply.Reply.TheVariants as reply
+use Rattle.ng_core.specs.Station.{Station, standing_of}
+use Rattle.ng_core.specs.Acts.{Does}
+use Rattle.ng_core.proofs.Quiet.{still, still_step}
+use Rattle.ng_core.proofs.Doing.{does_still, does_moved, does_unmoved, Storing}
+use Rattle.ng_core.proofs.Ticks.{does_on}
+
+pub does_answer : {A R : Type 0} (honest : R → Type 0) (life : R → Life) (event : Event A) (r : Reply) (old new : Station R)
+    → IsQuiet event → new.journal ≡ old.journal
+    → ((program : List ℕ) → r ≡ (step old.equipment program old.session event).reply) → ((program : List ℕ) → new.session ≡ (step old.equipment program old.session event).next)
+    → Does honest life (Ok r) (λ program. step old.equipment program old.session event) old new
+does_answer honest life event r old new quiet same replied next =
+    does_still honest life r (λ program. step old.equipment program old.session event) old new (λ program. still_step old.equipment program old.session event quiet) same replied next
+
+-- ---- a program
+
+pub does_refuse : {R : Type 0} (honest : R → Type 0) (life : R → Life) (fault : Fault) (text : List ℕ) (c : Station R)
+    → load_refusal c.session text ≡ Some fault → Does honest life (Ok (reply.Refused fault)) (λ program. load program c.session text) c c
+does_refuse honest life fault text c is =
+    does_on honest life (Ok (reply.Refused fault)) (λ program. refuses program fault c.session) _ c c c refl (λ program. sym (ap (λ (o : Option Fault). load_unless program c.session text o) is))
+    (does_still honest life (reply.Refused fault) (λ program. refuses program fault c.session) c c (λ program. still refl refl refl) refl (λ program. refl) (λ program. refl))
+
+-- what `load_program` promises
+abbrev pub StoresProgram : {R T : Type 0} → (R → Type 0) → (R → Life) → Result T Fault → Saved → List ℕ → Logbook R → Logbook R → Type 0
+StoresProgram honest life result saved text old new =
+    Promises (honest old.rig) (honest new.rig) ((before : Standing) → RestsAt (life old.rig) old before
+    → Moves result new before (record { saved = saved; program = text }) (life old.rig) (life new.rig))
+
+storing_program : {R T : Type 0} (honest : R → Type 0) (life : R → Life) (result : Result T Fault) (saved : Saved) (text : List ℕ) (old : Station R) (journal : Logbook R)
+    → saved ≡ after_load old.session.stored (length text) → StoresProgram honest life result saved text old.journal journal
+    → Storing honest life result (λ program. load_unless program old.session text None) old journal
+storing_program honest life result saved text old journal is p =
+    meaning p (λ f program rests.
+    subst (λ (x : Saved). Moves result journal (standing_of program old.session) (record { saved = x; program = text }) (life old.journal.rig) (life journal.rig)) is
+    (f (standing_of program old.session) rests))
+
+pub does_load : {R T : Type 0} (honest : R → Type 0) (life : R → Life) (v : T) (r : Reply) (saved : Saved) (text : List ℕ) (old new : Station R)
+    → load_refusal old.session text ≡ None → saved ≡ after_load old.session.stored (length text) → r ≡ reply.Done saved.entries → new.session ≡ loaded old.session saved
+    → StoresProgram honest life (Ok v) saved text old.journal new.journal
+    → Does honest life (Ok r) (λ program. load program old.session text) old new
+does_load honest life v r saved text old new free is replied next p =
+    does_on honest life (Ok r) (λ program. load_unless program old.session text None) _ old old new refl (λ program. sym (ap (λ (o : Option Fault). load_unless program old.session text o) free))
+    (does_moved honest life r v (λ program. load_unless program old.session text None) old new (storing_program honest life (Ok v) saved text old new.journal is p)
+    (λ program. replied ∙ ap (λ (x : Saved). reply.Done x.entries) is) (λ program. next ∙ ap (λ (x : Saved). loaded old.session x) is) (λ program. refl))
+
+pub does_not_load : {R T : Type 0} (honest : R → Type 0) (life : R → Life) (fault e : Fault) (saved : Saved) (text : List ℕ) (old new : Station R)
+    → load_refusal old.session text ≡ None → saved ≡ after_load old.session.stored (length text) → new.session ≡ old.session
+    → (fault ≡ CountersUsed) ⊎ (fault ≡ DeviceFailed) → (fault ≡ CountersUsed → new.journal ≡ old.journal)
+    → StoresProgram {T = T} honest life (Err e) saved text old.journal new.journal
+    → Does honest life (Err fault) (λ program. load program old.session text) old new
+does_not_load {R} {T} honest life fault e saved text old new free is same which unchanged p =
+    does_on honest life (Err fault) (λ program. load_unless program old.session text None) _ old old new refl (λ program. sym (ap (λ (o : Option Fault). load_unless program old.session text o) free))
+    (does_unmoved {T = T} honest life fault e (λ program. load_unless program old.session text None) old new (storing_program {T = T} honest life (Err e) saved text old new.journal is p) which unchanged same (λ program. refl))
+
+-- a program that isn't too long isn't refused as too long
+pub not_too_long : (T : Type 0) (e : Fault) (n : ℕ) → n ≤ 131072 → (e ≡ ProgramTooLong) ⊎ ((e ≡ CountersUsed) ⊎ (e ≡ DeviceFailed))
+    → (let answered : Result T Fault = Err e in IsErrOf answered ProgramTooLong ↔ (131072 < n)) → (e ≡ CountersUsed) ⊎ (e ≡ DeviceFailed)
+not_too_long T e n small (inl long) iff = absurd (omega (arith, small, iff.0 (λ i. Err (long i))))
+not_too_long T e n small (inr which) iff = which

@@ -1,0 +1,98 @@
+-- What a Tick chooses is what it does.
+use Rattle.std.proofs.Common.{◌≡◌, ℕ, true, false, List, Option, Some, None, Result, Ok, Err, refl, sym, ◌∙◌, ap, subst}
+use Rattle.std.specs.Option.{is_some}
+use Rattle.std.specs.Prelude.{IfErr, MatchOption}
+use Rattle.ng_num.specs.declared.fault.Fault.{Fault}
+use Rattle.ng_num.specs.declared.fault.Fault.TheVariants.{DeviceFailed}
+use Rattle.ng_canon.specs.declared.item.Item.{Item}
+use Rattle.ng_rig.specs.Life.{Life}
+use Rattle.ng_rig.proofs.Promise.{meaning}
+use Rattle.ng_layout.specs.Programs.{line_at}
+use Rattle.ng_layout.specs.Stored.{HalfDone}
+use Rattle.ng_session.specs.Entries.{Equipment}
+use Rattle.ng_session.specs.Session.{Underway, Sitting, Outcome, tick, open_next, end, begin, item_of, handed, opening_of, is_running}
+use Rattle.ng_session.specs.declared.reply.Reply.{Reply}
+use Rattle.ng_core.specs.Station.{Station}
+use Rattle.ng_core.specs.Acts.{Acts, Does}
+use Rattle.ng_core.proofs.Ticks.{does_on, moving, tick_item, tick_none, opening}
+
+-- the same controller with this session
+abbrev pub with_session : {R : Type 0} → Station R → Sitting → Station R
+with_session c s = record { journal = c.journal; session = s; equipment = c.equipment }
+
+-- what is so of a controller is so of an equal one
+pub does_as : {R : Type 0} (honest : R → Type 0) (life : R → Life) (answer : Result Reply Fault) (out : Station R → List ℕ → Outcome) (old mid new : Station R)
+    → mid ≡ old → Does honest life answer (out mid) mid new → Does honest life answer (out old) old new
+does_as honest life answer out old mid new same does = subst (λ (c : Station _). Does honest life answer (out c) c new) same does
+
+-- ---- an item
+
+-- what became of the item counts as what became of the Tick: the session took it before, and shows the same
+acts_before : {R : Type 0} (answer : Result Reply Fault) (out : Outcome) (program : List ℕ) (old new : Station R) (lived living : Life)
+    → IfErr answer (λ e. e ≡ DeviceFailed) → Acts answer out program (with_session old (handed old.session)) new lived living → Acts answer out program old new lived living
+acts_before (Ok r) out program old new lived living errors acts = record { comes = acts.comes; stops = acts.stops; leaves = acts.leaves }
+acts_before {R} (Err fault) out program old new lived living errors acts =
+    let Goal : Fault → Type 0 = λ f. Acts (Err f) out program (with_session old (handed old.session)) new lived living → Acts (Err f) out program old new lived living in
+    let lost : Goal DeviceFailed = λ z. record { comes = z.comes; stops = z.stops; leaves = z.leaves } in
+    let goal : Goal fault = subst Goal (sym errors) lost in
+    goal acts
+
+does_before : {R : Type 0} (honest : R → Type 0) (life : R → Life) (answer : Result Reply Fault) (out : List ℕ → Outcome) (old new : Station R)
+    → IfErr answer (λ e. e ≡ DeviceFailed) → Does honest life answer out (with_session old (handed old.session)) new → Does honest life answer out old new
+does_before honest life answer out old new errors does =
+    meaning does (λ f program rests. acts_before answer (out program) program old new (life old.journal.rig) (life new.journal.rig) errors (f program rests))
+
+pub does_item : {R : Type 0} (honest : R → Type 0) (life : R → Life) (answer : Result Reply Fault) (item : Item) (old new : Station R) (taken : Sitting)
+    → old.session.held ≡ false → Some item ≡ item_of old.session.current → taken ≡ handed old.session → IfErr answer (λ e. e ≡ DeviceFailed)
+    → Does honest life answer (λ program. moving item program taken) (with_session old taken) new
+    → Does honest life answer (λ program. tick old.equipment program old.session) old new
+does_item honest life answer item old new taken held is next errors does =
+    does_on honest life answer (λ program. moving item program (handed old.session)) (λ program. tick old.equipment program old.session) old old new refl
+    (λ program. sym (tick_item old.equipment program old.session item held (sym is)))
+    (does_before honest life answer (λ program. moving item program (handed old.session)) old new errors
+    (subst (λ (s : Sitting). Does honest life answer (λ program. moving item program s) (with_session old s) new) next does))
+
+-- ---- none
+
+pub does_further : {R : Type 0} (honest : R → Type 0) (life : R → Life) (answer : Result Reply Fault) (old new : Station R) (left : Sitting)
+    → old.session.held ≡ false → None ≡ item_of old.session.current → left ≡ old.session
+    → Does honest life answer (λ program. open_next old.equipment program left (opening_of left.current)) (with_session old left) new
+    → Does honest life answer (λ program. tick old.equipment program old.session) old new
+does_further honest life answer old new left held none same does =
+    does_on honest life answer (λ program. open_next old.equipment program old.session (opening_of old.session.current)) (λ program. tick old.equipment program old.session) old old new refl
+    (λ program. sym (tick_none old.equipment program old.session held (sym none)))
+    (subst (λ (s : Sitting). Does honest life answer (λ program. open_next old.equipment program s (opening_of s.current)) (with_session old s) new) same does)
+
+-- ---- a segment, or none
+
+pub does_open : {R : Type 0} (honest : R → Type 0) (life : R → Life) (answer : Result Reply Fault) (half : HalfDone) (old new : Station R)
+    → Some half ≡ opening_of old.session.current → Does honest life answer (λ program. opening half program old.equipment old.session) old new
+    → Does honest life answer (λ program. open_next old.equipment program old.session (opening_of old.session.current)) old new
+does_open honest life answer half old new is does =
+    does_on honest life answer (λ program. opening half program old.equipment old.session) _ old old new refl
+    (λ program. ap (λ (o : Option HalfDone). open_next old.equipment program old.session o) is) does
+
+pub does_end : {R : Type 0} (honest : R → Type 0) (life : R → Life) (answer : Result Reply Fault) (old new : Station R)
+    → None ≡ opening_of old.session.current → Does honest life answer (λ program. end old.equipment program old.session old.session.current) old new
+    → Does honest life answer (λ program. open_next old.equipment program old.session (opening_of old.session.current)) old new
+does_end honest life answer old new is does =
+    does_on honest life answer (λ program. end old.equipment program old.session old.session.current) _ old old new refl
+    (λ program. ap (λ (o : Option HalfDone). open_next old.equipment program old.session o) is) does
+
+-- ---- no block, and the program runs
+
+begins_there : (q : Equipment) (P : List ℕ) (s : Sitting) → s.current ≡ None → is_running s.activity ≡ true → end q P s s.current ≡ begin q P s (line_at P s.stored.place)
+begins_there q P s none runs = ap (λ (o : Option Underway). end q P s o) none ∙ rw runs refl
+
+pub does_next_line : {R : Type 0} (honest : R → Type 0) (life : R → Life) (answer : Result Reply Fault) (old new : Station R)
+    → old.session.current ≡ None → is_running old.session.activity ≡ true
+    → Does honest life answer (λ program. begin old.equipment program old.session (line_at program old.session.stored.place)) old new
+    → Does honest life answer (λ program. end old.equipment program old.session old.session.current) old new
+does_next_line honest life answer old new none runs does =
+    does_on honest life answer (λ program. begin old.equipment program old.session (line_at program old.session.stored.place)) _ old old new refl
+    (λ program. sym (begins_there old.equipment program old.session none runs)) does
+
+-- what holds where there is none
+pub by_none : {T P : Type 0} (Q : T → Type 0) (o : Option T) → false ≡ is_some o → MatchOption o P Q → P
+by_none Q None none p = p
+by_none Q (Some x) none q = absurd (let b : false ≡ true = none in cc)

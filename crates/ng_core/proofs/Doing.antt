@@ -1,0 +1,100 @@
+-- The same of an honest device, whatever its program is.
+use Rattle.std.proofs.Common.{◌≡◌, ◌⊎◌, inl, inr, ℕ, List, [], ◌∷◌, Result, Ok, Err, sym, ap, subst}
+use Rattle.ng_num.specs.declared.fault.Fault.{Fault}
+use Rattle.ng_num.specs.declared.fault.Fault.TheVariants.{DeviceFailed, CountersUsed, OutOfMemory}
+use Rattle.ng_canon.specs.declared.item.Item.{Item}
+use Rattle.ng_rig.specs.Life.{Life}
+use Rattle.ng_rig.specs.Calls.{Promises}
+use Rattle.ng_layout.specs.Stored.{Standing}
+use Rattle.ng_journal.specs.Journal.{Logbook, RestsAt, Moves, HandsOut}
+use Rattle.ng_session.specs.Session.{Outcome, shown}
+use Rattle.ng_session.specs.declared.reply.Reply.{Reply}
+use Rattle.ng_core.specs.Station.{Station, Rests, standing_of}
+use Rattle.ng_core.specs.Acts.{Does}
+use Rattle.ng_core.proofs.Acting.{acts_quiet, acts_aside, acts_moved, acts_unmoved, acts_handed, acts_unhanded}
+use Rattle.ng_core.proofs.Quiet.{IsStill}
+
+-- the session answered, and what stands stays
+pub does_still : {R : Type 0} (honest : R → Type 0) (life : R → Life) (r : Reply) (out : List ℕ → Outcome) (old new : Station R)
+    → ((program : List ℕ) → IsStill program old.session.stored (out program)) → new.journal ≡ old.journal
+    → ((program : List ℕ) → r ≡ (out program).reply) → ((program : List ℕ) → new.session ≡ (out program).next)
+    → Does honest life (Ok r) out old new
+does_still {R} honest life r out old new quiet same replied next = record {
+  keeps = λ h. subst (λ (j : Logbook R). honest j.rig) (sym same) h;
+  back = λ h. subst (λ (j : Logbook R). honest j.rig) same h;
+  holds = λ h program rests.
+      acts_quiet r (out program) program old new (life old.journal.rig) (life new.journal.rig) (ap (λ (j : Logbook R). life j.rig) same) rests same (replied program) (next program)
+      (quiet program).items (quiet program).program_is (quiet program).stored_is;
+}
+
+-- memory was wanting, or a count, and nothing was asked of the device
+pub does_aside : {R : Type 0} (honest : R → Type 0) (life : R → Life) (fault : Fault) (out : List ℕ → Outcome) (old new : Station R)
+    → (fault ≡ OutOfMemory) ⊎ (fault ≡ CountersUsed) → new.journal ≡ old.journal → new.session ≡ old.session → Does honest life (Err fault) out old new
+does_aside {R} honest life fault out old new which same still = record {
+  keeps = λ h. subst (λ (j : Logbook R). honest j.rig) (sym same) h;
+  back = λ h. subst (λ (j : Logbook R). honest j.rig) same h;
+  holds = λ h program rests. acts_aside fault (out program) program old new (life old.journal.rig) (life new.journal.rig) which (ap (λ (j : Logbook R). life j.rig) same) still
+      (subst (λ (j : Logbook R). RestsAt (life j.rig) j (standing_of program old.session)) (sym same) rests);
+}
+
+-- what was asked of the journal
+abbrev pub Storing : {R T : Type 0} → (R → Type 0) → (R → Life) → Result T Fault → (List ℕ → Outcome) → Station R → Logbook R → Type 0
+Storing honest life result out old journal =
+    Promises (honest old.journal.rig) (honest journal.rig) ((program : List ℕ) → Rests (life old.journal.rig) old program
+    → Moves result journal (standing_of program old.session) (standing_of (out program).program (out program).next) (life old.journal.rig) (life journal.rig))
+
+pub does_moved : {R T : Type 0} (honest : R → Type 0) (life : R → Life) (r : Reply) (v : T) (out : List ℕ → Outcome) (old new : Station R)
+    → Storing honest life (Ok v) out old new.journal
+    → ((program : List ℕ) → r ≡ (out program).reply) → ((program : List ℕ) → new.session ≡ (out program).next) → ((program : List ℕ) → (out program).items ≡ [])
+    → Does honest life (Ok r) out old new
+does_moved honest life r v out old new p replied next none = record {
+  keeps = p.keeps;
+  back = p.back;
+  holds = λ h program rests. acts_moved r v (out program) program old new (life old.journal.rig) (life new.journal.rig) (p.holds h program rests) (replied program) (next program) (none program);
+}
+
+pub does_unmoved : {R T : Type 0} (honest : R → Type 0) (life : R → Life) (fault e : Fault) (out : List ℕ → Outcome) (old new : Station R)
+    → Storing {T = T} honest life (Err e) out old new.journal
+    → (fault ≡ CountersUsed) ⊎ (fault ≡ DeviceFailed) → (fault ≡ CountersUsed → new.journal ≡ old.journal) → new.session ≡ old.session → ((program : List ℕ) → (out program).items ≡ [])
+    → Does honest life (Err fault) out old new
+does_unmoved {R} {T} honest life fault e out old new p which unchanged same none = record {
+  keeps = p.keeps;
+  back = p.back;
+  holds = λ h program rests. elim which [
+    | inl used ↦ (does_aside honest life fault out old new (inr used) (unchanged used) same).holds h program rests
+    | inr lost ↦ acts_unmoved {T = T} fault e (out program) program old new new.journal (life old.journal.rig) (life new.journal.rig) (p.holds h program rests) lost (ap shown same) (none program)
+  ];
+}
+
+abbrev pub Handing : {R T : Type 0} → (R → Type 0) → (R → Life) → Result T Fault → Item → Station R → Logbook R → Type 0
+Handing honest life result item old journal =
+    Promises (honest old.journal.rig) (honest journal.rig) ((program : List ℕ) → Rests (life old.journal.rig) old program
+    → HandsOut result journal (standing_of program old.session) item (life old.journal.rig) (life journal.rig))
+
+-- what an outcome that hands out one item has
+pub record Gives (item : Item) (old : Standing) (program : List ℕ) (out : Outcome) : Type 0 where
+  pub items : out.items ≡ item ∷ []
+  pub program_is : out.program ≡ program
+  pub stored_is : out.next.stored ≡ old.saved
+
+pub does_handed : {R T : Type 0} (honest : R → Type 0) (life : R → Life) (r : Reply) (v : T) (item : Item) (out : List ℕ → Outcome) (old new : Station R)
+    → Handing honest life (Ok v) item old new.journal
+    → ((program : List ℕ) → r ≡ (out program).reply) → ((program : List ℕ) → new.session ≡ (out program).next) → ((program : List ℕ) → Gives item (standing_of program old.session) program (out program))
+    → Does honest life (Ok r) out old new
+does_handed honest life r v item out old new p replied next gives = record {
+  keeps = p.keeps;
+  back = p.back;
+  holds = λ h program rests. acts_handed r v item (out program) program old new (life old.journal.rig) (life new.journal.rig) (p.holds h program rests) (replied program) (next program)
+      (gives program).items (gives program).program_is (gives program).stored_is;
+}
+
+pub does_unhanded : {R T : Type 0} (honest : R → Type 0) (life : R → Life) (fault e : Fault) (item : Item) (out : List ℕ → Outcome) (old new : Station R)
+    → Handing {T = T} honest life (Err e) item old new.journal
+    → fault ≡ DeviceFailed → shown new.session ≡ shown old.session → ((program : List ℕ) → Gives item (standing_of program old.session) program (out program))
+    → Does honest life (Err fault) out old new
+does_unhanded {R} {T} honest life fault e item out old new p is same gives = record {
+  keeps = p.keeps;
+  back = p.back;
+  holds = λ h program rests. acts_unhanded {T = T} fault e item (out program) program old new new.journal (life old.journal.rig) (life new.journal.rig) (p.holds h program rests)
+      is same (gives program).items (gives program).program_is (gives program).stored_is;
+}

@@ -1,0 +1,11 @@
+pub mod Acting
+pub mod Quiet
+pub mod Histories
+pub mod GoingOn
+pub mod Doing
+pub mod Storing
+pub mod Ticks
+pub mod Beginning
+pub mod Choosing
+pub mod Answering
+pub mod Powering

@@ -1,0 +1,150 @@
+-- The arms of a Tick, by what their calls promise.
+use Rattle.std.proofs.Common.{◌≡◌, ◌⊎◌, ℕ, true, false, List, [], ◌∷◌, Option, Some, None, Result, Ok, Err, refl, sym, ◌∙◌, ap, subst}
+use Rattle.ng_num.specs.declared.fault.Fault.{Fault}
+use Rattle.ng_num.specs.declared.fault.Fault.TheVariants.{DeviceFailed, CountersUsed}
+use Rattle.ng_canon.specs.declared.item.Item.{Item}
+use Rattle.ng_rig.specs.Life.{Life}
+use Rattle.ng_rig.specs.Calls.{Promises}
+use Rattle.ng_rig.proofs.Promise.{meaning}
+use Rattle.ng_layout.specs.Stored.{HalfDone, Saved, Standing}
+use Rattle.ng_journal.specs.Journal.{Logbook, RestsAt, Moves, HandsOut}
+use Rattle.ng_session.specs.Entries.{Equipment}
+use Rattle.ng_session.specs.Session.{Underway, Sitting, Outcome, answers, tick, open_next, end, item_of, handed, opening_of, opened, committed, is_running, rest, shown}
+use Rattle.ng_session.specs.declared.reply.Reply.{Reply}
+use Rattle.ng_session.specs.declared.reply.Reply.TheVariants as reply
+use Rattle.ng_core.specs.Station.{Station, standing_of}
+use Rattle.ng_core.specs.Acts.{Does}
+use Rattle.ng_core.proofs.Quiet.{still}
+use Rattle.ng_core.proofs.Doing.{does_still, does_moved, does_unmoved, does_handed, does_unhanded, Storing}
+
+-- the same from an equal controller, to an equal outcome
+pub does_on : {R : Type 0} (honest : R → Type 0) (life : R → Life) (answer : Result Reply Fault) (out wanted : List ℕ → Outcome) (old mid new : Station R)
+    → mid ≡ old → ((program : List ℕ) → out program ≡ wanted program) → Does honest life answer out mid new → Does honest life answer wanted old new
+does_on honest life answer out wanted old mid new same equal does =
+    subst (λ (f : List ℕ → Outcome). Does honest life answer f old new) (λ i program. equal program i)
+    (subst (λ (c : Station _). Does honest life answer out c new) same does)
+
+-- ---- held
+
+tick_held : (q : Equipment) (P : List ℕ) (s : Sitting) → s.held ≡ true → tick q P s ≡ answers P reply.Held s
+tick_held q P s held = rw held refl
+
+pub does_held : {R : Type 0} (honest : R → Type 0) (life : R → Life) (c : Station R) → c.session.held ≡ true
+    → Does honest life (Ok reply.Held) (λ program. tick c.equipment program c.session) c c
+does_held honest life c held =
+    does_on honest life (Ok reply.Held) (λ program. answers program reply.Held c.session) (λ program. tick c.equipment program c.session) c c c refl (λ program. sym (tick_held c.equipment program c.session held))
+    (does_still honest life reply.Held (λ program. answers program reply.Held c.session) c c (λ program. still refl refl refl) refl (λ program. refl) (λ program. refl))
+
+-- ---- an item
+
+abbrev pub moving : Item → List ℕ → Sitting → Outcome
+moving item P s = record { reply = reply.Moved; items = item ∷ []; entries = []; program = P; next = s }
+
+-- what `hand_out` promises
+abbrev pub HandsIt : {R T : Type 0} → (R → Type 0) → (R → Life) → Result T Fault → Item → Logbook R → Logbook R → Type 0
+HandsIt honest life result item old new =
+    Promises (honest old.rig) (honest new.rig) ((standing : Standing) → RestsAt (life old.rig) old standing → HandsOut result new standing item (life old.rig) (life new.rig))
+
+pub hands_item : {R T : Type 0} (honest : R → Type 0) (life : R → Life) (v : T) (item : Item) (old new : Station R)
+    → new.session ≡ old.session → HandsIt honest life (Ok v) item old.journal new.journal
+    → Does honest life (Ok reply.Moved) (λ program. moving item program old.session) old new
+hands_item honest life v item old new next p =
+    does_handed honest life reply.Moved v item (λ program. moving item program old.session) old new (meaning p (λ f program rests. f (standing_of program old.session) rests))
+    (λ program. refl) (λ program. next) (λ program. record { items = refl; program_is = refl; stored_is = refl })
+
+pub hands_none : {R T : Type 0} (honest : R → Type 0) (life : R → Life) (fault e : Fault) (item : Item) (old new : Station R)
+    → new.session ≡ old.session → fault ≡ DeviceFailed → HandsIt {T = T} honest life (Err e) item old.journal new.journal
+    → Does honest life (Err fault) (λ program. moving item program old.session) old new
+hands_none {R} {T} honest life fault e item old new next lost p =
+    does_unhanded {T = T} honest life fault e item (λ program. moving item program old.session) old new (meaning p (λ f program rests. f (standing_of program old.session) rests))
+    lost (ap shown next) (λ program. record { items = refl; program_is = refl; stored_is = refl })
+
+pub tick_item : (q : Equipment) (P : List ℕ) (s : Sitting) (item : Item) → s.held ≡ false → item_of s.current ≡ Some item → tick q P s ≡ moving item P (handed s)
+tick_item q P s item held is = rw (held, is) refl
+
+pub tick_none : (q : Equipment) (P : List ℕ) (s : Sitting) → s.held ≡ false → item_of s.current ≡ None → tick q P s ≡ open_next q P s (opening_of s.current)
+tick_none q P s held is = rw (held, is) refl
+
+-- ---- a segment
+
+abbrev pub opening : HalfDone → List ℕ → Equipment → Sitting → Outcome
+opening half P q s = answers P (reply.Opened half.index) (opened q.geometry s half)
+
+-- what `open_segment` promises
+abbrev pub StoresHalf : {R T : Type 0} → (R → Type 0) → (R → Life) → Result T Fault → HalfDone → Logbook R → Logbook R → Type 0
+StoresHalf honest life result half old new =
+    Promises (honest old.rig) (honest new.rig) ((before : Standing) → RestsAt (life old.rig) old before
+    → Moves result new before (record before { saved = record old.saved { half = Some half } }) (life old.rig) (life new.rig))
+
+storing_half : {R T : Type 0} (honest : R → Type 0) (life : R → Life) (result : Result T Fault) (half : HalfDone) (old : Station R) (journal : Logbook R)
+    → old.session.stored ≡ old.journal.saved → StoresHalf honest life result half old.journal journal
+    → Storing honest life result (λ program. opening half program old.equipment old.session) old journal
+storing_half honest life result half old journal kept p =
+    meaning p (λ f program rests.
+    subst (λ (x : Saved). Moves result journal (standing_of program old.session) (record { saved = record x { half = Some half }; program = program }) (life old.journal.rig) (life journal.rig)) (sym kept)
+    (f (standing_of program old.session) rests))
+
+pub opens : {R T : Type 0} (honest : R → Type 0) (life : R → Life) (v : T) (r : Reply) (half : HalfDone) (old new : Station R)
+    → r ≡ reply.Opened half.index → new.session ≡ opened old.equipment.geometry old.session half → old.session.stored ≡ old.journal.saved
+    → StoresHalf honest life (Ok v) half old.journal new.journal
+    → Does honest life (Ok r) (λ program. opening half program old.equipment old.session) old new
+opens honest life v r half old new replied next kept p =
+    does_moved honest life r v (λ program. opening half program old.equipment old.session) old new (storing_half honest life (Ok v) half old new.journal kept p) (λ program. replied) (λ program. next) (λ program. refl)
+
+pub opens_none : {R T : Type 0} (honest : R → Type 0) (life : R → Life) (fault e : Fault) (half : HalfDone) (old new : Station R)
+    → new.session ≡ old.session → old.session.stored ≡ old.journal.saved
+    → (fault ≡ CountersUsed) ⊎ (fault ≡ DeviceFailed) → (fault ≡ CountersUsed → new.journal ≡ old.journal)
+    → StoresHalf {T = T} honest life (Err e) half old.journal new.journal
+    → Does honest life (Err fault) (λ program. opening half program old.equipment old.session) old new
+opens_none {R} {T} honest life fault e half old new same kept which unchanged p =
+    does_unmoved {T = T} honest life fault e (λ program. opening half program old.equipment old.session) old new (storing_half {T = T} honest life (Err e) half old new.journal kept p) which unchanged same (λ program. refl)
+
+-- ---- an entry
+
+-- what `commit` promises
+abbrev pub StoresEntry : {R T : Type 0} → (R → Type 0) → (R → Life) → Result T Fault → Saved → Logbook R → Logbook R → Type 0
+StoresEntry honest life result saved old new =
+    Promises (honest old.rig) (honest new.rig) ((before : Standing) → RestsAt (life old.rig) old before
+    → Moves result new before (record before { saved = saved }) (life old.rig) (life new.rig))
+
+-- the block that is current, and what is stored behind it
+pub record IsDue (s : Sitting) (saved : Saved) : Type 0 where
+  pub block : Underway
+  pub current : s.current ≡ Some block
+  pub after : saved ≡ block.after
+
+storing_entry : {R T : Type 0} (honest : R → Type 0) (life : R → Life) (result : Result T Fault) (saved : Saved) (old : Station R) (journal : Logbook R) (due : IsDue old.session saved)
+    → StoresEntry honest life result saved old.journal journal
+    → Storing honest life result (λ program. end old.equipment program old.session (Some due.block)) old journal
+storing_entry honest life result saved old journal due p =
+    meaning p (λ f program rests.
+    subst (λ (x : Saved). Moves result journal (standing_of program old.session) (record { saved = x; program = program }) (life old.journal.rig) (life journal.rig)) due.after
+    (f (standing_of program old.session) rests))
+
+pub does_commit : {R T : Type 0} (honest : R → Type 0) (life : R → Life) (v : T) (r : Reply) (saved : Saved) (old new : Station R) (due : IsDue old.session saved)
+    → r ≡ reply.Done due.block.after.entries → new.session ≡ committed old.session due.block
+    → StoresEntry honest life (Ok v) saved old.journal new.journal
+    → Does honest life (Ok r) (λ program. end old.equipment program old.session old.session.current) old new
+does_commit honest life v r saved old new due replied next p =
+    does_on honest life (Ok r) (λ program. end old.equipment program old.session (Some due.block)) _ old old new refl (λ program. sym (ap (λ (o : Option Underway). end old.equipment program old.session o) due.current))
+    (does_moved honest life r v (λ program. end old.equipment program old.session (Some due.block)) old new (storing_entry honest life (Ok v) saved old new.journal due p) (λ program. replied) (λ program. next) (λ program. refl))
+
+pub does_not_commit : {R T : Type 0} (honest : R → Type 0) (life : R → Life) (fault e : Fault) (saved : Saved) (old new : Station R) (due : IsDue old.session saved)
+    → new.session ≡ old.session → (fault ≡ CountersUsed) ⊎ (fault ≡ DeviceFailed) → (fault ≡ CountersUsed → new.journal ≡ old.journal)
+    → StoresEntry {T = T} honest life (Err e) saved old.journal new.journal
+    → Does honest life (Err fault) (λ program. end old.equipment program old.session old.session.current) old new
+does_not_commit {R} {T} honest life fault e saved old new due same which unchanged p =
+    does_on honest life (Err fault) (λ program. end old.equipment program old.session (Some due.block)) _ old old new refl (λ program. sym (ap (λ (o : Option Underway). end old.equipment program old.session o) due.current))
+    (does_unmoved {T = T} honest life fault e (λ program. end old.equipment program old.session (Some due.block)) old new (storing_entry {T = T} honest life (Err e) saved old new.journal due p) which unchanged same (λ program. refl))
+
+-- ---- nothing
+
+rests_there : (q : Equipment) (P : List ℕ) (s : Sitting) → s.current ≡ None → is_running s.activity ≡ false → end q P s s.current ≡ rest P s
+rests_there q P s none idle = ap (λ (o : Option Underway). end q P s o) none ∙ rw idle refl
+
+pub does_rest : {R : Type 0} (honest : R → Type 0) (life : R → Life) (r : Reply) (c : Station R) → c.session.current ≡ None → is_running c.session.activity ≡ false
+    → ((program : List ℕ) → r ≡ (rest program c.session).reply)
+    → Does honest life (Ok r) (λ program. end c.equipment program c.session c.session.current) c c
+does_rest honest life r c none idle replied =
+    does_on honest life (Ok r) (λ program. rest program c.session) _ c c c refl (λ program. sym (rests_there c.equipment program c.session none idle))
+    (does_still honest life r (λ program. rest program c.session) c c (λ program. still refl refl refl) refl replied (λ program. refl))

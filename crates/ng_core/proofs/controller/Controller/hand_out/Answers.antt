@@ -1,0 +1,23 @@
+use Rattle.std.proofs.Common.{◌≡◌, refl, ◌∙◌}
+use Rattle.std.proofs.lemmas.Result.{err_from_is_err_and}
+use Rattle.ng_num.specs.declared.fault.Fault.TheVariants.{DeviceFailed}
+use Rattle.ng_session.specs.Entries.{Equipment}
+use Rattle.ng_core.specs.Station.{Station}
+use Rattle.ng_core.proofs.Ticks.{hands_item, hands_none}
+use Rattle.ng_core.proofs.controller.Controller.hand_out.Goals as goal
+
+pub returns-in_err-hand_out-clause-does : goal.returns-in_err-hand_out-clause-does
+returns-in_err-hand_out-clause-does g c =
+    let p = err_from_is_err_and c.from_residual.result c.from_residual.ensures.1 in
+    let equipment : Equipment = record { tools = c.self.inside.tools; geometry = c.self.inside.geometry } in
+    let old : Station g.row.R.Denot = record { journal = c.self.inside.journal; session = c.self.inside.session; equipment = equipment } in
+    let new : Station g.row.R.Denot = record { journal = c.hand_out.new.self; session = c.self.inside.session; equipment = equipment } in
+    let lost : p.0 ≡ DeviceFailed = p.2 ∙ c.in_err-hand_out.ensures.errors in
+    rw (p.1, ← c.self.view_is) (hands_none g.R.Rig.honest g.R.Rig.life p.0 c.in_err-hand_out.field-0.0 c.args.item old new refl lost c.in_err-hand_out.ensures.stops)
+
+pub returns-clause-does : goal.returns-clause-does
+returns-clause-does g c =
+    let equipment : Equipment = record { tools = c.self.inside.tools; geometry = c.self.inside.geometry } in
+    let old : Station g.row.R.Denot = record { journal = c.self.inside.journal; session = c.self.inside.session; equipment = equipment } in
+    let new : Station g.row.R.Denot = record { journal = c.hand_out.new.self; session = c.self.inside.session; equipment = equipment } in
+    rw (← c.self.view_is) (hands_item g.R.Rig.honest g.R.Rig.life c.in_ok-hand_out.field-0 c.args.item old new refl c.in_ok-hand_out.ensures.stops)

@@ -1,0 +1,15 @@
+use Rattle.std.proofs.Common.{ℕ, List, sym}
+use Rattle.ng_session.specs.Entries.{Equipment}
+use Rattle.ng_session.specs.Session.{tick}
+use Rattle.ng_core.specs.Station.{Station}
+use Rattle.ng_core.proofs.Choosing.{does_as, does_item}
+use Rattle.ng_core.proofs.controller.Controller.tick.Goals as goal
+
+pub returns-in-Some-clause-does : goal.returns-in-Some-clause-does
+returns-in-Some-clause-does g c =
+    let equipment : Equipment = record { tools = c.self.inside.tools; geometry = c.self.inside.geometry } in
+    let old : Station g.row.R.Denot = record { journal = c.self.inside.journal; session = c.self.inside.session; equipment = equipment } in
+    let new = c.hand_out.new.self in
+    does_as g.R.Rig.honest g.R.Rig.life c.hand_out.result (λ (x : Station g.row.R.Denot) (program : List ℕ). tick x.equipment program x.session) c.args.self.now old new c.self.view_is
+    (does_item g.R.Rig.honest g.R.Rig.life c.hand_out.result c.in-Some.item old new c.next_item.new.self
+    (sym c.if-is_held.ensures.held) c.in-Some.ensures.item c.in-Some.ensures.next c.hand_out.ensures.errors c.hand_out.ensures.does)

@@ -1,0 +1,12 @@
+use Rattle.std.proofs.Common.{ap}
+use Rattle.ng_rig.proofs.Promise.{meaning}
+use Rattle.ng_session.specs.Entries.{Equipment}
+use Rattle.ng_session.specs.Session.{Sitting}
+use Rattle.ng_core.proofs.Powering.{powered}
+use Rattle.ng_core.proofs.power.power_on.Goals as goal
+
+pub returns-clause-powers : goal.returns-clause-powers
+returns-clause-powers g c = λ room.
+    let equipment : Equipment = record { tools = c.args.settings.tools; geometry = c.args.settings.geometry } in
+    meaning (c.in_ok-journal.ensures.recovers room)
+    (λ r. powered c.in_ok-journal.journal c.in_ok-journal.stored c.new.result equipment _ _ (ap (λ (s : Sitting). s.stored) c.new.ensures) c.in_ok-journal.ensures.journal.1 r)

@@ -1,0 +1,78 @@
+-- What an event does to a controller and to its device (own).
+use Rattle.std.specs.Prelude.{◌≡◌, ◌⊎◌, ℕ, List, ◌++◌, Result, Ok, Err, IfErr}
+use Rattle.ng_num.specs.declared.fault.Fault.{Fault}
+use Rattle.ng_num.specs.declared.fault.Fault.TheVariants.{DeviceFailed, CountersUsed, OutOfMemory, Broken}
+use Rattle.ng_canon.specs.declared.item.Item.{Item}
+use Rattle.ng_rig.specs.Life.{Image, Life, items}
+use Rattle.ng_rig.specs.Calls.{Promises}
+use Rattle.ng_rig.specs.Onward.{Onward}
+use Rattle.ng_journal.specs.Journal.{StandsFor, IsBrokenBy, Tells}
+use Rattle.ng_session.specs.Session.{Sitting, Outcome, shown}
+use Rattle.ng_session.specs.Runs.{Scene, Left, left_in, scene_after}
+use Rattle.ng_session.specs.declared.event.Event.{Event}
+use Rattle.ng_session.specs.declared.event.Event.TheVariants as event
+use Rattle.ng_session.specs.declared.reply.Reply.{Reply}
+use Rattle.ng_session.specs.declared.reply.Reply.TheVariants as reply
+use Rattle.ng_session.specs.declared.reply.Status.{Status}
+use Rattle.ng_session.specs.declared.reply.Condition.TheVariants as condition
+use Rattle.ng_core.specs.Station.{Station, Rests}
+
+-- the reply to an event that the session answered, or why it didn't
+abbrev pub reply_to : Result Reply Fault → Reply
+reply_to (Ok r) = r
+reply_to (Err fault) = reply.Refused fault
+
+-- the faults that aren't the session's: memory is wanting, a count is used up, the device failed
+abbrev pub IsOutside : Fault → Type 0
+IsOutside fault = (fault ≡ OutOfMemory) ⊎ ((fault ≡ CountersUsed) ⊎ (fault ≡ DeviceFailed))
+
+-- What is told, and the session then, of an event that leads to this. Where memory or a count is wanting, the session stays; where
+-- the device failed, what the status shows stays.
+abbrev pub Comes : {R : Type 0} → Result Reply Fault → Outcome → Station R → Station R → Type 0
+Comes (Ok r) out old new = (r ≡ out.reply) × (new.session ≡ out.next)
+Comes (Err DeviceFailed) out old new = shown new.session ≡ shown old.session
+Comes (Err fault) out old new = new.session ≡ old.session
+
+-- What stands then and was handed out: of an answer what it leads to, alone; where memory or a count is wanting, the device stays.
+abbrev pub Leaves : {R : Type 0} → Result Reply Fault → Outcome → List ℕ → Station R → Life → Life → Type 0
+Leaves (Ok r) out program new lived living = Rests living new out.program × (items living ≡ items lived ++ out.items)
+Leaves (Err DeviceFailed) out program new lived living = Unit {0}
+Leaves (Err fault) out program new lived living = Rests living new program × (living ≡ lived)
+
+-- A stop leaves the one or the other.
+pub record IsEitherLeft (before after : Left) (image : Image) (handed : List Item) : Type 0 where
+  pub left : Left
+  pub which : (left ≡ before) ⊎ (left ≡ after)
+  pub stands_for : StandsFor left.standing left.items image handed
+
+abbrev pub scene_of : {R : Type 0} → List ℕ → Station R → Scene
+scene_of program c = record { program = program; session = c.session }
+
+-- An event came to its outcome: each stop since leaves what was there before it or what is there behind it.
+pub record Acts {R : Type 0} (answer : Result Reply Fault) (out : Outcome) (program : List ℕ) (old new : Station R) (lived living : Life) : Type 0 where
+  pub comes : Comes answer out old new
+  pub stops : Onward lived living (IsEitherLeft (left_in (scene_of program old) (items lived)) (left_in (scene_after out) (items lived ++ out.items)))
+  pub leaves : Leaves answer out program new lived living
+
+-- The same over an honest device that rests with what the session stored: what it leads to is by the program of what stands.
+abbrev pub Does : {R : Type 0} → (R → Type 0) → (R → Life) → Result Reply Fault → (List ℕ → Outcome) → Station R → Station R → Type 0
+Does honest life answer out old new =
+    Promises (honest old.journal.rig) (honest new.journal.rig) ((program : List ℕ) → Rests (life old.journal.rig) old program
+    → Acts answer (out program) program old new (life old.journal.rig) (life new.journal.rig))
+
+-- A reply and what became of its event; the device counted a failure exactly where that is why the session didn't answer.
+pub record Serves {R : Type 0} (honest : R → Type 0) (life : R → Life) (failed : R → ℕ) (told : Reply) (out : List ℕ → Outcome) (old new : Station R) : Type 0 where
+  pub answer : Result Reply Fault
+  pub told_is : told ≡ reply_to answer
+  pub does : Does honest life answer out old new
+  pub outside : IfErr answer IsOutside
+  pub broken : IsBrokenBy answer new.journal.broken
+  pub failures : Tells answer (failed old.journal.rig) (failed new.journal.rig)
+
+-- Each event but Status is refused once the device failed; the status then says so.
+abbrev pub shown_broken : Sitting → Status
+shown_broken s = record (shown s) { condition = condition.Broken }
+
+abbrev pub broken_answer : {A : Type 0} → Sitting → Event A → Result Reply Fault
+broken_answer s event.Status = Ok (reply.Status (shown_broken s))
+broken_answer s _ = Err Broken

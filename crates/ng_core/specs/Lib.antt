@@ -1,0 +1,4 @@
+pub mod Station
+pub mod Acts
+pub mod Powers
+pub mod Runs

@@ -1,0 +1,46 @@
+-- What power on gives (own).
+use Rattle.std.specs.Prelude.{◌≡◌, ℕ, List, Result, Ok, Err, IfOk}
+use Rattle.ng_num.specs.declared.fault.Fault.{Fault}
+use Rattle.ng_num.specs.declared.fault.Fault.TheVariants.{DeviceFailed, OutOfMemory}
+use Rattle.ng_rig.specs.Life.{Image, Life, reads, items}
+use Rattle.ng_rig.specs.Onward.{Onward}
+use Rattle.ng_layout.specs.Stands.{stands, IsWritten}
+use Rattle.ng_journal.specs.AtRest.{IsEither}
+use Rattle.ng_journal.specs.Recovery.{recovered_of, HasCause, IsFound}
+use Rattle.ng_core.specs.Station.{Station, Rests}
+
+abbrev pub Answer : Type 0 → Type 0
+Answer R = Result (Station R) (Fault × R)
+
+-- the device, in the controller or handed back
+abbrev pub rig_of : {R : Type 0} → Answer R → R
+rig_of (Ok c) = c.journal.rig
+rig_of (Err e) = e.1
+
+abbrev pub fault_of : {R : Type 0} → Answer R → Result (Station R) Fault
+fault_of (Ok c) = Ok c
+fault_of (Err e) = Err e.0
+
+-- What is found: a session at rest over the recovered of what stands; or why there is none.
+abbrev pub Finds : {R : Type 0} → Answer R → Image → Type 0
+Finds (Ok c) image = IsFound c.session.stored image
+Finds (Err (OutOfMemory, rig)) image = Unit {0}
+Finds (Err (DeviceFailed, rig)) image = Unit {0}
+Finds (Err (fault, rig)) image = HasCause fault image
+
+-- the device rests with the recovered of what stood
+pub record IsRecovered {R : Type 0} (c : Station R) (old new : Life) : Type 0 where
+  pub program : List ℕ
+  pub rests : Rests new c program
+  pub is : recovered_of (stands (reads old)) ≡ Ok (record { saved = c.session.stored; program = program })
+
+-- Each stop since stands for what stood before or for its recovered, and nothing is handed out.
+pub record KeepsAll {R : Type 0} (result : Answer R) (old new : Life) : Type 0 where
+  pub stops : Onward old new (IsEither (stands (reads old)) (recovered_of (stands (reads old))) (items old))
+  pub items_are : items new ≡ items old
+  pub ready : IfOk result (λ c. IsRecovered c old new)
+
+-- What is found, over any image; what stops leave over one that only such a controller wrote.
+pub record Powers {R : Type 0} (result : Answer R) (old new : Life) : Type 0 where
+  pub finds : Finds result (reads old)
+  pub kept : IsWritten (reads old) → KeepsAll result old new

@@ -1,0 +1,99 @@
+-- What a list of events does (own).
+use Rattle.std.specs.Prelude.{◌≡◌, ◌≤◌, ℕ, Bool, true, false, List, [], ◌∷◌, ◌++◌, length, map, take, Result, Ok, Err, IfErr}
+use Rattle.ng_num.specs.declared.fault.Fault.{Fault}
+use Rattle.ng_num.specs.declared.fault.Fault.TheVariants.{DeviceFailed}
+use Rattle.ng_canon.specs.declared.item.Item.{Item}
+use Rattle.ng_rig.specs.Life.{Image, Life, items}
+use Rattle.ng_rig.specs.Onward.{Onward}
+use Rattle.ng_journal.specs.Journal.{StandsFor, IsBrokenBy}
+use Rattle.ng_session.specs.Entries.{Equipment}
+use Rattle.ng_session.specs.Session.{Outcome, step}
+use Rattle.ng_session.specs.Runs.{Scene, left_behind, replies_of, items_of, scene_behind}
+use Rattle.ng_session.specs.declared.event.Event.{Event}
+use Rattle.ng_session.specs.declared.reply.Reply.{Reply}
+use Rattle.ng_core.specs.Station.{Station, Rests}
+use Rattle.ng_core.specs.Acts.{Acts, IsOutside, reply_to, broken_answer}
+
+-- the program that the device has behind an event: that of its outcome, where it was answered
+abbrev pub program_behind : Result Reply Fault → Outcome → List ℕ → List ℕ
+program_behind (Ok r) out program = out.program
+program_behind (Err fault) out program = program
+
+abbrev pub outcome_of : {A R : Type 0} → Station R → List ℕ → Event A → Outcome
+outcome_of c program event = step c.equipment program c.session event
+
+-- An event came to its outcome in a whole controller, which is broken then where the device failed.
+pub record Serving {A R : Type 0} (life : R → Life) (answer : Result Reply Fault) (event : Event A) (program : List ℕ) (old new : Station R) : Type 0 where
+  pub acts : Acts answer (outcome_of old program event) program old new (life old.journal.rig) (life new.journal.rig)
+  pub outside : IfErr answer IsOutside
+  pub broken : IsBrokenBy answer new.journal.broken
+  pub equipment : new.equipment ≡ old.equipment
+
+-- what an event does to a controller, broken or whole
+abbrev pub Turns : {A R : Type 0} → (R → Life) → Bool → Result Reply Fault → Event A → List ℕ → Station R → Station R → Type 0
+Turns life true answer event program old new = (answer ≡ broken_answer old.session event) × (new ≡ old)
+Turns life false answer event program old new = Serving life answer event program old new
+
+-- an event with its reply
+pub record Step {A R : Type 0} (life : R → Life) (event : Event A) (r : Reply) (answer : Result Reply Fault) (program : List ℕ) (old new : Station R) : Type 0 where
+  pub told_is : r ≡ reply_to answer
+  pub turns : Turns life old.journal.broken answer event program old new
+
+-- One event after the other, each with its reply, from where the one before left controller and device.
+abbrev pub History : {A R : Type 0} → (R → Life) → List (Event A) → List Reply → List ℕ → Station R → Station R → Type 0
+History life [] [] program old new = new ≡ old
+History life [] (r ∷ replies) program old new = ⊥
+History life (event ∷ events) [] program old new = ⊥
+History {A} {R} life (event ∷ events) (r ∷ replies) program old new =
+    (answer : Result Reply Fault) × ((between : Station R) × (Step life event r answer program old between
+    × History life events replies (program_behind answer (outcome_of old program event) program) between new))
+
+-- ---- what a history leaves, by the session alone
+
+-- the events that the session answered, until the device failed
+abbrev pub came_by : {A : Type 0} → Result Reply Fault → Event A → List (Event A) → List (Event A)
+came_by (Ok r) event events = event ∷ events
+came_by (Err DeviceFailed) event events = []
+came_by (Err fault) event events = events
+
+abbrev pub came : {A : Type 0} → List (Event A) → List (Result Reply Fault) → List (Event A)
+came [] answers = []
+came (event ∷ events) [] = []
+came (event ∷ events) (answer ∷ answers) = came_by answer event (came events answers)
+
+-- the same, with the event in which it failed
+abbrev pub tried_by : {A : Type 0} → Result Reply Fault → Event A → List (Event A) → List (Event A)
+tried_by (Ok r) event events = event ∷ events
+tried_by (Err DeviceFailed) event events = event ∷ []
+tried_by (Err fault) event events = events
+
+abbrev pub tried : {A : Type 0} → List (Event A) → List (Result Reply Fault) → List (Event A)
+tried [] answers = []
+tried (event ∷ events) [] = []
+tried (event ∷ events) (answer ∷ answers) = tried_by answer event (tried events answers)
+
+-- the replies to the events that came
+abbrev pub told_by : Result Reply Fault → List Reply → List Reply
+told_by (Ok r) replies = r ∷ replies
+told_by (Err DeviceFailed) replies = []
+told_by (Err fault) replies = replies
+
+abbrev pub told : List (Result Reply Fault) → List Reply
+told [] = []
+told (answer ∷ answers) = told_by answer (told answers)
+
+-- A stop leaves what stands behind the first n of these events, and what they handed out, for some n.
+pub record IsLeftBehind {A : Type 0} (equipment : Equipment) (scene : Scene) (before : List Item) (events : List (Event A)) (image : Image) (handed : List Item) : Type 0 where
+  pub count : ℕ
+  pub within : count ≤ length events
+  pub stands_for : let left = left_behind equipment scene before (take count events) in StandsFor left.standing left.items image handed
+
+-- The replies are the session's to the events that came, and each stop since leaves what stands behind some of those tried.
+pub record Passes {A R : Type 0} (life : R → Life) (events : List (Event A)) (replies : List Reply) (equipment : Equipment) (scene : Scene) (lived : Life) (new : Station R) : Type 0 where
+  pub answers : List (Result Reply Fault)
+  pub replies_are : replies ≡ map reply_to answers
+  pub told_is : told answers ≡ replies_of equipment scene (came events answers)
+  pub stops : Onward lived (life new.journal.rig) (IsLeftBehind equipment scene (items lived) (tried events answers))
+  pub session_is : new.journal.broken ≡ false → new.session ≡ (scene_behind equipment scene (came events answers)).session
+  pub rests : new.journal.broken ≡ false → Rests (life new.journal.rig) new (scene_behind equipment scene (came events answers)).program
+  pub items_are : new.journal.broken ≡ false → items (life new.journal.rig) ≡ items lived ++ items_of equipment scene (came events answers)

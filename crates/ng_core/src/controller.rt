@@ -1,0 +1,162 @@
+//! A controller, and how it answers events.
+ghost use Rattle.std.specs.Prelude.{◌≡◌, ℕ, List, true, false, IfErr};
+ghost use Rattle.ng_num.specs.declared.fault.Fault.{Fault};
+ghost use Rattle.ng_journal.specs.Journal.{Tells, IsBrokenBy};
+
+use ng_canon::Geometry;
+use ng_journal::Journal;
+use ng_num::Fault;
+use ng_offsets::Tools;
+use ng_rig::Rig;
+use ng_session::{Condition, Event, Reply, Session, Status};
+use std::alloc::Allocator;
+use std::marker::Model;
+
+/// A machine's controller, over its device (own). Contracts see a `Station`. After a call of the device failed it is broken, until it
+/// is powered on anew.
+pub struct Controller<R: Rig, A: Allocator + Copy + Drop> {
+    pub(crate) alloc: A,
+    pub(crate) journal: Journal<R, A>,
+    pub(crate) session: Session<A>,
+    pub(crate) tools: Tools,
+    pub(crate) geometry: Geometry,
+}
+
+impl<R: Rig, A: Allocator + Copy + Drop> Model for Controller<R, A> {
+    ghost use Rattle.std.specs.Prelude.{◌≡◌, false};
+    ghost use Rattle.ng_layout.specs.Storable.{IsStorable};
+    ghost use Rattle.ng_core.specs.Station.{Station};
+
+    ghost Value = { Station R };
+
+    ghost view = { λ c. record { journal = c.journal; session = c.session; equipment = record { tools = c.tools; geometry = c.geometry } } };
+
+    ghost invariant = { λ c. (c.journal.broken ≡ false → c.session.stored ≡ c.journal.saved) × IsStorable c.session.stored };
+}
+
+impl<R: Rig, A: Allocator + Copy + Drop> Controller<R, A> {
+    ghost use Rattle.ng_session.specs.Session.{step, load, IsQuiet};
+    ghost use Rattle.ng_core.specs.Acts.{Does, Serves, IsOutside, reply_to, broken_answer};
+
+    /// The device as it is, with no call to it.
+    pub fn into_rig(self) -> R
+        ensures { result ≡ self.journal.rig }
+    {
+        let Controller {
+            alloc: _,
+            journal,
+            session: _,
+            tools: _,
+            geometry: _,
+        } = self;
+        journal.into_rig()
+    }
+
+    /// Whether a call of the device failed: then each event but Status is refused, K5.
+    pub fn broken(&self) -> bool
+        ensures { result ≡ self.now.journal.broken }
+    {
+        self.journal.broken()
+    }
+
+    /// Answers an event (own).
+    ///
+    /// Refused by the session: K1, K2, K3, J5, a line's own faults; then M1 where memory is wanting, J4 where the entry count or the epoch
+    /// would be beyond its limit: nothing is changed then. J1 where the device failed: the controller is broken then, and the device
+    /// stands for what stood before the event or for what stands behind it. K5 to all but Status where it is broken already. Only a Load,
+    /// a line of the operator and a Tick that begins a line take memory.
+    pub fn on(&mut self, event: Event<A>) -> Reply
+        ensures serves { self.old.journal.broken ≡ false → Serves R.honest R.life R.failed result (λ program. step self.old.equipment program self.old.session event) self.old self.new }
+        ensures broken { self.old.journal.broken ≡ true → (self.new ≡ self.old) × (result ≡ reply_to (broken_answer self.old.session event)) }
+        ensures equipment { self.new.equipment ≡ self.old.equipment }
+    {
+        self.reply(&event)
+    }
+
+    /// The same of an event that is kept.
+    pub fn reply(&mut self, event: &Event<A>) -> Reply
+        ensures serves { self.old.journal.broken ≡ false → Serves R.honest R.life R.failed result (λ program. step self.old.equipment program self.old.session event.now) self.old self.new }
+        ensures broken { self.old.journal.broken ≡ true → (self.new ≡ self.old) × (result ≡ reply_to (broken_answer self.old.session event.now)) }
+        ensures equipment { self.new.equipment ≡ self.old.equipment }
+    {
+        match self.handle(event) {
+            Ok(reply) => reply,
+            Err(fault) => Reply::Refused(fault),
+        }
+    }
+
+    /// What the session answers, or why it doesn't answer: M1, J4, J1 or K5.
+    fn handle(&mut self, event: &Event<A>) -> Result<Reply, Fault>
+        ensures does { self.old.journal.broken ≡ false → Does R.honest R.life result (λ program. step self.old.equipment program self.old.session event.now) self.old self.new }
+        ensures outside { self.old.journal.broken ≡ false → IfErr result IsOutside }
+        ensures fails { self.old.journal.broken ≡ false → IsBrokenBy result self.new.journal.broken }
+        ensures broken { self.old.journal.broken ≡ true → (self.new ≡ self.old) × (result ≡ broken_answer self.old.session event.now) }
+        ensures failures { Tells result (R.failed self.old.journal.rig) (R.failed self.new.journal.rig) }
+        ensures equipment { self.new.equipment ≡ self.old.equipment }
+    {
+        if self.broken() {
+            return self.answer_broken(event);
+        }
+        match event {
+            Event::Load(text) => self.load(text.bytes()),
+            Event::Tick => self.tick(),
+            Event::Start
+            | Event::Hold
+            | Event::Continue
+            | Event::Mdi(_)
+            | Event::OptionalStop(_)
+            | Event::BlockDelete(_)
+            | Event::Status => self.answer(event),
+        }
+    }
+
+    /// What is answered once the device failed.
+    pub(crate) fn answer_broken(&self, event: &Event<A>) -> Result<Reply, Fault>
+        ensures { result ≡ broken_answer self.now.session event.now }
+    {
+        match event {
+            Event::Status => Ok(Reply::Status(Status {
+                condition: Condition::Broken,
+                ..self.session.status()
+            })),
+            Event::Load(_)
+            | Event::Start
+            | Event::Hold
+            | Event::Continue
+            | Event::Mdi(_)
+            | Event::OptionalStop(_)
+            | Event::BlockDelete(_)
+            | Event::Tick => Err(Fault::Broken),
+        }
+    }
+
+    /// Loads a program, once that is stored.
+    pub(crate) fn load(&mut self, text: &[u8]) -> Result<Reply, Fault>
+        requires { self.old.journal.broken ≡ false }
+        ensures does { Does R.honest R.life result (λ program. load program self.old.session text.now) self.old self.new }
+        ensures equipment { self.new.equipment ≡ self.old.equipment }
+        ensures broken { IsBrokenBy result self.new.journal.broken }
+        ensures outside { IfErr result IsOutside }
+        ensures failures { Tells result (R.failed self.old.journal.rig) (R.failed self.new.journal.rig) }
+    {
+        if let Some(fault) = self.session.load_refusal(text) {
+            return Ok(Reply::Refused(fault));
+        }
+        let stored = self.session.loading(text)?;
+        self.journal.load_program(text, &stored)?;
+        Ok(self.session.load(stored))
+    }
+
+    /// What the session answers of itself.
+    pub(crate) fn answer(&mut self, event: &Event<A>) -> Result<Reply, Fault>
+        requires whole { self.old.journal.broken ≡ false }
+        requires quiet { IsQuiet event.now }
+        ensures does { Does R.honest R.life result (λ program. step self.old.equipment program self.old.session event.now) self.old self.new }
+        ensures equipment { self.new.equipment ≡ self.old.equipment }
+        ensures broken { IsBrokenBy result self.new.journal.broken }
+        ensures outside { IfErr result IsOutside }
+        ensures failures { Tells result (R.failed self.old.journal.rig) (R.failed self.new.journal.rig) }
+    {
+        Ok(self.session.answer(event, &self.tools, &self.geometry)?)
+    }
+}

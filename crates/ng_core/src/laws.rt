@@ -1,0 +1,18 @@
+//! Laws over the definitions, for proofs above this crate to cite: the call does nothing, and its contract is the law.
+ghost use Rattle.std.specs.Prelude.{◌≡◌, ℕ, List, false};
+ghost use Rattle.ng_session.specs.declared.event.Event.{Event};
+ghost use Rattle.ng_session.specs.declared.reply.Reply.{Reply};
+ghost use Rattle.ng_core.specs.Station.{Station, Rests};
+ghost use Rattle.ng_core.specs.Acts.{scene_of};
+ghost use Rattle.ng_core.specs.Runs.{History, Passes};
+
+use ng_rig::Rig;
+use std::alloc::Allocator;
+
+/// What a history leaves: one event after the other, each with its reply, is what the session makes of those events that came, and
+/// each stop since its beginning leaves what stands behind some of them.
+pub fn histories<R: Rig, A: Allocator>()
+    ensures { (events : List (Event A)) (replies : List Reply) (program : List ℕ) (old new : Station R)
+        → History R.life events replies program old new → old.journal.broken ≡ false → Rests (R.life old.journal.rig) old program
+        → Passes R.life events replies old.equipment (scene_of program old) (R.life old.journal.rig) new }
+{}

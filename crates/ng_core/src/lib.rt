@@ -1,0 +1,19 @@
+//! The controller: what an operator's events do to a machine and to what is stored of it.
+//!
+//! `power_on` finds what a device stands for and starts a session over it. `Controller::on` answers an event: it is `step` of
+//! `ng_session`, whose writes go through the journal of `ng_journal` and whose items are handed out by the device. A Tick does at most
+//! one of: hand out an item, open a segment, commit an entry, begin a line. `specs/Acts.antt` says what an event leaves of the device,
+//! also at a stop within the call; `specs/Runs.antt` says it of a list of events.
+//!
+//! No sector is named here, and no code of the language: the first are the journal's, the second the session's.
+#![tactic(auto)]
+
+mod controller;
+pub mod laws;
+mod power;
+mod ticking;
+
+pub use controller::Controller;
+pub use ng_layout::Source;
+pub use ng_session::{Activity, Condition, Event, HalfShown, Reply, Status, Text};
+pub use power::power_on;

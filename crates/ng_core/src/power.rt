@@ -1,0 +1,45 @@
+//! Power on: what a device stands for, and a session over it.
+ghost use Rattle.std.specs.Prelude.{◌≡◌, ◌≤◌, ◌<◌, false, IfOk, IfErr, IsErrAnd};
+ghost use Rattle.ng_num.specs.declared.fault.Fault.TheVariants.{NotFormatted, OutOfMemory};
+ghost use Rattle.ng_rig.specs.Calls.{Promises};
+ghost use Rattle.ng_layout.specs.Storable.{IsStorable};
+ghost use Rattle.ng_session.specs.Session.{resting};
+ghost use Rattle.ng_journal.specs.Journal.{Tells};
+ghost use Rattle.ng_core.specs.Powers.{Powers, rig_of, fault_of};
+
+use crate::controller::Controller;
+use ng_journal::recover;
+use ng_num::Fault;
+use ng_rig::Rig;
+use ng_session::Session;
+use ng_settings::Settings;
+use std::alloc::Allocator;
+
+/// Powers on (own): finds what the device stands for, writes it again with nothing open, and starts a session at rest over it, with
+/// both switches of the operator off. Where something was open, its block is half-done, and it isn't known where the machine stands.
+///
+/// J2 for fewer than 1,710 sectors, with no call of the device, and where no header is valid; J3 where what stands is damaged; J4 where
+/// the epoch would be beyond its limit: all before any write. J1 where the device failed. M1 where memory is wanting, before any call
+/// of the device. The device is handed back with each of them. Nothing is handed out.
+pub fn power_on<R: Rig, A: Allocator + Copy + Drop>(
+    alloc: A,
+    rig: R,
+    settings: Settings,
+) -> Result<Controller<R, A>, (Fault, R)>
+    ensures powers { let after = rig_of result in 1710 ≤ R.sectors rig → Promises (R.honest rig) (R.honest after) (Powers result (R.life rig) (R.life after)) }
+    ensures rests { IfOk result (λ c. (c.journal.broken ≡ false) × (c.session ≡ resting c.journal.saved) × IsStorable c.session.stored) }
+    ensures equipment { IfOk result (λ c. c.equipment ≡ record { tools = settings.tools; geometry = settings.geometry }) }
+    ensures small { R.sectors rig < 1710 → IsErrAnd result (λ e. (e.0 ≡ NotFormatted) × (e.1 ≡ rig)) }
+    ensures memory { IfErr result (λ e. e.0 ≡ OutOfMemory → e.1 ≡ rig) }
+    ensures failures { let after = rig_of result in Tells (fault_of result) (R.failed rig) (R.failed after) }
+{
+    let Settings { geometry, tools } = settings;
+    let (journal, stored) = recover(alloc, rig)?;
+    Ok(Controller {
+        alloc,
+        journal,
+        session: Session::new(stored),
+        tools,
+        geometry,
+    })
+}

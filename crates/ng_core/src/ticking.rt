@@ -1,0 +1,168 @@
+//! A Tick: held, or the first of these that applies. An item is handed out, a segment is opened, an entry is committed, a line is begun.
+ghost use Rattle.std.specs.Prelude.{◌≡◌, ◌≤◌, [], ◌∷◌, ℕ, List, false, Ok, IfErr, IsSome};
+ghost use Rattle.ng_num.specs.declared.fault.Fault.TheVariants.{DeviceFailed};
+ghost use Rattle.ng_rig.specs.Calls.{Promises};
+ghost use Rattle.ng_layout.specs.Storable.{CanWait};
+ghost use Rattle.ng_layout.specs.Stored.{Standing};
+ghost use Rattle.ng_journal.specs.Journal.{RestsAt, Tells, IsBrokenBy};
+ghost use Rattle.ng_journal.specs.ProgramLines.{FindsFirst};
+
+use crate::controller::Controller;
+use ng_canon::Item;
+use ng_journal::Journal;
+use ng_layout::Half;
+use ng_num::Fault;
+use ng_rig::Rig;
+use ng_session::Reply;
+use ng_words::Kind;
+use std::alloc::Allocator;
+
+/// The kind of the first line before a place of the program in force that isn't blank. Before its beginning there is none, and
+/// nothing is read.
+fn first_kind_before<R: Rig, A: Allocator + Copy + Drop>(
+    journal: &mut Journal<R, A>,
+    place: u64,
+) -> Result<Kind, Fault>
+    requires whole { journal.old.broken ≡ false }
+    requires place { place ≤ journal.old.saved.length }
+    ensures kind { Promises (R.honest journal.old.rig) (R.honest journal.new.rig) ((standing : Standing) → RestsAt (R.life journal.old.rig) journal.old standing
+        → FindsFirst result journal.new standing place (R.life journal.old.rig) (R.life journal.new.rig)) }
+    ensures start { place ≡ 0 → result ≡ Ok Kind.Blank }
+    ensures saved { journal.new.saved ≡ journal.old.saved }
+    ensures broken { IsBrokenBy result journal.new.broken }
+    ensures errors { IfErr result (λ e. e ≡ DeviceFailed) }
+    ensures failures { Tells result (R.failed journal.old.rig) (R.failed journal.new.rig) }
+{
+    if place == 0 {
+        return Ok(Kind::Blank);
+    }
+    journal.first_kind(place)
+}
+
+impl<R: Rig, A: Allocator + Copy + Drop> Controller<R, A> {
+    ghost use Rattle.ng_session.specs.Session.{answers, opened, tick, open_next, end, begin, opening_of};
+    ghost use Rattle.ng_layout.specs.Programs.{line_at};
+    ghost use Rattle.ng_core.specs.Acts.{Does, IsOutside};
+
+    /// Does the next thing that is to do, of those above the first that applies.
+    pub(crate) fn tick(&mut self) -> Result<Reply, Fault>
+        requires { self.old.journal.broken ≡ false }
+        ensures does { Does R.honest R.life result (λ program. tick self.old.equipment program self.old.session) self.old self.new }
+        ensures equipment { self.new.equipment ≡ self.old.equipment }
+        ensures broken { IsBrokenBy result self.new.journal.broken }
+        ensures outside { IfErr result IsOutside }
+        ensures failures { Tells result (R.failed self.old.journal.rig) (R.failed self.new.journal.rig) }
+    {
+        if self.session.is_held() {
+            return Ok(Reply::Held);
+        }
+        match self.session.next_item() {
+            Some(item) => self.hand_out(item),
+            None => self.go_further(),
+        }
+    }
+
+    /// With no item left: opens the next segment of the current block, or else ends it.
+    fn go_further(&mut self) -> Result<Reply, Fault>
+        requires { self.old.journal.broken ≡ false }
+        ensures does { Does R.honest R.life result (λ program. open_next self.old.equipment program self.old.session (opening_of self.old.session.current)) self.old self.new }
+        ensures equipment { self.new.equipment ≡ self.old.equipment }
+        ensures broken { IsBrokenBy result self.new.journal.broken }
+        ensures outside { IfErr result IsOutside }
+        ensures failures { Tells result (R.failed self.old.journal.rig) (R.failed self.new.journal.rig) }
+    {
+        match self.session.opening() {
+            Some(half) => self.open(half),
+            None => self.end(),
+        }
+    }
+
+    /// With no segment left: commits the current block; with none, begins the program's next line, if it runs.
+    fn end(&mut self) -> Result<Reply, Fault>
+        requires { self.old.journal.broken ≡ false }
+        ensures does { Does R.honest R.life result (λ program. end self.old.equipment program self.old.session self.old.session.current) self.old self.new }
+        ensures equipment { self.new.equipment ≡ self.old.equipment }
+        ensures broken { IsBrokenBy result self.new.journal.broken }
+        ensures outside { IfErr result IsOutside }
+        ensures failures { Tells result (R.failed self.old.journal.rig) (R.failed self.new.journal.rig) }
+    {
+        if self.session.after().is_some() {
+            return self.commit();
+        }
+        if self.session.is_running() {
+            return self.begin();
+        }
+        Ok(self.session.rest())
+    }
+
+    /// Hands out an item of the open segment, which the session took from it.
+    pub(crate) fn hand_out(&mut self, item: Item) -> Result<Reply, Fault>
+        requires { self.old.journal.broken ≡ false }
+        ensures does { Does R.honest R.life result (λ program. record { reply = Reply.Moved; items = item ∷ []; entries = []; program = program; next = self.old.session }) self.old self.new }
+        ensures equipment { self.new.equipment ≡ self.old.equipment }
+        ensures broken { IsBrokenBy result self.new.journal.broken }
+        ensures outside { IfErr result IsOutside }
+        ensures errors { IfErr result (λ e. e ≡ DeviceFailed) }
+        ensures failures { Tells result (R.failed self.old.journal.rig) (R.failed self.new.journal.rig) }
+    {
+        self.journal.hand_out(item)?;
+        Ok(Reply::Moved)
+    }
+
+    /// Opens the next segment, once its half-done block is stored.
+    #[tactic(auto, using(crate::proofs::Storing::storable_open))]
+    pub(crate) fn open(&mut self, half: Half) -> Result<Reply, Fault>
+        requires whole { self.old.journal.broken ≡ false }
+        requires half { CanWait half }
+        ensures does { Does R.honest R.life result (λ program. answers program (Reply.Opened half.index) (opened self.old.equipment.geometry self.old.session half)) self.old self.new }
+        ensures equipment { self.new.equipment ≡ self.old.equipment }
+        ensures broken { IsBrokenBy result self.new.journal.broken }
+        ensures outside { IfErr result IsOutside }
+        ensures failures { Tells result (R.failed self.old.journal.rig) (R.failed self.new.journal.rig) }
+    {
+        self.journal.open_segment(&half)?;
+        Ok(self.session.open(half, &self.geometry))
+    }
+
+    /// Commits the current block, once what stands behind it is stored.
+    pub(crate) fn commit(&mut self) -> Result<Reply, Fault>
+        requires whole { self.old.journal.broken ≡ false }
+        requires block { IsSome self.old.session.current }
+        ensures does { Does R.honest R.life result (λ program. end self.old.equipment program self.old.session self.old.session.current) self.old self.new }
+        ensures equipment { self.new.equipment ≡ self.old.equipment }
+        ensures broken { IsBrokenBy result self.new.journal.broken }
+        ensures outside { IfErr result IsOutside }
+        ensures failures { Tells result (R.failed self.old.journal.rig) (R.failed self.new.journal.rig) }
+    {
+        let Some(after) = self.session.after() else {
+            unreachable!()
+        };
+        self.journal.commit(after)?;
+        Ok(self.session.commit())
+    }
+
+    /// Begins the program's line at its place, or stops the program at the end of its text.
+    pub(crate) fn begin(&mut self) -> Result<Reply, Fault>
+        requires { self.old.journal.broken ≡ false }
+        ensures does { Does R.honest R.life result (λ program. begin self.old.equipment program self.old.session (line_at program self.old.session.stored.place)) self.old self.new }
+        ensures equipment { self.new.equipment ≡ self.old.equipment }
+        ensures broken { IsBrokenBy result self.new.journal.broken }
+        ensures outside { IfErr result IsOutside }
+        ensures failures { Tells result (R.failed self.old.journal.rig) (R.failed self.new.journal.rig) }
+    {
+        let place = self.session.place();
+        let first = first_kind_before(&mut self.journal, place)?;
+        match self.journal.program_line(place)? {
+            Some(line) => Ok(
+                self.session.begin(
+                    line.text.as_slice(),
+                    line.next,
+                    first,
+                    &self.tools,
+                    &self.geometry,
+                )?,
+            ),
+            None => Ok(self.session.break_off(first)),
+        }
+    }
+}

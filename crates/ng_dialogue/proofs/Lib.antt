@@ -1,0 +1,4 @@
+pub mod Ranges
+pub mod Taking
+pub mod Asked
+pub mod Sending

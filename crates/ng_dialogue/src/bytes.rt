@@ -1,0 +1,58 @@
+//! The bytes of a program, as they come behind a command's line.
+ghost use Rattle.std.specs.Prelude.{◌≡◌, ◌++◌, [], true, IfOk};
+ghost use Rattle.std.specs.Io.KnownBytes.{prepend_known};
+ghost use Rattle.ng_dialogue.specs.Reading.{TakesBytes};
+
+use crate::input::{Input, Unread};
+use std::alloc::Allocator;
+use std::io::Read;
+
+/// What became of the bytes that were asked for.
+#[derive(Clone, Copy, Debug, PartialEq, Eq)]
+pub enum Passed {
+    /// All of them are kept.
+    Whole,
+    /// All of them were passed over: they found no memory.
+    NoRoom,
+    /// The text ended before.
+    Cut,
+}
+
+/// Keeps bytes where those before are kept and there is memory.
+fn keep_on<A: Allocator + Copy + Drop>(text: &mut Vec<u8, A>, has_room: bool, bytes: &[u8]) -> bool
+    ensures { result ≡ true → (has_room ≡ true) × (text.new.items ≡ text.old.items ++ bytes.now) }
+{
+    has_room && text.extend_from_slice(bytes).is_ok()
+}
+
+/// Takes so many bytes, and keeps them behind no text. Memory grows with the bytes that came.
+///
+/// `Unread` where the reader failed: some of the bytes are taken then. Source: own.
+pub fn take_bytes<R: Read, A: Allocator + Copy + Drop>(
+    input: &mut Input,
+    reader: &mut R,
+    length: u32,
+    text: &mut Vec<u8, A>,
+) -> Result<Passed, Unread>
+    requires { text.old.items ≡ [] }
+    ensures { IfOk result (TakesBytes length (prepend_known input.old (R.remaining reader.old)) (prepend_known input.new (R.remaining reader.new)) text.new.items) }
+{
+    let mut left = length as usize;
+    let mut has_room = true;
+    while left > 0 {
+        if !input.fill(reader)? {
+            return Ok(Passed::Cut);
+        }
+        let waiting = input.waiting();
+        let taken = waiting.len().min(left);
+        let kept = keep_on(text, has_room, &waiting[..taken]);
+        has_room = kept;
+        input.consume(taken);
+        left -= taken;
+    }
+    if has_room {
+        Ok(Passed::Whole)
+    } else {
+        Ok(Passed::NoRoom)
+    }
+}

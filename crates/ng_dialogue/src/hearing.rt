@@ -1,0 +1,102 @@
+//! What the console is asked to do, as its lines come.
+ghost use Rattle.std.specs.Prelude.{IfOk};
+ghost use Rattle.std.specs.Io.KnownBytes.{prepend_known};
+ghost use Rattle.ng_dialogue.specs.Orders.{Behind, Follows, TakesOrder};
+
+use crate::bytes::{Passed, take_bytes};
+use crate::input::{Input, Unread};
+use crate::listening::next_line;
+use crate::order::Order;
+use arrayvec::ArrayVec;
+use ng_commands::{Command, command_of};
+use ng_num::Fault;
+use ng_session::{Event, Text};
+use std::alloc::{AllocError, Allocator};
+use std::io::Read;
+
+/// Why nothing more is heard.
+#[derive(Clone, Copy, Debug, PartialEq, Eq)]
+pub enum Deaf {
+    /// A read failed, or one read more than 1,000,000,000 was needed.
+    Reader,
+    /// A line of the operator found no memory.
+    Memory,
+}
+
+impl From<Unread> for Deaf {
+    fn from(_: Unread) -> Deaf {
+        Deaf::Reader
+    }
+}
+
+impl From<AllocError> for Deaf {
+    fn from(_: AllocError) -> Deaf {
+        Deaf::Memory
+    }
+}
+
+/// Takes the program that a command of this length asks to be stored.
+fn load<R: Read, A: Allocator + Copy + Drop>(
+    alloc: A,
+    input: &mut Input,
+    reader: &mut R,
+    length: u32,
+) -> Result<Order<A>, Unread>
+    ensures { IfOk result (λ order. Behind (Command.Load length) (prepend_known input.old (R.remaining reader.old)) (prepend_known input.new (R.remaining reader.new)) order) }
+{
+    let mut text = Vec::new(alloc);
+    match take_bytes(input, reader, length, &mut text)? {
+        Passed::Whole => Ok(Order::Give(Event::Load(Text::of(text)))),
+        Passed::NoRoom => Ok(Order::Refuse(Fault::OutOfMemory)),
+        Passed::Cut => Ok(Order::Refuse(Fault::BadCommand)),
+    }
+}
+
+/// What a command asks; none where it ends the dialogue. A load takes the program behind its line.
+fn ask<R: Read, A: Allocator + Copy + Drop>(
+    alloc: A,
+    input: &mut Input,
+    reader: &mut R,
+    command: Command<'_>,
+) -> Result<Option<Order<A>>, Deaf>
+    ensures { IfOk result (Follows command.entry (prepend_known input.old (R.remaining reader.old)) (prepend_known input.new (R.remaining reader.new))) }
+{
+    let event = match command {
+        Command::Load(length) => {
+            let order = load(alloc, input, reader, length)?;
+            return Ok(Some(order));
+        }
+        Command::Tick(count) => return Ok(Some(Order::Ticks(count))),
+        Command::Quit => return Ok(None),
+        Command::Mdi(line) => Event::Mdi(Text::of(Vec::from_slice(alloc, line)?)),
+        Command::Start => Event::Start,
+        Command::Hold => Event::Hold,
+        Command::Continue => Event::Continue,
+        Command::OptionalStop(is_on) => Event::OptionalStop(is_on),
+        Command::BlockDelete(is_on) => Event::BlockDelete(is_on),
+        Command::Status => Event::Status,
+    };
+    Ok(Some(Order::Give(event)))
+}
+
+/// Takes the next line and what it asks. None at the end: the text's, or `quit`.
+///
+/// A line that is no command is refused, U1, and so is a program that the end of the text cuts off; a program that finds no memory
+/// is refused, M1, and its bytes are passed over. `Deaf` where the reader failed, or a line of the operator found no memory. Lines
+/// take no memory but those. Source: own.
+pub fn next_order<R: Read, A: Allocator + Copy + Drop>(
+    alloc: A,
+    input: &mut Input,
+    reader: &mut R,
+) -> Result<Option<Order<A>>, Deaf>
+    ensures { IfOk result (TakesOrder (prepend_known input.old (R.remaining reader.old)) (prepend_known input.new (R.remaining reader.new))) }
+{
+    let mut line = ArrayVec::new();
+    if !next_line(input, reader, &mut line)? {
+        return Ok(None);
+    }
+    match command_of(line.as_slice()) {
+        None => Ok(Some(Order::Refuse(Fault::BadCommand))),
+        Some(command) => ask(alloc, input, reader, command),
+    }
+}

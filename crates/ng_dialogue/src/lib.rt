@@ -1,0 +1,20 @@
+//! The parts of the console's dialogue: what it is asked, as the lines come, and how its answers are written (own).
+//!
+//! `next_order` reads lines, and the programs behind `load`, from any reader, in buffers of fixed size: specs/Orders says what a
+//! text asks. The `tell_` functions write the line of an answer and flush it: an operator waits for it. After a fault a beginning of
+//! the line is written. Nothing here knows a controller.
+#![tactic(auto)]
+
+mod bytes;
+mod hearing;
+mod input;
+mod listening;
+mod order;
+mod telling;
+
+pub use bytes::{Passed, take_bytes};
+pub use hearing::{Deaf, next_order};
+pub use input::{Input, Unread};
+pub use listening::{CUT, next_line};
+pub use order::Order;
+pub use telling::{Unsent, tell_refusal, tell_reply, tell_tick, tell_ticks};

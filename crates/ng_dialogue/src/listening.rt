@@ -1,0 +1,67 @@
+//! Lines of a reader.
+ghost use Rattle.std.specs.Prelude.{◌≡◌, ◌∷◌, ◌++◌, ◌+◌, ◌≤◌, ℕ, List, [], take, length, true, false, MatchOption, IfOk};
+ghost use Rattle.std.specs.Io.KnownBytes.{Keeps, IsAtEnd, prepend_known};
+ghost use Rattle.ng_block.specs.Parts.{HasNoNewline};
+ghost use Rattle.ng_dialogue.specs.Reading.{TakesLine};
+
+use crate::input::{Input, Unread};
+use arrayvec::ArrayVec;
+use memchr::memchr;
+use ng_commands::LONGEST;
+use std::io::Read;
+
+/// The most bytes that are kept of a line: one more than a command's have.
+pub const CUT: usize = 301;
+
+/// The bytes before the first newline; none where there is no newline.
+fn front_of(bytes: &[u8]) -> Option<&[u8]>
+    ensures { MatchOption result (HasNoNewline bytes.now) (λ line. HasNoNewline line.now × ((rest : List ℕ) × (bytes.now ≡ line.now ++ 10 ∷ rest))) }
+{
+    match memchr(b'\n', bytes) {
+        Some(end) => Some(&bytes[..end]),
+        None => None,
+    }
+}
+
+/// Keeps what there is room for.
+fn keep(line: &mut ArrayVec<u8, CUT>, bytes: &[u8])
+    ensures { line.new.items ≡ take 301 (line.old.items ++ bytes.now) }
+{
+    let room = CUT - line.len();
+    let kept = bytes.len().min(room);
+    let Ok(()) = line.try_extend_from_slice(&bytes[..kept]) else {
+        unreachable!()
+    };
+}
+
+/// Takes the next line, and keeps its first 301 bytes. False at the end of the text, where none follows.
+pub fn next_line<R: Read>(
+    input: &mut Input,
+    reader: &mut R,
+    line: &mut ArrayVec<u8, CUT>,
+) -> Result<bool, Unread>
+    ensures some { IfOk result (λ more. more ≡ true → TakesLine 301 (prepend_known input.old (R.remaining reader.old)) (prepend_known input.new (R.remaining reader.new)) line.new.items) }
+    ensures end { IfOk result (λ more. more ≡ false → IsAtEnd (prepend_known input.old (R.remaining reader.old))) }
+{
+    line.clear();
+    for _turn in 0..u64::MAX {
+        if !input.fill(reader)? {
+            return Ok(!line.is_empty());
+        }
+        let waiting = input.waiting();
+        match front_of(waiting) {
+            Some(front) => {
+                let taken = front.len() + 1;
+                keep(line, front);
+                input.consume(taken);
+                return Ok(true);
+            }
+            None => {
+                let taken = waiting.len();
+                keep(line, waiting);
+                input.consume(taken);
+            }
+        }
+    }
+    Err(Unread)
+}

@@ -1,0 +1,106 @@
+//! The lines of answers, as they are written. An operator waits for each of them: nothing is held back.
+ghost use Rattle.ng_commands.specs.Replies.{refused_line, reply_line, tick_line, ticks_line};
+ghost use Rattle.ng_dialogue.specs.Telling.{Sends};
+
+use ng_commands::{push_refusal, push_reply, push_tick, push_ticks};
+use ng_num::Fault;
+use ng_session::Reply;
+use std::alloc::Allocator;
+use std::io::Write;
+
+/// Why an answer isn't written: a beginning of it may be.
+#[derive(Clone, Copy, Debug, PartialEq, Eq)]
+pub enum Unsent {
+    /// A write or a flush failed, or a write took no byte.
+    Writer,
+    /// The line found no memory: nothing of it is written.
+    Memory,
+}
+
+/// Writes all bytes.
+fn write_out<W: Write>(writer: &mut W, bytes: &[u8]) -> Result<(), Unsent>
+    ensures { Sends (W.contents writer.old) (W.contents writer.new) bytes.now result }
+{
+    let mut written: usize = 0;
+    while written < bytes.len() {
+        match writer.write(&bytes[written..]) {
+            Ok(0) => return Err(Unsent::Writer),
+            Ok(n) => written += n,
+            Err(_) => return Err(Unsent::Writer),
+        }
+    }
+    Ok(())
+}
+
+/// Writes a line, and flushes it.
+fn send<W: Write>(writer: &mut W, line: &[u8]) -> Result<(), Unsent>
+    ensures { Sends (W.contents writer.old) (W.contents writer.new) line.now result }
+{
+    match write_out(writer, line) {
+        Ok(()) => match writer.flush() {
+            Ok(()) => Ok(()),
+            Err(_) => Err(Unsent::Writer),
+        },
+        Err(fault) => Err(fault),
+    }
+}
+
+/// Writes the line of a reply, and flushes it. After an error a beginning of it is written. Source: own.
+pub fn tell_reply<W: Write, A: Allocator + Copy + Drop>(
+    alloc: A,
+    writer: &mut W,
+    reply: &Reply,
+) -> Result<(), Unsent>
+    ensures { Sends (W.contents writer.old) (W.contents writer.new) (reply_line reply.now) result }
+{
+    let mut line = Vec::new(alloc);
+    match push_reply(&mut line, reply) {
+        Ok(()) => send(writer, line.as_slice()),
+        Err(_) => Err(Unsent::Memory),
+    }
+}
+
+/// Writes the line of a refusal, likewise. Source: own.
+pub fn tell_refusal<W: Write, A: Allocator + Copy + Drop>(
+    alloc: A,
+    writer: &mut W,
+    fault: Fault,
+) -> Result<(), Unsent>
+    ensures { Sends (W.contents writer.old) (W.contents writer.new) (refused_line fault) result }
+{
+    let mut line = Vec::new(alloc);
+    match push_refusal(&mut line, fault) {
+        Ok(()) => send(writer, line.as_slice()),
+        Err(_) => Err(Unsent::Memory),
+    }
+}
+
+/// Writes the line of a tick's reply, likewise; nothing where it has none. Source: own.
+pub fn tell_tick<W: Write, A: Allocator + Copy + Drop>(
+    alloc: A,
+    writer: &mut W,
+    reply: &Reply,
+) -> Result<(), Unsent>
+    ensures { Sends (W.contents writer.old) (W.contents writer.new) (tick_line reply.now) result }
+{
+    let mut line = Vec::new(alloc);
+    match push_tick(&mut line, reply) {
+        Ok(()) => send(writer, line.as_slice()),
+        Err(_) => Err(Unsent::Memory),
+    }
+}
+
+/// Writes the line behind a command of ticks, likewise. Source: own.
+pub fn tell_ticks<W: Write, A: Allocator + Copy + Drop>(
+    alloc: A,
+    writer: &mut W,
+    count: u32,
+) -> Result<(), Unsent>
+    ensures { Sends (W.contents writer.old) (W.contents writer.new) (ticks_line count) result }
+{
+    let mut line = Vec::new(alloc);
+    match push_ticks(&mut line, count) {
+        Ok(()) => send(writer, line.as_slice()),
+        Err(_) => Err(Unsent::Memory),
+    }
+}

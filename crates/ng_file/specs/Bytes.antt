@@ -1,0 +1,19 @@
+-- The bytes of a file, and its sectors of 512 (own).
+use Rattle.std.specs.Prelude.{◌≡◌, ◌⊎◌, ◌≤◌, ◌+◌, ◌*◌, ℕ, List, ◌++◌, Option, Some, IfSome, length, take, drop, slice_range}
+
+-- what sector n of these bytes holds
+abbrev pub sector_of : ℕ → List ℕ → List ℕ
+sector_of n held = slice_range held (512 * n) (512 * n + 512)
+
+-- these bytes, with others in place of as many from a place on
+abbrev pub with_bytes : ℕ → List ℕ → List ℕ → List ℕ
+with_bytes place bytes held = take place held ++ bytes ++ drop (place + length bytes) held
+
+-- the bytes are put there; a place past the end isn't looked at
+abbrev pub Put : ℕ → List ℕ → Option (List ℕ) → Option (List ℕ) → Type 0
+Put place bytes old new = IfSome old (λ held. place + 512 ≤ length held → new ≡ Some (with_bytes place bytes held))
+
+-- nothing is changed, or any 512 bytes are put there
+abbrev pub PutInPart : ℕ → Option (List ℕ) → Option (List ℕ) → Type 0
+PutInPart place old new = IfSome old (λ held. place + 512 ≤ length held →
+    (new ≡ Some held) ⊎ ((bytes : List ℕ) × (length bytes ≡ 512) × (new ≡ Some (with_bytes place bytes held))))

@@ -1,0 +1,19 @@
+-- A device in a file as its callers see it (own).
+use Rattle.std.specs.Prelude.{ℕ}
+use Rattle.ng_file.specs.declared.rig.FileRig.{FileRig}
+
+-- its number of sectors
+abbrev pub sector_count : {S W A : Type 0} → FileRig S W A → ℕ
+sector_count rig = rig.sectors
+
+-- the failures that it counts
+abbrev pub failure_count : {S W A : Type 0} → FileRig S W A → ℕ
+failure_count rig = rig.failures
+
+-- the file that holds its sectors
+abbrev pub storage : {S W A : Type 0} → FileRig S W A → S
+storage rig = rig.file
+
+-- where it hands out
+abbrev pub outlet : {S W A : Type 0} → FileRig S W A → W
+outlet rig = rig.out

@@ -1,0 +1,48 @@
+-- The line of an item that is handed out (own).
+use Rattle.std.specs.Prelude.{ℕ, Bool, true, false, List, [], ◌∷◌, ◌++◌, codes}
+use Rattle.std.specs.Fmt.{decimal}
+use Rattle.ng_num.specs.Text.{number_text}
+use Rattle.ng_canon.specs.declared.item.Step.{Step}
+use Rattle.ng_canon.specs.declared.item.Step.TheVariants.{Backward, Still, Forward}
+use Rattle.ng_canon.specs.declared.item.Pulse.{Pulse as Stepping}
+use Rattle.ng_canon.specs.declared.item.Item.{Item}
+use Rattle.ng_canon.specs.declared.item.Item.TheVariants.{Pulse, Dwell, Switch}
+use Rattle.ng_canon.specs.declared.outputs.Spindle.{Spindle}
+use Rattle.ng_canon.specs.declared.outputs.Spindle.TheVariants.{Stopped, Clockwise, Counterclockwise}
+use Rattle.ng_canon.specs.declared.outputs.Outputs.{Outputs}
+
+abbrev pub step_text : Step → List ℕ
+step_text Backward = codes "-1"
+step_text Still = codes "0"
+step_text Forward = codes "1"
+
+abbrev pub spindle_text : Spindle → List ℕ
+spindle_text Stopped = codes "0"
+spindle_text Clockwise = codes "1"
+spindle_text Counterclockwise = codes "2"
+
+-- the code of 0 or 1
+abbrev pub truth_digit : Bool → ℕ
+truth_digit false = 48
+truth_digit true = 49
+
+-- P, the steps of X, Y and Z, microseconds until the next
+abbrev pub pulse_line : Stepping → List ℕ
+pulse_line p = codes "P " ++ step_text p.x ++ codes " " ++ step_text p.y ++ codes " " ++ step_text p.z ++ codes " " ++ decimal p.period_us ++ codes "\n"
+
+-- spindle, speed, mist, flood
+abbrev pub turning_text : Outputs → List ℕ
+turning_text o = spindle_text o.spindle ++ codes " " ++ number_text o.speed ++ (32 ∷ truth_digit o.mist ∷ []) ++ (32 ∷ truth_digit o.flood ∷ 32 ∷ [])
+
+-- selected slot, slot in the spindle
+abbrev pub slots_text : Outputs → List ℕ
+slots_text o = decimal o.selected_slot ++ codes " " ++ decimal o.spindle_slot
+
+-- S and all outputs
+abbrev pub switch_line : Outputs → List ℕ
+switch_line o = codes "S " ++ turning_text o ++ slots_text o ++ codes "\n"
+
+abbrev pub item_line : Item → List ℕ
+item_line (Pulse p) = pulse_line p
+item_line (Dwell us) = codes "D " ++ decimal us ++ codes "\n"
+item_line (Switch o) = switch_line o

@@ -1,0 +1,22 @@
+//! Files that one process holds at a time.
+use std::fs::{File, TryLockError};
+
+/// Another process holds the file, or the system can't say.
+#[derive(Clone, Copy, Debug, PartialEq, Eq)]
+pub struct NotHeld;
+
+/// A file that a process can hold, so that no other one that asks for it takes it too.
+pub trait Hold {
+    /// Holds the file until it is closed, also by the end of the process. Doesn't wait.
+    fn hold(&self) -> Result<(), NotHeld>;
+}
+
+impl Hold for File {
+    /// By the system's lock on the whole file, which only programs that ask for it heed.
+    fn hold(&self) -> Result<(), NotHeld> {
+        match self.try_lock() {
+            Ok(()) => Ok(()),
+            Err(TryLockError::WouldBlock | TryLockError::Error(_)) => Err(NotHeld),
+        }
+    }
+}

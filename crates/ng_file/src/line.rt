@@ -1,0 +1,113 @@
+//! The line of an item.
+ghost use Rattle.std.specs.Prelude.{◌≡◌, ◌++◌, OnOk};
+ghost use Rattle.ng_file.specs.Lines.{item_line, pulse_line, slots_text, spindle_text, step_text, switch_line, truth_digit, turning_text};
+
+use ng_canon::{Item, Outputs, Pulse, Spindle, Step};
+use ng_num::{print_number, print_whole};
+use std::alloc::{AllocError, Allocator};
+
+fn step_text(step: Step) -> &'static [u8]
+    ensures { result.now ≡ step_text step }
+{
+    match step {
+        Step::Backward => b"-1",
+        Step::Still => b"0",
+        Step::Forward => b"1",
+    }
+}
+
+fn spindle_text(spindle: Spindle) -> &'static [u8]
+    ensures { result.now ≡ spindle_text spindle }
+{
+    match spindle {
+        Spindle::Stopped => b"0",
+        Spindle::Clockwise => b"1",
+        Spindle::Counterclockwise => b"2",
+    }
+}
+
+fn truth_digit(truth: bool) -> u8
+    ensures { result ≡ truth_digit truth }
+{
+    if truth { b'1' } else { b'0' }
+}
+
+/// Appends the line of a pulse.
+fn push_pulse<A: Allocator + Copy + Drop>(
+    text: &mut Vec<u8, A>,
+    pulse: Pulse,
+) -> Result<(), AllocError>
+    ensures { OnOk result (text.new.items ≡ text.old.items ++ pulse_line pulse) }
+{
+    text.extend_from_slice(b"P ")?;
+    text.extend_from_slice(step_text(pulse.x))?;
+    text.extend_from_slice(b" ")?;
+    text.extend_from_slice(step_text(pulse.y))?;
+    text.extend_from_slice(b" ")?;
+    text.extend_from_slice(step_text(pulse.z))?;
+    text.extend_from_slice(b" ")?;
+    print_whole(text, pulse.period_us)?;
+    text.extend_from_slice(b"\n")
+}
+
+/// Appends the line of a wait.
+fn push_dwell<A: Allocator + Copy + Drop>(text: &mut Vec<u8, A>, us: u64) -> Result<(), AllocError>
+    ensures { OnOk result (text.new.items ≡ text.old.items ++ item_line (Item.Dwell us)) }
+{
+    text.extend_from_slice(b"D ")?;
+    print_whole(text, us)?;
+    text.extend_from_slice(b"\n")
+}
+
+/// Appends how the spindle turns and what coolant flows, and the blank behind it.
+fn push_turning<A: Allocator + Copy + Drop>(
+    text: &mut Vec<u8, A>,
+    outputs: &Outputs,
+) -> Result<(), AllocError>
+    ensures { OnOk result (text.new.items ≡ text.old.items ++ turning_text outputs.now) }
+{
+    text.extend_from_slice(spindle_text(outputs.spindle))?;
+    text.extend_from_slice(b" ")?;
+    print_number(text, outputs.speed, [b' ', truth_digit(outputs.mist)])?;
+    text.extend_from_slice(&[b' ', truth_digit(outputs.flood), b' '])
+}
+
+/// Appends the slots.
+fn push_slots<A: Allocator + Copy + Drop>(
+    text: &mut Vec<u8, A>,
+    outputs: &Outputs,
+) -> Result<(), AllocError>
+    ensures { OnOk result (text.new.items ≡ text.old.items ++ slots_text outputs.now) }
+{
+    print_whole(text, outputs.selected_slot as u64)?;
+    text.extend_from_slice(b" ")?;
+    print_whole(text, outputs.spindle_slot as u64)
+}
+
+/// Appends the line of all outputs.
+fn push_switch<A: Allocator + Copy + Drop>(
+    text: &mut Vec<u8, A>,
+    outputs: Outputs,
+) -> Result<(), AllocError>
+    ensures { OnOk result (text.new.items ≡ text.old.items ++ switch_line outputs) }
+{
+    text.extend_from_slice(b"S ")?;
+    push_turning(text, &outputs)?;
+    push_slots(text, &outputs)?;
+    text.extend_from_slice(b"\n")
+}
+
+/// Appends the line of an item: `P x y z period`, `D microseconds` or `S spindle speed mist flood selected slot`. After an
+/// error a part of it may have been appended. Source: own.
+pub fn push_item<A: Allocator + Copy + Drop>(
+    text: &mut Vec<u8, A>,
+    item: Item,
+) -> Result<(), AllocError>
+    ensures { OnOk result (text.new.items ≡ text.old.items ++ item_line item) }
+{
+    match item {
+        Item::Pulse(pulse) => push_pulse(text, pulse),
+        Item::Dwell { us } => push_dwell(text, us),
+        Item::Switch(outputs) => push_switch(text, outputs),
+    }
+}

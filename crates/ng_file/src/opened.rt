@@ -1,0 +1,42 @@
+//! A file of the system as storage.
+ghost use Rattle.std.specs.Prelude.{◌≡◌};
+
+use crate::storage::Storage;
+use std::fs::OpenFile;
+use std::io;
+use std::io::{Read, Seek, SeekFrom, Write};
+
+/// A file that was opened to be read and written. What it holds is the system's, and no contract says it.
+#[derive(Drop)]
+pub struct OpenedFile<F> {
+    file: F,
+}
+
+impl<F> OpenedFile<F> {
+    /// The bytes of this file.
+    pub fn of(file: F) -> OpenedFile<F>
+        ensures { result.file ≡ file }
+    {
+        OpenedFile { file }
+    }
+}
+
+impl<F: Read + Write + Seek + OpenFile> Storage for OpenedFile<F> {
+    fn length(&mut self) -> io::Result<u64> {
+        self.file.seek(SeekFrom::End(0))
+    }
+
+    fn read_at(&mut self, place: u64, into: &mut [u8; 512]) -> io::Result<()> {
+        self.file.seek(SeekFrom::Start(place))?;
+        self.file.read_exact(into)
+    }
+
+    fn write_at(&mut self, place: u64, bytes: &[u8; 512]) -> io::Result<()> {
+        self.file.seek(SeekFrom::Start(place))?;
+        self.file.write_all(bytes)
+    }
+
+    fn sync(&mut self) -> io::Result<()> {
+        self.file.sync_all()
+    }
+}

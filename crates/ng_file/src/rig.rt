@@ -1,0 +1,185 @@
+//! A device whose sectors are those of a file.
+ghost use Rattle.std.specs.Prelude.{◌*◌, ◌<◌, ◌^◌, ℕ};
+
+use crate::line::push_item;
+use crate::storage::Storage;
+use ng_canon::Item;
+use ng_rig::{Failed, Rig};
+use std::alloc::Allocator;
+use std::io;
+use std::io::Write;
+
+/// The bytes of a sector.
+const SECTOR: u64 = 512;
+
+/// Room for the line of any item.
+const LINE: usize = 64;
+
+/// A device whose sectors are those of a file, and whose hand-outs are lines behind those that a writer has.
+///
+/// It has as many sectors as were whole when it was made. A call fails where the file or the writer fails, and a write also
+/// where the file has become shorter than its sector.
+#[derive(Drop)]
+pub struct FileRig<S, W, A: Allocator> {
+    file: S,
+    out: W,
+    line: Vec<u8, A>,
+    sectors: usize,
+    failures: u64,
+    ghost fits: { 512 * sectors < 2 ^ 64 },
+}
+
+impl<S: Storage + Drop, W: Write + Drop, A: Allocator + Copy + Drop> FileRig<S, W, A> {
+    ghost use Rattle.std.specs.Prelude.{◌≡◌, ◌+◌, ◌*◌, ◌/◌, ◌%◌, ◌^◌, ◌<◌, ◌≤◌, IfOk, IfSome, OnOk, OnErr, is_ok, length};
+    ghost use Rattle.ng_rig.specs.Calls.{Counts};
+    ghost use Rattle.std.specs.Io.KnownBytes.{Appends};
+    ghost use Rattle.ng_file.specs.Bytes.{Put, PutInPart};
+    ghost use Rattle.ng_file.specs.FileRig.{failure_count, outlet, sector_count, storage};
+    ghost use Rattle.ng_file.specs.Lines.{item_line};
+
+    /// The device in a file, which hands out to a writer. Fails where the file can't say its length, or memory for a line
+    /// is wanting.
+    pub fn over(alloc: A, mut file: S, out: W) -> io::Result<Self>
+        ensures size { IfOk result (λ rig. IfSome (S.content file) (λ held. sector_count rig ≡ length held / 512)) }
+        ensures bytes { IfOk result (λ rig. S.content (storage rig) ≡ S.content file) }
+        ensures out { IfOk result (λ rig. outlet rig ≡ out) }
+        ensures failures { IfOk result (λ rig. failure_count rig ≡ 0) }
+    {
+        let line = Vec::with_capacity(alloc, LINE)?;
+        let sectors = (file.length()? / SECTOR) as usize;
+        Ok(FileRig {
+            file,
+            out,
+            line,
+            sectors,
+            failures: 0,
+        })
+    }
+
+    /// Gives the file and the writer back.
+    pub fn into_parts(self) -> (S, W)
+        ensures { (result.0 ≡ storage self) × (result.1 ≡ outlet self) }
+    {
+        let FileRig {
+            file,
+            out,
+            line: _,
+            sectors: _,
+            failures: _,
+        } = self;
+        (file, out)
+    }
+
+    /// Puts a sector's bytes into the file, where the file is long enough to have the sector.
+    fn put(&mut self, sector: usize, bytes: &[u8; 512]) -> io::Result<()>
+        requires { sector < sector_count self.old }
+        ensures ok { OnOk result (IfSome (S.content (storage self.old)) (λ held. 512 * sector + 512 ≤ length held)) }
+        ensures put { OnOk result (Put (512 * sector) bytes.now (S.content (storage self.old)) (S.content (storage self.new))) }
+        ensures part { OnErr result (PutInPart (512 * sector) (S.content (storage self.old)) (S.content (storage self.new))) }
+        ensures others { (outlet self.new ≡ outlet self.old) × (sector_count self.new ≡ sector_count self.old) × (failure_count self.new ≡ failure_count self.old) }
+    {
+        let place = sector as u64 * SECTOR;
+        if self.file.length()? < place + SECTOR {
+            return Err(io::Error::from(io::ErrorKind::UnexpectedEof));
+        }
+        self.file.write_at(place, bytes)
+    }
+
+    /// Appends the line of an item to what was handed out.
+    fn put_line(&mut self, item: Item) -> io::Result<()>
+        ensures line { OnOk result (Appends (W.contents (outlet self.old)) (W.contents (outlet self.new)) (item_line item)) }
+        ensures others { (storage self.new ≡ storage self.old) × (sector_count self.new ≡ sector_count self.old) × (failure_count self.new ≡ failure_count self.old) }
+    {
+        self.line.clear();
+        push_item(&mut self.line, item)?;
+        self.out.write_all(&self.line)?;
+        self.out.flush()
+    }
+
+    /// Counts a failure of the file or the writer.
+    fn counted(&mut self, outcome: io::Result<()>) -> Result<(), Failed>
+        ensures same { is_ok result ≡ is_ok outcome }
+        ensures failures { Counts result (failure_count self.old) (failure_count self.new) }
+        ensures others { (storage self.new ≡ storage self.old) × (outlet self.new ≡ outlet self.old) × (sector_count self.new ≡ sector_count self.old) }
+    {
+        match outcome {
+            Ok(()) => Ok(()),
+            Err(_) => {
+                self.failures = self.failures.wrapping_add(1);
+                Err(Failed)
+            }
+        }
+    }
+}
+
+impl<S: Storage + Drop, W: Write + Drop, A: Allocator + Copy + Drop> Rig for FileRig<S, W, A> {
+    ghost use Rattle.std.specs.Prelude.{◌≡◌, ◌+◌, ◌*◌, ◌<◌, ◌≤◌, [], IfSome, OnOk, OnErr, length};
+    ghost use Rattle.std.specs.Io.KnownBytes.{Appends};
+    ghost use Rattle.ng_rig.specs.Calls.{Counts};
+    ghost use Rattle.ng_rig.specs.Life.{Began};
+    ghost use Rattle.ng_file.specs.Bytes.{Put, PutInPart, sector_of};
+    ghost use Rattle.ng_file.specs.FileRig.{failure_count, outlet, sector_count, storage};
+    ghost use Rattle.ng_file.specs.Lines.{item_line};
+
+    ghost life = { λ _. Began (λ _. []) };
+
+    ghost honest = { λ _. ⊥ };
+
+    ghost sectors = { sector_count };
+
+    ghost failed = { failure_count };
+
+    fn size(&self) -> usize {
+        self.sectors
+    }
+
+    fn failures(&self) -> u64 {
+        self.failures
+    }
+
+    /// Fails where the file does, also where it has become shorter than the sector.
+    fn read(&mut self, sector: usize, into: &mut [u8; 512]) -> Result<(), Failed>
+        requires { sector < sector_count self.old }
+        ensures value { OnOk result (IfSome (S.content (storage self.old)) (λ held. into.new ≡ sector_of sector held)) }
+        ensures stays { (S.content (storage self.new) ≡ S.content (storage self.old)) × (outlet self.new ≡ outlet self.old) }
+        ensures size { sector_count self.new ≡ sector_count self.old }
+        ensures failures { Counts result (failure_count self.old) (failure_count self.new) }
+    {
+        let read = self.file.read_at(sector as u64 * SECTOR, into);
+        self.counted(read)
+    }
+
+    /// Fails where the file does, and where it has become shorter than the sector; then nothing is written.
+    fn write(&mut self, sector: usize, bytes: &[u8; 512]) -> Result<(), Failed>
+        requires { sector < sector_count self.old }
+        ensures whole { OnOk result (IfSome (S.content (storage self.old)) (λ held. 512 * sector + 512 ≤ length held)) }
+        ensures put { OnOk result (Put (512 * sector) bytes.now (S.content (storage self.old)) (S.content (storage self.new))) }
+        ensures part { OnErr result (PutInPart (512 * sector) (S.content (storage self.old)) (S.content (storage self.new))) }
+        ensures stays { outlet self.new ≡ outlet self.old }
+        ensures size { sector_count self.new ≡ sector_count self.old }
+        ensures failures { Counts result (failure_count self.old) (failure_count self.new) }
+    {
+        let put = self.put(sector, bytes);
+        self.counted(put)
+    }
+
+    fn sync(&mut self) -> Result<(), Failed>
+        ensures stays { (S.content (storage self.new) ≡ S.content (storage self.old)) × (outlet self.new ≡ outlet self.old) }
+        ensures size { sector_count self.new ≡ sector_count self.old }
+        ensures failures { Counts result (failure_count self.old) (failure_count self.new) }
+    {
+        let synced = self.file.sync();
+        self.counted(synced)
+    }
+
+    /// Appends the item's line and flushes the writer. Takes no memory. After a failure a part of the line may stand there.
+    fn hand_out(&mut self, item: Item) -> Result<(), Failed>
+        ensures line { OnOk result (Appends (W.contents (outlet self.old)) (W.contents (outlet self.new)) (item_line item)) }
+        ensures stays { storage self.new ≡ storage self.old }
+        ensures size { sector_count self.new ≡ sector_count self.old }
+        ensures failures { Counts result (failure_count self.old) (failure_count self.new) }
+    {
+        let put = self.put_line(item);
+        self.counted(put)
+    }
+}

@@ -1,0 +1,31 @@
+//! The bytes of a file.
+ghost use Rattle.std.specs.Prelude.{◌≡◌, ◌+◌, ◌<◌, ◌≤◌, ◌^◌, ℕ, List, Option, Some, None, length, slice_range, IfOk, OnOk, OnErr, IfSome};
+ghost use Rattle.ng_file.specs.Bytes.{Put, PutInPart};
+
+use std::io;
+
+/// The bytes of a file, of which 512 are read or written at a time (own).
+pub trait Storage {
+    /// The bytes that it holds, where that is known.
+    ghost content: { Self → Option (List ℕ) } = { λ _. None };
+
+    /// How many bytes it holds.
+    fn length(&mut self) -> io::Result<u64>
+        ensures value { IfOk result (λ n. IfSome (content self.old) (λ held. n ≡ length held)) }
+        ensures bytes { content self.new ≡ content self.old };
+
+    /// Reads the 512 bytes from a place on. After an error `into` may hold any bytes.
+    fn read_at(&mut self, place: u64, into: &mut [u8; 512]) -> io::Result<()>
+        ensures value { OnOk result (IfSome (content self.old) (λ held. into.new ≡ slice_range held place (place + 512))) }
+        ensures bytes { content self.new ≡ content self.old };
+
+    /// Writes 512 bytes in place of those from a place on. After an error some of them may have been written.
+    fn write_at(&mut self, place: u64, bytes: &[u8; 512]) -> io::Result<()>
+        requires { place + 512 < 2 ^ 64 }
+        ensures ok { OnOk result (Put place bytes.now (content self.old) (content self.new)) }
+        ensures err { OnErr result (PutInPart place (content self.old) (content self.new)) };
+
+    /// Makes lasting what was written.
+    fn sync(&mut self) -> io::Result<()>
+        ensures bytes { content self.new ≡ content self.old };
+}

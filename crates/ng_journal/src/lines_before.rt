@@ -1,0 +1,40 @@
+//! The kind of the first line before a place of the program in force that isn't blank.
+ghost use Rattle.std.specs.Prelude.{◌≡◌, ◌≤◌, ◌+◌, ℕ, List, IfOk};
+ghost use Rattle.ng_rig.specs.Calls.{Promises, Counts};
+ghost use Rattle.ng_layout.specs.Sectors.{text_of};
+ghost use Rattle.ng_layout.specs.Stands.{program_size, stretch};
+ghost use Rattle.ng_journal.specs.Reading.{Reads};
+ghost use Rattle.ng_journal.specs.FirstLines.{kind_in};
+
+use crate::first_line::FirstLine;
+use crate::line::part_of;
+use crate::reading::read_sector;
+use ng_layout::BYTES;
+use ng_rig::{Failed, Rig};
+use ng_words::Kind;
+
+/// The kind of the first line of a program that isn't blank, of its bytes before a place; blank where all lines are. It reads no
+/// further than to that line's end.
+pub(crate) fn read_first_kind<R: Rig>(
+    rig: &mut R,
+    first: usize,
+    place: usize,
+) -> Result<Kind, Failed>
+    requires room { first + 256 ≤ R.sectors rig.old }
+    requires area { first ≤ 430 }
+    requires small { place ≤ 131_072 }
+    ensures read { Promises (R.honest rig.old) (R.honest rig.new) (Reads result (λ image kind. kind ≡ kind_in (text_of place (stretch first program_size image))) (R.life rig.old) (R.life rig.new)) }
+    ensures size { R.sectors rig.new ≡ R.sectors rig.old }
+    ensures failures { Counts result (R.failed rig.old) (R.failed rig.new) }
+{
+    let mut seen = FirstLine::Unseen;
+    for n in 0..place.div_ceil(BYTES) {
+        let sector = read_sector(rig, first + n)?;
+        seen = seen.behind_all(part_of(&sector, n, 0, place));
+        match seen.known() {
+            Some(kind) => return Ok(kind),
+            None => (),
+        }
+    }
+    Ok(seen.kind())
+}

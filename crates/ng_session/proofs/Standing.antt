@@ -1,0 +1,155 @@
+-- What stands behind a line can be stored where what stood before it could be.
+use Rattle.std.proofs.Common.{◌≡◌, ℕ, ◌+◌, ◌-◌, ◌≤◌, ℤ, Bool, true, false, cond, List, [], ◌∷◌, length, Option, Some, None, Result, Ok, Err, refl, sym, ◌∙◌, ap, subst, arith}
+use Rattle.std.specs.Prelude.{◌&&◌, MatchResult, OnOk}
+use Rattle.std.specs.List.{enumerate_from}
+use Rattle.std.proofs.lemmas.List.{length-map, length-set}
+use Rattle.std.proofs.lemmas.List.FromFn.{length-enumerate_from}
+use Rattle.ng_num.specs.declared.fault.Fault.{Fault}
+use Rattle.ng_num.specs.declared.fault.Fault.TheVariants.{LineTooLong}
+use Rattle.ng_canon.specs.Text.{Canonical}
+use Rattle.ng_canon.specs.declared.geometry.Geometry.{Geometry}
+use Rattle.ng_words.specs.Grammar.{Piece, is_too_long}
+use Rattle.ng_words.specs.Kinds.{is_deletable}
+use Rattle.ng_words.specs.Lines.{last_comment}
+use Rattle.ng_words.specs.Reading.{read}
+use Rattle.ng_words.specs.declared.start.Kind.{Kind}
+use Rattle.ng_params.specs.Table.{with_value}
+use Rattle.ng_params.specs.Changes.{with_changes}
+use Rattle.ng_params.specs.declared.change.Change.{Change}
+use Rattle.ng_expr.specs.Settle.{Settled, settled}
+use Rattle.ng_modal.specs.Accepted.{IsAccepted}
+use Rattle.ng_modal.specs.Check.{checked, first_fault}
+use Rattle.ng_modal.specs.declared.block.Block.{Block}
+use Rattle.ng_modal.proofs.AcceptedLemmas.{accepted_by}
+use Rattle.ng_block.specs.Blocks.{feed_of}
+use Rattle.ng_block.specs.Cycles.{kept_of}
+use Rattle.ng_block.specs.Dry.{Terms, idle, deleted, executed_unless_deleted, framed, is_end}
+use Rattle.ng_block.specs.Effects.{Done, lawful, block_done, executed, executed_pieces, executed_values, in_state}
+use Rattle.ng_block.specs.Faults.{path_faults}
+use Rattle.ng_block.specs.Goals.{Goal, goal_of, way_of}
+use Rattle.ng_block.specs.Parts.{executed_behind, percent_by}
+use Rattle.ng_block.specs.Remarks.{remark_of}
+use Rattle.ng_block.specs.Setup.{Setup}
+use Rattle.ng_block.specs.declared.effect.Effect.{Effect}
+use Rattle.ng_block.specs.declared.effect.Stop.{Stop}
+use Rattle.ng_block.specs.declared.effect.Stop.TheVariants.{GoesOn}
+use Rattle.ng_layout.specs.Storable.{CanStand, CanWait, IsStorable}
+use Rattle.ng_layout.specs.Stored.{HalfDone, Saved}
+use Rattle.ng_layout.specs.declared.half.Source.{Source}
+use Rattle.ng_layout.specs.declared.half.Source.TheVariants.{Program, Mdi}
+use Rattle.ng_session.specs.Entries.{place_by, place_after, after_block, after_load}
+use Rattle.ng_session.specs.Kept.{IsNext}
+use Rattle.ng_session.proofs.Limits.{found, same, block-stands}
+
+-- what a line leads to can stand where what it began with could
+abbrev Keeps : Setup → Result Done Fault → Type 0
+Keeps s does = (done : Done) → does ≡ Ok done → CanStand s.machine → CanStand done.setup.machine
+
+unless-lawful : {X : Type 0} (o : Option Fault) (answer : Result X Fault) (x : X) → lawful o answer ≡ Ok x → answer ≡ Ok x
+unless-lawful None answer x e = e
+unless-lawful (Some fault) answer x e = absurd (cc e)
+
+feed-found : (b : Block) (s : Setup) (settings : List Change) (tools : List ℤ) (geometry : Geometry) (goal : Goal) → goal_of b settings s tools geometry ≡ Ok goal → feed_of b s.machine ≡ Ok goal.feed_per_min
+feed-found b s settings tools geometry goal e =
+    let feed = found (feed_of b s.machine) _ goal e in
+    let way = found (way_of b settings s tools feed.0 geometry) _ goal feed.2 in
+    let kept = found (kept_of b s.machine) _ goal way.2 in
+    feed.1 ∙ ap (λ (g : Goal). Ok g.feed_per_min) (same _ goal kept.2)
+
+values-keep : (s : Setup) (remark : List Canonical) (values : Settled) (tools : List ℤ) (geometry : Geometry) → length tools ≤ 64 → Keeps s (executed_values s remark values tools geometry)
+unfolding executed_values
+values-keep s remark values tools geometry few done e can =
+    let block = found (checked values.words s.machine.modes (length tools)) _ done e in
+    let b : Block = block.0 in
+    let accepted : IsAccepted b s.machine.modes (length tools) = accepted_by values.words s.machine.modes (length tools) (omega arith) b (Ok tt) block.1 in
+    let goal = found (goal_of b values.settings s tools geometry) _ done block.2 in
+    let is : block_done b goal.0 remark s ≡ done = same _ done (unless-lawful (first_fault (path_faults goal.0.path geometry)) _ done goal.2) in
+    subst (λ (d : Done). CanStand d.setup.machine) is
+    (block-stands b s.machine _ (length tools) few accepted can (feed-found b s values.settings tools geometry goal.0 goal.1) refl)
+
+pieces-keep : (s : Setup) (pieces : List Piece) (tools : List ℤ) (geometry : Geometry) → length tools ≤ 64 → Keeps s (executed_pieces s pieces tools geometry)
+unfolding executed_pieces
+pieces-keep s pieces tools geometry few done e can =
+    let values = found (settled pieces s.params) _ done e in
+    values-keep s (remark_of (last_comment pieces)) values.0 tools geometry few done values.2 can
+
+line-keeps : (s : Setup) (tools : List ℤ) (geometry : Geometry) (text : List ℕ) → length tools ≤ 64 → Keeps s (executed s tools geometry text)
+unfolding executed
+line-keeps s tools geometry text few done e can =
+    let line = found (read text) _ done e in
+    pieces-keep s line.0.pieces tools geometry few done line.2 can
+
+idle-keeps : (s : Setup) (stop : Stop) → Keeps s (Ok (idle s stop))
+idle-keeps s stop done e can = subst (λ (d : Done). CanStand d.setup.machine) (same (idle s stop) done e) can
+
+alone-keeps : (t : Terms) (s : Setup) (text : List ℕ) → length t.tools ≤ 64 → Keeps s (executed_unless_deleted t s text)
+alone-keeps t s text few = by (t.block_delete && is_deletable text)
+  where
+    long : (b : Bool) → Keeps s (cond b (Err LineTooLong) (Ok (idle s GoesOn)))
+    long true done e can = absurd (cc e)
+    long false done e can = idle-keeps s GoesOn done e can
+
+    by : (b : Bool) → Keeps s (cond b (deleted s text) (executed s t.tools t.geometry text))
+    by true = long (is_too_long text)
+    by false = line-keeps s t.tools t.geometry text few
+
+behind-keeps : (t : Terms) (first : Kind) (s : Setup) (text : List ℕ) → length t.tools ≤ 64 → Keeps s (executed_behind t first s text)
+behind-keeps t first s text few = by (percent_by first text)
+  where
+    by : (o : Option Stop) → Keeps s (framed o s (executed_unless_deleted t s text))
+    by None = alone-keeps t s text few
+    by (Some stop) = idle-keeps s stop
+
+kept : {T : Type 0} (r : Result T Fault) (s : Setup) (does : Result Done Fault) (done : Done) → Keeps s does
+    → MatchResult r (λ x. does ≡ Ok done) (λ fault. does ≡ Err fault) → OnOk r (CanStand s.machine → CanStand done.setup.machine)
+kept (Ok x) s does done keeps e = keeps done e
+kept (Err fault) s does done keeps e = tt
+
+-- a line by itself, and one behind others
+pub alone-stands : {T : Type 0} (r : Result T Fault) (t : Terms) (s : Setup) (text : List ℕ) (done : Done) → length t.tools ≤ 64
+    → MatchResult r (λ x. executed_unless_deleted t s text ≡ Ok done) (λ fault. executed_unless_deleted t s text ≡ Err fault) → OnOk r (CanStand s.machine → CanStand done.setup.machine)
+alone-stands r t s text done few = kept r s (executed_unless_deleted t s text) done (alone-keeps t s text few)
+
+pub behind-stands : {T : Type 0} (r : Result T Fault) (t : Terms) (first : Kind) (s : Setup) (text : List ℕ) (done : Done) → length t.tools ≤ 64
+    → MatchResult r (λ x. executed_behind t first s text ≡ Ok done) (λ fault. executed_behind t first s text ≡ Err fault) → OnOk r (CanStand s.machine → CanStand done.setup.machine)
+behind-stands r t first s text done few = kept r s (executed_behind t first s text) done (behind-keeps t first s text few)
+
+-- ---- what is stored behind a block and behind a load
+
+long-after : (table : List ℤ) (changes : List Change) → length (with_changes table changes) ≡ length table
+long-after table [] = refl
+long-after table (c ∷ changes) = long-after (with_value table c.index c.value) changes ∙ length-set table (c.index - 1) c.value
+
+place-within : (next place limit : ℕ) (source : Source) (stop : Stop) → next ≤ limit → place ≤ limit → place_after next place source stop ≤ limit
+place-within next place limit source stop first second = by (is_end stop) source
+  where
+    by : (t : Bool) (source : Source) → cond t 0 (place_by next place source) ≤ limit
+    by true source = omega arith
+    by false Program = first
+    by false Mdi = second
+
+pub next_storable : (x : Saved) (next : ℕ) (source : Source) (e : Effect) → IsStorable x → next ≤ x.length → CanStand e.machine → IsNext x (after_block next x source (in_state x.setup e))
+next_storable x next source e was within can = record {
+  count = refl;
+  same = refl;
+  storable = record {
+    table = long-after x.setup.params e.changes.items ∙ was.table;
+    machine = can;
+    half = tt;
+    place = place-within next x.place x.length source e.stop within was.place;
+    program = was.program;
+  };
+}
+
+pub load_storable : (x : Saved) (length_new : ℕ) → IsStorable x → length_new ≤ 131_072 → IsStorable (after_load x length_new)
+load_storable x length_new was short = record {
+  table = length-map (enumerate_from 1 x.setup.params) _ ∙ length-enumerate_from 1 x.setup.params ∙ was.table;
+  machine = was.machine;
+  half = tt;
+  place = omega arith;
+  program = short;
+}
+
+-- with a half-done block besides
+pub half_storable : (x : Saved) (half : HalfDone) → IsStorable x → CanWait half → IsStorable (record x { half = Some half })
+half_storable x half was waits = record { table = was.table; machine = was.machine; half = waits; place = was.place; program = was.program }
