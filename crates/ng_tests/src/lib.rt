@@ -1,7 +1,7 @@
-//! Tests of all crates through their public calls; no program stands on this crate.
+//! Tests of the crates below `ng_block` through their public calls; no program stands on this crate.
 //!
 //! Expected values are worked out by hand or by other means from the language, never taken from what the crates
-//! answer. They stand in one crate because a crate with tests is proved twice. Tests that need private parts of a
+//! answer. They stand in crates of their own because a crate with tests is proved twice. Tests that need private parts of a
 //! crate stand in that crate.
 #![tactic(auto)]
 
@@ -12,13 +12,7 @@ mod commands;
 #[cfg(test)]
 mod cycles;
 #[cfg(test)]
-mod device;
-#[cfg(test)]
 mod faults;
-#[cfg(test)]
-mod images;
-#[cfg(test)]
-mod journal;
 #[cfg(test)]
 mod lines;
 #[cfg(test)]
@@ -30,10 +24,6 @@ mod parameters;
 #[cfg(test)]
 mod printing;
 #[cfg(test)]
-mod programs;
-#[cfg(test)]
 mod settings;
-#[cfg(test)]
-mod stepping;
 #[cfg(test)]
 mod values;

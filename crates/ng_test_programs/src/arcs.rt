@@ -1,5 +1,5 @@
 //! Arcs: what programs print and how they are refused, worked out by hand from the language, in millimetres.
-use super::rows::Rows;
+use crate::rows::Rows;
 
 /// Programs of arcs. The one tool is 50 mm long.
 pub const ARCS: Rows = &[

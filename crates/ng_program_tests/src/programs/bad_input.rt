@@ -1,8 +1,9 @@
 //! Lines that nobody would write: each is answered by a fault, or read, at once.
-use super::{NO_END, PROGRAM_END, blanks, dry_text, writes};
+use super::{blanks, dry_text, writes};
 use ng_block::{Ended, State, Tools, execute};
 use ng_canon::Geometry;
 use ng_num::Fault;
+use ng_test_programs::LONG;
 use std::alloc::Global;
 use std::test::Fail;
 
@@ -76,32 +77,10 @@ fn broken_lines_are_refused_by_name(rt: HostRuntime) -> Result<(), Fail> {
     Ok(())
 }
 
-/// What stands before and behind so many blanks, and the end that the program then writes: whether a 256th byte may
-/// stand there, and a 257th.
-const LONG: [(&str, usize, &str, &str); 15] = [
-    ("", 256, "\nM2", PROGRAM_END),
-    ("", 257, "\nM2", TOO_LONG),
-    ("", 256, "\r\nM2", PROGRAM_END),
-    ("", 257, "\r\nM2", TOO_LONG),
-    ("", 256, "", NO_END),
-    ("", 257, "", TOO_LONG),
-    ("", 255, "\r", "REFUSED line 1: E1 Unreadable\n"),
-    ("", 256, "\r", TOO_LONG),
-    ("", 254, "M2", PROGRAM_END),
-    ("", 255, "M2", TOO_LONG),
-    ("", 20_000, "M2", TOO_LONG),
-    ("%", 255, "", "REFUSED line 2: X4 MissingPercent\n"),
-    ("%", 256, "", TOO_LONG),
-    ("(a)junk", 250, "", TOO_LONG),
-    ("/", 256, "", TOO_LONG),
-];
-
-const TOO_LONG: &str = "REFUSED line 1: E2 LineTooLong\n";
-
 #[test]
 fn the_length_of_a_line_comes_first(rt: HostRuntime) -> Result<(), Fail> {
     for (front, count, behind, end) in LONG {
-        let blanks = blanks(rt.alloc(), count)?;
+        let blanks = blanks(rt.alloc(), *count)?;
         let program = format!(in rt.alloc(); "{front}{blanks}{behind}")?;
         for block_delete in [false, true] {
             assert!(rt;

@@ -1,14 +1,34 @@
-//! Programs and what they write.
-use super::arcs::ARCS;
-use super::cycles::CYCLES;
-use super::grammar::{COMMENTS, PERCENTS, VALUES};
-use super::modal::{LASTING, PRINTED};
-use super::offsets::OFFSETS;
-use super::{NO_END, PROGRAM_END, writes};
-use std::test::Fail;
+//! Programs and what they write, and the tables of all of them.
+use crate::arcs::ARCS;
+use crate::cycles::CYCLES;
+use crate::ends::{NO_END, PROGRAM_END};
+use crate::grammar::{COMMENTS, FAULTS, PERCENTS, UNREADABLE, VALUES};
+use crate::modal;
+use crate::offsets::OFFSETS;
 
 /// Programs, what their lines write, and what their end writes.
 pub type Rows = &'static [(&'static str, &'static str, &'static str)];
+
+/// Lines, and the fault that refuses each of them alone, by its name.
+pub type Refusals = &'static [(&'static str, &'static str)];
+
+/// All programs with their texts, and whether block delete is on.
+pub const TEXTS: &[(bool, Rows)] = &[
+    (false, ENDED),
+    (false, REFUSED),
+    (false, READ),
+    (true, DELETED),
+    (false, VALUES),
+    (false, COMMENTS),
+    (false, PERCENTS),
+    (false, modal::LASTING),
+    (false, OFFSETS),
+    (false, ARCS),
+    (false, CYCLES),
+];
+
+/// All lines that are refused alone.
+pub const REFUSALS: &[Refusals] = &[modal::REFUSED, FAULTS, UNREADABLE];
 
 /// Programs that come to their end.
 const ENDED: Rows = &[
@@ -155,31 +175,3 @@ const DELETED: Rows = &[
     ("/G0 X\nM2", "", PROGRAM_END),
     (SLASHES, LEFT_MOVES, PROGRAM_END),
 ];
-
-#[test]
-fn programs_write_their_texts(rt: HostRuntime) -> Result<(), Fail> {
-    for (block_delete, rows) in [
-        (false, ENDED),
-        (false, REFUSED),
-        (false, READ),
-        (true, DELETED),
-        (false, VALUES),
-        (false, COMMENTS),
-        (false, PERCENTS),
-        (false, LASTING),
-        (false, OFFSETS),
-        (false, ARCS),
-        (false, CYCLES),
-    ] {
-        for (program, text, end) in rows {
-            assert!(rt;
-                writes(rt.alloc(), program, block_delete, text, end)?,
-                "{program:?} {block_delete}"
-            );
-        }
-    }
-    for (line, text) in PRINTED {
-        assert!(rt; writes(rt.alloc(), line, false, text, NO_END)?, "{line:?}");
-    }
-    Ok(())
-}

@@ -1,7 +1,7 @@
 //! Canned cycles: what programs print and how they are refused, worked out by hand from the language, in millimetres. The one
 //! tool is 50 mm long.
-use super::rows::Rows;
-use super::{NO_END, PROGRAM_END};
+use crate::ends::{NO_END, PROGRAM_END};
+use crate::rows::Rows;
 
 /// Programs of canned cycles.
 pub const CYCLES: Rows = &[

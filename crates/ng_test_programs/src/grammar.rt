@@ -1,7 +1,7 @@
 //! Expressions, settings, comments and percent programs, line by line. What they write and answer is worked out by
 //! hand from the language.
-use super::rows::Rows;
-use super::{NO_END, PROGRAM_END};
+use crate::ends::{NO_END, PROGRAM_END};
+use crate::rows::{Refusals, Rows};
 
 /// Values are found in the table before the line.
 pub const VALUES: Rows = &[
@@ -167,7 +167,7 @@ pub const PERCENTS: Rows = &[
 ];
 
 /// Lines that are in the grammar, and the fault that refuses each.
-pub const FAULTS: [(&str, &str); 25] = [
+pub const FAULTS: Refusals = &[
     ("G0 X[1/0] #0=1", "E5 BadArithmetic"),
     ("#0=1", "E4 BadIndex"),
     ("#5400=1", "E4 BadIndex"),
@@ -196,7 +196,7 @@ pub const FAULTS: [(&str, &str); 25] = [
 ];
 
 /// Lines that aren't in the grammar.
-pub const UNREADABLE: [(&str, &str); 25] = [
+pub const UNREADABLE: Refusals = &[
     ("G0 X#1+2", "E1 Unreadable"),
     ("#5221=7 U1", "E1 Unreadable"),
     ("G0 XABS[1", "E1 Unreadable"),

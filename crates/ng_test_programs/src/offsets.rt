@@ -1,10 +1,6 @@
-//! Offsets, homes and tool lengths: what programs print and where they leave the machine, worked out by hand from the language,
-//! in millimetres. The one tool is 50 mm long.
-use super::rows::Rows;
-use ng_block::{State, Tools, execute};
-use ng_canon::{Geometry, Pace, Segment, StraightMove};
-use ng_num::{Len, Point};
-use std::test::Fail;
+//! Offsets, homes and tool lengths: what programs print, worked out by hand from the language, in millimetres. The one
+//! tool is 50 mm long.
+use crate::rows::Rows;
 
 /// Programs that change offsets, go home, or move in machine coordinates.
 pub const OFFSETS: Rows = &[
@@ -163,44 +159,3 @@ pub const OFFSETS: Rows = &[
         "",
     ),
 ];
-
-/// A length of whole millimetres.
-fn mm(count: i64) -> Result<Len, Fail> {
-    Ok(Len::of_nm(count as i128 * 1_000_000)?)
-}
-
-/// A point in whole millimetres.
-fn point(x: i64, y: i64, z: i64) -> Result<Point, Fail> {
-    Ok(Point {
-        x: mm(x)?,
-        y: mm(y)?,
-        z: mm(z)?,
-    })
-}
-
-/// A straight move at the traverse rate.
-fn traverse(start: Point, end: Point) -> Segment {
-    Segment::Line(StraightMove {
-        start,
-        end,
-        pace: Pace::Traverse,
-    })
-}
-
-#[test]
-fn the_way_home_is_two_traverses(rt: HostRuntime) -> Result<(), Fail> {
-    let there = traverse(point(0, 0, 0)?, point(0, 5, 0)?);
-    let back = traverse(point(0, 5, 0)?, point(7, 0, 0)?);
-    let state = State::fresh(rt.alloc())?;
-    let effect = execute(
-        &state,
-        b"#5161=7 G28 Y5",
-        &Tools::new(),
-        &Geometry::standard(),
-    )?;
-    let mut segments = effect.segments();
-    assert_eq!(rt; segments.next(), Some(there));
-    assert_eq!(rt; segments.next(), Some(back));
-    assert_eq!(rt; segments.next(), None);
-    Ok(())
-}

@@ -1,16 +1,9 @@
-//! Modal groups: what each code of a line prints, in the order of the steps, and which fault refuses a line alone. All of it is
-//! worked out by hand from the language.
-use super::grammar::{FAULTS, UNREADABLE};
-use super::rows::Rows;
-use super::{dry_text, writes};
-use ng_block::{State, Stop, Tools, execute};
-use ng_canon::{Geometry, Outputs, Segment, Spindle};
-use ng_num::{Len, Num};
-use std::alloc::Global;
-use std::test::Fail;
+//! Modal groups: what each code of a line prints, in the order of the steps, and which fault refuses a line alone. All of it
+//! is worked out by hand from the language.
+use crate::rows::{Refusals, Rows};
 
 /// Programs of one line and what they write in front of the refusal that their end is missing.
-pub const PRINTED: [(&str, &str); 27] = [
+pub const PRINTED: &[(&str, &str)] = &[
     (
         "G4 P0.5 M3 S1000",
         "SET_SPINDLE_SPEED(1000.000000)\nSTART_SPINDLE_CLOCKWISE()\nDWELL(0.500000)\n",
@@ -68,7 +61,7 @@ pub const PRINTED: [(&str, &str); 27] = [
 ];
 
 /// Lines and the fault that refuses each of them alone, by a program of one line.
-const REFUSED: [(&str, &str); 31] = [
+pub const REFUSED: Refusals = &[
     ("F1 F1", "B1 RepeatedLetter"),
     ("G21.1", "B2 UnknownCode"),
     ("M1.5", "B2 UnknownCode"),
@@ -130,92 +123,3 @@ pub const LASTING: Rows = &[
         "REFUSED line 4: X3 NoProgramEnd\n",
     ),
 ];
-
-/// Whether a line alone is refused by a fault's name.
-fn is_refused(alloc: Global, line: &str, name: &str) -> Result<bool, Fail> {
-    let end = format!(in alloc; "REFUSED line 1: {name}\n")?;
-    writes(alloc, line, false, "", end.as_str())
-}
-
-#[test]
-fn each_fault_refuses_a_line_alone(rt: HostRuntime) -> Result<(), Fail> {
-    for rows in [&REFUSED[..], &FAULTS, &UNREADABLE] {
-        for (line, name) in rows {
-            assert!(rt; is_refused(rt.alloc(), line, name)?, "{line:?}");
-        }
-    }
-    Ok(())
-}
-
-#[test]
-fn a_whole_line_has_its_segments_in_the_order_of_the_steps(rt: HostRuntime) -> Result<(), Fail> {
-    let mut tools = Tools::new();
-    tools.push(Len::zero());
-    let line = b"F1 S1 T1 M6 M3 M9 G4 P1 G1 X1 M30";
-    let mut state = State::fresh(rt.alloc())?;
-    state.machine.outputs.mist = true;
-    state.machine.outputs.spindle = Spindle::Counterclockwise;
-    let effect = execute(&state, line, &tools, &Geometry::standard())?;
-    let speed = Outputs {
-        speed: Num::of(1_000_000)?,
-        ..state.machine.outputs
-    };
-    let selected = Outputs {
-        selected_slot: 1,
-        ..speed
-    };
-    let changed = Outputs {
-        spindle: Spindle::Stopped,
-        spindle_slot: 1,
-        ..selected
-    };
-    let turning = Outputs {
-        spindle: Spindle::Clockwise,
-        ..changed
-    };
-    let dry = Outputs {
-        mist: false,
-        flood: false,
-        ..turning
-    };
-    let ended = Outputs {
-        spindle: Spindle::Stopped,
-        ..dry
-    };
-    let mut segments = effect.segments();
-    for outputs in [speed, selected, changed, turning, dry] {
-        assert_eq!(rt; segments.next(), Some(Segment::Switch(outputs)));
-        assert_eq!(rt; segments.outputs(), outputs);
-    }
-    assert_eq!(rt; segments.next(), Some(Segment::Dwell(Num::of(1_000_000)?)));
-    assert!(rt; matches!(segments.next(), Some(Segment::Line(_))));
-    assert_eq!(rt; segments.outputs(), dry);
-    assert_eq!(rt; segments.next(), Some(Segment::Switch(ended)));
-    assert_eq!(rt; segments.next(), None);
-    assert_eq!(rt; effect.machine.outputs, ended);
-    let (text, _) = dry_text(rt.alloc(), line, false);
-    let wanted =
-        "SET_FEED_RATE(1.000000)\nSET_SPINDLE_SPEED(1.000000)\nSELECT_TOOL(1)\nCHANGE_TOOL(1)\nSTART_SPINDLE_CLOCKWISE()\nMIST_OFF()\nFLOOD_OFF()\nDWELL(1.000000)\nSTRAIGHT_FEED(1.000000, 0.000000, 0.000000)\nSET_ORIGIN_OFFSETS(0.000000, 0.000000, 0.000000)\nSELECT_PLANE(XY)\nSTOP_SPINDLE_TURNING()\nMIST_OFF()\nFLOOD_OFF()\nPALLET_SHUTTLE()\nPROGRAM_END()\n";
-    assert!(rt; text.as_slice() == wanted.as_bytes());
-    Ok(())
-}
-
-#[test]
-fn coolants_add_up_and_stops_are_told_apart(rt: HostRuntime) -> Result<(), Fail> {
-    let mut state = State::fresh(rt.alloc())?;
-    for (line, mist, flood, stop) in [
-        (&b"M7"[..], true, false, Stop::GoesOn),
-        (b"M8 M0", true, true, Stop::Stops),
-        (b"M7 M60", true, true, Stop::Stops),
-        (b"M9 M1", false, false, Stop::StopsIfWanted),
-        (b"M8", false, true, Stop::GoesOn),
-        (b"M7 M30", false, false, Stop::Ends),
-    ] {
-        let effect = execute(&state, line, &Tools::new(), &Geometry::standard())?;
-        assert_eq!(rt; effect.machine.outputs.mist, mist);
-        assert_eq!(rt; effect.machine.outputs.flood, flood);
-        assert_eq!(rt; effect.stop, stop);
-        state.apply(&effect);
-    }
-    Ok(())
-}
