@@ -68,77 +68,109 @@ const PLAIN: [(Command, &str); 18] = [
 
 #[test]
 fn commands_print_as_lines(rt: HostRuntime) {
-    assert!(rt; prints(rt.alloc(), &Canon::Comment(b""), "COMMENT()\n"));
-    assert!(rt;
-        prints(
-            rt.alloc(),
-            &Canon::Comment(b" Two  words; %"),
-            "COMMENT( Two  words; %)\n"
-        )
-    );
-    assert!(rt;
-        prints(
-            rt.alloc(),
-            &Canon::Message(b" look here "),
-            "MESSAGE( look here )\n"
-        )
-    );
     for (command, want) in PLAIN {
         assert!(rt;
             prints(rt.alloc(), &Canon::Command(command), want),
             "{want}"
         );
     }
-    let arc = |turn: Turn| ArcFeed {
-        end: point(20_002_000, 0, -1),
-        centre_a: nm(10_000_000),
-        centre_b: nm(-9_999_999_999_999),
-        turn,
-    };
-    let table = [
-        (
-            Command::FeedRate(nm(100_000_000)),
-            "SET_FEED_RATE(100.000000)\n",
-        ),
-        (
-            Command::InverseTime(millionths(500_000)),
-            "INVERSE_TIME(0.500000)\n",
-        ),
-        (
-            Command::SpindleSpeed(millionths(1_200_500_000)),
-            "SET_SPINDLE_SPEED(1200.500000)\n",
-        ),
-        (Command::Dwell(millionths(1)), "DWELL(0.000001)\n"),
-        (
-            Command::ToolLength(nm(50_000_000)),
-            "USE_TOOL_LENGTH_OFFSET(50.000000)\n",
-        ),
-        (
-            Command::OriginOffsets(point(-3_000_000, 0, 0)),
-            "SET_ORIGIN_OFFSETS(-3.000000, 0.000000, 0.000000)\n",
-        ),
-        (
-            Command::Traverse(point(123_400, 7_000_000, 0)),
-            "STRAIGHT_TRAVERSE(0.123400, 7.000000, 0.000000)\n",
-        ),
-        (
-            Command::Feed(point(1, -25, 999_999_999)),
-            "STRAIGHT_FEED(0.000001, -0.000025, 999.999999)\n",
-        ),
-        (
-            Command::ArcFeed(arc(Turn::Clockwise)),
-            "ARC_FEED(20.002000, 0.000000, -0.000001, 10.000000, -9999999.999999, CW)\n",
-        ),
-        (
-            Command::ArcFeed(arc(Turn::Counterclockwise)),
-            "ARC_FEED(20.002000, 0.000000, -0.000001, 10.000000, -9999999.999999, CCW)\n",
-        ),
-    ];
-    for (command, want) in table {
-        assert!(rt;
-            prints(rt.alloc(), &Canon::Command(command), want),
-            "{want}"
-        );
+}
+
+/// A remark: whether it is a message, its bytes, and its line.
+const REMARKS: &[(bool, &[u8], &str)] = &[
+    (false, b"", "COMMENT()\n"),
+    (false, b" Two  words; %", "COMMENT( Two  words; %)\n"),
+    (true, b" look here ", "MESSAGE( look here )\n"),
+];
+
+#[test]
+fn remarks_print_as_lines(rt: HostRuntime) {
+    for (is_message, text, want) in REMARKS {
+        let remark = if *is_message {
+            Canon::Message(text)
+        } else {
+            Canon::Comment(text)
+        };
+        assert!(rt; prints(rt.alloc(), &remark, want), "{want}");
+    }
+}
+
+/// A command with numbers: millionths or nanometres. All arcs have one end and centre.
+#[derive(Clone, Copy)]
+enum Numbered {
+    FeedRate(i64),
+    InverseTime(i64),
+    SpindleSpeed(i64),
+    Dwell(i64),
+    ToolLength(i64),
+    OriginOffsets(i64, i64, i64),
+    Traverse(i64, i64, i64),
+    Feed(i64, i64, i64),
+    ArcFeed(Turn),
+}
+
+fn command(numbered: Numbered) -> Command {
+    match numbered {
+        Numbered::FeedRate(rate) => Command::FeedRate(nm(rate)),
+        Numbered::InverseTime(count) => Command::InverseTime(millionths(count)),
+        Numbered::SpindleSpeed(count) => Command::SpindleSpeed(millionths(count)),
+        Numbered::Dwell(count) => Command::Dwell(millionths(count)),
+        Numbered::ToolLength(length) => Command::ToolLength(nm(length)),
+        Numbered::OriginOffsets(x, y, z) => Command::OriginOffsets(point(x, y, z)),
+        Numbered::Traverse(x, y, z) => Command::Traverse(point(x, y, z)),
+        Numbered::Feed(x, y, z) => Command::Feed(point(x, y, z)),
+        Numbered::ArcFeed(turn) => Command::ArcFeed(ArcFeed {
+            end: point(20_002_000, 0, -1),
+            centre_a: nm(10_000_000),
+            centre_b: nm(-9_999_999_999_999),
+            turn,
+        }),
+    }
+}
+
+/// Commands with numbers, and their text.
+const NUMBERED: &[(Numbered, &str)] = &[
+    (
+        Numbered::FeedRate(100_000_000),
+        "SET_FEED_RATE(100.000000)\n",
+    ),
+    (Numbered::InverseTime(500_000), "INVERSE_TIME(0.500000)\n"),
+    (
+        Numbered::SpindleSpeed(1_200_500_000),
+        "SET_SPINDLE_SPEED(1200.500000)\n",
+    ),
+    (Numbered::Dwell(1), "DWELL(0.000001)\n"),
+    (
+        Numbered::ToolLength(50_000_000),
+        "USE_TOOL_LENGTH_OFFSET(50.000000)\n",
+    ),
+    (
+        Numbered::OriginOffsets(-3_000_000, 0, 0),
+        "SET_ORIGIN_OFFSETS(-3.000000, 0.000000, 0.000000)\n",
+    ),
+    (
+        Numbered::Traverse(123_400, 7_000_000, 0),
+        "STRAIGHT_TRAVERSE(0.123400, 7.000000, 0.000000)\n",
+    ),
+    (
+        Numbered::Feed(1, -25, 999_999_999),
+        "STRAIGHT_FEED(0.000001, -0.000025, 999.999999)\n",
+    ),
+    (
+        Numbered::ArcFeed(Turn::Clockwise),
+        "ARC_FEED(20.002000, 0.000000, -0.000001, 10.000000, -9999999.999999, CW)\n",
+    ),
+    (
+        Numbered::ArcFeed(Turn::Counterclockwise),
+        "ARC_FEED(20.002000, 0.000000, -0.000001, 10.000000, -9999999.999999, CCW)\n",
+    ),
+];
+
+#[test]
+fn commands_with_numbers_print_as_lines(rt: HostRuntime) {
+    for (numbered, want) in NUMBERED {
+        let canon = Canon::Command(command(*numbered));
+        assert!(rt; prints(rt.alloc(), &canon, want), "{want}");
     }
 }
 
@@ -184,7 +216,7 @@ fn refused_growth_leaves_the_text(rt: HostRuntime) -> Result<(), Fail> {
 const FAR: i64 = 10_000_000_000;
 
 /// An axis's step, its ends, and whether it is within its limits.
-const AXES: [(u32, i64, i64, bool); 8] = [
+const AXES: &[(u32, i64, i64, bool)] = &[
     (10, 0, 0, true),
     (1_000_000, -FAR, FAR, true),
     (9, 0, 0, false),
@@ -196,33 +228,50 @@ const AXES: [(u32, i64, i64, bool); 8] = [
 ];
 
 #[test]
-fn axes_and_machines_have_limits(rt: HostRuntime) {
+fn axes_have_limits(rt: HostRuntime) {
     for (step, low, high, want) in AXES {
-        let axis = Axis::new(step, nm(low), nm(high));
-        assert_eq!(rt; axis.is_some(), want, "{step} {low} {high}");
+        let axis = Axis::new(*step, nm(*low), nm(*high));
+        assert_eq!(rt; axis.is_some(), *want, "{step} {low} {high}");
     }
+}
+
+/// A machine's traverse rate in nanometres a minute, its period in microseconds, and whether they are within their limits.
+const MACHINES: &[(i64, u32, bool)] = &[
+    (1, 1, true),
+    (100_000_000_000, 1_000_000, true),
+    (100_000_000_001, 1, false),
+    (1, 0, false),
+    (1, 1_000_001, false),
+];
+
+#[test]
+fn machines_have_limits(rt: HostRuntime) {
     let standard = Geometry::standard();
-    for (traverse, period, want) in [
-        (1, 1, true),
-        (100_000_000_000, 1_000_000, true),
-        (100_000_000_001, 1, false),
-        (1, 0, false),
-        (1, 1_000_001, false),
-    ] {
-        let machine = match Rate::of(nm(traverse)) {
-            Some(rate) => Geometry::new(standard.x, standard.y, standard.z, rate, period),
+    for (traverse, period, want) in MACHINES {
+        let machine = match Rate::of(nm(*traverse)) {
+            Some(rate) => Geometry::new(standard.x, standard.y, standard.z, rate, *period),
             None => None,
         };
-        assert_eq!(rt; machine.is_some(), want, "{traverse} {period}");
+        assert_eq!(rt; machine.is_some(), *want, "{traverse} {period}");
     }
-    let metre = 1_000_000_000;
-    for (x, y, z, want) in [
-        (metre, -metre, 0, true),
-        (metre + 1, 0, 0, false),
-        (0, -metre - 1, 0, false),
-        (0, 0, metre + 1, false),
-    ] {
-        assert_eq!(rt; standard.contains(point(x, y, z)), want, "{x} {y} {z}");
+}
+
+/// A metre in nanometres.
+const METRE: i64 = 1_000_000_000;
+
+/// Points of nanometres, and whether they lie inside the travel of the default machine.
+const POINTS: &[(i64, i64, i64, bool)] = &[
+    (METRE, -METRE, 0, true),
+    (METRE + 1, 0, 0, false),
+    (0, -METRE - 1, 0, false),
+    (0, 0, METRE + 1, false),
+];
+
+#[test]
+fn the_travel_has_limits(rt: HostRuntime) {
+    let standard = Geometry::standard();
+    for (x, y, z, want) in POINTS {
+        assert_eq!(rt; standard.contains(point(*x, *y, *z)), *want, "{x} {y} {z}");
     }
-    assert!(rt; standard.x.contains(nm(metre)) && !standard.z.contains(nm(-metre - 1)));
+    assert!(rt; standard.x.contains(nm(METRE)) && !standard.z.contains(nm(-METRE - 1)));
 }

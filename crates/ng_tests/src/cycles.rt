@@ -24,29 +24,47 @@ struct Line {
     is_inverse_time: bool,
     feed: i64,
     spindle: Spindle,
-    kept: KeptWords,
+    kept_r: Option<i64>,
+    kept_z: Option<i64>,
 }
 
 /// `G81 X1 R2 Z1` from `G0 Z5` under G98, with the spindle turning.
-fn plain() -> Line {
-    Line {
-        kind: Kind::Drilling,
-        start: (0, 0, 5_000),
-        x: Some(1_000),
-        y: None,
-        r: Some(2_000),
-        z: Some(1_000),
-        p: None,
-        q: None,
-        repeats: 1,
-        is_incremental: false,
-        keeps_old_z: true,
-        is_inverse_time: false,
-        feed: 100_000,
-        spindle: Spindle::Clockwise,
-        kept: KeptWords::none(),
-    }
-}
+const PLAIN: Line = Line {
+    kind: Kind::Drilling,
+    start: (0, 0, 5_000),
+    x: Some(1_000),
+    y: None,
+    r: Some(2_000),
+    z: Some(1_000),
+    p: None,
+    q: None,
+    repeats: 1,
+    is_incremental: false,
+    keeps_old_z: true,
+    is_inverse_time: false,
+    feed: 100_000,
+    spindle: Spindle::Clockwise,
+    kept_r: None,
+    kept_z: None,
+};
+
+/// The same from `G0 Z0`.
+const LOW: Line = Line {
+    start: (0, 0, 0),
+    ..PLAIN
+};
+
+/// `G86`, the rest as `PLAIN`.
+const BORING: Line = Line {
+    kind: Kind::BoringWithStop,
+    ..PLAIN
+};
+
+/// `G83`, the rest as `PLAIN`.
+const PECKING: Line = Line {
+    kind: Kind::PeckDrilling,
+    ..PLAIN
+};
 
 fn len(micrometres: i64) -> Len {
     Len::of_nm(micrometres as i128 * 1_000).unwrap_or(Len::zero())
@@ -84,7 +102,12 @@ fn canned(line: &Line) -> Result<Canned, Fault> {
         is_inverse_time: line.is_inverse_time,
         feed_per_min: len(line.feed),
         outputs,
-        kept: line.kept,
+        kept: KeptWords {
+            r: line.kept_r.map(len),
+            z: line.kept_z.map(len),
+            p: None,
+            q: None,
+        },
     };
     Canned::of(&words, &setting, &Geometry::standard())
 }
@@ -126,265 +149,248 @@ fn segments(alloc: Global, cycle: &mut Cycle) -> Text {
     Ok(text)
 }
 
+/// Lines and their segments.
+const ROWS: &[(Line, &str)] = &[
+    (
+        PLAIN,
+        "T 1000 0 5000, T 1000 0 2000, F 1000 0 1000, T 1000 0 5000",
+    ),
+    (
+        Line {
+            keeps_old_z: false,
+            repeats: 2,
+            ..PLAIN
+        },
+        "T 1000 0 5000, T 1000 0 2000, F 1000 0 1000, T 1000 0 2000, T 1000 0 2000, F 1000 0 1000, T 1000 0 2000",
+    ),
+    (
+        Line {
+            start: (1_000, 2_000, 3_000),
+            x: Some(4_000),
+            y: Some(5_000),
+            z: Some(-600),
+            r: Some(1_800),
+            repeats: 3,
+            is_incremental: true,
+            ..PLAIN
+        },
+        "T 1000 2000 4800, T 5000 7000 4800, F 5000 7000 4200, T 5000 7000 4800, T 9000 12000 4800, F 9000 12000 4200, T 9000 12000 4800, T 13000 17000 4800, F 13000 17000 4200, T 13000 17000 4800",
+    ),
+    (
+        Line {
+            kind: Kind::PeckDrilling,
+            x: Some(0),
+            z: Some(-2_000),
+            r: Some(1_000),
+            q: Some(2_000),
+            ..PLAIN
+        },
+        "T 0 0 5000, T 0 0 1000, F 0 0 -1000, T 0 0 1000, T 0 0 -746, F 0 0 -2000, T 0 0 5000",
+    ),
+    (
+        Line {
+            kind: Kind::BoringWithStop,
+            z: Some(-1_000),
+            r: Some(1_000),
+            p: Some(500_000),
+            ..LOW
+        },
+        "T 0 0 1000, T 1000 0 1000, F 1000 0 -1000, D 500000, stop, T 1000 0 1000, clockwise",
+    ),
+    (
+        Line {
+            kind: Kind::DrillingWithDwell,
+            ..LOW
+        },
+        "T 0 0 2000, T 1000 0 2000, F 1000 0 1000, D 0, T 1000 0 2000",
+    ),
+    (
+        Line {
+            kind: Kind::Boring,
+            keeps_old_z: false,
+            ..PLAIN
+        },
+        "T 1000 0 5000, T 1000 0 2000, F 1000 0 1000, F 1000 0 2000",
+    ),
+    (
+        Line {
+            kind: Kind::BoringWithDwell,
+            p: Some(1_000_000),
+            ..PLAIN
+        },
+        "T 1000 0 5000, T 1000 0 2000, F 1000 0 1000, D 1000000, F 1000 0 5000",
+    ),
+];
+
 #[test]
 fn rows(rt: HostRuntime) -> Result<(), Fail> {
-    let low = Line {
-        start: (0, 0, 0),
-        ..plain()
-    };
-    for (line, want) in [
-        (
-            plain(),
-            "T 1000 0 5000, T 1000 0 2000, F 1000 0 1000, T 1000 0 5000",
-        ),
-        (
-            Line {
-                keeps_old_z: false,
-                repeats: 2,
-                ..plain()
-            },
-            "T 1000 0 5000, T 1000 0 2000, F 1000 0 1000, T 1000 0 2000, T 1000 0 2000, F 1000 0 1000, T 1000 0 2000",
-        ),
-        (
-            Line {
-                start: (1_000, 2_000, 3_000),
-                x: Some(4_000),
-                y: Some(5_000),
-                z: Some(-600),
-                r: Some(1_800),
-                repeats: 3,
-                is_incremental: true,
-                ..plain()
-            },
-            "T 1000 2000 4800, T 5000 7000 4800, F 5000 7000 4200, T 5000 7000 4800, T 9000 12000 4800, F 9000 12000 4200, T 9000 12000 4800, T 13000 17000 4800, F 13000 17000 4200, T 13000 17000 4800",
-        ),
-        (
-            Line {
-                kind: Kind::PeckDrilling,
-                x: Some(0),
-                z: Some(-2_000),
-                r: Some(1_000),
-                q: Some(2_000),
-                ..plain()
-            },
-            "T 0 0 5000, T 0 0 1000, F 0 0 -1000, T 0 0 1000, T 0 0 -746, F 0 0 -2000, T 0 0 5000",
-        ),
-        (
-            Line {
-                kind: Kind::BoringWithStop,
-                z: Some(-1_000),
-                r: Some(1_000),
-                p: Some(500_000),
-                ..low
-            },
-            "T 0 0 1000, T 1000 0 1000, F 1000 0 -1000, D 500000, stop, T 1000 0 1000, clockwise",
-        ),
-        (
-            Line {
-                kind: Kind::DrillingWithDwell,
-                ..low
-            },
-            "T 0 0 2000, T 1000 0 2000, F 1000 0 1000, D 0, T 1000 0 2000",
-        ),
-        (
-            Line {
-                kind: Kind::Boring,
-                keeps_old_z: false,
-                ..plain()
-            },
-            "T 1000 0 5000, T 1000 0 2000, F 1000 0 1000, F 1000 0 2000",
-        ),
-        (
-            Line {
-                kind: Kind::BoringWithDwell,
-                p: Some(1_000_000),
-                ..plain()
-            },
-            "T 1000 0 5000, T 1000 0 2000, F 1000 0 1000, D 1000000, F 1000 0 5000",
-        ),
-    ] {
-        assert_eq!(rt;
-            segments(rt.alloc(), &mut Cycle::of(&canned(&line)?))?.as_str(),
-            want
-        );
+    for (line, want) in ROWS {
+        let mut cycle = Cycle::of(&canned(line)?);
+        assert_eq!(rt; segments(rt.alloc(), &mut cycle)?.as_str(), *want);
     }
-    // 10,000 pecks, 30,000 segments; and as many as a line can have.
-    let deep = Line {
-        kind: Kind::PeckDrilling,
-        x: Some(0),
-        z: Some(-1_000_000),
-        r: Some(0),
-        q: Some(100),
-        ..low
-    };
-    for (n, want) in [
-        (29_997, "T 0 0 -999646, F 0 0 -1000000, T 0 0 0"),
-        (29_999, "T 0 0 0"),
-        (30_000, ""),
-        (1 << 60, ""),
-    ] {
-        let mut cycle = Cycle::from(&canned(&deep)?, n);
-        assert_eq!(rt; segments(rt.alloc(), &mut cycle)?.as_str(), want);
-    }
-    let long = Line {
-        repeats: 9_999_999,
-        ..deep
-    };
-    let mut cycle = Cycle::from(&canned(&long)?, 9_999_999 * 30_000 - 2);
-    assert_eq!(rt; cycle.standing().point.z, len(-999_646));
-    assert_eq!(rt;
-        segments(rt.alloc(), &mut cycle)?.as_str(),
-        "F 0 0 -1000000, T 0 0 0"
-    );
     Ok(())
 }
 
-/// `G86`, the rest as `plain`.
-fn boring() -> Line {
-    Line {
-        kind: Kind::BoringWithStop,
-        ..plain()
-    }
-}
+/// 10,000 pecks, which are 30,000 segments.
+const DEEP: Line = Line {
+    kind: Kind::PeckDrilling,
+    x: Some(0),
+    z: Some(-1_000_000),
+    r: Some(0),
+    q: Some(100),
+    ..LOW
+};
 
-/// `G83`, the rest as `plain`.
-fn pecking() -> Line {
-    Line {
-        kind: Kind::PeckDrilling,
-        ..plain()
-    }
-}
+/// The same as often as a line can have it.
+const LONG: Line = Line {
+    repeats: 9_999_999,
+    ..DEEP
+};
 
-/// R and Z of `plain`, kept.
-fn kept() -> KeptWords {
-    KeptWords {
-        r: Some(len(2_000)),
-        z: Some(len(1_000)),
-        p: None,
-        q: None,
-    }
-}
+/// What is left of a line's segments from one of them on.
+const LEFT: &[(Line, u64, &str)] = &[
+    (DEEP, 29_997, "T 0 0 -999646, F 0 0 -1000000, T 0 0 0"),
+    (DEEP, 29_999, "T 0 0 0"),
+    (DEEP, 30_000, ""),
+    (DEEP, 1_152_921_504_606_846_976, ""),
+    (LONG, 299_999_969_998, "F 0 0 -1000000, T 0 0 0"),
+];
 
 #[test]
-fn faults(rt: HostRuntime) -> Result<(), Fail> {
-    for (line, want) in [
-        (
-            Line {
-                x: None,
-                z: None,
-                kept: kept(),
-                ..plain()
-            },
-            Some(Fault::CycleNoAxis),
-        ),
-        (
-            Line {
-                z: None,
-                r: None,
-                ..plain()
-            },
-            Some(Fault::NoZ),
-        ),
-        (Line { r: None, ..plain() }, Some(Fault::NoR)),
-        (
-            Line {
-                z: None,
-                r: None,
-                kept: kept(),
-                ..plain()
-            },
-            None,
-        ),
-        (
-            Line {
-                r: Some(999),
-                ..plain()
-            },
-            Some(Fault::RBelowZ),
-        ),
-        (
-            Line {
-                r: Some(1_000),
-                ..plain()
-            },
-            None,
-        ),
-        (
-            Line {
-                is_inverse_time: true,
-                ..plain()
-            },
-            Some(Fault::InverseTime),
-        ),
-        (
-            Line {
-                p: Some(-1),
-                spindle: Spindle::Stopped,
-                ..boring()
-            },
-            Some(Fault::NegativeP),
-        ),
-        (pecking(), Some(Fault::BadQ)),
-        (
-            Line {
-                q: Some(0),
-                ..pecking()
-            },
-            Some(Fault::BadQ),
-        ),
-        (
-            Line {
-                spindle: Spindle::Stopped,
-                ..boring()
-            },
-            Some(Fault::SpindleStopped),
-        ),
-        (Line { feed: 0, ..plain() }, Some(Fault::NoFeed)),
-        (
-            Line {
-                z: Some(-1_000_000),
-                ..plain()
-            },
-            None,
-        ),
-        (
-            Line {
-                z: Some(-1_000_001),
-                ..plain()
-            },
-            Some(Fault::OutsideTravel),
-        ),
-        (
-            Line {
-                x: Some(1_000_001),
-                ..plain()
-            },
-            Some(Fault::OutsideTravel),
-        ),
-        (
-            Line {
-                x: Some(1_100),
-                z: Some(-1_000),
-                r: Some(1_000),
-                repeats: 9_999_999,
-                is_incremental: true,
-                ..plain()
-            },
-            Some(Fault::OutOfRange),
-        ),
-        (
-            Line {
-                x: Some(500_000),
-                z: Some(-1_000),
-                r: Some(1_000),
-                repeats: 3,
-                is_incremental: true,
-                ..plain()
-            },
-            Some(Fault::OutsideTravel),
-        ),
-    ] {
-        assert_eq!(rt; canned(&line).err(), want);
+fn segments_that_are_left(rt: HostRuntime) -> Result<(), Fail> {
+    for (line, first, want) in LEFT {
+        let mut cycle = Cycle::from(&canned(line)?, *first);
+        assert_eq!(rt; segments(rt.alloc(), &mut cycle)?.as_str(), *want);
     }
+    let cycle = Cycle::from(&canned(&LONG)?, 299_999_969_998);
+    assert_eq!(rt; cycle.standing().point.z, len(-999_646));
     Ok(())
+}
+
+/// Lines and their faults.
+const FAULTS: &[(Line, Option<Fault>)] = &[
+    (
+        Line {
+            x: None,
+            z: None,
+            kept_r: Some(2_000),
+            kept_z: Some(1_000),
+            ..PLAIN
+        },
+        Some(Fault::CycleNoAxis),
+    ),
+    (
+        Line {
+            z: None,
+            r: None,
+            ..PLAIN
+        },
+        Some(Fault::NoZ),
+    ),
+    (Line { r: None, ..PLAIN }, Some(Fault::NoR)),
+    (
+        Line {
+            z: None,
+            r: None,
+            kept_r: Some(2_000),
+            kept_z: Some(1_000),
+            ..PLAIN
+        },
+        None,
+    ),
+    (
+        Line {
+            r: Some(999),
+            ..PLAIN
+        },
+        Some(Fault::RBelowZ),
+    ),
+    (
+        Line {
+            r: Some(1_000),
+            ..PLAIN
+        },
+        None,
+    ),
+    (
+        Line {
+            is_inverse_time: true,
+            ..PLAIN
+        },
+        Some(Fault::InverseTime),
+    ),
+    (
+        Line {
+            p: Some(-1),
+            spindle: Spindle::Stopped,
+            ..BORING
+        },
+        Some(Fault::NegativeP),
+    ),
+    (PECKING, Some(Fault::BadQ)),
+    (
+        Line {
+            q: Some(0),
+            ..PECKING
+        },
+        Some(Fault::BadQ),
+    ),
+    (
+        Line {
+            spindle: Spindle::Stopped,
+            ..BORING
+        },
+        Some(Fault::SpindleStopped),
+    ),
+    (Line { feed: 0, ..PLAIN }, Some(Fault::NoFeed)),
+    (
+        Line {
+            z: Some(-1_000_000),
+            ..PLAIN
+        },
+        None,
+    ),
+    (
+        Line {
+            z: Some(-1_000_001),
+            ..PLAIN
+        },
+        Some(Fault::OutsideTravel),
+    ),
+    (
+        Line {
+            x: Some(1_000_001),
+            ..PLAIN
+        },
+        Some(Fault::OutsideTravel),
+    ),
+    (
+        Line {
+            x: Some(1_100),
+            z: Some(-1_000),
+            r: Some(1_000),
+            repeats: 9_999_999,
+            is_incremental: true,
+            ..PLAIN
+        },
+        Some(Fault::OutOfRange),
+    ),
+    (
+        Line {
+            x: Some(500_000),
+            z: Some(-1_000),
+            r: Some(1_000),
+            repeats: 3,
+            is_incremental: true,
+            ..PLAIN
+        },
+        Some(Fault::OutsideTravel),
+    ),
+];
+
+#[test]
+fn faults(rt: HostRuntime) {
+    for (line, want) in FAULTS {
+        assert_eq!(rt; canned(line).err(), *want);
+    }
 }

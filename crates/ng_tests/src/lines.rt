@@ -6,7 +6,7 @@ use ng_words::{
 use std::test::Fail;
 
 /// Lines with one word, and its count of millionths where that is in range.
-const NUMBERS: [(&[u8], Option<i64>); 23] = [
+const NUMBERS: &[(&[u8], Option<i64>)] = &[
     (b"X0", Some(0)),
     (b"X.5", Some(500_000)),
     (b"X5.", Some(5_000_000)),
@@ -38,7 +38,7 @@ const NUMBERS: [(&[u8], Option<i64>); 23] = [
 /// A line's bytes, whether it is deletable, its block number, and its words with their millionths.
 type Row = (&'static [u8], bool, Option<u32>, &'static [(Letter, i64)]);
 
-const LINES: [Row; 14] = [
+const LINES: &[Row] = &[
     (
         b"g0x +0. 12 34y 7",
         false,
@@ -110,7 +110,7 @@ const LINES: [Row; 14] = [
 ];
 
 /// Lines with one word X, and the codes of its value's nodes, made by hand (see `code`).
-const VALUES: [(&[u8], &[u8]); 34] = [
+const VALUES: &[(&[u8], &[u8])] = &[
     (b"X[1+2]", b"12+]"),
     (b"X[1+2*3]", b"123*+]"),
     (b"X[1*2+3]", b"12*3+]"),
@@ -148,7 +148,7 @@ const VALUES: [(&[u8], &[u8]); 34] = [
 ];
 
 /// Lines with one setting, and the codes of its index's and its value's nodes.
-const SETTINGS: [(&[u8], &[u8], &[u8]); 6] = [
+const SETTINGS: &[(&[u8], &[u8], &[u8])] = &[
     (b"#1=2", b"1", b"2"),
     (b" # 1 = + 2", b"1", b"2"),
     (b"#[1+2]=#3", b"12+]", b"3#"),
@@ -158,7 +158,7 @@ const SETTINGS: [(&[u8], &[u8], &[u8]); 6] = [
 ];
 
 /// Lines of comments alone, and their bytes.
-const COMMENTS: [(&[u8], &[&[u8]]); 6] = [
+const COMMENTS: &[(&[u8], &[&[u8]])] = &[
     (b"(a)", &[b"a"]),
     (b"()", &[b""]),
     (b" ( a B\t) ", &[b" a B\t"]),
@@ -168,7 +168,7 @@ const COMMENTS: [(&[u8], &[&[u8]]); 6] = [
 ];
 
 /// Lines that aren't in the grammar.
-const UNREADABLE: [&[u8]; 73] = [
+const UNREADABLE: &[&[u8]] = &[
     b"N",
     b"N G1",
     b"N000009",
@@ -245,7 +245,7 @@ const UNREADABLE: [&[u8]; 73] = [
 ];
 
 /// Lines and whether they are blank, percent lines or others.
-const KINDS: [(&[u8], Kind); 8] = [
+const KINDS: &[(&[u8], Kind)] = &[
     (b"", Kind::Blank),
     (b" \t ", Kind::Blank),
     (b"%", Kind::Percent),
@@ -410,7 +410,7 @@ fn count(line: &Line) -> usize {
 }
 
 #[test]
-fn lines_are_read_as_they_stand(rt: HostRuntime) -> Result<(), Fail> {
+fn lines_are_read_as_they_stand(rt: HostRuntime) {
     let mut line = Line::new();
     for (i, (text, deletable, number, words)) in LINES.iter().enumerate() {
         assert!(rt; line.read(text).is_ok(), "line {i}");
@@ -419,6 +419,11 @@ fn lines_are_read_as_they_stand(rt: HostRuntime) -> Result<(), Fail> {
         assert_eq!(rt; line.number(), *number, "line {i}");
         assert!(rt; has_words(&line, words), "line {i}");
     }
+}
+
+#[test]
+fn comments_are_read_as_they_stand(rt: HostRuntime) {
+    let mut line = Line::new();
     for (i, (text, comments)) in COMMENTS.iter().enumerate() {
         assert!(rt; line.read(text).is_ok(), "comment {i}");
         assert!(rt; has_comments(&line, comments), "comment {i}");
@@ -427,24 +432,26 @@ fn lines_are_read_as_they_stand(rt: HostRuntime) -> Result<(), Fail> {
             "comment {i}"
         );
     }
-    Ok(())
 }
 
 #[test]
-fn what_is_no_line_is_refused(rt: HostRuntime) -> Result<(), Fail> {
+fn what_is_no_line_is_refused(rt: HostRuntime) {
     let mut line = Line::new();
     for (i, text) in UNREADABLE.iter().enumerate() {
         assert_eq!(rt; line.read(text), Err(Fault::Unreadable), "line {i}");
         assert_eq!(rt; count(&line), 0, "line {i}");
     }
-    for (text, kind) in KINDS {
-        assert_eq!(rt; kind_of(text), kind, "{text:?}");
-    }
-    Ok(())
 }
 
 #[test]
-fn values_are_read_as_they_stand(rt: HostRuntime) -> Result<(), Fail> {
+fn lines_have_their_kinds(rt: HostRuntime) {
+    for (text, kind) in KINDS {
+        assert_eq!(rt; kind_of(text), *kind, "{text:?}");
+    }
+}
+
+#[test]
+fn numbers_are_read_as_they_stand(rt: HostRuntime) {
     let mut line = Line::new();
     for (i, (text, millionths)) in NUMBERS.iter().enumerate() {
         assert!(rt; line.read(text).is_ok(), "number {i}");
@@ -452,19 +459,28 @@ fn values_are_read_as_they_stand(rt: HostRuntime) -> Result<(), Fail> {
         assert!(rt; is_word(&mut pieces, Letter::X, *millionths), "number {i}");
         assert!(rt; is_end(&mut pieces), "number {i}");
     }
+}
+
+#[test]
+fn values_are_read_as_they_stand(rt: HostRuntime) {
+    let mut line = Line::new();
     for (i, (text, codes)) in VALUES.iter().enumerate() {
         assert!(rt; line.read(text).is_ok(), "value {i}");
         let mut pieces = line.pieces();
         assert!(rt; is_value(&mut pieces, codes), "value {i}");
         assert!(rt; is_end(&mut pieces), "value {i}");
     }
+}
+
+#[test]
+fn settings_are_read_as_they_stand(rt: HostRuntime) {
+    let mut line = Line::new();
     for (i, (text, index, value)) in SETTINGS.iter().enumerate() {
         assert!(rt; line.read(text).is_ok(), "setting {i}");
         let mut pieces = line.pieces();
         assert!(rt; is_setting(&mut pieces, index, value), "setting {i}");
         assert!(rt; is_end(&mut pieces), "setting {i}");
     }
-    Ok(())
 }
 
 #[test]

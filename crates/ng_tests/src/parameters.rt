@@ -19,6 +19,37 @@ fn put<A: Allocator + Copy + Drop>(params: &mut Params<A>, number: i64, count: i
     }
 }
 
+/// Parameters, and whether they outlive a program.
+const LASTING: &[(i64, bool)] = &[
+    (5161, true),
+    (5163, true),
+    (5181, true),
+    (5183, true),
+    (5211, true),
+    (5213, true),
+    (5220, true),
+    (5221, true),
+    (5223, true),
+    (5241, true),
+    (5243, true),
+    (5381, true),
+    (5383, true),
+    (1, false),
+    (5160, false),
+    (5164, false),
+    (5180, false),
+    (5184, false),
+    (5210, false),
+    (5214, false),
+    (5219, false),
+    (5224, false),
+    (5240, false),
+    (5244, false),
+    (5380, false),
+    (5384, false),
+    (5399, false),
+];
+
 #[test]
 fn what_outlives_a_program(rt: HostRuntime) -> Result<(), Fail> {
     let mut params = Params::new(rt.alloc())?;
@@ -41,15 +72,9 @@ fn what_outlives_a_program(rt: HostRuntime) -> Result<(), Fail> {
         }
     }
     assert_eq!(rt; left, 37);
-    for kept in [
-        5161, 5163, 5181, 5183, 5211, 5213, 5220, 5221, 5223, 5241, 5243, 5381, 5383,
-    ] {
-        assert_eq!(rt; count(&params, kept), kept);
-    }
-    for gone in [
-        1, 5160, 5164, 5180, 5184, 5210, 5214, 5219, 5224, 5240, 5244, 5380, 5384, 5399,
-    ] {
-        assert_eq!(rt; count(&params, gone), 0, "parameter {gone}");
+    for (number, is_kept) in LASTING {
+        let want = if *is_kept { *number } else { 0 };
+        assert_eq!(rt; count(&params, *number), want, "parameter {number}");
     }
     Ok(())
 }
@@ -65,7 +90,7 @@ fn point(x: i64, y: i64, z: i64) -> Point {
 }
 
 /// Whole numbers, and the parameter that each names; 0 for none.
-const INDICES: [(i64, u16); 6] = [
+const INDICES: &[(i64, u16)] = &[
     (i64::MIN, 0),
     (-1, 0),
     (0, 0),
@@ -75,19 +100,37 @@ const INDICES: [(i64, u16); 6] = [
 ];
 
 /// Whole numbers, and the system that each names; 0 for none.
-const SYSTEMS: [(i64, u8); 6] = [(-1, 0), (0, 0), (1, 1), (9, 9), (10, 0), (257, 0)];
+const SYSTEMS: &[(i64, u8)] = &[(-1, 0), (0, 0), (1, 1), (9, 9), (10, 0), (257, 0)];
 
 #[test]
-fn numbers_name_parameters_and_systems(rt: HostRuntime) -> Result<(), Fail> {
+fn numbers_name_parameters(rt: HostRuntime) {
     for (number, want) in INDICES {
-        let found = Index::of(number).map_or(0, |index| index.number());
-        assert_eq!(rt; found, want, "parameter {number}");
+        let found = Index::of(*number).map_or(0, |index| index.number());
+        assert_eq!(rt; found, *want, "parameter {number}");
     }
+}
+
+#[test]
+fn numbers_name_systems(rt: HostRuntime) {
     for (number, want) in SYSTEMS {
-        let found = System::of(number).map_or(0, |system| system.number());
-        assert_eq!(rt; found, want, "system {number}");
+        let found = System::of(*number).map_or(0, |system| system.number());
+        assert_eq!(rt; found, *want, "system {number}");
     }
     assert_eq!(rt; System::first().number(), 1);
+}
+
+/// Parameters after changes, and their counts.
+const CHANGED: &[(i64, i64)] = &[
+    (5381, -1),
+    (5382, 2),
+    (5383, 3),
+    (5213, 6),
+    (5220, 9_000_000),
+    (5221, 0),
+];
+
+#[test]
+fn changes_set_their_parameters(rt: HostRuntime) -> Result<(), Fail> {
     let mut params = Params::new(rt.alloc())?;
     let nine = System::of(9).unwrap_or_default();
     params.apply(&nine.origin_changes(point(-1, 2, 3)));
@@ -95,15 +138,8 @@ fn numbers_name_parameters_and_systems(rt: HostRuntime) -> Result<(), Fail> {
     params.apply(&[nine.selection()]);
     put(&mut params, 5161, 7);
     put(&mut params, 5183, 8);
-    for (number, want) in [
-        (5381, -1),
-        (5382, 2),
-        (5383, 3),
-        (5213, 6),
-        (5220, 9_000_000),
-        (5221, 0),
-    ] {
-        assert_eq!(rt; count(&params, number), want, "parameter {number}");
+    for (number, want) in CHANGED {
+        assert_eq!(rt; count(&params, *number), *want, "parameter {number}");
     }
     assert_eq!(rt; params.origin(nine), point(-1, 2, 3));
     assert_eq!(rt; params.origin(System::first()), Point::zero());
@@ -137,16 +173,19 @@ fn lives<A: Allocator + Copy + Drop>(alloc: A) -> Result<bool, AllocError> {
     Ok(numbers && count(&again, 5399) == 3 && count(&again, 5220) == 0 && count(&again, 1) == 0)
 }
 
+/// Bytes of heaps: some hold all tables, some don't.
+const SIZES: &[usize] = &[
+    1_000, 44_000, 60_000, 87_000, 90_000, 120_000, 131_000, 140_000,
+];
+
 #[test]
 fn each_growth_may_be_refused(rt: HostRuntime) -> Result<(), Fail> {
     let alloc: Global = rt.alloc();
     assert!(rt; lives(alloc)?);
     let mut refused = 0;
     let mut lived = 0;
-    for size in [
-        1_000, 44_000, 60_000, 87_000, 90_000, 120_000, 131_000, 140_000,
-    ] {
-        let heap = LocalHeap::new(alloc, size)?;
+    for size in SIZES {
+        let heap = LocalHeap::new(alloc, *size)?;
         match lives(&heap) {
             Ok(whole) => {
                 assert!(rt; whole);

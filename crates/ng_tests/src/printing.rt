@@ -4,7 +4,7 @@ use std::alloc::Global;
 use std::test::Fail;
 
 /// Counts of millionths or nanometres, and how they print.
-const COUNTS: [(i64, &str); 9] = [
+const COUNTS: &[(i64, &str)] = &[
     (0, "0.000000"),
     (1, "0.000001"),
     (-1, "-0.000001"),
@@ -17,14 +17,14 @@ const COUNTS: [(i64, &str); 9] = [
 ];
 
 /// Points of nanometres, and how they print.
-const POINTS: [([i64; 3], &str); 3] = [
-    ([0, 0, 0], "0.000000, 0.000000, 0.000000"),
+const POINTS: &[((i64, i64, i64), &str)] = &[
+    ((0, 0, 0), "0.000000, 0.000000, 0.000000"),
     (
-        [1_500_000, -20, 300_000_000],
+        (1_500_000, -20, 300_000_000),
         "1.500000, -0.000020, 300.000000",
     ),
     (
-        [-9_999_999_999_999, -9_999_999_999_999, -9_999_999_999_999],
+        (-9_999_999_999_999, -9_999_999_999_999, -9_999_999_999_999),
         "-9999999.999999, -9999999.999999, -9999999.999999",
     ),
 ];
@@ -43,34 +43,47 @@ fn len(nm: i64) -> Result<Len, Fail> {
 }
 
 #[test]
-fn numbers_and_points_print_in_full(rt: HostRuntime) -> Result<(), Fail> {
+fn numbers_print_in_full(rt: HostRuntime) -> Result<(), Fail> {
     for (count, want) in COUNTS {
         let mut text = Vec::from_slice(rt.alloc(), b"X")?;
-        print_number(&mut text, Num::of(count as i128)?, *b", ")?;
+        print_number(&mut text, Num::of(*count as i128)?, *b", ")?;
         assert!(rt; is_between(text.as_slice(), want, b", "), "{want}");
         text.truncate(1);
-        print_length(&mut text, len(count)?, *b")\n")?;
+        print_length(&mut text, len(*count)?, *b")\n")?;
         assert!(rt; is_between(text.as_slice(), want, b")\n"), "{want}");
     }
-    for ([x, y, z], want) in POINTS {
+    Ok(())
+}
+
+#[test]
+fn points_print_in_full(rt: HostRuntime) -> Result<(), Fail> {
+    for ((x, y, z), want) in POINTS {
         let mut text = Vec::from_slice(rt.alloc(), b"X")?;
         let point = Point {
-            x: len(x)?,
-            y: len(y)?,
-            z: len(z)?,
+            x: len(*x)?,
+            y: len(*y)?,
+            z: len(*z)?,
         };
         print_point(&mut text, point, *b")\n")?;
         assert!(rt; is_between(text.as_slice(), want, b")\n"), "{want}");
     }
-    for (n, want) in [
-        (0u64, "0"),
-        (7, "7"),
-        (10, "10"),
-        (500_000_000, "500000000"),
-        (u64::MAX, "18446744073709551615"),
-    ] {
+    Ok(())
+}
+
+/// Whole numbers, and how they print.
+const WHOLE: &[(u64, &str)] = &[
+    (0, "0"),
+    (7, "7"),
+    (10, "10"),
+    (500_000_000, "500000000"),
+    (u64::MAX, "18446744073709551615"),
+];
+
+#[test]
+fn whole_numbers_print(rt: HostRuntime) -> Result<(), Fail> {
+    for (n, want) in WHOLE {
         let mut text = Vec::from_slice(rt.alloc(), b"X")?;
-        print_whole(&mut text, n)?;
+        print_whole(&mut text, *n)?;
         assert!(rt; is_between(text.as_slice(), want, b""), "{want}");
     }
     Ok(())

@@ -6,7 +6,7 @@ use std::alloc::{AllocError, Global};
 use std::test::Fail;
 
 /// The default settings, a line for each key.
-const DEFAULTS: [(&str, &str); 6] = [
+const DEFAULTS: &[(&str, &str)] = &[
     ("step_nm", "step_nm = [1000, 1000, 1000]"),
     ("low_nm", "low_nm = [-1000000000, -1000000000, -1000000000]"),
     ("high_nm", "high_nm = [1000000000, 1000000000, 1000000000]"),
@@ -16,7 +16,7 @@ const DEFAULTS: [(&str, &str); 6] = [
 ];
 
 /// A key, what stands in place of its line, and the fault of the settings then.
-const LINES: [(&str, &str, Option<Fault>); 61] = [
+const LINES: &[(&str, &str, Option<Fault>)] = &[
     ("", "", None),
     // keys
     ("step_nm", "", Some(Fault::MissingKey)),
@@ -149,7 +149,7 @@ const LINES: [(&str, &str, Option<Fault>); 61] = [
 fn text_with(alloc: Global, key: &str, line: &str) -> Result<String, AllocError> {
     let mut text = String::new(alloc);
     for (name, default) in DEFAULTS {
-        text.push_str(if name == key { line } else { default })?;
+        text.push_str(if *name == key { line } else { default })?;
         text.push_str("\n")?;
     }
     Ok(text)
@@ -217,34 +217,66 @@ const OTHER: &[u8] =
     b"tools_nm = [61, 62]\nperiod_us = 51\ntraverse_nm_per_min = 41\nhigh_nm = [31, 32, 33]\nlow_nm = [-21, -22, -23]\nstep_nm = [11, 12, 13]";
 
 #[test]
-fn settings_and_their_faults(rt: HostRuntime) -> Result<(), Fail> {
+fn lines_and_their_faults(rt: HostRuntime) -> Result<(), Fail> {
     let alloc = rt.alloc();
     for (key, line, fault) in LINES {
         let text = text_with(alloc, key, line)?;
-        assert_eq!(rt; fault_of(alloc, text.as_bytes()), fault, "{line} for {key}");
-    }
-    for (count, last, fault) in [
-        (63, "1", None),
-        (64, "1", Some(Fault::TooManyTools)),
-        (64, "-1", Some(Fault::OutOfLimits)),
-        (64, "1.0", Some(Fault::WrongType)),
-    ] {
-        let text = text_with_tools(alloc, count, last)?;
         assert_eq!(rt;
             fault_of(alloc, text.as_bytes()),
-            fault,
+            *fault,
+            "{line} for {key}"
+        );
+    }
+    Ok(())
+}
+
+/// So many tool lengths of 1 nm and one more, and the fault.
+const TOOLS: &[(usize, &str, Option<Fault>)] = &[
+    (63, "1", None),
+    (64, "1", Some(Fault::TooManyTools)),
+    (64, "-1", Some(Fault::OutOfLimits)),
+    (64, "1.0", Some(Fault::WrongType)),
+];
+
+#[test]
+fn tools_and_their_faults(rt: HostRuntime) -> Result<(), Fail> {
+    let alloc = rt.alloc();
+    for (count, last, fault) in TOOLS {
+        let text = text_with_tools(alloc, *count, last)?;
+        assert_eq!(rt;
+            fault_of(alloc, text.as_bytes()),
+            *fault,
             "{count} and {last}"
         );
     }
-    for (front, fault) in [
-        ("\u{feff}".as_bytes(), None),
-        (b"# a comment\n", None),
-        (b"# \xff\n", Some(Fault::NotToml)),
-        (b"\0", Some(Fault::NotToml)),
-    ] {
+    Ok(())
+}
+
+/// Bytes in front of the default settings, and the fault.
+const FRONTS: &[(&[u8], Option<Fault>)] = &[
+    (b"\xef\xbb\xbf", None),
+    (b"# a comment\n", None),
+    (b"# \xff\n", Some(Fault::NotToml)),
+    (b"\0", Some(Fault::NotToml)),
+];
+
+#[test]
+fn what_stands_in_front_and_its_fault(rt: HostRuntime) -> Result<(), Fail> {
+    let alloc = rt.alloc();
+    for (front, fault) in FRONTS {
         let text = text_behind(alloc, front)?;
-        assert_eq!(rt; fault_of(alloc, text.as_slice()), fault, "behind {front:?}");
+        assert_eq!(rt;
+            fault_of(alloc, text.as_slice()),
+            *fault,
+            "behind {front:?}"
+        );
     }
+    Ok(())
+}
+
+#[test]
+fn machines_are_those_of_their_texts(rt: HostRuntime) -> Result<(), Fail> {
+    let alloc = rt.alloc();
     assert_eq!(rt; fault_of(alloc, b""), Some(Fault::MissingKey));
     let brackets = vec![in alloc; b'['; 10_000_000]?;
     assert_eq!(rt; fault_of(alloc, brackets.as_slice()), Some(Fault::NotToml));

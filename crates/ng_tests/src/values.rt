@@ -29,7 +29,7 @@ fn last_word<A: Allocator + Copy + Drop>(
 }
 
 /// Lines over a fresh table, and the count of millionths of the last word, or the line's fault.
-const LINES: [(&[u8], Result<i64, Fault>); 30] = [
+const LINES: &[(&[u8], Result<i64, Fault>)] = &[
     (b"X-1.5", Ok(-1_500_000)),
     (b"X[1/3*3]", Ok(999_999)),
     (b"X[2.0/3*1.5-5.5/11.0]", Ok(500_001)),
@@ -67,7 +67,7 @@ fn values_of_lines_or_their_faults(rt: HostRuntime) -> Result<(), Fail> {
     let params = Params::new(rt.alloc())?;
     let mut line = Line::new();
     for (text, want) in LINES {
-        assert_eq!(rt; last_word(&mut line, &params, text), want, "{text:?}");
+        assert_eq!(rt; last_word(&mut line, &params, text), *want, "{text:?}");
     }
     Ok(())
 }
