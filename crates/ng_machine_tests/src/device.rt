@@ -48,7 +48,7 @@ fn make_ten_calls<A: Allocator + Copy + Drop>(
 
 /// What each of the three sectors holds in all its bytes after so many of these calls, by how many of its
 /// unsynced writes it keeps, and how many items are handed out.
-const LEFT: [([[u8; 3]; 3], usize); 11] = [
+const LEFT: &[([[u8; 3]; 3], usize)] = &[
     ([[0, 0, 0], [0, 0, 0], [0, 0, 0]], 0),
     ([[0, 1, 1], [0, 0, 0], [0, 0, 0]], 0),
     ([[0, 1, 1], [0, 2, 2], [0, 0, 0]], 0),
@@ -93,7 +93,7 @@ fn leaves<A: Allocator + Copy + Drop>(
 
 /// How many unsynced writes of each sector are kept, after so many of these calls and past their ends, and what each
 /// sector then holds.
-const KEPT: [(usize, &[usize], [u8; 3]); 5] = [
+const KEPT: &[(usize, &[usize], [u8; 3])] = &[
     (10, &[], [3, 2, 0]),
     (10, &[9, 1], [3, 4, 0]),
     (10, &[usize::MAX; 5], [3, 6, 5]),
@@ -101,32 +101,48 @@ const KEPT: [(usize, &[usize], [u8; 3]); 5] = [
     (usize::MAX, &[0, 2, 0], [3, 6, 0]),
 ];
 
+/// Whether a device stopped so leaves, by each choice of kept writes, what these bytes say.
+fn leaves_each<A: Allocator + Copy + Drop>(
+    rig: &MemoryRig<A>,
+    n: usize,
+    left: &[[u8; 3]; 3],
+) -> Result<bool, AllocError>
+    requires { sector_count rig.now ≡ 3 }
+{
+    for choice in 0..27usize {
+        let (a, b, c) = (choice / 9, choice / 3 % 3, choice % 3);
+        if !leaves(rig, n, &[a, b, c], [left[0][a], left[1][b], left[2][c]])? {
+            return Ok(false);
+        }
+    }
+    Ok(true)
+}
+
 #[test]
 fn a_stop_after_each_call_leaves_each_choice(rt: HostRuntime) -> Result<(), Fail> {
     let mut rig = MemoryRig::new(rt.alloc(), 3)?;
     let items = three_items();
     assert!(rt; make_ten_calls(&mut rig, &items).is_ok());
     assert_eq!(rt; rig.calls(), 10);
-    for n in 0..11 {
-        let (left, handed) = LEFT[n];
-        for a in 0..3 {
-            for b in 0..3 {
-                for c in 0..3 {
-                    let want = [left[0][a], left[1][b], left[2][c]];
-                    assert!(rt; leaves(&rig, n, &[a, b, c], want)?, "{a} {b} {c} at {n}");
-                }
-            }
-        }
+    for (n, (left, handed)) in LEFT.iter().enumerate() {
+        assert!(rt; leaves_each(&rig, n, left)?, "at {n}");
         assert_eq!(rt;
             rig.handed(n)?.as_slice(),
-            items.get(..handed).unwrap_or_default(),
+            items.get(..*handed).unwrap_or_default(),
             "at {n}"
         );
     }
-    for (n, keep, want) in KEPT {
-        assert!(rt; leaves(&rig, n, keep, want)?, "{keep:?} at {n}");
-    }
     assert_eq!(rt; rig.handed(usize::MAX)?.as_slice(), items.as_slice());
+    Ok(())
+}
+
+#[test]
+fn a_stop_keeps_as_many_writes_as_there_are(rt: HostRuntime) -> Result<(), Fail> {
+    let mut rig = MemoryRig::new(rt.alloc(), 3)?;
+    assert!(rt; make_ten_calls(&mut rig, &three_items()).is_ok());
+    for (n, keep, want) in KEPT {
+        assert!(rt; leaves(&rig, *n, keep, *want)?, "{keep:?} at {n}");
+    }
     Ok(())
 }
 
@@ -169,7 +185,7 @@ fn the_three_devices_are_called_as_one(rt: HostRuntime) -> Result<(), Fail> {
 }
 
 /// How many calls a fuse passes, which of four calls then succeed, and how many are made and fail.
-const FUSES: [(u64, [bool; 4], usize, u64); 5] = [
+const FUSES: &[(u64, [bool; 4], usize, u64)] = &[
     (0, [false, false, false, false], 0, 4),
     (1, [true, false, false, false], 1, 3),
     (2, [true, true, false, false], 2, 2),
@@ -180,20 +196,20 @@ const FUSES: [(u64, [bool; 4], usize, u64); 5] = [
 #[test]
 fn a_fuse_passes_so_many_calls(rt: HostRuntime) -> Result<(), Fail> {
     for (passed, want, calls, failures) in FUSES {
-        let mut fuse = FuseRig::new(MemoryRig::new(rt.alloc(), 1)?, passed);
-        assert_eq!(rt; four_calls(&mut fuse, 5).0, want, "{passed}");
-        assert_eq!(rt; fuse.failures(), failures, "{passed}");
+        let mut fuse = FuseRig::new(MemoryRig::new(rt.alloc(), 1)?, *passed);
+        assert_eq!(rt; four_calls(&mut fuse, 5).0, *want, "{passed}");
+        assert_eq!(rt; fuse.failures(), *failures, "{passed}");
         assert_eq!(rt; four_calls(&mut fuse, 6).0, [false; 4], "{passed}");
         assert_eq!(rt; fuse.failures(), failures.saturating_add(4), "{passed}");
         let mut inner = fuse.into_inner();
-        assert_eq!(rt; (inner.calls(), inner.failures()), (calls, 0), "{passed}");
+        assert_eq!(rt; (inner.calls(), inner.failures()), (*calls, 0), "{passed}");
     }
     Ok(())
 }
 
 /// Behind how many calls one fails, which of four calls then succeed, which of the next four, and how many of the first
 /// four are made.
-const ONE_FAILS: [(u64, [bool; 4], [bool; 4], usize); 5] = [
+const ONE_FAILS: &[(u64, [bool; 4], [bool; 4], usize)] = &[
     (0, [false, true, true, true], [true, true, true, true], 2),
     (1, [true, false, true, true], [true, true, true, true], 2),
     (2, [true, true, false, true], [true, true, true, true], 2),
@@ -204,13 +220,13 @@ const ONE_FAILS: [(u64, [bool; 4], [bool; 4], usize); 5] = [
 #[test]
 fn one_call_fails_once(rt: HostRuntime) -> Result<(), Fail> {
     for (passed, want, then, calls) in ONE_FAILS {
-        let mut once = FailRig::new(MemoryRig::new(rt.alloc(), 1)?, passed);
-        assert_eq!(rt; four_calls(&mut once, 5).0, want, "{passed}");
+        let mut once = FailRig::new(MemoryRig::new(rt.alloc(), 1)?, *passed);
+        assert_eq!(rt; four_calls(&mut once, 5).0, *want, "{passed}");
         let mut inner = once.into_inner();
-        assert_eq!(rt; (inner.calls(), inner.failures()), (calls, 0), "{passed}");
-        let mut again = FailRig::new(MemoryRig::new(rt.alloc(), 1)?, passed);
-        assert_eq!(rt; four_calls(&mut again, 5).0, want, "{passed}");
-        assert_eq!(rt; four_calls(&mut again, 6).0, then, "{passed}");
+        assert_eq!(rt; (inner.calls(), inner.failures()), (*calls, 0), "{passed}");
+        let mut again = FailRig::new(MemoryRig::new(rt.alloc(), 1)?, *passed);
+        assert_eq!(rt; four_calls(&mut again, 5).0, *want, "{passed}");
+        assert_eq!(rt; four_calls(&mut again, 6).0, *then, "{passed}");
         assert_eq!(rt; again.failures(), 1, "{passed}");
     }
     Ok(())
@@ -228,6 +244,11 @@ fn failures_have_no_effect_and_are_counted(rt: HostRuntime) -> Result<(), Fail> 
     assert!(rt; holds(&mut rig, 0, 0));
     assert!(rt; MemoryRig::new(&heap, 1).is_err());
     assert!(rt; rig.stopped(0, &[]).is_err());
+    Ok(())
+}
+
+#[test]
+fn failures_of_all_devices_are_counted(rt: HostRuntime) {
     let mut worn = Worn::new(u64::MAX - 1);
     assert_eq!(rt; (worn.sync(), worn.failures()), (Err(Failed), u64::MAX));
     assert_eq!(rt; (worn.sync(), worn.failures()), (Err(Failed), 0));
@@ -238,7 +259,6 @@ fn failures_have_no_effect_and_are_counted(rt: HostRuntime) -> Result<(), Fail> 
     assert_eq!(rt; (once.sync(), once.failures()), (Err(Failed), u64::MAX));
     assert_eq!(rt; (once.sync(), once.failures()), (Err(Failed), 0));
     assert_eq!(rt; once.into_inner().failures(), u64::MAX);
-    Ok(())
 }
 
 #[test]

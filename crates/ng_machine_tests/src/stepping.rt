@@ -24,6 +24,13 @@ fn point(x: i64, y: i64, z: i64) -> Point {
     }
 }
 
+/// Three coordinates in nanometres.
+type At = (i64, i64, i64);
+
+fn spot(at: At) -> Point {
+    point(at.0, at.1, at.2)
+}
+
 /// F60: a micrometre a millisecond.
 fn feed() -> Pace {
     match Rate::of(len(60_000_000)) {
@@ -117,53 +124,69 @@ fn gives(alloc: Global, segment: &Segment, machine: &Geometry, want: &str) -> Re
     Ok(items(alloc, segment, machine)?.as_str() == want)
 }
 
-#[test]
-fn lines_dwells_and_switches_give_their_items(rt: HostRuntime) -> Result<(), Fail> {
-    let machine = Geometry::standard();
-    let origin = Point::zero();
-    let inverse = InverseTime::of(Num::of(60_000_000)?).map_or(Pace::Traverse, Pace::InverseTime);
-    for ([x, y, z], pace, want) in [
-        ([5_000, 2_000, 0], feed(), "1078: +X +X+Y +X +X+Y +X"),
-        ([5_000, 0, 0], inverse, "200000: +X +X +X +X +X"),
-        ([2_000, 0, 0], Pace::Traverse, "50: +X +X"),
-        ([-3_000, 1_499, 3_000], feed(), "1500: -X+Z -X+Y+Z -X+Z"),
-        ([0, 0, 0], feed(), ""),
-        ([499, -499, 0], feed(), ""),
-    ] {
-        let segment = line(origin, point(x, y, z), pace);
-        assert!(rt; gives(rt.alloc(), &segment, &machine, want)?, "{want:?}");
+/// How a line is paced: at F60, within a minute's sixtieth part, or as a traverse.
+enum By {
+    Feed,
+    Second,
+    Traverse,
+}
+
+fn pace(by: &By) -> Pace {
+    match by {
+        By::Feed => feed(),
+        By::Second => match Num::of(60_000_000) {
+            Ok(number) => InverseTime::of(number).map_or(Pace::Traverse, Pace::InverseTime),
+            Err(_) => Pace::Traverse,
+        },
+        By::Traverse => Pace::Traverse,
     }
-    let mut outputs = Outputs::fresh();
-    outputs.selected_slot = 7;
-    for (segment, want) in [
-        (Segment::Dwell(Num::of(1_500_000)?), "dwell 1500000"),
-        (Segment::Dwell(Num::of(-1)?), "dwell 0"),
-        (Segment::Switch(outputs), "switch 7"),
-    ] {
+}
+
+/// Ends of lines from the origin, and the items.
+const LINES: &[(At, By, &str)] = &[
+    ((5_000, 2_000, 0), By::Feed, "1078: +X +X+Y +X +X+Y +X"),
+    ((5_000, 0, 0), By::Second, "200000: +X +X +X +X +X"),
+    ((2_000, 0, 0), By::Traverse, "50: +X +X"),
+    ((-3_000, 1_499, 3_000), By::Feed, "1500: -X+Z -X+Y+Z -X+Z"),
+    ((0, 0, 0), By::Feed, ""),
+    ((499, -499, 0), By::Feed, ""),
+];
+
+#[test]
+fn lines_give_their_items(rt: HostRuntime) -> Result<(), Fail> {
+    let machine = Geometry::standard();
+    for (end, by, want) in LINES {
+        let segment = line(Point::zero(), spot(*end), pace(by));
         assert!(rt; gives(rt.alloc(), &segment, &machine, want)?, "{want:?}");
     }
     Ok(())
 }
 
+#[test]
+fn dwells_and_switches_give_their_items(rt: HostRuntime) -> Result<(), Fail> {
+    let machine = Geometry::standard();
+    let long = Segment::Dwell(Num::of(1_500_000)?);
+    assert!(rt; gives(rt.alloc(), &long, &machine, "dwell 1500000")?);
+    let negative = Segment::Dwell(Num::of(-1)?);
+    assert!(rt; gives(rt.alloc(), &negative, &machine, "dwell 0")?);
+    let mut outputs = Outputs::fresh();
+    outputs.selected_slot = 7;
+    let switch = Segment::Switch(outputs);
+    assert!(rt; gives(rt.alloc(), &switch, &machine, "switch 7")?);
+    Ok(())
+}
+
 /// An arc's plane, way round, start, end and centre, the step of Y, and the items.
-type ArcRow = (
-    Plane,
-    Turn,
-    [i64; 3],
-    [i64; 3],
-    (i64, i64),
-    u32,
-    &'static str,
-);
+type ArcRow = (Plane, Turn, At, At, (i64, i64), u32, &'static str);
 
 /// Arcs on axes whose other steps are 1,000 nm.
-const ARCS: [ArcRow; 15] = [
+const ARCS: &[ArcRow] = &[
     // full circles of two steps' radius: each plane and way round
     (
         Plane::Xy,
         Turn::Counterclockwise,
-        [0, 0, 0],
-        [0, 0, 0],
+        (0, 0, 0),
+        (0, 0, 0),
         (-2_000, 0),
         1_000,
         "1000: +Y -X +Y -X -X -Y -X -Y -Y +X -Y +X +X +Y +X +Y",
@@ -171,8 +194,8 @@ const ARCS: [ArcRow; 15] = [
     (
         Plane::Xy,
         Turn::Clockwise,
-        [0, 0, 0],
-        [0, 0, 0],
+        (0, 0, 0),
+        (0, 0, 0),
         (-2_000, 0),
         1_000,
         "1000: -Y -X -Y -X -X +Y -X +Y +Y +X +Y +X +X -Y +X -Y",
@@ -180,8 +203,8 @@ const ARCS: [ArcRow; 15] = [
     (
         Plane::Xz,
         Turn::Counterclockwise,
-        [0, 0, 0],
-        [0, 0, 0],
+        (0, 0, 0),
+        (0, 0, 0),
         (-2_000, 0),
         1_000,
         "1000: +X -Z +X -Z -Z -X -Z -X -X +Z -X +Z +Z +X +Z +X",
@@ -189,8 +212,8 @@ const ARCS: [ArcRow; 15] = [
     (
         Plane::Xz,
         Turn::Clockwise,
-        [0, 0, 0],
-        [0, 0, 0],
+        (0, 0, 0),
+        (0, 0, 0),
         (-2_000, 0),
         1_000,
         "1000: -X -Z -X -Z -Z +X -Z +X +X +Z +X +Z +Z -X +Z -X",
@@ -198,8 +221,8 @@ const ARCS: [ArcRow; 15] = [
     (
         Plane::Yz,
         Turn::Counterclockwise,
-        [0, 0, 0],
-        [0, 0, 0],
+        (0, 0, 0),
+        (0, 0, 0),
         (-2_000, 0),
         1_000,
         "1000: +Z -Y +Z -Y -Y -Z -Y -Z -Z +Y -Z +Y +Y +Z +Y +Z",
@@ -207,8 +230,8 @@ const ARCS: [ArcRow; 15] = [
     (
         Plane::Yz,
         Turn::Clockwise,
-        [0, 0, 0],
-        [0, 0, 0],
+        (0, 0, 0),
+        (0, 0, 0),
         (-2_000, 0),
         1_000,
         "1000: -Z -Y -Z -Y -Y +Z -Y +Z +Z +Y +Z +Y +Y -Z +Y -Z",
@@ -217,8 +240,8 @@ const ARCS: [ArcRow; 15] = [
     (
         Plane::Xy,
         Turn::Counterclockwise,
-        [0, 400, 0],
-        [0, 400, 0],
+        (0, 400, 0),
+        (0, 400, 0),
         (-2_000, 300),
         1_000,
         "1000: +Y -X +Y +Y -X -Y -X -X -Y -Y +X -Y -Y +X +Y +X +X +Y +Y -Y",
@@ -226,8 +249,8 @@ const ARCS: [ArcRow; 15] = [
     (
         Plane::Xy,
         Turn::Counterclockwise,
-        [0, 0, 0],
-        [0, 0, 4_000],
+        (0, 0, 0),
+        (0, 0, 4_000),
         (-2_000, 0),
         1_000,
         "1000: +Y -X+Z +Y -X -X -Y+Z -X -Y -Y +X+Z -Y +X +X +Y+Z +X +Y",
@@ -235,8 +258,8 @@ const ARCS: [ArcRow; 15] = [
     (
         Plane::Xy,
         Turn::Counterclockwise,
-        [0, 0, 0],
-        [-8_000, 4_000, 0],
+        (0, 0, 0),
+        (-8_000, 4_000, 0),
         (-5_000, 0),
         1_000,
         "1000: +Y -X +Y +Y +Y -X +Y -X -X -X -X -Y -X -X",
@@ -244,8 +267,8 @@ const ARCS: [ArcRow; 15] = [
     (
         Plane::Xy,
         Turn::Counterclockwise,
-        [5_000, 300, 0],
-        [0, 5_000, 0],
+        (5_000, 300, 0),
+        (0, 5_000, 0),
         (0, 400),
         1_000,
         "1000: +Y -X +Y +Y +Y -X +Y -X -X +Y -X -Y",
@@ -253,8 +276,8 @@ const ARCS: [ArcRow; 15] = [
     (
         Plane::Xy,
         Turn::Counterclockwise,
-        [5_000, -400, 0],
-        [5_000, -300, 0],
+        (5_000, -400, 0),
+        (5_000, -300, 0),
         (0, 0),
         1_000,
         "",
@@ -262,8 +285,8 @@ const ARCS: [ArcRow; 15] = [
     (
         Plane::Xy,
         Turn::Counterclockwise,
-        [0, 0, 0],
-        [0, 0, 0],
+        (0, 0, 0),
+        (0, 0, 0),
         (-1_000, 0),
         1_000,
         "",
@@ -271,8 +294,8 @@ const ARCS: [ArcRow; 15] = [
     (
         Plane::Xy,
         Turn::Counterclockwise,
-        [0, 0, 0],
-        [-3_998, 0, 0],
+        (0, 0, 0),
+        (-3_998, 0, 0),
         (-1_999, 0),
         1_000,
         "1000: -X -X -X -X",
@@ -281,8 +304,8 @@ const ARCS: [ArcRow; 15] = [
     (
         Plane::Xy,
         Turn::Counterclockwise,
-        [4_000, 0, 0],
-        [0, 4_000, 0],
+        (4_000, 0, 0),
+        (0, 4_000, 0),
         (0, 0),
         500,
         "1000: +Y -X +Y +Y +Y +Y +Y -X +Y -X +Y -X",
@@ -290,8 +313,8 @@ const ARCS: [ArcRow; 15] = [
     (
         Plane::Yz,
         Turn::Clockwise,
-        [0, 4_000, 0],
-        [3_000, 0, -4_000],
+        (0, 4_000, 0),
+        (3_000, 0, -4_000),
         (0, 0),
         500,
         "1000: -Z +X-Y -Z -Y -Z +X-Y -Z -Y -Y +X-Y -Y -Y",
@@ -299,7 +322,7 @@ const ARCS: [ArcRow; 15] = [
 ];
 
 /// Programs of one move that steps, and what it gives.
-const PROGRAMS: [(&str, &str); 8] = [
+const PROGRAMS: &[(&str, &str)] = &[
     (
         "G3 X0 I-0.002 F60",
         "1000: +Y -X +Y -X -X -Y -X -Y -Y +X -Y +X +X +Y +X +Y",
@@ -349,11 +372,16 @@ fn program_gives(alloc: Global, program: &str, want: &str) -> Result<bool, Fail>
 
 #[test]
 fn arcs_give_their_items(rt: HostRuntime) -> Result<(), Fail> {
-    for (plane, turn, [a, b, c], [x, y, z], centre, step, want) in ARCS {
-        let segment = arc(plane, turn, point(a, b, c), point(x, y, z), centre);
-        let machine = steps_of(1_000, step, 1_000);
+    for (plane, turn, start, end, centre, step, want) in ARCS {
+        let segment = arc(*plane, *turn, spot(*start), spot(*end), *centre);
+        let machine = steps_of(1_000, *step, 1_000);
         assert!(rt; gives(rt.alloc(), &segment, &machine, want)?, "{want:?}");
     }
+    Ok(())
+}
+
+#[test]
+fn moves_of_programs_give_their_items(rt: HostRuntime) -> Result<(), Fail> {
     for (program, want) in PROGRAMS {
         assert!(rt; program_gives(rt.alloc(), program, want)?, "{program:?}");
     }
