@@ -1,7 +1,11 @@
 //! The exit status of a dry run, and its text, for all programs whose text is worked out by hand.
 use ng_console::run_dry;
 use ng_settings::Settings;
-use ng_test_programs::{LONG, NO_END, PRINTED, REFUSALS, TEXTS};
+use ng_test_programs::{
+    ARCS, COMMENTS, CYCLES, DELETED, ENDED, FAULTS_OF_VALUES, FAULTS_OF_WORDS, KEPT_WORDS, LASTING,
+    LONG, OFFSETS, PECKS, PERCENTS, PRINTED, READ, REFUSED, REFUSED_CYCLES, Refusals, Rows,
+    UNREADABLE, VALUES,
+};
 use std::alloc::Global;
 use std::test::Fail;
 
@@ -19,29 +23,83 @@ fn runs(alloc: Global, program: &str, block_delete: bool, text: &str, end: &str)
     is_written && (status == 1) == end.starts_with("REFUSED") && status <= 1
 }
 
-#[test]
-fn programs_end_with_their_status(rt: HostRuntime) {
-    for (block_delete, rows) in TEXTS {
-        for (program, text, end) in *rows {
-            assert!(rt;
-                runs(rt.alloc(), program, *block_delete, text, end),
-                "{program:?} {block_delete}"
-            );
+/// The first of these programs that doesn't write its text or end with its status, if there is one.
+fn first_wrong(alloc: Global, block_delete: bool, rows: Rows) -> Option<&'static str> {
+    for (program, text, end) in rows {
+        if !runs(alloc, program, block_delete, text, end) {
+            return Some(program);
         }
     }
+    None
 }
 
 #[test]
-fn lines_end_with_their_status(rt: HostRuntime) -> Result<(), Fail> {
-    for (line, text) in PRINTED {
-        assert!(rt; runs(rt.alloc(), line, false, text, NO_END), "{line:?}");
-    }
-    for rows in REFUSALS {
-        for (line, name) in *rows {
-            let end = format!(in rt.alloc(); "REFUSED line 1: {name}\n")?;
-            assert!(rt; runs(rt.alloc(), line, false, "", end.as_str()), "{line:?}");
+fn plain_programs_end_with_their_status(rt: HostRuntime) {
+    assert_eq!(rt; first_wrong(rt.alloc(), false, ENDED), None);
+    assert_eq!(rt; first_wrong(rt.alloc(), false, REFUSED), None);
+    assert_eq!(rt; first_wrong(rt.alloc(), false, READ), None);
+    assert_eq!(rt; first_wrong(rt.alloc(), true, DELETED), None);
+}
+
+#[test]
+fn values_comments_and_percent_lines_end_with_their_status(rt: HostRuntime) {
+    assert_eq!(rt; first_wrong(rt.alloc(), false, VALUES), None);
+    assert_eq!(rt; first_wrong(rt.alloc(), false, COMMENTS), None);
+    assert_eq!(rt; first_wrong(rt.alloc(), false, PERCENTS), None);
+}
+
+#[test]
+fn modes_end_with_their_status(rt: HostRuntime) {
+    assert_eq!(rt; first_wrong(rt.alloc(), false, PRINTED), None);
+    assert_eq!(rt; first_wrong(rt.alloc(), false, LASTING), None);
+}
+
+#[test]
+fn offsets_end_with_their_status(rt: HostRuntime) {
+    assert_eq!(rt; first_wrong(rt.alloc(), false, OFFSETS), None);
+}
+
+#[test]
+fn arcs_end_with_their_status(rt: HostRuntime) {
+    assert_eq!(rt; first_wrong(rt.alloc(), false, ARCS), None);
+}
+
+#[test]
+fn cycles_end_with_their_status(rt: HostRuntime) {
+    assert_eq!(rt; first_wrong(rt.alloc(), false, CYCLES), None);
+}
+
+#[test]
+fn pecks_end_with_their_status(rt: HostRuntime) {
+    assert_eq!(rt; first_wrong(rt.alloc(), false, PECKS), None);
+}
+
+#[test]
+fn kept_words_end_with_their_status(rt: HostRuntime) {
+    assert_eq!(rt; first_wrong(rt.alloc(), false, KEPT_WORDS), None);
+}
+
+#[test]
+fn refused_cycles_end_with_their_status(rt: HostRuntime) {
+    assert_eq!(rt; first_wrong(rt.alloc(), false, REFUSED_CYCLES), None);
+}
+
+/// The first of these lines that isn't refused alone by its fault's name, with the status of that, if there is one.
+fn first_not_refused(alloc: Global, rows: Refusals) -> Result<Option<&'static str>, Fail> {
+    for (line, name) in rows {
+        let end = format!(in alloc; "REFUSED line 1: {name}\n")?;
+        if !runs(alloc, line, false, "", end.as_str()) {
+            return Ok(Some(line));
         }
     }
+    Ok(None)
+}
+
+#[test]
+fn refused_lines_end_with_their_status(rt: HostRuntime) -> Result<(), Fail> {
+    assert_eq!(rt; first_not_refused(rt.alloc(), FAULTS_OF_WORDS)?, None);
+    assert_eq!(rt; first_not_refused(rt.alloc(), FAULTS_OF_VALUES)?, None);
+    assert_eq!(rt; first_not_refused(rt.alloc(), UNREADABLE)?, None);
     Ok(())
 }
 

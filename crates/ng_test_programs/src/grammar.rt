@@ -167,7 +167,7 @@ pub const PERCENTS: Rows = &[
 ];
 
 /// Lines that are in the grammar, and the fault that refuses each.
-pub const FAULTS: Refusals = &[
+pub const FAULTS_OF_VALUES: Refusals = &[
     ("G0 X[1/0] #0=1", "E5 BadArithmetic"),
     ("#0=1", "E4 BadIndex"),
     ("#5400=1", "E4 BadIndex"),

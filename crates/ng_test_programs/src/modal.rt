@@ -1,67 +1,77 @@
 //! Modal groups: what each code of a line prints, in the order of the steps, and which fault refuses a line alone. All of it
 //! is worked out by hand from the language.
+use crate::ends::NO_END;
 use crate::rows::{Refusals, Rows};
 
-/// Programs of one line and what they write in front of the refusal that their end is missing.
-pub const PRINTED: &[(&str, &str)] = &[
+/// Programs of one line, which are refused because their end is missing.
+pub const PRINTED: Rows = &[
     (
         "G4 P0.5 M3 S1000",
         "SET_SPINDLE_SPEED(1000.000000)\nSTART_SPINDLE_CLOCKWISE()\nDWELL(0.500000)\n",
+        NO_END,
     ),
     (
         "M4 M6 S100 T1",
         "SET_SPINDLE_SPEED(100.000000)\nSELECT_TOOL(1)\nCHANGE_TOOL(1)\nSTART_SPINDLE_COUNTERCLOCKWISE()\n",
+        NO_END,
     ),
     (
         "G20 F10 G1 X1",
         "SET_FEED_RATE(10.000000)\nUSE_LENGTH_UNITS(INCHES)\nSTRAIGHT_FEED(25.400000, 0.000000, 0.000000)\n",
+        NO_END,
     ),
     (
         "G93 G1 X1 F2",
         "INVERSE_TIME(2.000000)\nSTRAIGHT_FEED(1.000000, 0.000000, 0.000000)\n",
+        NO_END,
     ),
     (
         "G93 G1 X1 F0.000001 M3 G18",
         "START_SPINDLE_CLOCKWISE()\nSELECT_PLANE(XZ)\nINVERSE_TIME(0.000001)\nSTRAIGHT_FEED(1.000000, 0.000000, 0.000000)\n",
+        NO_END,
     ),
-    ("G93 F2", ""),
+    ("G93 F2", "", NO_END),
     (
         "G93 G0 X1 F2",
         "STRAIGHT_TRAVERSE(1.000000, 0.000000, 0.000000)\n",
+        NO_END,
     ),
-    ("G94 F0", "SET_FEED_RATE(0.000000)\n"),
-    ("M60", "PALLET_SHUTTLE()\nPROGRAM_STOP()\n"),
-    ("M0", "PROGRAM_STOP()\n"),
-    ("M1", "OPTIONAL_PROGRAM_STOP()\n"),
-    ("M3", "START_SPINDLE_CLOCKWISE()\n"),
-    ("M5", "STOP_SPINDLE_TURNING()\n"),
-    ("M6", "CHANGE_TOOL(0)\n"),
-    ("M7", "MIST_ON()\n"),
-    ("M8", "FLOOD_ON()\n"),
-    ("M9", "MIST_OFF()\nFLOOD_OFF()\n"),
-    ("G17", "SELECT_PLANE(XY)\n"),
-    ("G19", "SELECT_PLANE(YZ)\n"),
-    ("G21", "USE_LENGTH_UNITS(MM)\n"),
-    ("T-0.00005", "SELECT_TOOL(0)\n"),
-    ("G4 P0", "DWELL(0.000000)\n"),
+    ("G94 F0", "SET_FEED_RATE(0.000000)\n", NO_END),
+    ("M60", "PALLET_SHUTTLE()\nPROGRAM_STOP()\n", NO_END),
+    ("M0", "PROGRAM_STOP()\n", NO_END),
+    ("M1", "OPTIONAL_PROGRAM_STOP()\n", NO_END),
+    ("M3", "START_SPINDLE_CLOCKWISE()\n", NO_END),
+    ("M5", "STOP_SPINDLE_TURNING()\n", NO_END),
+    ("M6", "CHANGE_TOOL(0)\n", NO_END),
+    ("M7", "MIST_ON()\n", NO_END),
+    ("M8", "FLOOD_ON()\n", NO_END),
+    ("M9", "MIST_OFF()\nFLOOD_OFF()\n", NO_END),
+    ("G17", "SELECT_PLANE(XY)\n", NO_END),
+    ("G19", "SELECT_PLANE(YZ)\n", NO_END),
+    ("G21", "USE_LENGTH_UNITS(MM)\n", NO_END),
+    ("T-0.00005", "SELECT_TOOL(0)\n", NO_END),
+    ("G4 P0", "DWELL(0.000000)\n", NO_END),
     (
         "G80 F0 S0",
         "SET_FEED_RATE(0.000000)\nSET_SPINDLE_SPEED(0.000000)\n",
+        NO_END,
     ),
     (
         "G17 G21 G40 G64 G80 G90 G94 G98",
         "SELECT_PLANE(XY)\nUSE_LENGTH_UNITS(MM)\n",
+        NO_END,
     ),
-    ("G61 G99 M49", ""),
-    ("G61.1 G91 M48", ""),
+    ("G61 G99 M49", "", NO_END),
+    ("G61.1 G91 M48", "", NO_END),
     (
         "M0 M6 M3 M7 (four)",
         "COMMENT(four)\nCHANGE_TOOL(0)\nSTART_SPINDLE_CLOCKWISE()\nMIST_ON()\nPROGRAM_STOP()\n",
+        NO_END,
     ),
 ];
 
 /// Lines and the fault that refuses each of them alone, by a program of one line.
-pub const REFUSED: Refusals = &[
+pub const FAULTS_OF_WORDS: Refusals = &[
     ("F1 F1", "B1 RepeatedLetter"),
     ("G21.1", "B2 UnknownCode"),
     ("M1.5", "B2 UnknownCode"),

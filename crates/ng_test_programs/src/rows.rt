@@ -1,10 +1,5 @@
-//! Programs and what they write, and the tables of all of them.
-use crate::arcs::ARCS;
-use crate::cycles::CYCLES;
+//! Programs and what they write.
 use crate::ends::{NO_END, PROGRAM_END};
-use crate::grammar::{COMMENTS, FAULTS, PERCENTS, UNREADABLE, VALUES};
-use crate::modal;
-use crate::offsets::OFFSETS;
 
 /// Programs, what their lines write, and what their end writes.
 pub type Rows = &'static [(&'static str, &'static str, &'static str)];
@@ -12,26 +7,8 @@ pub type Rows = &'static [(&'static str, &'static str, &'static str)];
 /// Lines, and the fault that refuses each of them alone, by its name.
 pub type Refusals = &'static [(&'static str, &'static str)];
 
-/// All programs with their texts, and whether block delete is on.
-pub const TEXTS: &[(bool, Rows)] = &[
-    (false, ENDED),
-    (false, REFUSED),
-    (false, READ),
-    (true, DELETED),
-    (false, VALUES),
-    (false, COMMENTS),
-    (false, PERCENTS),
-    (false, modal::LASTING),
-    (false, OFFSETS),
-    (false, ARCS),
-    (false, CYCLES),
-];
-
-/// All lines that are refused alone.
-pub const REFUSALS: &[Refusals] = &[modal::REFUSED, FAULTS, UNREADABLE];
-
 /// Programs that come to their end.
-const ENDED: Rows = &[
+pub const ENDED: Rows = &[
     (
         "g0x +0. 12 34y 7\nM2\n",
         "STRAIGHT_TRAVERSE(0.123400, 7.000000, 0.000000)\n",
@@ -80,7 +57,7 @@ const ENDED: Rows = &[
 ];
 
 /// Programs of which a line is refused.
-const REFUSED: Rows = &[
+pub const REFUSED: Rows = &[
     ("", "", "REFUSED line 1: X3 NoProgramEnd\n"),
     ("\n\n", "", "REFUSED line 3: X3 NoProgramEnd\n"),
     (
@@ -139,7 +116,7 @@ pub const LEFT_MOVES: &str =
     "STRAIGHT_TRAVERSE(1.000000, 0.000000, 0.000000)\nSTRAIGHT_TRAVERSE(1.000000, 3.000000, 0.000000)\n";
 
 /// Programs with lines that begin with a slash, block delete off.
-const READ: Rows = &[
+pub const READ: Rows = &[
     (
         "/G0 X1\nM2",
         "STRAIGHT_TRAVERSE(1.000000, 0.000000, 0.000000)\n",
@@ -162,7 +139,7 @@ const READ: Rows = &[
 ];
 
 /// The same, block delete on.
-const DELETED: Rows = &[
+pub const DELETED: Rows = &[
     ("/G0 X1\nM2", "", PROGRAM_END),
     (" \t/ N1 G0 X1\nM2", "", PROGRAM_END),
     (

@@ -15,7 +15,7 @@ fn next_chance(chance: u64) -> u64 {
 }
 
 /// Lines that hold much of the grammar.
-const ROWS: [&str; 8] = [
+const ROWS: &[&str] = &[
     "N12 G0 X[2.0/3*1.5-5.5/11.0] Y##2 (MSG, a) (b)",
     "G0 XFIX[-2.8] YFUP[-2.8] Z[-7MOD3]",
     "#3=6 G1 X#3 F100 #[1+2**3]=ROUND[SQRT[2]]",
@@ -64,17 +64,25 @@ fn broken_lines_are_refused_by_name(rt: HostRuntime) -> Result<(), Fail> {
             "line {i}"
         );
     }
+    Ok(())
+}
+
+#[test]
+fn a_byte_alone_is_no_program(rt: HostRuntime) {
     for byte in b"[#-0123456789]*+/(.)=%GXN \t" {
         let line = [*byte; 256];
         assert!(rt; is_refused(rt.alloc(), &line), "byte {byte}");
     }
+}
+
+#[test]
+fn cut_lines_are_refused_by_name(rt: HostRuntime) {
     for row in ROWS {
         let line = row.as_bytes();
         for n in 0..=line.len() {
             assert!(rt; is_refused(rt.alloc(), &line[..n]), "{row:?} cut at {n}");
         }
     }
-    Ok(())
 }
 
 #[test]

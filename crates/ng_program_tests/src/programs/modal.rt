@@ -4,23 +4,26 @@ use super::{dry_text, writes};
 use ng_block::{State, Stop, Tools, execute};
 use ng_canon::{Geometry, Outputs, Segment, Spindle};
 use ng_num::{Len, Num};
-use ng_test_programs::REFUSALS;
+use ng_test_programs::{FAULTS_OF_VALUES, FAULTS_OF_WORDS, Refusals, UNREADABLE};
 use std::alloc::Global;
 use std::test::Fail;
 
-/// Whether a line alone is refused by a fault's name.
-fn is_refused(alloc: Global, line: &str, name: &str) -> Result<bool, Fail> {
-    let end = format!(in alloc; "REFUSED line 1: {name}\n")?;
-    writes(alloc, line, false, "", end.as_str())
+/// The first of these lines that isn't refused alone by its fault's name, if there is one.
+fn first_wrong(alloc: Global, rows: Refusals) -> Result<Option<&'static str>, Fail> {
+    for (line, name) in rows {
+        let end = format!(in alloc; "REFUSED line 1: {name}\n")?;
+        if !writes(alloc, line, false, "", end.as_str())? {
+            return Ok(Some(line));
+        }
+    }
+    Ok(None)
 }
 
 #[test]
 fn each_fault_refuses_a_line_alone(rt: HostRuntime) -> Result<(), Fail> {
-    for rows in REFUSALS {
-        for (line, name) in *rows {
-            assert!(rt; is_refused(rt.alloc(), line, name)?, "{line:?}");
-        }
-    }
+    assert_eq!(rt; first_wrong(rt.alloc(), FAULTS_OF_WORDS)?, None);
+    assert_eq!(rt; first_wrong(rt.alloc(), FAULTS_OF_VALUES)?, None);
+    assert_eq!(rt; first_wrong(rt.alloc(), UNREADABLE)?, None);
     Ok(())
 }
 
@@ -77,21 +80,24 @@ fn a_whole_line_has_its_segments_in_the_order_of_the_steps(rt: HostRuntime) -> R
     Ok(())
 }
 
+/// Lines, one behind the other: whether mist and flood are then on, and how the line stops.
+const COOLANTS: &[(&[u8], bool, bool, Stop)] = &[
+    (b"M7", true, false, Stop::GoesOn),
+    (b"M8 M0", true, true, Stop::Stops),
+    (b"M7 M60", true, true, Stop::Stops),
+    (b"M9 M1", false, false, Stop::StopsIfWanted),
+    (b"M8", false, true, Stop::GoesOn),
+    (b"M7 M30", false, false, Stop::Ends),
+];
+
 #[test]
 fn coolants_add_up_and_stops_are_told_apart(rt: HostRuntime) -> Result<(), Fail> {
     let mut state = State::fresh(rt.alloc())?;
-    for (line, mist, flood, stop) in [
-        (&b"M7"[..], true, false, Stop::GoesOn),
-        (b"M8 M0", true, true, Stop::Stops),
-        (b"M7 M60", true, true, Stop::Stops),
-        (b"M9 M1", false, false, Stop::StopsIfWanted),
-        (b"M8", false, true, Stop::GoesOn),
-        (b"M7 M30", false, false, Stop::Ends),
-    ] {
+    for (line, mist, flood, stop) in COOLANTS {
         let effect = execute(&state, line, &Tools::new(), &Geometry::standard())?;
-        assert_eq!(rt; effect.machine.outputs.mist, mist);
-        assert_eq!(rt; effect.machine.outputs.flood, flood);
-        assert_eq!(rt; effect.stop, stop);
+        assert_eq!(rt; effect.machine.outputs.mist, *mist);
+        assert_eq!(rt; effect.machine.outputs.flood, *flood);
+        assert_eq!(rt; effect.stop, *stop);
         state.apply(&effect);
     }
     Ok(())

@@ -62,7 +62,7 @@ impl Write for Full {
 
 /// How many bytes a read and a write move at most, whether it is the reader that fails, and whether a writer that fails
 /// takes none.
-const LIMITS: [(usize, usize, bool, bool); 6] = [
+const LIMITS: &[(usize, usize, bool, bool)] = &[
     (1, 8192, true, false),
     (7, 8192, true, false),
     (8192, 8192, true, false),
@@ -88,18 +88,18 @@ fn stops_where_the_reader_or_the_writer_fails(rt: HostRuntime) -> Result<(), Fai
         for calls in 0..500 {
             let mut reader = Drip {
                 bytes: CUTS.as_bytes(),
-                at_most: read_most,
-                reads_left: if by_reader { calls } else { 1_000 },
+                at_most: *read_most,
+                reads_left: if *by_reader { calls } else { 1_000 },
             };
             let mut writer = Full {
                 taken: Vec::new(rt.alloc()),
-                at_most: write_most,
-                writes_left: if by_reader { 1_000 } else { calls },
-                takes_none,
+                at_most: *write_most,
+                writes_left: if *by_reader { 1_000 } else { calls },
+                takes_none: *takes_none,
             };
             let ended = dry_run(rt.alloc(), &mut reader, &mut writer, false);
             let text = writer.taken.as_slice();
-            if is_broken(&ended, by_reader) {
+            if is_broken(&ended, *by_reader) {
                 cut = cut.saturating_add(1);
                 assert!(rt;
                     whole == 0 && CUTS_TEXT.as_bytes().starts_with(text),
@@ -118,13 +118,15 @@ fn stops_where_the_reader_or_the_writer_fails(rt: HostRuntime) -> Result<(), Fai
     Ok(())
 }
 
+/// How many lines a program has, and how many bytes a read gives at most: 24,000 reads of a byte, and 110 of a whole buffer.
+const READS: &[(usize, usize)] = &[(4_000, 1), (150_000, 8192)];
+
 #[test]
 fn reads_as_often_as_a_program_needs(rt: HostRuntime) -> Result<(), Fail> {
-    // 24,000 reads of a byte, and 110 of a whole buffer
-    for (lines, at_most) in [(4_000, 1), (150_000, 8192)] {
+    for (lines, at_most) in READS {
         let mut program = Vec::new(rt.alloc());
         let mut expected = Vec::new(rt.alloc());
-        for _ in 0..lines {
+        for _ in 0..*lines {
             program.extend_from_slice(b"G0 X1\n")?;
             expected.extend_from_slice(b"STRAIGHT_TRAVERSE(1.000000, 0.000000, 0.000000)\n")?;
         }
@@ -132,7 +134,7 @@ fn reads_as_often_as_a_program_needs(rt: HostRuntime) -> Result<(), Fail> {
         expected.extend_from_slice(PROGRAM_END.as_bytes())?;
         let mut reader = Drip {
             bytes: program.as_slice(),
-            at_most,
+            at_most: *at_most,
             reads_left: 1_000_000,
         };
         let mut text = Vec::new(rt.alloc());
