@@ -8,6 +8,7 @@ mod memory;
 mod modal;
 mod offsets;
 mod program;
+mod resuming;
 mod rows;
 mod streams;
 
