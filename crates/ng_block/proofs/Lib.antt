@@ -8,3 +8,4 @@ pub mod CloseLemmas
 pub mod TaskLemmas
 pub mod ModeLemmas
 pub mod WayLemmas
+pub mod LaterLemmas

@@ -21,5 +21,6 @@ pub mod Effects
 pub mod Commands
 pub mod Segments
 pub mod Course
+pub mod Resuming
 pub mod Dry
 pub mod Parts

@@ -6,12 +6,15 @@ ghost use Rattle.ng_block.specs.Effects.{segments_by};
 ghost use Rattle.ng_block.specs.Order.{outputs_through, segments_at};
 ghost use Rattle.ng_block.specs.Tasks.{tasks_in};
 
+mod resuming;
+
 use crate::effect::Effect;
 use crate::path::{Moves, Path};
 use crate::steps::{ORDER, Step};
 use crate::switches::{outputs_through, segment_at};
 use crate::tasks::Tasks;
 use ng_canon::{Outputs, Segment};
+pub use resuming::Resumed;
 use std::marker::Model;
 
 /// What is left of a block's segments.
@@ -45,18 +48,26 @@ impl Model for Course {
 }
 
 impl Effect {
+    /// All that is left of its segments before the first.
+    fn course_left(&self) -> CourseLeft
+        ensures rest { rest_of result ≡ segments_by self.now }
+        ensures moves { result.moves ≡ [] }
+    {
+        CourseLeft {
+            tasks: self.plan.tasks,
+            path: self.plan.path,
+            behind: self.plan.before,
+            moves: Moves::none(),
+            steps: &ORDER,
+        }
+    }
+
     /// Its segments, kept without it.
     pub fn course(&self) -> Course
         ensures { result ≡ segments_by self.now }
     {
         Course {
-            rest: CourseLeft {
-                tasks: self.plan.tasks,
-                path: self.plan.path,
-                behind: self.plan.before,
-                moves: Moves::none(),
-                steps: &ORDER,
-            },
+            rest: self.course_left(),
         }
     }
 }

@@ -44,12 +44,12 @@ mod tasks;
 mod terms;
 
 pub use commands::Commands;
-pub use course::Course;
+pub use course::{Course, Resumed};
 pub use dry_run::{READS, dry};
 pub use effect::{CHANGES, Changes, Effect, Stop};
 pub use ending::{DryFault, Ended};
 pub use machine::Machine;
-pub use ng_cycles::KeptWords;
+pub use ng_cycles::{KeptWords, Standing};
 pub use ng_modal::{Distance, FeedMode, Modes, Motion, PathMode, Retract};
 pub use ng_offsets::{Offsets, SLOTS, Tools};
 pub use output::put_canon;

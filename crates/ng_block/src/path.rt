@@ -4,6 +4,9 @@ ghost use Rattle.ng_cycles.specs.Segments.{begin, behind, cycle_segments};
 ghost use Rattle.ng_block.specs.Moves.{left_in};
 ghost use Rattle.ng_block.specs.Paths.{moving_at, point_after, traverse, path_segments, pace_command, spindle_command, command_of};
 
+mod later;
+
+pub use later::stand_after;
 use ng_canon::{Arc, ArcFeed, Command, Pace, Segment, Spindle, StraightMove};
 use ng_cycles::{Canned, Cycle};
 use ng_num::Point;

@@ -6,7 +6,7 @@ ghost use Rattle.ng_block.specs.Parts.{due, begun, Stepped, Wrote};
 use crate::effect::Stop;
 use crate::ending::{DryFault, Ended};
 use crate::machine::Machine;
-use crate::output::{break_off, flush, put_effect, put_refusal};
+use crate::output::{ROOM, break_off, flush, put_effect, put_refusal};
 use crate::percent::{first_kind, missing_end};
 use crate::places::Places;
 use crate::state::State;
@@ -49,7 +49,8 @@ fn is_end(stop: Stop) -> bool
 }
 
 impl<'a, A: Allocator + Copy + Drop> Run<'a, A> {
-    /// A run from the fresh state, before the first line. `AllocError` where the state found no memory.
+    /// A run from the fresh state, before the first line, with room for the text that waits: no line takes memory. `AllocError` where
+    /// the state or that room found none.
     pub fn new(alloc: A, terms: Terms<'a>) -> Result<Run<'a, A>, AllocError>
         ensures { IfOk result (λ r. r ≡ begun terms.entry) }
     {
@@ -58,7 +59,7 @@ impl<'a, A: Allocator + Copy + Drop> Run<'a, A> {
             first: Kind::Blank,
             state: State::fresh(alloc)?,
             number: 1,
-            text: Vec::new(alloc),
+            text: Vec::with_capacity(alloc, ROOM)?,
             places: Places::new(Machine::fresh()),
         })
     }

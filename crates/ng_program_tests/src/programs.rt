@@ -4,6 +4,7 @@ mod blocks;
 mod memory;
 mod modal;
 mod offsets;
+mod resuming;
 mod rows;
 mod streams;
 

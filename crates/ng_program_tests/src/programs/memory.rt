@@ -130,3 +130,31 @@ fn cycles_run_in_flat_memory_and_begin_at_once(rt: HostRuntime) -> Result<(), Fa
     assert!(rt; lines > 10_000);
     Ok(())
 }
+
+/// The bytes by which heaps are tried.
+const GRAIN: usize = 64;
+
+/// The least heap, in bytes, in which a program finds all memory that it wants, until so many bytes of its text are taken.
+fn least_heap(alloc: Global, program: &str, at_most: usize) -> Result<usize, Fail> {
+    let mut small: usize = 0;
+    let mut large: usize = HEAP / GRAIN;
+    // each turn halves the heaps between them
+    for _ in 0..11 {
+        let middle = small.saturating_add(large) / 2;
+        let size = middle.saturating_mul(GRAIN);
+        match lines_in(alloc, size, program, at_most)?.1 {
+            Err(DryFault::Memory) => small = middle,
+            _ => large = middle,
+        }
+    }
+    Ok(large.saturating_mul(GRAIN))
+}
+
+#[test]
+fn no_program_needs_more_memory_than_one_traverse(rt: HostRuntime) -> Result<(), Fail> {
+    let traverse = least_heap(rt.alloc(), "G0 X1\nM2", usize::MAX)?;
+    assert!(rt; traverse > 16_384 && traverse < HEAP, "{traverse}");
+    assert_eq!(rt; least_heap(rt.alloc(), PECKS, usize::MAX)?, traverse);
+    assert_eq!(rt; least_heap(rt.alloc(), ENDLESS, 1_000_000)?, traverse);
+    Ok(())
+}

@@ -1,0 +1,223 @@
+//! Blocks that go on at one of their segments: where the machine stands then, how its spindle turns, and the segment that comes.
+//! Worked out by hand from the language.
+use ng_block::{State, Tools, execute};
+use ng_canon::{Geometry, Pace, Segment, Spindle};
+use ng_num::{Len, Point};
+use std::alloc::Global;
+use std::test::Fail;
+
+type Text = Result<String<Global>, Fail>;
+
+/// A line, a number of segments that are done of it, and what holds behind them: the machine point, the spindle, and the segment
+/// that comes with where it ends. Lengths are in nanometres, dwells in millionths of a second. The line begins 5 mm above the zero
+/// point, while the spindle turns clockwise.
+const ROWS: &[(&str, u64, &str)] = &[
+    // no segment at all
+    ("", 0, "0 0 5000000 clockwise, nothing"),
+    ("", 5, "0 0 5000000 clockwise, nothing"),
+    // one of each kind
+    (
+        "G0 X1",
+        0,
+        "0 0 5000000 clockwise, traverse 1000000 0 5000000",
+    ),
+    ("G0 X1", 1, "1000000 0 5000000 clockwise, nothing"),
+    (
+        "G0 X1",
+        18_446_744_073_709_551_615,
+        "1000000 0 5000000 clockwise, nothing",
+    ),
+    (
+        "G2 X2 I1 F100",
+        0,
+        "0 0 5000000 clockwise, arc 2000000 0 5000000",
+    ),
+    ("G2 X2 I1 F100", 1, "2000000 0 5000000 clockwise, nothing"),
+    ("M4", 0, "0 0 5000000 clockwise, counterclockwise"),
+    ("M4", 1, "0 0 5000000 counterclockwise, nothing"),
+    ("G4 P2", 0, "0 0 5000000 clockwise, dwell 2000000"),
+    ("G4 P2", 1, "0 0 5000000 clockwise, nothing"),
+    // the two ends of the way home
+    (
+        "#5161=7 G28 Y5",
+        0,
+        "0 0 5000000 clockwise, traverse 0 5000000 5000000",
+    ),
+    (
+        "#5161=7 G28 Y5",
+        1,
+        "0 5000000 5000000 clockwise, traverse 7000000 0 0",
+    ),
+    ("#5161=7 G28 Y5", 2, "7000000 0 0 clockwise, nothing"),
+    // a switch and a dwell before the move, and the end's switch behind it
+    (
+        "M4 G4 P1 G1 X1 F100 M30",
+        1,
+        "0 0 5000000 counterclockwise, dwell 1000000",
+    ),
+    (
+        "M4 G4 P1 G1 X1 F100 M30",
+        2,
+        "0 0 5000000 counterclockwise, feed 1000000 0 5000000",
+    ),
+    (
+        "M4 G4 P1 G1 X1 F100 M30",
+        3,
+        "1000000 0 5000000 counterclockwise, stopped",
+    ),
+    (
+        "M4 G4 P1 G1 X1 F100 M30",
+        4,
+        "1000000 0 5000000 stopped, nothing",
+    ),
+    // within a cycle that stops the spindle, in its first repeat and in its second
+    (
+        "G86 X1 Z1 R2 P0.5 L2 F100",
+        1,
+        "1000000 0 5000000 clockwise, traverse 1000000 0 2000000",
+    ),
+    (
+        "G86 X1 Z1 R2 P0.5 L2 F100",
+        4,
+        "1000000 0 1000000 clockwise, stopped",
+    ),
+    (
+        "G86 X1 Z1 R2 P0.5 L2 F100",
+        5,
+        "1000000 0 1000000 stopped, traverse 1000000 0 5000000",
+    ),
+    (
+        "G86 X1 Z1 R2 P0.5 L2 F100",
+        6,
+        "1000000 0 5000000 stopped, clockwise",
+    ),
+    (
+        "G86 X1 Z1 R2 P0.5 L2 F100",
+        7,
+        "1000000 0 5000000 clockwise, traverse 1000000 0 5000000",
+    ),
+    (
+        "G86 X1 Z1 R2 P0.5 L2 F100",
+        12,
+        "1000000 0 1000000 stopped, traverse 1000000 0 5000000",
+    ),
+    (
+        "G86 X1 Z1 R2 P0.5 L2 F100",
+        14,
+        "1000000 0 5000000 clockwise, nothing",
+    ),
+    // and behind a switch of its own line
+    (
+        "M4 G86 X1 Z1 R2 F100 M30",
+        1,
+        "0 0 5000000 counterclockwise, traverse 1000000 0 5000000",
+    ),
+    (
+        "M4 G86 X1 Z1 R2 F100 M30",
+        6,
+        "1000000 0 1000000 stopped, traverse 1000000 0 5000000",
+    ),
+    (
+        "M4 G86 X1 Z1 R2 F100 M30",
+        7,
+        "1000000 0 5000000 stopped, counterclockwise",
+    ),
+    (
+        "M4 G86 X1 Z1 R2 F100 M30",
+        8,
+        "1000000 0 5000000 counterclockwise, stopped",
+    ),
+    (
+        "M4 G86 X1 Z1 R2 F100 M30",
+        9,
+        "1000000 0 5000000 stopped, nothing",
+    ),
+    // the end of 10,000 pecks
+    (
+        "G83 X0 Z-1000 R0 Q0.1 F100",
+        29_997,
+        "0 0 -999900000 clockwise, traverse 0 0 0",
+    ),
+    (
+        "G83 X0 Z-1000 R0 Q0.1 F100",
+        29_998,
+        "0 0 0 clockwise, traverse 0 0 -999646000",
+    ),
+    (
+        "G83 X0 Z-1000 R0 Q0.1 F100",
+        29_999,
+        "0 0 -999646000 clockwise, feed 0 0 -1000000000",
+    ),
+    (
+        "G83 X0 Z-1000 R0 Q0.1 F100",
+        30_000,
+        "0 0 -1000000000 clockwise, traverse 0 0 5000000",
+    ),
+    (
+        "G83 X0 Z-1000 R0 Q0.1 F100",
+        30_001,
+        "0 0 5000000 clockwise, nothing",
+    ),
+    // behind 9,000,000 holes of 10,000,000 pecks each
+    (
+        "G91 G83 X0.0001 Z-1000 R0 Q0.0001 L9999999 F100",
+        270_000_000_000_000,
+        "900000000 0 5000000 clockwise, traverse 900000100 0 5000000",
+    ),
+];
+
+fn spindle_text(spindle: Spindle) -> &'static str {
+    match spindle {
+        Spindle::Stopped => "stopped",
+        Spindle::Clockwise => "clockwise",
+        Spindle::Counterclockwise => "counterclockwise",
+    }
+}
+
+fn point_text(alloc: Global, point: Point) -> Text {
+    Ok(format!(in alloc; "{} {} {}", point.x.nm(), point.y.nm(), point.z.nm())?)
+}
+
+fn segment_text(alloc: Global, segment: Option<Segment>) -> Text {
+    let (name, end) = match segment {
+        None => return Ok(format!(in alloc; "nothing")?),
+        Some(Segment::Switch(outputs)) => {
+            return Ok(format!(in alloc; "{}", spindle_text(outputs.spindle))?);
+        }
+        Some(Segment::Dwell(seconds)) => return Ok(format!(in alloc; "dwell {}", seconds.count())?),
+        Some(Segment::Arc(arc)) => ("arc", arc.end),
+        Some(Segment::Line(line)) => match line.pace {
+            Pace::Traverse => ("traverse", line.end),
+            _ => ("feed", line.end),
+        },
+    };
+    let end = point_text(alloc, end)?;
+    Ok(format!(in alloc; "{name} {end}")?)
+}
+
+/// What holds behind so many segments of a line.
+fn resumed(alloc: Global, line: &str, n: u64) -> Text {
+    let mut state = State::fresh(alloc)?;
+    state.machine.point.z = Len::of_nm(5_000_000)?;
+    state.machine.outputs.spindle = Spindle::Clockwise;
+    let effect = execute(
+        &state,
+        line.as_bytes(),
+        &Tools::new(),
+        &Geometry::standard(),
+    )?;
+    let mut resumed = effect.course_from(state.machine.point, n);
+    let at = point_text(alloc, resumed.standing.point)?;
+    let spindle = spindle_text(resumed.standing.outputs.spindle);
+    let next = segment_text(alloc, resumed.course.next())?;
+    Ok(format!(in alloc; "{at} {spindle}, {next}")?)
+}
+
+#[test]
+fn blocks_go_on_at_any_segment(rt: HostRuntime) -> Result<(), Fail> {
+    for (line, n, wanted) in ROWS {
+        let found = resumed(rt.alloc(), line, *n)?;
+        assert!(rt; found.as_str() == *wanted, "{line:?} {n}: {found}");
+    }
+    Ok(())
+}
