@@ -2,6 +2,7 @@ pub mod Acting
 pub mod Quiet
 pub mod Histories
 pub mod GoingOn
+pub mod InTurn
 pub mod Doing
 pub mod Storing
 pub mod Ticks

@@ -1,5 +1,5 @@
 -- What a list of events does (own).
-use Rattle.std.specs.Prelude.{◌≡◌, ◌≤◌, ℕ, Bool, true, false, List, [], ◌∷◌, ◌++◌, length, map, take, Result, Ok, Err, IfErr}
+use Rattle.std.specs.Prelude.{◌≡◌, ◌≤◌, ◌+◌, ◌%◌, ◌^◌, ℕ, Bool, true, false, List, [], ◌∷◌, ◌++◌, length, map, take, Result, Ok, Err, IfErr}
 use Rattle.ng_num.specs.declared.fault.Fault.{Fault}
 use Rattle.ng_num.specs.declared.fault.Fault.TheVariants.{DeviceFailed}
 use Rattle.ng_canon.specs.declared.item.Item.{Item}
@@ -12,7 +12,7 @@ use Rattle.ng_session.specs.Runs.{Scene, left_behind, replies_of, items_of, scen
 use Rattle.ng_session.specs.declared.event.Event.{Event}
 use Rattle.ng_session.specs.declared.reply.Reply.{Reply}
 use Rattle.ng_core.specs.Station.{Station, Rests}
-use Rattle.ng_core.specs.Acts.{Acts, IsOutside, reply_to, broken_answer}
+use Rattle.ng_core.specs.Acts.{Acts, IsOutside, reply_to, broken_answer, scene_of}
 
 -- the program that the device has behind an event: that of its outcome, where it was answered
 abbrev pub program_behind : Result Reply Fault → Outcome → List ℕ → List ℕ
@@ -97,3 +97,17 @@ pub record Passes {A R : Type 0} (life : R → Life) (events : List (Event A)) (
   pub session_is : new.journal.broken ≡ false → new.session ≡ (scene_behind equipment scene (came events answers)).session
   pub rests : new.journal.broken ≡ false → Rests (life new.journal.rig) new (scene_behind equipment scene (came events answers)).program
   pub items_are : new.journal.broken ≡ false → items (life new.journal.rig) ≡ items lived ++ items_of equipment scene (came events answers)
+
+-- ---- what a list of events did, by both
+
+-- For whatever program rests there beside the session: the history, and what it is by the session alone.
+pub record Ran {A R : Type 0} (life : R → Life) (events : List (Event A)) (replies : List Reply) (old new : Station R) : Type 0 where
+  pub history : (program : List ℕ) → (old.journal.broken ≡ false → Rests (life old.journal.rig) old program) → History life events replies program old new
+  pub passes : (program : List ℕ) → old.journal.broken ≡ false → Rests (life old.journal.rig) old program
+      → Passes life events replies old.equipment (scene_of program old) (life old.journal.rig) new
+
+-- The device counted one failure where the controller broke, and else none; once broken it stays so.
+abbrev pub FailsOnce : Bool → Bool → ℕ → ℕ → Type 0
+FailsOnce true broken old new = (broken ≡ true) × (new ≡ old)
+FailsOnce false true old new = new ≡ (old + 1) % 2 ^ 64
+FailsOnce false false old new = new ≡ old

@@ -11,6 +11,7 @@
 mod controller;
 pub mod laws;
 mod power;
+mod running;
 mod ticking;
 
 pub use controller::Controller;

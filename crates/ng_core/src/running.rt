@@ -1,0 +1,33 @@
+//! A list of events, one after the other.
+ghost use Rattle.std.specs.Prelude.{◌≡◌, length, IfOk, IfErr};
+ghost use Rattle.ng_num.specs.declared.fault.Fault.TheVariants.{OutOfMemory};
+ghost use Rattle.ng_rig.specs.Calls.{Promises};
+
+use crate::controller::Controller;
+use ng_num::Fault;
+use ng_rig::Rig;
+use ng_session::{Event, Reply};
+use std::alloc::Allocator;
+
+impl<R: Rig, A: Allocator + Copy + Drop> Controller<R, A> {
+    ghost use Rattle.ng_core.specs.Runs.{Ran, FailsOnce};
+
+    /// Answers events in turn, each as `on` does: the replies in their order (own).
+    ///
+    /// M1 where there is no room for all replies: then no event was answered, and nothing is changed. A fault of an event is its reply,
+    /// and the next one is answered all the same.
+    pub fn run(&mut self, events: &[Event<A>]) -> Result<Vec<Reply, A>, Fault>
+        ensures ran { IfOk result (λ replies. Promises (R.honest self.old.journal.rig) (R.honest self.new.journal.rig) (Ran R.life events.now replies.items self.old self.new)) }
+        ensures each { IfOk result (λ replies. length replies.items ≡ length events.now) }
+        ensures failures { IfOk result (λ replies. FailsOnce self.old.journal.broken self.new.journal.broken (R.failed self.old.journal.rig) (R.failed self.new.journal.rig)) }
+        ensures equipment { self.new.equipment ≡ self.old.equipment }
+        ensures memory { IfErr result (λ fault. (fault ≡ OutOfMemory) × (self.new ≡ self.old)) }
+    {
+        let mut replies = Vec::with_capacity(self.alloc, events.len())?;
+        for event in events {
+            let reply = self.reply(event);
+            replies.push_reserved(reply);
+        }
+        Ok(replies)
+    }
+}
