@@ -7,7 +7,7 @@ use std::test::Fail;
 /// A device of format 1 before one of its numbers is changed. Its program has 131,072 bytes, and all that isn't named
 /// is as in a fresh state.
 #[derive(Clone, Copy, Debug, PartialEq, Eq)]
-pub enum Base {
+enum Base {
     /// Epoch 1: the header in sector 1, its snapshot in sectors 88 to 173.
     Odd,
     /// Epoch 2: the header in sector 0, its snapshot in sectors 2 to 87.
@@ -43,7 +43,7 @@ const J3: Answer = Answer::Refused(Fault::Damaged);
 const J4: Answer = Answer::Refused(Fault::CountersUsed);
 
 /// The text that a header begins with, as a number.
-const TEXT: i64 = 0x4347_4e34_3732_5352;
+pub const TEXT: i64 = 0x4347_4e34_3732_5352;
 /// The greatest epoch and entry count.
 const COUNT: i64 = 1_000_000_000_000;
 /// The longest program.

@@ -1,7 +1,7 @@
 ghost use Rattle.std.specs.Prelude.{◌≡◌, false, length};
 ghost use Rattle.ng_layout.specs.Storable.{CanWait, IsStorable};
 
-use crate::images::{FRESH, powered, put, sector_of, sector_with, store};
+use crate::images::{FRESH, TEXT, powered, put, sector_of, sector_with, store};
 use linked_list_allocator::LocalHeap;
 use ng_canon::Item;
 use ng_journal::{Journal, format, recover};
@@ -15,9 +15,6 @@ use std::test::Fail;
 mod counting;
 
 use counting::Counting;
-
-/// The text that a header begins with, as a number.
-const TEXT: i64 = 0x4347_4e34_3732_5352;
 
 /// The sector of a header of this epoch, with this program area and length.
 fn header(epoch: i64, area: i64, length: i64) -> [u8; 512] {
