@@ -1,5 +1,5 @@
 //! How a console ends.
-ghost use Rattle.std.specs.Prelude.{◌≡◌};
+ghost use Rattle.std.specs.Prelude.{◌≡◌, ◌≤◌};
 ghost use Rattle.ng_run.specs.Endings.{ended_by, status_of};
 
 /// A console that did all that it was to do (own).
@@ -42,7 +42,8 @@ pub(crate) fn ended_by(is_broken: bool) -> Ended
 
 /// The exit status.
 pub(crate) fn status(ended: &Result<Ended, Stop>) -> u8
-    ensures { result ≡ status_of ended.now }
+    ensures value { result ≡ status_of ended.now }
+    ensures range { result ≤ 2 }
 {
     match ended {
         Ok(Ended::Whole) => DONE,

@@ -1,4 +1,5 @@
 //! A console from power on to its exit status.
+ghost use Rattle.std.specs.Prelude.{◌≤◌};
 ghost use Rattle.ng_run.specs.Consoles.{Consoles, Refuses, Runs};
 
 use crate::ending::{Ended, Stop, status};
@@ -25,7 +26,8 @@ pub fn console<I: Read, W: Write, R: Rig, A: Allocator + Copy + Drop>(
     rig: R,
     settings: Settings,
 ) -> (u8, R)
-    ensures { Consoles A R.sectors R.failed R.honest R.life settings rig (I.remaining reader.old) (W.contents writer.old) (W.contents writer.new) result }
+    ensures range { result.0 ≤ 2 }
+    ensures console { Consoles A R.sectors R.failed R.honest R.life settings rig (I.remaining reader.old) (W.contents writer.old) (W.contents writer.new) result }
 {
     let (ended, rig) = run(alloc, reader, writer, rig, settings);
     (status(&ended), rig)
