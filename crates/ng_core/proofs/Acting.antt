@@ -10,8 +10,10 @@ use Rattle.ng_rig.proofs.Running.{stays, weaker}
 use Rattle.ng_layout.specs.Stored.{Standing}
 use Rattle.ng_journal.specs.AtRest.{IsEither}
 use Rattle.ng_journal.specs.Journal.{Logbook, RestsAt, StandsFor, Moves, HandsOut}
+use Rattle.ng_session.specs.LinesBefore.{IsTrueOf}
 use Rattle.ng_session.specs.Session.{Sitting, Outcome, shown}
 use Rattle.ng_session.specs.Runs.{left_in, scene_after}
+use Rattle.ng_session.specs.declared.lines_before.LinesBefore.{LinesBefore}
 use Rattle.ng_session.specs.declared.reply.Reply.{Reply}
 use Rattle.ng_core.specs.Station.{Station, Rests, standing_of}
 use Rattle.ng_core.specs.Acts.{IsEitherLeft, Acts, scene_of}
@@ -28,46 +30,56 @@ rests_as : {R : Type 0} (life : Life) (a b : Logbook R) (s t : Standing) → b �
 rests_as life a b s t journal standing rests =
     subst (λ (j : Logbook _). RestsAt life j t) (sym journal) (subst (λ (x : Standing). RestsAt life a x) (sym standing) rests)
 
+pub known_as : (p q : List ℕ) (k l : LinesBefore) → q ≡ p → l ≡ k → IsTrueOf p k → IsTrueOf q l
+known_as p q k l program lines known = subst (λ (x : LinesBefore). IsTrueOf q x) (sym lines) (subst (λ (x : List ℕ). IsTrueOf x k) (sym program) known)
+
 -- nothing was asked of the device, and what is stored stays
 pub acts_quiet : {R : Type 0} (r : Reply) (out : Outcome) (program : List ℕ) (old new : Station R) (lived living : Life)
-    → living ≡ lived → Rests lived old program → new.journal ≡ old.journal → r ≡ out.reply → new.session ≡ out.next
+    → living ≡ lived → Rests lived old program → new.journal ≡ old.journal → new.lines ≡ old.lines → r ≡ out.reply → new.session ≡ out.next
     → out.items ≡ [] → out.program ≡ program → out.next.stored ≡ old.session.stored
     → Acts (Ok r) out program old new lived living
-acts_quiet r out program old new lived living alive rests journal replied next none same stored =
+acts_quiet r out program old new lived living alive rests journal lines replied next none same stored =
     subst (λ (l : Life). Acts (Ok r) out program old new lived l) (sym alive) (record {
       comes = (replied, next);
       stops = stays lived (IsEitherLeft (left_in (scene_of program old) (items lived)) (left_in (scene_after out) (items lived ++ out.items)));
       leaves = (
-        rests_as lived old.journal new.journal (standing_of program old.session) (standing_of out.program new.session) journal
-            (standing_same out.program program new.session old.session same (ap (λ (s : Sitting). s.stored) next ∙ stored)) rests,
+        (
+          rests_as lived old.journal new.journal (standing_of program old.session) (standing_of out.program new.session) journal
+              (standing_same out.program program new.session old.session same (ap (λ (s : Sitting). s.stored) next ∙ stored)) rests.0,
+          known_as program out.program old.lines new.lines same lines rests.1,
+        ),
         sym (left_same out (items lived) none),
       );
     })
 
 -- lines were read, and what is stored stays
 pub acts_read : {R : Type 0} (r : Reply) (out : Outcome) (program : List ℕ) (old new : Station R) (lived living : Life)
-    → living ≡ lived → RestsAt living new.journal (standing_of program old.session) → r ≡ out.reply → new.session ≡ out.next
+    → living ≡ lived → RestsAt living new.journal (standing_of program old.session) → IsTrueOf out.program new.lines → r ≡ out.reply → new.session ≡ out.next
     → out.items ≡ [] → out.program ≡ program → out.next.stored ≡ old.session.stored
     → Acts (Ok r) out program old new lived living
-acts_read r out program old new lived living alive rests replied next none same stored = record {
+acts_read r out program old new lived living alive rests known replied next none same stored = record {
   comes = (replied, next);
   stops = subst (λ (l : Life). Onward lived l (IsEitherLeft (left_in (scene_of program old) (items lived)) (left_in (scene_after out) (items lived ++ out.items)))) (sym alive)
       (stays lived (IsEitherLeft (left_in (scene_of program old) (items lived)) (left_in (scene_after out) (items lived ++ out.items))));
   leaves = (
-    rests_as living new.journal new.journal (standing_of program old.session) (standing_of out.program new.session) refl
-        (standing_same out.program program new.session old.session same (ap (λ (s : Sitting). s.stored) next ∙ stored)) rests,
+    (
+      rests_as living new.journal new.journal (standing_of program old.session) (standing_of out.program new.session) refl
+          (standing_same out.program program new.session old.session same (ap (λ (s : Sitting). s.stored) next ∙ stored)) rests,
+      known,
+    ),
     ap items alive ∙ sym (left_same out (items lived) none),
   );
 }
 
 -- memory or a count was wanting, and nothing was written
 pub acts_aside : {R : Type 0} (fault : Fault) (out : Outcome) (program : List ℕ) (old new : Station R) (lived living : Life)
-    → (fault ≡ OutOfMemory) ⊎ (fault ≡ CountersUsed) → living ≡ lived → new.session ≡ old.session → RestsAt living new.journal (standing_of program old.session)
+    → (fault ≡ OutOfMemory) ⊎ (fault ≡ CountersUsed) → living ≡ lived → new.session ≡ old.session → RestsAt living new.journal (standing_of program old.session) → IsTrueOf program new.lines
     → Acts (Err fault) out program old new lived living
-acts_aside {R} fault out program old new lived living which alive same rests =
+acts_aside {R} fault out program old new lived living which alive same rests known =
     let Goal : Fault → Type 0 = λ f. Acts (Err f) out program old new lived living in
-    let here : Rests living new program = rests_as living new.journal new.journal (standing_of program old.session) (standing_of program new.session) refl
+    let at : RestsAt living new.journal (standing_of program new.session) = rests_as living new.journal new.journal (standing_of program old.session) (standing_of program new.session) refl
     (standing_same program program new.session old.session refl (ap (λ (s : Sitting). s.stored) same)) rests in
+    let here : Rests living new program = (at, known) in
     let stops : Onward lived living (IsEitherLeft (left_in (scene_of program old) (items lived)) (left_in (scene_after out) (items lived ++ out.items))) =
     subst (λ (l : Life). Onward lived l (IsEitherLeft (left_in (scene_of program old) (items lived)) (left_in (scene_after out) (items lived ++ out.items)))) (sym alive)
     (stays lived (IsEitherLeft (left_in (scene_of program old) (items lived)) (left_in (scene_after out) (items lived ++ out.items)))) in
@@ -100,16 +112,19 @@ moved_stops lived living before after given more is same stops =
 -- an entry or a segment was stored, or the device failed in that
 pub acts_moved : {R T : Type 0} (r : Reply) (v : T) (out : Outcome) (program : List ℕ) (old new : Station R) (lived living : Life)
     → Moves {E = Fault} (Ok v) new.journal (standing_of program old.session) (standing_of out.program out.next) lived living
-    → r ≡ out.reply → new.session ≡ out.next → out.items ≡ []
+    → IsTrueOf out.program new.lines → r ≡ out.reply → new.session ≡ out.next → out.items ≡ []
     → Acts (Ok r) out program old new lived living
-acts_moved r v out program old new lived living moves replied next none =
+acts_moved r v out program old new lived living moves known replied next none =
     let same = left_same out (items lived) none in
     record {
       comes = (replied, next);
       stops = moved_stops lived living (standing_of program old.session) (standing_of out.program out.next) (items lived) (items lived ++ out.items) refl same moves.stops;
       leaves = (
-        rests_as living new.journal new.journal (standing_of out.program out.next) (standing_of out.program new.session) refl
-            (standing_same out.program out.program new.session out.next refl (ap (λ (s : Sitting). s.stored) next)) moves.at,
+        (
+          rests_as living new.journal new.journal (standing_of out.program out.next) (standing_of out.program new.session) refl
+              (standing_same out.program out.program new.session out.next refl (ap (λ (s : Sitting). s.stored) next)) moves.at,
+          known,
+        ),
         moves.items_are ∙ sym same,
       );
     }
@@ -136,9 +151,9 @@ handed_stops lived living before after given more same stops =
 -- an item was handed out, or the device failed in that
 pub acts_handed : {R T : Type 0} (r : Reply) (v : T) (item : Item) (out : Outcome) (program : List ℕ) (old new : Station R) (lived living : Life)
     → HandsOut {E = Fault} (Ok v) new.journal (standing_of program old.session) item lived living
-    → r ≡ out.reply → new.session ≡ out.next → out.items ≡ item ∷ [] → out.program ≡ program → out.next.stored ≡ old.session.stored
+    → IsTrueOf out.program new.lines → r ≡ out.reply → new.session ≡ out.next → out.items ≡ item ∷ [] → out.program ≡ program → out.next.stored ≡ old.session.stored
     → Acts (Ok r) out program old new lived living
-acts_handed r v item out program old new lived living hands replied next one same stored =
+acts_handed r v item out program old new lived living hands known replied next one same stored =
     let more : items lived ++ out.items ≡ items lived ++ item ∷ [] = ap (λ (l : List Item). items lived ++ l) one in
     let standing : standing_of program old.session ≡ standing_of out.program out.next = standing_same program out.program old.session out.next (sym same) (sym stored) in
     record {
@@ -146,8 +161,11 @@ acts_handed r v item out program old new lived living hands replied next one sam
       stops = handed_stops lived living (standing_of program old.session) (standing_of out.program out.next) (items lived) (items lived ++ out.items) standing
           (subst (λ (l : List Item). Onward lived living (StandsFor (standing_of program old.session) l)) (sym more) hands.stops);
       leaves = (
-        rests_as living new.journal new.journal (standing_of program old.session) (standing_of out.program new.session) refl
-            (standing_same out.program program new.session old.session same (ap (λ (s : Sitting). s.stored) next ∙ stored)) hands.at,
+        (
+          rests_as living new.journal new.journal (standing_of program old.session) (standing_of out.program new.session) refl
+              (standing_same out.program program new.session old.session same (ap (λ (s : Sitting). s.stored) next ∙ stored)) hands.at,
+          known,
+        ),
         hands.given ∙ sym more,
       );
     }

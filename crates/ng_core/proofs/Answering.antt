@@ -9,6 +9,7 @@ use Rattle.ng_rig.proofs.Promise.{meaning}
 use Rattle.ng_layout.specs.Stored.{Saved, Standing}
 use Rattle.ng_journal.specs.Journal.{Logbook, RestsAt, Moves}
 use Rattle.ng_session.specs.Entries.{after_load}
+use Rattle.ng_session.specs.LinesBefore.{IsTrueOf}
 use Rattle.ng_session.specs.Session.{refuses, load, load_unless, load_refusal, loaded, step, IsQuiet}
 use Rattle.ng_session.specs.declared.event.Event.{Event}
 use Rattle.ng_session.specs.declared.reply.Reply.{Reply}
@@ -20,11 +21,11 @@ use Rattle.ng_core.proofs.Doing.{does_still, does_moved, does_unmoved, Storing}
 use Rattle.ng_core.proofs.Ticks.{does_on}
 
 pub does_answer : {A R : Type 0} (honest : R → Type 0) (life : R → Life) (event : Event A) (r : Reply) (old new : Station R)
-    → IsQuiet event → new.journal ≡ old.journal
+    → IsQuiet event → new.journal ≡ old.journal → new.lines ≡ old.lines
     → ((program : List ℕ) → r ≡ (step old.equipment program old.session event).reply) → ((program : List ℕ) → new.session ≡ (step old.equipment program old.session event).next)
     → Does honest life (Ok r) (λ program. step old.equipment program old.session event) old new
-does_answer honest life event r old new quiet same replied next =
-    does_still honest life r (λ program. step old.equipment program old.session event) old new (λ program. still_step old.equipment program old.session event quiet) same replied next
+does_answer honest life event r old new quiet same lines replied next =
+    does_still honest life r (λ program. step old.equipment program old.session event) old new (λ program. still_step old.equipment program old.session event quiet) same lines replied next
 
 -- ---- a program
 
@@ -32,7 +33,7 @@ pub does_refuse : {R : Type 0} (honest : R → Type 0) (life : R → Life) (faul
     → load_refusal c.session text ≡ Some fault → Does honest life (Ok (reply.Refused fault)) (λ program. load program c.session text) c c
 does_refuse honest life fault text c is =
     does_on honest life (Ok (reply.Refused fault)) (λ program. refuses program fault c.session) _ c c c refl (λ program. sym (ap (λ (o : Option Fault). load_unless program c.session text o) is))
-    (does_still honest life (reply.Refused fault) (λ program. refuses program fault c.session) c c (λ program. still refl refl refl) refl (λ program. refl) (λ program. refl))
+    (does_still honest life (reply.Refused fault) (λ program. refuses program fault c.session) c c (λ program. still refl refl refl) refl refl (λ program. refl) (λ program. refl))
 
 -- what `load_program` promises
 abbrev pub StoresProgram : {R T : Type 0} → (R → Type 0) → (R → Life) → Result T Fault → Saved → List ℕ → Logbook R → Logbook R → Type 0
@@ -46,25 +47,25 @@ storing_program : {R T : Type 0} (honest : R → Type 0) (life : R → Life) (re
 storing_program honest life result saved text old journal is p =
     meaning p (λ f program rests.
     subst (λ (x : Saved). Moves result journal (standing_of program old.session) (record { saved = x; program = text }) (life old.journal.rig) (life journal.rig)) is
-    (f (standing_of program old.session) rests))
+    (f (standing_of program old.session) rests.0))
 
 pub does_load : {R T : Type 0} (honest : R → Type 0) (life : R → Life) (v : T) (r : Reply) (saved : Saved) (text : List ℕ) (old new : Station R)
     → load_refusal old.session text ≡ None → saved ≡ after_load old.session.stored (length text) → r ≡ reply.Done saved.entries → new.session ≡ loaded old.session saved
-    → StoresProgram honest life (Ok v) saved text old.journal new.journal
+    → StoresProgram honest life (Ok v) saved text old.journal new.journal → IsTrueOf text new.lines
     → Does honest life (Ok r) (λ program. load program old.session text) old new
-does_load honest life v r saved text old new free is replied next p =
+does_load honest life v r saved text old new free is replied next p known =
     does_on honest life (Ok r) (λ program. load_unless program old.session text None) _ old old new refl (λ program. sym (ap (λ (o : Option Fault). load_unless program old.session text o) free))
-    (does_moved honest life r v (λ program. load_unless program old.session text None) old new (storing_program honest life (Ok v) saved text old new.journal is p)
+    (does_moved honest life r v (λ program. load_unless program old.session text None) old new (storing_program honest life (Ok v) saved text old new.journal is p) (λ program before. known)
     (λ program. replied ∙ ap (λ (x : Saved). reply.Done x.entries) is) (λ program. next ∙ ap (λ (x : Saved). loaded old.session x) is) (λ program. refl))
 
 pub does_not_load : {R T : Type 0} (honest : R → Type 0) (life : R → Life) (fault e : Fault) (saved : Saved) (text : List ℕ) (old new : Station R)
     → load_refusal old.session text ≡ None → saved ≡ after_load old.session.stored (length text) → new.session ≡ old.session
     → (fault ≡ CountersUsed) ⊎ (fault ≡ DeviceFailed) → (fault ≡ CountersUsed → new.journal ≡ old.journal)
-    → StoresProgram {T = T} honest life (Err e) saved text old.journal new.journal
+    → StoresProgram {T = T} honest life (Err e) saved text old.journal new.journal → new.lines ≡ old.lines
     → Does honest life (Err fault) (λ program. load program old.session text) old new
-does_not_load {R} {T} honest life fault e saved text old new free is same which unchanged p =
+does_not_load {R} {T} honest life fault e saved text old new free is same which unchanged p lines =
     does_on honest life (Err fault) (λ program. load_unless program old.session text None) _ old old new refl (λ program. sym (ap (λ (o : Option Fault). load_unless program old.session text o) free))
-    (does_unmoved {T = T} honest life fault e (λ program. load_unless program old.session text None) old new (storing_program {T = T} honest life (Err e) saved text old new.journal is p) which unchanged same (λ program. refl))
+    (does_unmoved {T = T} honest life fault e (λ program. load_unless program old.session text None) old new (storing_program {T = T} honest life (Err e) saved text old new.journal is p) which unchanged lines same (λ program. refl))
 
 -- a program that isn't too long isn't refused as too long
 pub not_too_long : (T : Type 0) (e : Fault) (n : ℕ) → n ≤ 131072 → (e ≡ ProgramTooLong) ⊎ ((e ≡ CountersUsed) ⊎ (e ≡ DeviceFailed))

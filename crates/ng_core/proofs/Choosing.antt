@@ -18,7 +18,7 @@ use Rattle.ng_core.proofs.Ticks.{does_on, moving, tick_item, tick_none, opening}
 
 -- the same controller with this session
 abbrev pub with_session : {R : Type 0} → Station R → Sitting → Station R
-with_session c s = record { journal = c.journal; session = s; equipment = c.equipment }
+with_session c s = record { journal = c.journal; session = s; lines = c.lines; equipment = c.equipment }
 
 -- what is so of a controller is so of an equal one
 pub does_as : {R : Type 0} (honest : R → Type 0) (life : R → Life) (answer : Result Reply Fault) (out : Station R → List ℕ → Outcome) (old mid new : Station R)

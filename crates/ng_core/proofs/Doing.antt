@@ -1,5 +1,5 @@
 -- The same of an honest device, whatever its program is.
-use Rattle.std.proofs.Common.{◌≡◌, ◌⊎◌, inl, inr, ℕ, List, [], ◌∷◌, Result, Ok, Err, sym, ap, subst}
+use Rattle.std.proofs.Common.{◌≡◌, ◌⊎◌, inl, inr, ℕ, List, [], ◌∷◌, Result, Ok, Err, refl, sym, ap, subst}
 use Rattle.ng_num.specs.declared.fault.Fault.{Fault}
 use Rattle.ng_num.specs.declared.fault.Fault.TheVariants.{DeviceFailed, CountersUsed, OutOfMemory}
 use Rattle.ng_canon.specs.declared.item.Item.{Item}
@@ -7,34 +7,35 @@ use Rattle.ng_rig.specs.Life.{Life}
 use Rattle.ng_rig.specs.Calls.{Promises}
 use Rattle.ng_layout.specs.Stored.{Standing}
 use Rattle.ng_journal.specs.Journal.{Logbook, RestsAt, Moves, HandsOut}
+use Rattle.ng_session.specs.LinesBefore.{IsTrueOf}
 use Rattle.ng_session.specs.Session.{Outcome, shown}
 use Rattle.ng_session.specs.declared.reply.Reply.{Reply}
 use Rattle.ng_core.specs.Station.{Station, Rests, standing_of}
 use Rattle.ng_core.specs.Acts.{Does}
-use Rattle.ng_core.proofs.Acting.{acts_quiet, acts_aside, acts_moved, acts_unmoved, acts_handed, acts_unhanded}
+use Rattle.ng_core.proofs.Acting.{known_as, acts_quiet, acts_aside, acts_moved, acts_unmoved, acts_handed, acts_unhanded}
 use Rattle.ng_core.proofs.Quiet.{IsStill}
 
 -- the session answered, and what stands stays
 pub does_still : {R : Type 0} (honest : R → Type 0) (life : R → Life) (r : Reply) (out : List ℕ → Outcome) (old new : Station R)
-    → ((program : List ℕ) → IsStill program old.session.stored (out program)) → new.journal ≡ old.journal
+    → ((program : List ℕ) → IsStill program old.session.stored (out program)) → new.journal ≡ old.journal → new.lines ≡ old.lines
     → ((program : List ℕ) → r ≡ (out program).reply) → ((program : List ℕ) → new.session ≡ (out program).next)
     → Does honest life (Ok r) out old new
-does_still {R} honest life r out old new quiet same replied next = record {
+does_still {R} honest life r out old new quiet same lines replied next = record {
   keeps = λ h. subst (λ (j : Logbook R). honest j.rig) (sym same) h;
   back = λ h. subst (λ (j : Logbook R). honest j.rig) same h;
   holds = λ h program rests.
-      acts_quiet r (out program) program old new (life old.journal.rig) (life new.journal.rig) (ap (λ (j : Logbook R). life j.rig) same) rests same (replied program) (next program)
+      acts_quiet r (out program) program old new (life old.journal.rig) (life new.journal.rig) (ap (λ (j : Logbook R). life j.rig) same) rests same lines (replied program) (next program)
       (quiet program).items (quiet program).program_is (quiet program).stored_is;
 }
 
 -- memory was wanting, or a count, and nothing was asked of the device
 pub does_aside : {R : Type 0} (honest : R → Type 0) (life : R → Life) (fault : Fault) (out : List ℕ → Outcome) (old new : Station R)
-    → (fault ≡ OutOfMemory) ⊎ (fault ≡ CountersUsed) → new.journal ≡ old.journal → new.session ≡ old.session → Does honest life (Err fault) out old new
-does_aside {R} honest life fault out old new which same still = record {
+    → (fault ≡ OutOfMemory) ⊎ (fault ≡ CountersUsed) → new.journal ≡ old.journal → new.lines ≡ old.lines → new.session ≡ old.session → Does honest life (Err fault) out old new
+does_aside {R} honest life fault out old new which same lines still = record {
   keeps = λ h. subst (λ (j : Logbook R). honest j.rig) (sym same) h;
   back = λ h. subst (λ (j : Logbook R). honest j.rig) same h;
   holds = λ h program rests. acts_aside fault (out program) program old new (life old.journal.rig) (life new.journal.rig) which (ap (λ (j : Logbook R). life j.rig) same) still
-      (subst (λ (j : Logbook R). RestsAt (life j.rig) j (standing_of program old.session)) (sym same) rests);
+      (subst (λ (j : Logbook R). RestsAt (life j.rig) j (standing_of program old.session)) (sym same) rests.0) (known_as program program old.lines new.lines refl lines rests.1);
 }
 
 -- what was asked of the journal
@@ -44,24 +45,24 @@ Storing honest life result out old journal =
     → Moves result journal (standing_of program old.session) (standing_of (out program).program (out program).next) (life old.journal.rig) (life journal.rig))
 
 pub does_moved : {R T : Type 0} (honest : R → Type 0) (life : R → Life) (r : Reply) (v : T) (out : List ℕ → Outcome) (old new : Station R)
-    → Storing honest life (Ok v) out old new.journal
+    → Storing honest life (Ok v) out old new.journal → ((program : List ℕ) → IsTrueOf program old.lines → IsTrueOf (out program).program new.lines)
     → ((program : List ℕ) → r ≡ (out program).reply) → ((program : List ℕ) → new.session ≡ (out program).next) → ((program : List ℕ) → (out program).items ≡ [])
     → Does honest life (Ok r) out old new
-does_moved honest life r v out old new p replied next none = record {
+does_moved honest life r v out old new p known replied next none = record {
   keeps = p.keeps;
   back = p.back;
-  holds = λ h program rests. acts_moved r v (out program) program old new (life old.journal.rig) (life new.journal.rig) (p.holds h program rests) (replied program) (next program) (none program);
+  holds = λ h program rests. acts_moved r v (out program) program old new (life old.journal.rig) (life new.journal.rig) (p.holds h program rests) (known program rests.1) (replied program) (next program) (none program);
 }
 
 pub does_unmoved : {R T : Type 0} (honest : R → Type 0) (life : R → Life) (fault e : Fault) (out : List ℕ → Outcome) (old new : Station R)
     → Storing {T = T} honest life (Err e) out old new.journal
-    → (fault ≡ CountersUsed) ⊎ (fault ≡ DeviceFailed) → (fault ≡ CountersUsed → new.journal ≡ old.journal) → new.session ≡ old.session → ((program : List ℕ) → (out program).items ≡ [])
+    → (fault ≡ CountersUsed) ⊎ (fault ≡ DeviceFailed) → (fault ≡ CountersUsed → new.journal ≡ old.journal) → new.lines ≡ old.lines → new.session ≡ old.session → ((program : List ℕ) → (out program).items ≡ [])
     → Does honest life (Err fault) out old new
-does_unmoved {R} {T} honest life fault e out old new p which unchanged same none = record {
+does_unmoved {R} {T} honest life fault e out old new p which unchanged lines same none = record {
   keeps = p.keeps;
   back = p.back;
   holds = λ h program rests. elim which [
-    | inl used ↦ (does_aside honest life fault out old new (inr used) (unchanged used) same).holds h program rests
+    | inl used ↦ (does_aside honest life fault out old new (inr used) (unchanged used) lines same).holds h program rests
     | inr lost ↦ acts_unmoved {T = T} fault e (out program) program old new new.journal (life old.journal.rig) (life new.journal.rig) (p.holds h program rests) lost (ap shown same) (none program)
   ];
 }
@@ -78,13 +79,14 @@ pub record Gives (item : Item) (old : Standing) (program : List ℕ) (out : Outc
   pub stored_is : out.next.stored ≡ old.saved
 
 pub does_handed : {R T : Type 0} (honest : R → Type 0) (life : R → Life) (r : Reply) (v : T) (item : Item) (out : List ℕ → Outcome) (old new : Station R)
-    → Handing honest life (Ok v) item old new.journal
+    → Handing honest life (Ok v) item old new.journal → new.lines ≡ old.lines
     → ((program : List ℕ) → r ≡ (out program).reply) → ((program : List ℕ) → new.session ≡ (out program).next) → ((program : List ℕ) → Gives item (standing_of program old.session) program (out program))
     → Does honest life (Ok r) out old new
-does_handed honest life r v item out old new p replied next gives = record {
+does_handed honest life r v item out old new p lines replied next gives = record {
   keeps = p.keeps;
   back = p.back;
-  holds = λ h program rests. acts_handed r v item (out program) program old new (life old.journal.rig) (life new.journal.rig) (p.holds h program rests) (replied program) (next program)
+  holds = λ h program rests. acts_handed r v item (out program) program old new (life old.journal.rig) (life new.journal.rig) (p.holds h program rests)
+      (known_as program (out program).program old.lines new.lines (gives program).program_is lines rests.1) (replied program) (next program)
       (gives program).items (gives program).program_is (gives program).stored_is;
 }
 

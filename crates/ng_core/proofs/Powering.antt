@@ -1,30 +1,32 @@
 -- What power on gives, by what the journal recovers.
-use Rattle.std.proofs.Common.{◌≡◌, Ok, sym, ◌∙◌, ap, subst}
+use Rattle.std.proofs.Common.{◌≡◌, ℕ, List, Ok, sym, ◌∙◌, ap, subst}
 use Rattle.ng_rig.specs.Life.{Life, reads}
 use Rattle.ng_layout.specs.Stored.{Saved, Standing}
 use Rattle.ng_journal.specs.Journal.{Logbook, RestsAt}
 use Rattle.ng_journal.specs.Recover.{Recovers, IsRecovered as IsJournalRecovered}
 use Rattle.ng_journal.specs.Recovery.{IsFound}
 use Rattle.ng_session.specs.Entries.{Equipment}
+use Rattle.ng_session.specs.LinesBefore.{IsTrueOf}
 use Rattle.ng_session.specs.Session.{Sitting}
+use Rattle.ng_session.specs.declared.lines_before.LinesBefore.{LinesBefore}
 use Rattle.ng_core.specs.Station.{standing_of}
 use Rattle.ng_core.specs.Powers.{Powers, IsRecovered}
 
-recovered : {R : Type 0} (journal : Logbook R) (session : Sitting) (equipment : Equipment) (old new : Life) → session.stored ≡ journal.saved
-    → IsJournalRecovered journal old new → IsRecovered {R = R} (record { journal = journal; session = session; equipment = equipment }) old new
-recovered journal session equipment old new stored r =
+recovered : {R : Type 0} (journal : Logbook R) (session : Sitting) (lines : LinesBefore) (equipment : Equipment) (old new : Life) → session.stored ≡ journal.saved → ((program : List ℕ) → IsTrueOf program lines)
+    → IsJournalRecovered journal old new → IsRecovered {R = R} (record { journal = journal; session = session; lines = lines; equipment = equipment }) old new
+recovered journal session lines equipment old new stored known r =
     let same : r.standing ≡ standing_of r.standing.program session = λ i. record { saved = (r.rests.saved_is ∙ sym stored) i; program = r.standing.program } in
     record {
       program = r.standing.program;
-      rests = subst (λ (s : Standing). RestsAt new journal s) same r.rests;
+      rests = (subst (λ (s : Standing). RestsAt new journal s) same r.rests, known r.standing.program);
       is = r.is ∙ ap (λ (s : Standing). Ok s) same;
     }
 
-pub powered : {R : Type 0} (journal : Logbook R) (saved : Saved) (session : Sitting) (equipment : Equipment) (old new : Life) → session.stored ≡ saved → journal.saved ≡ saved
-    → Recovers (Ok (journal, saved)) old new → Powers {R = R} (Ok (record { journal = journal; session = session; equipment = equipment })) old new
-powered journal saved session equipment old new stored held r = record {
+pub powered : {R : Type 0} (journal : Logbook R) (saved : Saved) (session : Sitting) (lines : LinesBefore) (equipment : Equipment) (old new : Life) → session.stored ≡ saved → journal.saved ≡ saved → ((program : List ℕ) → IsTrueOf program lines)
+    → Recovers (Ok (journal, saved)) old new → Powers {R = R} (Ok (record { journal = journal; session = session; lines = lines; equipment = equipment })) old new
+powered journal saved session lines equipment old new stored held known r = record {
   finds = subst (λ (x : Saved). IsFound x (reads old)) (sym stored) r.finds;
   kept = λ written.
       let k = r.kept written in
-      record { stops = k.stops; items_are = k.items_are; ready = recovered journal session equipment old new (stored ∙ sym held) k.ready };
+      record { stops = k.stops; items_are = k.items_are; ready = recovered journal session lines equipment old new (stored ∙ sym held) known k.ready };
 }

@@ -1,4 +1,4 @@
--- What can be stored, and what a journal has stored.
+-- What a journal has stored.
 use Rattle.std.proofs.Common.{◌≡◌, ◌⊎◌, inl, inr, ℕ, ◌≤◌, true, false, List, length, ℤ, Err, Some, sym, ◌∙◌, ap, subst, arith}
 use Rattle.std.proofs.lemmas.List.{length-map}
 use Rattle.std.proofs.lemmas.List.FromFn.{length-enumerate_from}
@@ -11,29 +11,6 @@ use Rattle.ng_layout.specs.Stored.{HalfDone, Saved}
 use Rattle.ng_layout.specs.Storable.{IsStorable, CanWait}
 use Rattle.ng_journal.specs.Journal.{Logbook, IsBrokenBy}
 use Rattle.ng_session.specs.Entries.{after_load}
-
-length-cleared : (table : List ℤ) → length (cleared table) ≡ length table
-length-cleared table = length-map (enumerate_from 1 table) _ ∙ length-enumerate_from 1 table
-
--- it can be stored beside what could be
-pub storable_load : (x : Saved) (n : ℕ) → IsStorable x → n ≤ longest_program → IsStorable (after_load x n)
-storable_load x n s small = record {
-  table = length-cleared x.setup.params ∙ s.table;
-  machine = s.machine;
-  half = tt;
-  place = omega arith;
-  program = small;
-}
-
--- nor does an open segment hinder that
-pub storable_open : (x : Saved) (half : HalfDone) → IsStorable x → CanWait half → IsStorable (record x { half = Some half })
-storable_open x half s waits = record {
-  table = s.table;
-  machine = s.machine;
-  half = waits;
-  place = s.place;
-  program = s.program;
-}
 
 -- what a journal stores that failed is what it stored, as long as its device didn't
 pub kept_failed : {R : Type 0} (T : Type 0) (e : Fault) (before after : Logbook R) (x : Saved) → (e ≡ CountersUsed) ⊎ (e ≡ DeviceFailed) → IsBrokenBy {T = T} (Err e) after.broken

@@ -9,11 +9,14 @@ use Rattle.ng_rig.proofs.Promise.{meaning}
 use Rattle.ng_layout.specs.Stored.{HalfDone, Saved, Standing}
 use Rattle.ng_journal.specs.Journal.{Logbook, RestsAt, Moves, HandsOut}
 use Rattle.ng_session.specs.Entries.{Equipment}
+use Rattle.ng_session.specs.LinesBefore.{IsTrueOf}
 use Rattle.ng_session.specs.Session.{Underway, Sitting, Outcome, answers, tick, open_next, end, item_of, handed, opening_of, opened, committed, is_running, rest, shown}
+use Rattle.ng_session.specs.declared.lines_before.LinesBefore.{LinesBefore}
 use Rattle.ng_session.specs.declared.reply.Reply.{Reply}
 use Rattle.ng_session.specs.declared.reply.Reply.TheVariants as reply
 use Rattle.ng_core.specs.Station.{Station, standing_of}
 use Rattle.ng_core.specs.Acts.{Does}
+use Rattle.ng_core.proofs.Acting.{known_as}
 use Rattle.ng_core.proofs.Quiet.{still}
 use Rattle.ng_core.proofs.Doing.{does_still, does_moved, does_unmoved, does_handed, does_unhanded, Storing}
 
@@ -33,7 +36,11 @@ pub does_held : {R : Type 0} (honest : R → Type 0) (life : R → Life) (c : St
     → Does honest life (Ok reply.Held) (λ program. tick c.equipment program c.session) c c
 does_held honest life c held =
     does_on honest life (Ok reply.Held) (λ program. answers program reply.Held c.session) (λ program. tick c.equipment program c.session) c c c refl (λ program. sym (tick_held c.equipment program c.session held))
-    (does_still honest life reply.Held (λ program. answers program reply.Held c.session) c c (λ program. still refl refl refl) refl (λ program. refl) (λ program. refl))
+    (does_still honest life reply.Held (λ program. answers program reply.Held c.session) c c (λ program. still refl refl refl) refl refl (λ program. refl) (λ program. refl))
+
+-- what is known of the lines stays
+kept : (k l : LinesBefore) → l ≡ k → (program : List ℕ) → IsTrueOf program k → IsTrueOf program l
+kept k l same program known = known_as program program k l refl same known
 
 -- ---- an item
 
@@ -46,17 +53,17 @@ HandsIt honest life result item old new =
     Promises (honest old.rig) (honest new.rig) ((standing : Standing) → RestsAt (life old.rig) old standing → HandsOut result new standing item (life old.rig) (life new.rig))
 
 pub hands_item : {R T : Type 0} (honest : R → Type 0) (life : R → Life) (v : T) (item : Item) (old new : Station R)
-    → new.session ≡ old.session → HandsIt honest life (Ok v) item old.journal new.journal
+    → new.session ≡ old.session → HandsIt honest life (Ok v) item old.journal new.journal → new.lines ≡ old.lines
     → Does honest life (Ok reply.Moved) (λ program. moving item program old.session) old new
-hands_item honest life v item old new next p =
-    does_handed honest life reply.Moved v item (λ program. moving item program old.session) old new (meaning p (λ f program rests. f (standing_of program old.session) rests))
+hands_item honest life v item old new next p lines =
+    does_handed honest life reply.Moved v item (λ program. moving item program old.session) old new (meaning p (λ f program rests. f (standing_of program old.session) rests.0)) lines
     (λ program. refl) (λ program. next) (λ program. record { items = refl; program_is = refl; stored_is = refl })
 
 pub hands_none : {R T : Type 0} (honest : R → Type 0) (life : R → Life) (fault e : Fault) (item : Item) (old new : Station R)
     → new.session ≡ old.session → fault ≡ DeviceFailed → HandsIt {T = T} honest life (Err e) item old.journal new.journal
     → Does honest life (Err fault) (λ program. moving item program old.session) old new
 hands_none {R} {T} honest life fault e item old new next lost p =
-    does_unhanded {T = T} honest life fault e item (λ program. moving item program old.session) old new (meaning p (λ f program rests. f (standing_of program old.session) rests))
+    does_unhanded {T = T} honest life fault e item (λ program. moving item program old.session) old new (meaning p (λ f program rests. f (standing_of program old.session) rests.0))
     lost (ap shown next) (λ program. record { items = refl; program_is = refl; stored_is = refl })
 
 pub tick_item : (q : Equipment) (P : List ℕ) (s : Sitting) (item : Item) → s.held ≡ false → item_of s.current ≡ Some item → tick q P s ≡ moving item P (handed s)
@@ -79,25 +86,25 @@ StoresHalf honest life result half old new =
 storing_half : {R T : Type 0} (honest : R → Type 0) (life : R → Life) (result : Result T Fault) (half : HalfDone) (old : Station R) (journal : Logbook R)
     → old.session.stored ≡ old.journal.saved → StoresHalf honest life result half old.journal journal
     → Storing honest life result (λ program. opening half program old.equipment old.session) old journal
-storing_half honest life result half old journal kept p =
+storing_half honest life result half old journal held p =
     meaning p (λ f program rests.
-    subst (λ (x : Saved). Moves result journal (standing_of program old.session) (record { saved = record x { half = Some half }; program = program }) (life old.journal.rig) (life journal.rig)) (sym kept)
-    (f (standing_of program old.session) rests))
+    subst (λ (x : Saved). Moves result journal (standing_of program old.session) (record { saved = record x { half = Some half }; program = program }) (life old.journal.rig) (life journal.rig)) (sym held)
+    (f (standing_of program old.session) rests.0))
 
 pub opens : {R T : Type 0} (honest : R → Type 0) (life : R → Life) (v : T) (r : Reply) (half : HalfDone) (old new : Station R)
     → r ≡ reply.Opened half.index → new.session ≡ opened old.equipment.geometry old.session half → old.session.stored ≡ old.journal.saved
-    → StoresHalf honest life (Ok v) half old.journal new.journal
+    → StoresHalf honest life (Ok v) half old.journal new.journal → new.lines ≡ old.lines
     → Does honest life (Ok r) (λ program. opening half program old.equipment old.session) old new
-opens honest life v r half old new replied next kept p =
-    does_moved honest life r v (λ program. opening half program old.equipment old.session) old new (storing_half honest life (Ok v) half old new.journal kept p) (λ program. replied) (λ program. next) (λ program. refl)
+opens honest life v r half old new replied next held p lines =
+    does_moved honest life r v (λ program. opening half program old.equipment old.session) old new (storing_half honest life (Ok v) half old new.journal held p) (kept old.lines new.lines lines) (λ program. replied) (λ program. next) (λ program. refl)
 
 pub opens_none : {R T : Type 0} (honest : R → Type 0) (life : R → Life) (fault e : Fault) (half : HalfDone) (old new : Station R)
     → new.session ≡ old.session → old.session.stored ≡ old.journal.saved
     → (fault ≡ CountersUsed) ⊎ (fault ≡ DeviceFailed) → (fault ≡ CountersUsed → new.journal ≡ old.journal)
-    → StoresHalf {T = T} honest life (Err e) half old.journal new.journal
+    → StoresHalf {T = T} honest life (Err e) half old.journal new.journal → new.lines ≡ old.lines
     → Does honest life (Err fault) (λ program. opening half program old.equipment old.session) old new
-opens_none {R} {T} honest life fault e half old new same kept which unchanged p =
-    does_unmoved {T = T} honest life fault e (λ program. opening half program old.equipment old.session) old new (storing_half {T = T} honest life (Err e) half old new.journal kept p) which unchanged same (λ program. refl)
+opens_none {R} {T} honest life fault e half old new same held which unchanged p lines =
+    does_unmoved {T = T} honest life fault e (λ program. opening half program old.equipment old.session) old new (storing_half {T = T} honest life (Err e) half old new.journal held p) which unchanged lines same (λ program. refl)
 
 -- ---- an entry
 
@@ -119,23 +126,23 @@ storing_entry : {R T : Type 0} (honest : R → Type 0) (life : R → Life) (resu
 storing_entry honest life result saved old journal due p =
     meaning p (λ f program rests.
     subst (λ (x : Saved). Moves result journal (standing_of program old.session) (record { saved = x; program = program }) (life old.journal.rig) (life journal.rig)) due.after
-    (f (standing_of program old.session) rests))
+    (f (standing_of program old.session) rests.0))
 
 pub does_commit : {R T : Type 0} (honest : R → Type 0) (life : R → Life) (v : T) (r : Reply) (saved : Saved) (old new : Station R) (due : IsDue old.session saved)
     → r ≡ reply.Done due.block.after.entries → new.session ≡ committed old.session due.block
-    → StoresEntry honest life (Ok v) saved old.journal new.journal
+    → StoresEntry honest life (Ok v) saved old.journal new.journal → new.lines ≡ old.lines
     → Does honest life (Ok r) (λ program. end old.equipment program old.session old.session.current) old new
-does_commit honest life v r saved old new due replied next p =
+does_commit honest life v r saved old new due replied next p lines =
     does_on honest life (Ok r) (λ program. end old.equipment program old.session (Some due.block)) _ old old new refl (λ program. sym (ap (λ (o : Option Underway). end old.equipment program old.session o) due.current))
-    (does_moved honest life r v (λ program. end old.equipment program old.session (Some due.block)) old new (storing_entry honest life (Ok v) saved old new.journal due p) (λ program. replied) (λ program. next) (λ program. refl))
+    (does_moved honest life r v (λ program. end old.equipment program old.session (Some due.block)) old new (storing_entry honest life (Ok v) saved old new.journal due p) (kept old.lines new.lines lines) (λ program. replied) (λ program. next) (λ program. refl))
 
 pub does_not_commit : {R T : Type 0} (honest : R → Type 0) (life : R → Life) (fault e : Fault) (saved : Saved) (old new : Station R) (due : IsDue old.session saved)
     → new.session ≡ old.session → (fault ≡ CountersUsed) ⊎ (fault ≡ DeviceFailed) → (fault ≡ CountersUsed → new.journal ≡ old.journal)
-    → StoresEntry {T = T} honest life (Err e) saved old.journal new.journal
+    → StoresEntry {T = T} honest life (Err e) saved old.journal new.journal → new.lines ≡ old.lines
     → Does honest life (Err fault) (λ program. end old.equipment program old.session old.session.current) old new
-does_not_commit {R} {T} honest life fault e saved old new due same which unchanged p =
+does_not_commit {R} {T} honest life fault e saved old new due same which unchanged p lines =
     does_on honest life (Err fault) (λ program. end old.equipment program old.session (Some due.block)) _ old old new refl (λ program. sym (ap (λ (o : Option Underway). end old.equipment program old.session o) due.current))
-    (does_unmoved {T = T} honest life fault e (λ program. end old.equipment program old.session (Some due.block)) old new (storing_entry {T = T} honest life (Err e) saved old new.journal due p) which unchanged same (λ program. refl))
+    (does_unmoved {T = T} honest life fault e (λ program. end old.equipment program old.session (Some due.block)) old new (storing_entry {T = T} honest life (Err e) saved old new.journal due p) which unchanged lines same (λ program. refl))
 
 -- ---- nothing
 
@@ -147,4 +154,4 @@ pub does_rest : {R : Type 0} (honest : R → Type 0) (life : R → Life) (r : Re
     → Does honest life (Ok r) (λ program. end c.equipment program c.session c.session.current) c c
 does_rest honest life r c none idle replied =
     does_on honest life (Ok r) (λ program. rest program c.session) _ c c c refl (λ program. sym (rests_there c.equipment program c.session none idle))
-    (does_still honest life r (λ program. rest program c.session) c c (λ program. still refl refl refl) refl replied (λ program. refl))
+    (does_still honest life r (λ program. rest program c.session) c c (λ program. still refl refl refl) refl refl replied (λ program. refl))

@@ -8,7 +8,7 @@ use ng_journal::Journal;
 use ng_num::Fault;
 use ng_offsets::Tools;
 use ng_rig::Rig;
-use ng_session::{Condition, Event, Reply, Session, Status};
+use ng_session::{Condition, Event, LinesBefore, Reply, Session, Status};
 use std::alloc::Allocator;
 use std::marker::Model;
 
@@ -18,20 +18,21 @@ pub struct Controller<R: Rig, A: Allocator + Copy + Drop> {
     pub(crate) alloc: A,
     pub(crate) journal: Journal<R, A>,
     pub(crate) session: Session<A>,
+    /// What is known of the lines of the program in force.
+    pub(crate) lines: LinesBefore,
     pub(crate) tools: Tools,
     pub(crate) geometry: Geometry,
 }
 
 impl<R: Rig, A: Allocator + Copy + Drop> Model for Controller<R, A> {
     ghost use Rattle.std.specs.Prelude.{◌≡◌, false};
-    ghost use Rattle.ng_layout.specs.Storable.{IsStorable};
     ghost use Rattle.ng_core.specs.Station.{Station};
 
     ghost Value = { Station R };
 
-    ghost view = { λ c. record { journal = c.journal; session = c.session; equipment = record { tools = c.tools; geometry = c.geometry } } };
+    ghost view = { λ c. record { journal = c.journal; session = c.session; lines = c.lines; equipment = record { tools = c.tools; geometry = c.geometry } } };
 
-    ghost invariant = { λ c. (c.journal.broken ≡ false → c.session.stored ≡ c.journal.saved) × IsStorable c.session.stored };
+    ghost invariant = { λ c. c.journal.broken ≡ false → c.session.stored ≡ c.journal.saved };
 }
 
 impl<R: Rig, A: Allocator + Copy + Drop> Controller<R, A> {
@@ -46,6 +47,7 @@ impl<R: Rig, A: Allocator + Copy + Drop> Controller<R, A> {
             alloc: _,
             journal,
             session: _,
+            lines: _,
             tools: _,
             geometry: _,
         } = self;
@@ -144,6 +146,7 @@ impl<R: Rig, A: Allocator + Copy + Drop> Controller<R, A> {
         }
         let stored = self.session.loading(text)?;
         self.journal.load_program(text, &stored)?;
+        self.lines = LinesBefore::none();
         Ok(self.session.load(stored))
     }
 

@@ -11,7 +11,7 @@ use crate::controller::Controller;
 use ng_journal::recover;
 use ng_num::Fault;
 use ng_rig::Rig;
-use ng_session::Session;
+use ng_session::{LinesBefore, Session};
 use ng_settings::Settings;
 use std::alloc::Allocator;
 
@@ -39,6 +39,7 @@ pub fn power_on<R: Rig, A: Allocator + Copy + Drop>(
         alloc,
         journal,
         session: Session::new(stored),
+        lines: LinesBefore::none(),
         tools,
         geometry,
     })

@@ -6,37 +6,48 @@ ghost use Rattle.ng_layout.specs.Storable.{CanWait};
 ghost use Rattle.ng_layout.specs.Stored.{Standing};
 ghost use Rattle.ng_journal.specs.Journal.{RestsAt, Tells, IsBrokenBy};
 ghost use Rattle.ng_journal.specs.ProgramLines.{FindsFirst};
+ghost use Rattle.ng_session.specs.LinesBefore.{IsTrueOf, Next};
 
 use crate::controller::Controller;
 use ng_canon::Item;
 use ng_journal::Journal;
-use ng_layout::Half;
+use ng_layout::{Half, TEXT};
 use ng_num::Fault;
 use ng_rig::Rig;
-use ng_session::Reply;
+use ng_session::{LinesBefore, Reply};
 use ng_words::Kind;
 use std::alloc::Allocator;
 
-/// The kind of the first line before a place of the program in force that isn't blank. Before its beginning there is none, and
-/// nothing is read.
+/// The kind of the first line before a place of the program in force that isn't blank. Nothing is read where it is known.
 fn first_kind_before<R: Rig, A: Allocator + Copy + Drop>(
     journal: &mut Journal<R, A>,
+    known: &LinesBefore,
     place: u64,
 ) -> Result<Kind, Fault>
     requires whole { journal.old.broken ≡ false }
     requires place { place ≤ journal.old.saved.length }
-    ensures kind { Promises (R.honest journal.old.rig) (R.honest journal.new.rig) ((standing : Standing) → RestsAt (R.life journal.old.rig) journal.old standing
+    ensures kind { Promises (R.honest journal.old.rig) (R.honest journal.new.rig) ((standing : Standing) → RestsAt (R.life journal.old.rig) journal.old standing → IsTrueOf standing.program known.now
         → FindsFirst result journal.new standing place (R.life journal.old.rig) (R.life journal.new.rig)) }
-    ensures start { place ≡ 0 → result ≡ Ok Kind.Blank }
     ensures saved { journal.new.saved ≡ journal.old.saved }
     ensures broken { IsBrokenBy result journal.new.broken }
     ensures errors { IfErr result (λ e. e ≡ DeviceFailed) }
     ensures failures { Tells result (R.failed journal.old.rig) (R.failed journal.new.rig) }
 {
-    if place == 0 {
-        return Ok(Kind::Blank);
+    match known.first_before(place) {
+        Some(kind) => Ok(kind),
+        None => journal.first_kind(place),
     }
-    journal.first_kind(place)
+}
+
+/// What is known of the lines behind the line at a place, where the next one begins; no more behind one that is too long, which is
+/// refused.
+fn lines_behind(known: &LinesBefore, place: u64, first: Kind, text: &[u8], next: u64) -> LinesBefore
+    ensures { (program : List ℕ) → IsTrueOf program known.now → Next program place first text.now next → IsTrueOf program result }
+{
+    if text.len() > TEXT {
+        return *known;
+    }
+    known.behind(place, first, text, next)
 }
 
 impl<R: Rig, A: Allocator + Copy + Drop> Controller<R, A> {
@@ -110,7 +121,6 @@ impl<R: Rig, A: Allocator + Copy + Drop> Controller<R, A> {
     }
 
     /// Opens the next segment, once its half-done block is stored.
-    #[tactic(auto, using(crate::proofs::Storing::storable_open))]
     pub(crate) fn open(&mut self, half: Half) -> Result<Reply, Fault>
         requires whole { self.old.journal.broken ≡ false }
         requires half { CanWait half }
@@ -151,17 +161,16 @@ impl<R: Rig, A: Allocator + Copy + Drop> Controller<R, A> {
         ensures failures { Tells result (R.failed self.old.journal.rig) (R.failed self.new.journal.rig) }
     {
         let place = self.session.place();
-        let first = first_kind_before(&mut self.journal, place)?;
+        let first = first_kind_before(&mut self.journal, &self.lines, place)?;
         match self.journal.program_line(place)? {
-            Some(line) => Ok(
-                self.session.begin(
-                    line.text.as_slice(),
-                    line.next,
-                    first,
-                    &self.tools,
-                    &self.geometry,
-                )?,
-            ),
+            Some(line) => {
+                let text = line.text.as_slice();
+                let reply = self
+                    .session
+                    .begin(text, line.next, first, &self.tools, &self.geometry)?;
+                self.lines = lines_behind(&self.lines, place, first, text, line.next);
+                Ok(reply)
+            }
             None => Ok(self.session.break_off(first)),
         }
     }

@@ -115,6 +115,7 @@ impl<A: Allocator + Copy + Drop> Session<A> {
         geometry: &Geometry,
     ) -> Result<Reply, AllocError>
         requires { next ≤ self.old.stored.length }
+        ensures stored { OnOk result (self.new.stored ≡ self.old.stored) }
         ensures reply { IfOk result (λ reply. (program : List ℕ) → first ≡ first_kind (lines_before program self.old.stored.place) → reply ≡ (begin (record { tools = tools.now; geometry = geometry.now }) program self.old (Some (record { text = text.now; next = next }))).reply) }
         ensures next { OnOk result ((program : List ℕ) → first ≡ first_kind (lines_before program self.old.stored.place) → self.new ≡ (begin (record { tools = tools.now; geometry = geometry.now }) program self.old (Some (record { text = text.now; next = next }))).next) }
         ensures err { OnErr result (self.new ≡ self.old) }

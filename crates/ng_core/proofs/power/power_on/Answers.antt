@@ -9,4 +9,4 @@ pub returns-clause-powers : goal.returns-clause-powers
 returns-clause-powers g c = λ room.
     let equipment : Equipment = record { tools = c.args.settings.tools; geometry = c.args.settings.geometry } in
     meaning (c.in_ok-journal.ensures.recovers room)
-    (λ r. powered c.in_ok-journal.journal c.in_ok-journal.stored c.new.result equipment _ _ (ap (λ (s : Sitting). s.stored) c.new.ensures) c.in_ok-journal.ensures.journal.1 r)
+    (λ r. powered c.in_ok-journal.journal c.in_ok-journal.stored c.new.result c.none.result equipment _ _ (ap (λ (s : Sitting). s.stored) c.new.ensures) c.in_ok-journal.ensures.journal.1 c.none.ensures.holds r)

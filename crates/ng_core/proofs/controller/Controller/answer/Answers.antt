@@ -1,5 +1,4 @@
-use Rattle.std.proofs.Common.{◌≡◌, [], refl, sym, ◌∙◌, ap, subst}
-use Rattle.ng_layout.specs.Storable.{IsStorable}
+use Rattle.std.proofs.Common.{◌≡◌, [], refl, ◌∙◌, ap}
 use Rattle.ng_session.specs.Entries.{Equipment}
 use Rattle.ng_session.specs.Session.{Sitting}
 use Rattle.ng_core.specs.Station.{Station}
@@ -12,11 +11,11 @@ invariant_of-self-2 g c =
     let equipment : Equipment = record { tools = c.self.inside.tools; geometry = c.self.inside.geometry } in
     let same : c.answer.new.self.stored ≡ c.self.inside.session.stored =
     ap (λ (s : Sitting). s.stored) (c.in_ok-answer.ensures.next []) ∙ (still_step equipment [] c.self.inside.session c.args.event.now c.requires.quiet).stored_is in
-    (λ whole. same ∙ c.self.invariant.0 whole, subst IsStorable (sym same) c.self.invariant.1)
+    λ whole. same ∙ c.self.invariant whole
 
 pub returns-clause-does : goal.returns-clause-does
 returns-clause-does g c =
     let equipment : Equipment = record { tools = c.self.inside.tools; geometry = c.self.inside.geometry } in
-    let old : Station g.row.R.Denot = record { journal = c.self.inside.journal; session = c.self.inside.session; equipment = equipment } in
-    let new : Station g.row.R.Denot = record { journal = c.self.inside.journal; session = c.answer.new.self; equipment = equipment } in
-    rw (← c.self.view_is) (does_answer g.R.Rig.honest g.R.Rig.life c.args.event.now c.in_ok-answer.field-0 old new c.requires.quiet refl c.in_ok-answer.ensures.reply c.in_ok-answer.ensures.next)
+    let old : Station g.row.R.Denot = record { journal = c.self.inside.journal; session = c.self.inside.session; lines = c.self.inside.lines; equipment = equipment } in
+    let new : Station g.row.R.Denot = record { journal = c.self.inside.journal; session = c.answer.new.self; lines = c.self.inside.lines; equipment = equipment } in
+    rw (← c.self.view_is) (does_answer g.R.Rig.honest g.R.Rig.life c.args.event.now c.in_ok-answer.field-0 old new c.requires.quiet refl refl c.in_ok-answer.ensures.reply c.in_ok-answer.ensures.next)

@@ -17,7 +17,7 @@ returns-then-is_running-clause-does g c =
 pub returns-clause-does : goal.returns-clause-does
 returns-clause-does g c =
     let equipment : Equipment = record { tools = c.self.inside.tools; geometry = c.self.inside.geometry } in
-    let old : Station g.row.R.Denot = record { journal = c.self.inside.journal; session = c.self.inside.session; equipment = equipment } in
+    let old : Station g.row.R.Denot = record { journal = c.self.inside.journal; session = c.self.inside.session; lines = c.self.inside.lines; equipment = equipment } in
     let none = by_none _ c.after.result c.if-is_some.ensures c.after.ensures.after in
     subst (λ (x : Station g.row.R.Denot). Does g.R.Rig.honest g.R.Rig.life (Ok c.rest.result) (λ program. end x.equipment program x.session x.session.current) x x) c.self.view_is
     (does_rest g.R.Rig.honest g.R.Rig.life c.rest.result old none (sym c.if-is_running.ensures) c.rest.ensures)

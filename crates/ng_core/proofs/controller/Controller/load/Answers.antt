@@ -2,48 +2,38 @@ use Rattle.std.proofs.Common.{◌≡◌, ◌⊎◌, inl, length, Err, refl, sym,
 use Rattle.std.proofs.lemmas.Result.{err_from_is_err_and}
 use Rattle.ng_num.specs.declared.fault.Fault.{Fault}
 use Rattle.ng_num.specs.declared.fault.Fault.TheVariants.{DeviceFailed, CountersUsed}
-use Rattle.ng_layout.specs.Stored.{Saved}
-use Rattle.ng_layout.specs.Storable.{IsStorable}
 use Rattle.ng_journal.specs.Journal.{Tells}
 use Rattle.ng_session.specs.Entries.{Equipment}
 use Rattle.ng_session.specs.Session.{Sitting}
 use Rattle.ng_session.specs.declared.reply.Reply.{Reply}
 use Rattle.ng_core.specs.Station.{Station}
 use Rattle.ng_core.proofs.Answering.{does_load, does_not_load, not_too_long}
-use Rattle.ng_core.proofs.Storing.{storable_load, kept_failed}
+use Rattle.ng_core.proofs.Storing.{kept_failed}
 use Rattle.ng_core.proofs.controller.Controller.load.Goals as goal
-
-pub load_program-requires-clause-storable : goal.load_program-requires-clause-storable
-load_program-requires-clause-storable g c = λ small.
-    subst (λ (x : Saved). IsStorable x) (sym c.in_ok-stored.ensures.value) (storable_load c.self.inside.session.stored (length c.args.text.now) c.self.invariant.1 small)
 
 pub invariant_of-self : goal.invariant_of-self
 invariant_of-self g c =
     let which = not_too_long (Unit {0}) c.in_err-load_program.field-0.0 (length c.args.text.now) c.in_default.ensures.none.1 c.in_err-load_program.ensures.errors c.in_err-load_program.ensures.too_long in
-    let whole = ap (λ (x : Station g.row.R.Denot). x.journal.broken) c.self.view_is ∙ c.requires in (
-      kept_failed Reply c.in_err-load_program.field-0.0 c.self.inside.journal c.load_program.new.self c.self.inside.session.stored which c.in_err-load_program.ensures.broken
-          (λ used. c.in_err-load_program.ensures.unchanged (inl (ap (λ (f : Fault). Err f) used))) (c.self.invariant.0 whole),
-      c.self.invariant.1,
-    )
+    let whole = ap (λ (x : Station g.row.R.Denot). x.journal.broken) c.self.view_is ∙ c.requires in
+    kept_failed Reply c.in_err-load_program.field-0.0 c.self.inside.journal c.load_program.new.self c.self.inside.session.stored which c.in_err-load_program.ensures.broken
+    (λ used. c.in_err-load_program.ensures.unchanged (inl (ap (λ (f : Fault). Err f) used))) (c.self.invariant whole)
 
 pub invariant_of-self-2 : goal.invariant_of-self-2
 invariant_of-self-2 g c =
-    let stored : c.load.new.self.stored ≡ c.in_ok-stored.stored = ap (λ (s : Sitting). s.stored) c.load.ensures.next in (
-      λ whole. stored ∙ sym c.in_ok-load_program.ensures.saved,
-      subst (λ (x : Saved). IsStorable x) (sym (stored ∙ c.in_ok-stored.ensures.value)) (storable_load c.self.inside.session.stored (length c.args.text.now) c.self.invariant.1 c.in_default.ensures.none.1),
-    )
+    let stored : c.load.new.self.stored ≡ c.in_ok-stored.stored = ap (λ (s : Sitting). s.stored) c.load.ensures.next in
+    λ whole. stored ∙ sym c.in_ok-load_program.ensures.saved
 
 pub returns-in_err-load_program-clause-does : goal.returns-in_err-load_program-clause-does
 returns-in_err-load_program-clause-does g c =
     let p = err_from_is_err_and c.from_residual-in_err-load_program.result c.from_residual-in_err-load_program.ensures.1 in
     let e = c.in_err-load_program.field-0.0 in
     let equipment : Equipment = record { tools = c.self.inside.tools; geometry = c.self.inside.geometry } in
-    let old : Station g.row.R.Denot = record { journal = c.self.inside.journal; session = c.self.inside.session; equipment = equipment } in
-    let new : Station g.row.R.Denot = record { journal = c.load_program.new.self; session = c.self.inside.session; equipment = equipment } in
+    let old : Station g.row.R.Denot = record { journal = c.self.inside.journal; session = c.self.inside.session; lines = c.self.inside.lines; equipment = equipment } in
+    let new : Station g.row.R.Denot = record { journal = c.load_program.new.self; session = c.self.inside.session; lines = c.self.inside.lines; equipment = equipment } in
     let which : (e ≡ CountersUsed) ⊎ (e ≡ DeviceFailed) = not_too_long (Unit {0}) e (length c.args.text.now) c.in_default.ensures.none.1 c.in_err-load_program.ensures.errors c.in_err-load_program.ensures.too_long in
     rw (p.1, ← c.self.view_is) (does_not_load g.R.Rig.honest g.R.Rig.life p.0 e c.in_ok-stored.stored c.args.text.now old new (sym c.in_default.ensures.value) c.in_ok-stored.ensures.value refl
     (subst (λ (f : Fault). (f ≡ CountersUsed) ⊎ (f ≡ DeviceFailed)) (sym p.2) which)
-    (λ used. c.in_err-load_program.ensures.unchanged (inl (ap (λ (f : Fault). Err f) (sym p.2 ∙ used)))) c.in_err-load_program.ensures.stops)
+    (λ used. c.in_err-load_program.ensures.unchanged (inl (ap (λ (f : Fault). Err f) (sym p.2 ∙ used)))) c.in_err-load_program.ensures.stops refl)
 
 pub returns-in_err-load_program-clause-failures : goal.returns-in_err-load_program-clause-failures
 returns-in_err-load_program-clause-failures g c =
@@ -53,7 +43,7 @@ returns-in_err-load_program-clause-failures g c =
 pub returns-clause-does : goal.returns-clause-does
 returns-clause-does g c =
     let equipment : Equipment = record { tools = c.self.inside.tools; geometry = c.self.inside.geometry } in
-    let old : Station g.row.R.Denot = record { journal = c.self.inside.journal; session = c.self.inside.session; equipment = equipment } in
-    let new : Station g.row.R.Denot = record { journal = c.load_program.new.self; session = c.load.new.self; equipment = equipment } in
+    let old : Station g.row.R.Denot = record { journal = c.self.inside.journal; session = c.self.inside.session; lines = c.self.inside.lines; equipment = equipment } in
+    let new : Station g.row.R.Denot = record { journal = c.load_program.new.self; session = c.load.new.self; lines = c.none-self-inside.result; equipment = equipment } in
     rw (← c.self.view_is) (does_load g.R.Rig.honest g.R.Rig.life c.in_ok-load_program.field-0 c.load.result c.in_ok-stored.stored c.args.text.now old new (sym c.in_default.ensures.value) c.in_ok-stored.ensures.value
-    c.load.ensures.reply c.load.ensures.next c.in_ok-load_program.ensures.stops)
+    c.load.ensures.reply c.load.ensures.next c.in_ok-load_program.ensures.stops (c.none-self-inside.ensures.holds c.args.text.now))

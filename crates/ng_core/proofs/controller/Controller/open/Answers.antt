@@ -12,17 +12,17 @@ returns-in_err-open_segment-clause-does g c =
     let p = err_from_is_err_and c.from_residual.result c.from_residual.ensures.1 in
     let e = c.in_err-open_segment.field-0.0 in
     let equipment : Equipment = record { tools = c.self.inside.tools; geometry = c.self.inside.geometry } in
-    let old : Station g.row.R.Denot = record { journal = c.self.inside.journal; session = c.self.inside.session; equipment = equipment } in
-    let new : Station g.row.R.Denot = record { journal = c.open_segment.new.self; session = c.self.inside.session; equipment = equipment } in
+    let old : Station g.row.R.Denot = record { journal = c.self.inside.journal; session = c.self.inside.session; lines = c.self.inside.lines; equipment = equipment } in
+    let new : Station g.row.R.Denot = record { journal = c.open_segment.new.self; session = c.self.inside.session; lines = c.self.inside.lines; equipment = equipment } in
     let which : (p.0 ≡ CountersUsed) ⊎ (p.0 ≡ DeviceFailed) = subst (λ (f : Fault). (f ≡ CountersUsed) ⊎ (f ≡ DeviceFailed)) (sym p.2) c.in_err-open_segment.ensures.errors in
     let whole = ap (λ (x : Station g.row.R.Denot). x.journal.broken) c.self.view_is ∙ c.requires.whole in
-    rw (p.1, ← c.self.view_is) (opens_none g.R.Rig.honest g.R.Rig.life p.0 e c.args.half old new refl (c.self.invariant.0 whole) which
-    (λ used. c.in_err-open_segment.ensures.unchanged (ap (λ (f : Fault). Err f) (sym p.2 ∙ used))) c.in_err-open_segment.ensures.stops)
+    rw (p.1, ← c.self.view_is) (opens_none g.R.Rig.honest g.R.Rig.life p.0 e c.args.half old new refl (c.self.invariant whole) which
+    (λ used. c.in_err-open_segment.ensures.unchanged (ap (λ (f : Fault). Err f) (sym p.2 ∙ used))) c.in_err-open_segment.ensures.stops refl)
 
 pub returns-clause-does : goal.returns-clause-does
 returns-clause-does g c =
     let equipment : Equipment = record { tools = c.self.inside.tools; geometry = c.self.inside.geometry } in
-    let old : Station g.row.R.Denot = record { journal = c.self.inside.journal; session = c.self.inside.session; equipment = equipment } in
-    let new : Station g.row.R.Denot = record { journal = c.open_segment.new.self; session = c.open.new.self; equipment = equipment } in
+    let old : Station g.row.R.Denot = record { journal = c.self.inside.journal; session = c.self.inside.session; lines = c.self.inside.lines; equipment = equipment } in
+    let new : Station g.row.R.Denot = record { journal = c.open_segment.new.self; session = c.open.new.self; lines = c.self.inside.lines; equipment = equipment } in
     let whole = ap (λ (x : Station g.row.R.Denot). x.journal.broken) c.self.view_is ∙ c.requires.whole in
-    rw (← c.self.view_is) (opens g.R.Rig.honest g.R.Rig.life c.in_ok-open_segment.field-0 c.open.result c.args.half old new c.open.ensures.reply c.open.ensures.next (c.self.invariant.0 whole) c.in_ok-open_segment.ensures.stops)
+    rw (← c.self.view_is) (opens g.R.Rig.honest g.R.Rig.life c.in_ok-open_segment.field-0 c.open.result c.args.half old new c.open.ensures.reply c.open.ensures.next (c.self.invariant whole) c.in_ok-open_segment.ensures.stops refl)

@@ -8,7 +8,7 @@ use Rattle.ng_core.proofs.controller.Controller.tick.Goals as goal
 pub returns-in-Some-clause-does : goal.returns-in-Some-clause-does
 returns-in-Some-clause-does g c =
     let equipment : Equipment = record { tools = c.self.inside.tools; geometry = c.self.inside.geometry } in
-    let old : Station g.row.R.Denot = record { journal = c.self.inside.journal; session = c.self.inside.session; equipment = equipment } in
+    let old : Station g.row.R.Denot = record { journal = c.self.inside.journal; session = c.self.inside.session; lines = c.self.inside.lines; equipment = equipment } in
     let new = c.hand_out.new.self in
     does_as g.R.Rig.honest g.R.Rig.life c.hand_out.result (λ (x : Station g.row.R.Denot) (program : List ℕ). tick x.equipment program x.session) c.args.self.now old new c.self.view_is
     (does_item g.R.Rig.honest g.R.Rig.life c.hand_out.result c.in-Some.item old new c.next_item.new.self
