@@ -1,7 +1,7 @@
 //! The words of the command line, read with clap.
 ghost use Rattle.std.specs.Prelude.{◌≡◌, IfOk, IfErr, true, is_some, map, codes};
 ghost use Rattle.clap.specs.Words.{app_of, first_of, found_of, kind_of, rows_of, takes};
-ghost use Rattle.ng_console.specs.Words.{Asks, HasFiles, HasFlag, HasFlags, dry_app, format_app, ngc_app, subcommand_name};
+ghost use Rattle.ng_console.specs.Words.{Asks, HasFiles, HasFlag, HasFlags, dry_app, format_app, ngc_app, run_app, subcommand_name};
 
 use clap::error::ErrorKind;
 use clap::{Arg, ArgAction, ArgMatches, Command, Error};
@@ -17,6 +17,10 @@ const ENDINGS: &str =
 /// What stands below the help text of `format`.
 const DEVICE_ENDINGS: &str =
     "Exit status:\n  0  the device is fresh\n  2  the words are wrong, or ask for help; or the file can't be opened or made, is\n     too short, is a directory, is held by another process, or fails\n\nA file that can't be opened prints nothing; the others print why.";
+
+/// What stands below the help text of `run`.
+const RUN_ENDINGS: &str =
+    "Exit status:\n  0  the commands ended, by quit or with the input\n  2  TODO";
 
 /// What a command line asks for.
 #[derive(Clone, Copy, Debug, PartialEq, Eq)]
@@ -35,6 +39,15 @@ pub enum Job<'a> {
         /// The path of the device's file.
         device: &'a str,
     },
+    /// `ngc run DEVICE SETTINGS OUT`: a controller over a device, which an operator commands.
+    Run {
+        /// The path of the device's file.
+        device: &'a str,
+        /// The path of the settings file.
+        settings: &'a str,
+        /// The path of the file to which what is handed out is appended.
+        out: &'a str,
+    },
 }
 
 /// What a line of words asks for. The first word is the program's own name, as the system gives it.
@@ -49,8 +62,11 @@ pub fn words<'a>(alloc: Global, words: &'a [&'a str]) -> Result<Job<'a>, Error>
     if let Some(dry) = matches.subcommand_matches("dry") {
         return Ok(dry_job(dry));
     }
-    match matches.subcommand_matches("format") {
-        Some(format) => Ok(format_job(format)),
+    if let Some(format) = matches.subcommand_matches("format") {
+        return Ok(format_job(format));
+    }
+    match matches.subcommand_matches("run") {
+        Some(run) => Ok(run_job(run)),
         None => unreachable!(),
     }
 }
@@ -88,6 +104,31 @@ fn format_job<'a>(matches: &ArgMatches<'a>) -> Job<'a>
     }
 }
 
+/// The job of the matches of `run`.
+fn run_job<'a>(matches: &ArgMatches<'a>) -> Job<'a>
+    requires device { is_some (first_of (codes "DEVICE") (rows_of (found_of matches.now))) ≡ true }
+    requires settings { is_some (first_of (codes "SETTINGS") (rows_of (found_of matches.now))) ≡ true }
+    requires out { is_some (first_of (codes "OUT") (rows_of (found_of matches.now))) ≡ true }
+    ensures files { HasFiles (rows_of (found_of matches.now)) result }
+    ensures flags { HasFlags (rows_of (found_of matches.now)) result }
+    ensures name { subcommand_name result ≡ codes "run" }
+{
+    let Some(device) = matches.get_str("DEVICE") else {
+        unreachable!()
+    };
+    let Some(settings) = matches.get_str("SETTINGS") else {
+        unreachable!()
+    };
+    let Some(out) = matches.get_str("OUT") else {
+        unreachable!()
+    };
+    Job::Run {
+        device,
+        settings,
+        out,
+    }
+}
+
 /// The command `ngc`, with its subcommands.
 fn command<'a>(alloc: Global) -> Result<Command<'a>, AllocError>
     ensures { IfOk result (λ command. app_of command ≡ ngc_app) }
@@ -99,7 +140,8 @@ fn command<'a>(alloc: Global) -> Result<Command<'a>, AllocError>
         .subcommand_required(true)
         .arg_required_else_help(true)
         .subcommand(dry_command(alloc)?)?
-        .subcommand(format_command(alloc)?)
+        .subcommand(format_command(alloc)?)?
+        .subcommand(run_command(alloc)?)
 }
 
 /// The subcommand `dry`.
@@ -139,4 +181,30 @@ fn format_command<'a>(alloc: Global) -> Result<Command<'a>, AllocError>
         .about("Make a device fresh; whatever it held is gone")
         .after_help(DEVICE_ENDINGS)
         .arg(device)
+}
+
+/// The subcommand `run`.
+fn run_command<'a>(alloc: Global) -> Result<Command<'a>, AllocError>
+    ensures { IfOk result (λ command. app_of command ≡ run_app) }
+{
+    let device = Arg::new(alloc, "DEVICE")
+        .help("The file of the device, as `format` made it")
+        .action(ArgAction::Set)
+        .required(true);
+    let settings = Arg::new(alloc, "SETTINGS")
+        .help("The file of the machine's settings, in TOML")
+        .action(ArgAction::Set)
+        .required(true);
+    let out = Arg::new(alloc, "OUT")
+        .help(
+            "The file to which pulses, waits and switches are appended, a line each; it is made where there is none",
+        )
+        .action(ArgAction::Set)
+        .required(true);
+    Command::new(alloc, "run")
+        .about("Run a machine: read an operator's commands and hand out pulses")
+        .after_help(RUN_ENDINGS)
+        .arg(device)?
+        .arg(settings)?
+        .arg(out)
 }
