@@ -10,17 +10,21 @@ use std::alloc::{AllocError, Global};
 /// The version that `ngc --version` prints.
 const VERSION: &str = "0.1.0";
 
-/// What stands below each help text: how a run ends.
+/// What stands below the help text of the program: how a job ends.
 const ENDINGS: &str =
-    "Exit status:\n  0  the program ran to its end\n  1  a line was refused; the last line printed says which one and why\n  2  the words are wrong, or ask for help or the version; or a file can't be\n     read, the settings are refused, the output can't be written, or memory\n     is wanting\n\nRefused settings print why. A file that can't be read prints nothing.";
+    "Exit status:\n  0  done: a program ran to its end, a device is fresh, an operator's commands are\n     answered\n  1  dry: a line was refused; the last line printed says which one and why\n  2  the words are wrong, or ask for help or the version; or a file can't be\n     opened or read, the settings or the device are refused, the device, the\n     input or the output fails, or memory is wanting\n\nRefused settings and devices print why. A file that can't be read prints nothing.";
 
-/// What stands below the help text of `format`.
+/// What stands below that of `dry`.
+const PROGRAM_ENDINGS: &str =
+    "Exit status:\n  0  the program ran to its end\n  1  a line was refused; the last line printed says which one and why\n  2  the words are wrong, or ask for help; or a file can't be read, the settings\n     are refused, the output can't be written, or memory is wanting\n\nRefused settings print why. A file that can't be read prints nothing.";
+
+/// What stands below that of `format`.
 const DEVICE_ENDINGS: &str =
     "Exit status:\n  0  the device is fresh\n  2  the words are wrong, or ask for help; or the file can't be opened or made, is\n     too short, is a directory, is held by another process, or fails\n\nA file that can't be opened prints nothing; the others print why.";
 
-/// What stands below the help text of `run`.
+/// What stands below that of `run`.
 const RUN_ENDINGS: &str =
-    "Exit status:\n  0  the commands ended, by quit or with the input\n  2  TODO";
+    "Exit status:\n  0  all commands are answered, up to `quit` or to the end of the input\n  2  the words are wrong, or ask for help; or a file can't be opened or read, the\n     settings or the device are refused, the device is held by another process or\n     failed, the input or the output failed, or memory is wanting\n\nA refused command or program line prints why, and the next one is read. Refused\nsettings and devices print why. A file that can't be read prints nothing.";
 
 /// What a command line asks for.
 #[derive(Clone, Copy, Debug, PartialEq, Eq)]
@@ -163,7 +167,7 @@ fn dry_command<'a>(alloc: Global) -> Result<Command<'a>, AllocError>
         .action(ArgAction::SetTrue);
     Command::new(alloc, "dry")
         .about("Run a program without a machine and print its canonical text")
-        .after_help(ENDINGS)
+        .after_help(PROGRAM_ENDINGS)
         .arg(program)?
         .arg(settings)?
         .arg(block_delete)
@@ -189,18 +193,18 @@ fn run_command<'a>(alloc: Global) -> Result<Command<'a>, AllocError>
 {
     let device = Arg::new(alloc, "DEVICE")
         .help("The file of the device, as `format` made it")
-        .action(ArgAction::Set)
-        .required(true);
+        .required(true)
+        .action(ArgAction::Set);
     let settings = Arg::new(alloc, "SETTINGS")
         .help("The file of the machine's settings, in TOML")
-        .action(ArgAction::Set)
-        .required(true);
+        .required(true)
+        .action(ArgAction::Set);
     let out = Arg::new(alloc, "OUT")
         .help(
             "The file to which pulses, waits and switches are appended, a line each; it is made where there is none",
         )
-        .action(ArgAction::Set)
-        .required(true);
+        .required(true)
+        .action(ArgAction::Set);
     Command::new(alloc, "run")
         .about("Run a machine: read an operator's commands and hand out pulses")
         .after_help(RUN_ENDINGS)
