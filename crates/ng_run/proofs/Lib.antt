@@ -1,0 +1,5 @@
+pub mod Turning
+pub mod Asking
+pub mod Ticking
+pub mod Replying
+pub mod Conversing

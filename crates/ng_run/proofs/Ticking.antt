@@ -1,0 +1,119 @@
+-- The ticks of one command, one after the other.
+use Rattle.std.proofs.Common.{◌≡◌, ◌<◌, ◌+◌, ◌-◌, ℕ, Bool, true, false, List, [], ◌∷◌, ◌++◌, length, map, take, Option, Ok, Err, refl, sym, ap, ◌∙◌, subst, inl, inr, arith, append-nil, replicate, length-append}
+use Rattle.std.specs.List.{AllPass, flat_map}
+use Rattle.std.proofs.lemmas.List.{length-replicate, map-append}
+use Rattle.std.specs.Io.KnownBytes.{Appends}
+use Rattle.std.proofs.Math.Seq.{take-append-add}
+use Rattle.std.proofs.lemmas.List.Elements.{All-append, All-push, All-replicate}
+use Rattle.ng_block.proofs.Streams.{Appends-trans}
+use Rattle.ng_rig.specs.Life.{Life}
+use Rattle.ng_commands.specs.Replies.{goes_on, tick_line}
+use Rattle.ng_session.specs.declared.event.Event.{Event}
+use Rattle.ng_session.specs.declared.event.Event.TheVariants as event
+use Rattle.ng_session.specs.declared.reply.Reply.{Reply}
+use Rattle.ng_dialogue.specs.declared.telling.Unsent.{Unsent}
+use Rattle.ng_core.specs.Station.{Station}
+use Rattle.ng_run.specs.Consoles.{TicksOn}
+use Rattle.ng_run.specs.Talks.{AreTicks}
+use Rattle.ng_run.specs.Turns.{Turn, Turns}
+use Rattle.ng_run.proofs.Asking.{one_more}
+use Rattle.ng_run.proofs.Turning.{turns_joined, turns_one}
+
+abbrev tick_for : (A : Type 0) → Reply → Event A
+tick_for A r = event.Tick
+
+-- a tick for each reply
+abbrev pub ticks_of : (A : Type 0) → List Reply → List (Event A)
+ticks_of A replies = map (tick_for A) replies
+
+-- so many ticks were made, which all go on
+pub record Ticked {R : Type 0} (A : Type 0) (honest : R → Type 0) (life : R → Life) (failed : R → ℕ) (count : ℕ) (old new : Option (List ℕ)) (before after : Station R) : Type 0 where
+  pub replies : List Reply
+  pub go_on : AllPass goes_on replies
+  pub count_is : length replies ≡ count
+  pub given : Turns honest life failed (ticks_of A replies) replies before after
+  pub tells : Appends old new (flat_map tick_line replies)
+
+given_more : {R : Type 0} (A : Type 0) (honest : R → Type 0) (life : R → Life) (failed : R → ℕ) (replies : List Reply) (r : Reply) (before mid after : Station R)
+    → Turns honest life failed (ticks_of A replies) replies before mid → Turn {A = A} honest life failed event.Tick r mid after
+    → Turns honest life failed (ticks_of A (replies ++ r ∷ [])) (replies ++ r ∷ []) before after
+given_more A honest life failed replies r before mid after p t =
+    subst (λ (l : List (Event A)). Turns honest life failed l (replies ++ r ∷ []) before after) (sym (map-append (tick_for A) replies (r ∷ [])))
+    (turns_joined honest life failed (ticks_of A replies) (event.Tick ∷ []) replies (r ∷ []) before mid after p (turns_one honest life failed event.Tick r mid after t))
+
+tells_more : (old mid new : Option (List ℕ)) (replies : List Reply) (r : Reply) → Appends old mid (flat_map tick_line replies) → Appends mid new (tick_line r) → Appends old new (flat_map tick_line (replies ++ r ∷ []))
+tells_more old mid new replies r p q =
+    subst (λ (l : List ℕ). Appends old new l) (one_more tick_line replies r) (Appends-trans old mid new (flat_map tick_line replies) (tick_line r) p q)
+
+one_longer : {X : Type 0} (xs : List X) (x : X) (n : ℕ) → length xs ≡ n → length (xs ++ x ∷ []) ≡ n + 1
+one_longer xs x n e = omega (arith, length-append xs (x ∷ []), e)
+
+pub ticked_more : {R : Type 0} (A : Type 0) (honest : R → Type 0) (life : R → Life) (failed : R → ℕ) (count : ℕ) (r : Reply) (old mid new : Option (List ℕ)) (before now after : Station R)
+    → Ticked A honest life failed count old mid before now → Turn {A = A} honest life failed event.Tick r now after → goes_on r ≡ true → Appends mid new (tick_line r)
+    → Ticked A honest life failed (count + 1) old new before after
+ticked_more A honest life failed count r old mid new before now after p t on told = record {
+  replies = p.replies ++ r ∷ [];
+  go_on = All-push (λ (x : Reply). goes_on x ≡ true) p.replies r p.go_on on;
+  count_is = one_longer p.replies r count p.count_is;
+  given = given_more A honest life failed p.replies r before now after p.given t;
+  tells = tells_more old mid new p.replies r p.tells told;
+}
+
+-- a reply ends them
+pub ticks_end : {R : Type 0} (A : Type 0) (honest : R → Type 0) (life : R → Life) (failed : R → ℕ) (most count : ℕ) (r : Reply) (old mid new : Option (List ℕ)) (before now after : Station R)
+    → Ticked A honest life failed count old mid before now → count < most → Turn {A = A} honest life failed event.Tick r now after → goes_on r ≡ false → Appends mid new (tick_line r)
+    → TicksOn A honest life failed most (Ok (count + 1)) old new before after
+ticks_end A honest life failed most count r old mid new before now after p below t off told =
+    let longer = one_longer p.replies r count p.count_is in
+    record {
+      replies = p.replies ++ r ∷ [];
+      makes = (inr (p.replies, r, refl, p.go_on, off, omega (arith, longer, below)), sym longer);
+      given = given_more A honest life failed p.replies r before now after p.given t;
+      tells = tells_more old mid new p.replies r p.tells told;
+    }
+
+-- all were made
+pub ticks_all : {R : Type 0} (A : Type 0) (honest : R → Type 0) (life : R → Life) (failed : R → ℕ) (most count : ℕ) (old new : Option (List ℕ)) (before after : Station R)
+    → Ticked A honest life failed count old new before after → count ≡ most → TicksOn A honest life failed most (Ok most) old new before after
+ticks_all A honest life failed most count old new before after p all = record {
+  replies = p.replies;
+  makes = (inl (p.go_on, p.count_is ∙ all), sym (p.count_is ∙ all));
+  given = p.given;
+  tells = p.tells;
+}
+
+-- more might have come
+more_may_come : (most : ℕ) (replies : List Reply) (r : Reply) (b : Bool) → goes_on r ≡ b → AllPass goes_on replies → length replies < most
+    → (more : List Reply) × AreTicks most ((replies ++ r ∷ []) ++ more)
+more_may_come most replies r false off on below = (
+  [],
+  subst (λ (l : List Reply). AreTicks most l) (sym (append-nil (replies ++ r ∷ [])))
+      (inr (replies, r, refl, on, off, omega (arith, length-append replies (r ∷ []), below))),
+)
+more_may_come most replies r true goes on below =
+    let P : Reply → Type 0 = λ x. goes_on x ≡ true in
+    let left = most - (length replies + 1) in (
+      replicate left r,
+      inl (
+        All-append P (replies ++ r ∷ []) (replicate left r) (All-push P replies r on goes) (All-replicate P left r goes),
+        omega (arith, length-append (replies ++ r ∷ []) (replicate left r), length-append replies (r ∷ []), length-replicate left r, below),
+      ),
+    )
+
+-- a line can't be written
+pub ticks_break : {R : Type 0} (A : Type 0) (honest : R → Type 0) (life : R → Life) (failed : R → ℕ) (most count : ℕ) (r : Reply) (fault : Unsent) (old mid new : Option (List ℕ)) (before now after : Station R)
+    → Ticked A honest life failed count old mid before now → count < most → Turn {A = A} honest life failed event.Tick r now after → (n : ℕ) × Appends mid new (take n (tick_line r))
+    → TicksOn A honest life failed most (Err fault) old new before after
+ticks_break A honest life failed most count r fault old mid new before now after p below t told =
+    let lines = flat_map tick_line p.replies in
+    record {
+      replies = p.replies ++ r ∷ [];
+      makes = more_may_come most p.replies r (goes_on r) refl p.go_on (omega (arith, p.count_is, below));
+      given = given_more A honest life failed p.replies r before now after p.given t;
+      tells = (
+        length lines + told.0,
+        subst (λ (l : List ℕ). Appends old new l)
+            (sym (take-append-add lines (tick_line r) told.0) ∙ ap (λ l. take (length lines + told.0) l) (one_more tick_line p.replies r))
+            (Appends-trans old mid new lines (take told.0 (tick_line r)) p.tells told.1),
+      );
+    }

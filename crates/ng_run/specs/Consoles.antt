@@ -1,0 +1,109 @@
+-- What a console does: what it is asked and answers, and what becomes of its controller and device (own).
+use Rattle.std.specs.Prelude.{◌≡◌, ◌≤◌, ◌<◌, ℕ, Bool, false, List, [], ◌∷◌, ◌++◌, Option, Result, Ok, Err, All, IfOk, IfErr, IfSome, IsErrAnd, length, take, flat_map}
+use Rattle.std.specs.Io.KnownBytes.{Appends}
+use Rattle.ng_num.specs.declared.fault.Fault.{Fault}
+use Rattle.ng_num.specs.declared.fault.Fault.TheVariants.{NotFormatted, OutOfMemory}
+use Rattle.ng_rig.specs.Calls.{Promises}
+use Rattle.ng_rig.specs.Life.{Life}
+use Rattle.ng_settings.specs.declared.standard.Settings.{Settings}
+use Rattle.ng_layout.specs.Storable.{IsStorable}
+use Rattle.ng_journal.specs.Journal.{Tells}
+use Rattle.ng_commands.specs.Replies.{refused_line, tick_line}
+use Rattle.ng_session.specs.Session.{resting}
+use Rattle.ng_session.specs.declared.reply.Reply.{Reply}
+use Rattle.ng_dialogue.specs.Orders.{Ends}
+use Rattle.ng_dialogue.specs.Telling.{Sends}
+use Rattle.ng_dialogue.specs.declared.order.Order.{Order}
+use Rattle.ng_dialogue.specs.declared.order.Order.TheVariants.{Ticks}
+use Rattle.ng_dialogue.specs.declared.telling.Unsent.{Unsent}
+use Rattle.ng_core.specs.Acts.{scene_of}
+use Rattle.ng_core.specs.Powers.{Answer, Powers, rig_of, fault_of}
+use Rattle.ng_core.specs.Runs.{Passes}
+use Rattle.ng_core.specs.Station.{Station, Rests}
+use Rattle.ng_run.specs.Endings.{ended_by, status_of}
+use Rattle.ng_run.specs.Talks.{AreTicks, Exchange, Hears, IsAnswered, IsBegun, events_in, events_of, replies_in, words_in, words_of}
+use Rattle.ng_run.specs.Turns.{Turns}
+use Rattle.ng_run.specs.declared.ending.Ended.{Ended}
+use Rattle.ng_run.specs.declared.ending.Ended.TheVariants.{Unpowered}
+use Rattle.ng_run.specs.declared.ending.Stop.{Stop}
+use Rattle.ng_run.specs.declared.ending.Stop.TheVariants.{Deaf, Mute}
+
+-- ---- one order
+
+-- the replies to the ticks of one command, and how many they are; where a line can't be written, more may have come
+abbrev pub Makes : {E : Type 0} → ℕ → Result ℕ E → List Reply → Type 0
+Makes most (Ok made) replies = AreTicks most replies × (made ≡ length replies)
+Makes most (Err fault) replies = (more : List Reply) × AreTicks most (replies ++ more)
+
+-- The controller is given ticks, and the lines of their replies are written.
+pub record TicksOn {R : Type 0} (A : Type 0) (honest : R → Type 0) (life : R → Life) (failed : R → ℕ) (most : ℕ) (made : Result ℕ Unsent) (old new : Option (List ℕ)) (before after : Station R) : Type 0 where
+  pub replies : List Reply
+  pub makes : Makes most made replies
+  pub given : Turns honest life failed (events_of {A = A} (Ticks most) replies) replies before after
+  pub tells : Sends old new (flat_map tick_line replies) made
+
+-- an answer is written, or a beginning of it
+abbrev pub Told : {A T : Type 0} → Exchange A → Result T Unsent → Option (List ℕ) → Option (List ℕ) → Type 0
+Told x (Ok done) old new = IsAnswered x × Appends old new (words_of x.order x.replies)
+Told x (Err fault) old new = (written : List ℕ) × IsBegun x written × Appends old new written
+
+-- The controller is given what an order asks, and the answer is written.
+pub record Answers {A R T : Type 0} (honest : R → Type 0) (life : R → Life) (failed : R → ℕ) (order : Order A) (result : Result T Unsent) (old new : Option (List ℕ)) (before after : Station R) : Type 0 where
+  pub replies : List Reply
+  pub given : Turns honest life failed (events_of order replies) replies before after
+  pub tells : Told (record { order = order; replies = replies }) result old new
+
+-- ---- the text
+
+-- How a conversation ends, with this rest of its text, and with an answer of which this is written, if one is broken off.
+abbrev pub Closes : {A : Type 0} → Result Ended Stop → Bool → Option (List ℕ) → List (Exchange A) → List ℕ → Type 0
+Closes (Ok ended) broken rest begun written = (ended ≡ ended_by broken) × IfSome rest Ends × (begun ≡ []) × (written ≡ [])
+Closes (Err Deaf) broken rest begun written = (begun ≡ []) × (written ≡ [])
+Closes {A} (Err Mute) broken rest begun written = (last : Exchange A) × (begun ≡ last ∷ []) × IsBegun last written
+
+-- A text is heard and answered in turn: the events that it asks are given, and the words of the answers are written. Over an honest
+-- device each stop leaves what stands behind some of these events, and the items handed out are the session's.
+pub record Conversation {R : Type 0} (A : Type 0) (honest : R → Type 0) (life : R → Life) (failed : R → ℕ) (ended : Result Ended Stop) (text old new : Option (List ℕ)) (before after : Station R) : Type 0 where
+  pub answered : List (Exchange A)
+  pub begun : List (Exchange A)
+  pub rest : Option (List ℕ)
+  pub written : List ℕ
+  pub each : All IsAnswered answered
+  pub hears : Hears text (answered ++ begun) rest
+  pub given : Turns honest life failed (events_in (answered ++ begun)) (replies_in (answered ++ begun)) before after
+  pub tells : Appends old new (words_in answered ++ written)
+  pub closes : Closes ended after.journal.broken rest begun written
+  pub passes : before.journal.broken ≡ false → Promises (honest before.journal.rig) (honest after.journal.rig) ((program : List ℕ) → Rests (life before.journal.rig) before program
+      → Passes life (events_in (answered ++ begun)) (replies_in (answered ++ begun)) before.equipment (scene_of program before) (life before.journal.rig) after)
+
+-- ---- the console
+
+-- What power on gives: a whole controller at rest with what stands, or a fault and the device.
+pub record PowersOn {R : Type 0} (sectors failed : R → ℕ) (honest : R → Type 0) (life : R → Life) (settings : Settings) (rig : R) (answer : Answer R) : Type 0 where
+  pub powers : 1710 ≤ sectors rig → Promises (honest rig) (honest (rig_of answer)) (Powers answer (life rig) (life (rig_of answer)))
+  pub rests : IfOk answer (λ c. (c.journal.broken ≡ false) × (c.session ≡ resting c.journal.saved) × IsStorable c.session.stored)
+  pub equipment : IfOk answer (λ c. c.equipment ≡ record { tools = settings.tools; geometry = settings.geometry })
+  pub small : sectors rig < 1710 → IsErrAnd answer (λ e. (e.0 ≡ NotFormatted) × (e.1 ≡ rig))
+  pub memory : IfErr answer (λ e. e.0 ≡ OutOfMemory → e.1 ≡ rig)
+  pub failures : Tells (fault_of answer) (failed rig) (failed (rig_of answer))
+
+-- a fault of power on is told, or a beginning of it
+abbrev pub Refuses : Fault → Result Ended Stop → Option (List ℕ) → Option (List ℕ) → Type 0
+Refuses fault (Ok ended) old new = (ended ≡ Unpowered) × Appends old new (refused_line fault)
+Refuses fault (Err stop) old new = (stop ≡ Mute) × ((n : ℕ) × Appends old new (take n (refused_line fault)))
+
+-- what comes of power on, and the device that is left
+abbrev pub GoesOn : {R : Type 0} → Type 0 → (R → Type 0) → (R → Life) → (R → ℕ) → Answer R → Result Ended Stop → R → Option (List ℕ) → Option (List ℕ) → Option (List ℕ) → Type 0
+GoesOn {R} A honest life failed (Ok c) ended left text old new = (after : Station R) × Conversation A honest life failed ended text old new c after × (left ≡ after.journal.rig)
+GoesOn {R} A honest life failed (Err e) ended left text old new = (left ≡ e.1) × Refuses e.0 ended old new
+
+-- A console over a device: power on, and what comes of it.
+pub record Runs {R : Type 0} (A : Type 0) (sectors failed : R → ℕ) (honest : R → Type 0) (life : R → Life) (settings : Settings) (rig : R) (text old new : Option (List ℕ)) (result : Result Ended Stop × R) : Type 0 where
+  pub powered : Answer R
+  pub starts : PowersOn sectors failed honest life settings rig powered
+  pub goes_on : GoesOn A honest life failed powered result.0 result.1 text old new
+
+-- the same, with the exit status
+abbrev pub Consoles : {R : Type 0} → Type 0 → (R → ℕ) → (R → ℕ) → (R → Type 0) → (R → Life) → Settings → R → Option (List ℕ) → Option (List ℕ) → Option (List ℕ) → ℕ × R → Type 0
+Consoles A sectors failed honest life settings rig text old new result =
+    (ended : Result Ended Stop) × (result.0 ≡ status_of ended) × Runs A sectors failed honest life settings rig text old new (ended, result.1)

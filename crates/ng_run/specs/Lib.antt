@@ -1,0 +1,4 @@
+pub mod Endings
+pub mod Talks
+pub mod Turns
+pub mod Consoles

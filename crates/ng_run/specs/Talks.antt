@@ -1,0 +1,74 @@
+-- What a text asks, and how it is answered, one order after the other (own).
+use Rattle.std.specs.Prelude.{◌≡◌, ◌≤◌, ◌⊎◌, ℕ, false, List, [], ◌∷◌, ◌++◌, Option, None, Some, length, map, take, flat_map}
+use Rattle.std.specs.List.{AllPass}
+use Rattle.ng_commands.specs.Replies.{goes_on, refused_line, reply_line, tick_line, ticks_line}
+use Rattle.ng_session.specs.declared.event.Event.{Event}
+use Rattle.ng_session.specs.declared.event.Event.TheVariants as event
+use Rattle.ng_session.specs.declared.reply.Reply.{Reply}
+use Rattle.ng_dialogue.specs.Orders.{Asks}
+use Rattle.ng_dialogue.specs.declared.order.Order.{Order}
+use Rattle.ng_dialogue.specs.declared.order.Order.TheVariants.{Give, Ticks, Refuse}
+
+-- the controller is given one event, or a tick for each reply, or nothing
+abbrev pub events_of : {A : Type 0} → Order A → List Reply → List (Event A)
+events_of (Give event) replies = event ∷ []
+events_of (Ticks n) replies = map (λ r. event.Tick) replies
+events_of (Refuse fault) replies = []
+
+-- the text of an answer: the lines of its replies; behind ticks, how many were made; or why there are none
+abbrev pub words_of : {A : Type 0} → Order A → List Reply → List ℕ
+words_of (Give event) replies = flat_map reply_line replies
+words_of (Ticks n) replies = flat_map tick_line replies ++ ticks_line (length replies)
+words_of (Refuse fault) replies = refused_line fault
+
+-- the replies to n ticks, which all go on, or to fewer, of which the last ends them
+abbrev pub AreTicks : ℕ → List Reply → Type 0
+AreTicks n replies =
+    (AllPass goes_on replies × (length replies ≡ n))
+    ⊎ ((before : List Reply) × (last : Reply) × (replies ≡ before ++ last ∷ []) × AllPass goes_on before × (goes_on last ≡ false) × (length replies ≤ n))
+
+-- the replies to an order
+abbrev pub AreReplies : {A : Type 0} → Order A → List Reply → Type 0
+AreReplies (Give event) replies = length replies ≡ 1
+AreReplies (Ticks n) replies = AreTicks n replies
+AreReplies (Refuse fault) replies = replies ≡ []
+
+-- an order with its replies
+pub record Exchange (A : Type 0) : Type 0 where
+  pub order : Order A
+  pub replies : List Reply
+
+abbrev pub IsAnswered : {A : Type 0} → Exchange A → Type 0
+IsAnswered x = AreReplies x.order x.replies
+
+-- Ticks are broken off: more may have come of them, and their lines are begun.
+abbrev pub AreBrokenOff : {A : Type 0} → Order A → List Reply → List ℕ → Type 0
+AreBrokenOff (Give event) replies lines = ⊥
+AreBrokenOff (Ticks n) replies lines = (more : List Reply) × AreTicks n (replies ++ more) × (lines ≡ flat_map tick_line replies)
+AreBrokenOff (Refuse fault) replies lines = ⊥
+
+-- An answer of which a beginning is written: it came whole, or its ticks are broken off.
+abbrev pub IsBegun : {A : Type 0} → Exchange A → List ℕ → Type 0
+IsBegun x written =
+    (words : List ℕ) × ((IsAnswered x × (words ≡ words_of x.order x.replies)) ⊎ AreBrokenOff x.order x.replies words)
+    × ((n : ℕ) × (written ≡ take n words))
+
+abbrev pub events_in : {A : Type 0} → List (Exchange A) → List (Event A)
+events_in talk = flat_map (λ x. events_of x.order x.replies) talk
+
+abbrev pub replies_in : {A : Type 0} → List (Exchange A) → List Reply
+replies_in talk = flat_map (λ x. x.replies) talk
+
+abbrev pub words_in : {A : Type 0} → List (Exchange A) → List ℕ
+words_in talk = flat_map (λ x. words_of x.order x.replies) talk
+
+-- a text asks these orders in turn, and the rest follows
+abbrev pub AsksAll : {A : Type 0} → List ℕ → List (Exchange A) → List ℕ → Type 0
+AsksAll text [] rest = rest ≡ text
+AsksAll text (x ∷ talk) rest = (more : List ℕ) × Asks text x.order more × AsksAll more talk rest
+
+-- the same, where the text is known
+abbrev pub Hears : {A : Type 0} → Option (List ℕ) → List (Exchange A) → Option (List ℕ) → Type 0
+Hears None talk rest = Unit {0}
+Hears (Some text) talk None = ⊥
+Hears (Some text) talk (Some rest) = AsksAll text talk rest

@@ -1,0 +1,50 @@
+//! One thing that the console is asked: what it gives the controller, and what it writes of that.
+ghost use Rattle.ng_run.specs.Consoles.{Answers, TicksOn};
+
+use ng_commands::goes_on;
+use ng_core::{Controller, Event};
+use ng_dialogue::{Order, Unsent, tell_refusal, tell_reply, tell_tick, tell_ticks};
+use ng_rig::Rig;
+use std::alloc::Allocator;
+use std::io::Write;
+
+/// Gives the controller what an order asks, and writes the answer: a beginning of it where the writer fails.
+pub(crate) fn answer<W: Write, R: Rig, A: Allocator + Copy + Drop>(
+    alloc: A,
+    writer: &mut W,
+    controller: &mut Controller<R, A>,
+    order: Order<A>,
+) -> Result<(), Unsent>
+    ensures { Answers R.honest R.life R.failed order result (W.contents writer.old) (W.contents writer.new) controller.old controller.new }
+{
+    match order {
+        Order::Give(event) => {
+            let reply = controller.on(event);
+            tell_reply(alloc, writer, &reply)
+        }
+        Order::Ticks(most) => match tick_on(alloc, writer, controller, most) {
+            Ok(made) => tell_ticks(alloc, writer, made),
+            Err(fault) => Err(fault),
+        },
+        Order::Refuse(fault) => tell_refusal(alloc, writer, fault),
+    }
+}
+
+/// Gives the controller ticks, up to so many or until one ends them, and writes the line of each reply. The number of ticks.
+fn tick_on<W: Write, R: Rig, A: Allocator + Copy + Drop>(
+    alloc: A,
+    writer: &mut W,
+    controller: &mut Controller<R, A>,
+    most: u32,
+) -> Result<u32, Unsent>
+    ensures { TicksOn A R.honest R.life R.failed most result (W.contents writer.old) (W.contents writer.new) controller.old controller.new }
+{
+    for made in 0..most {
+        let reply = controller.on(Event::Tick);
+        tell_tick(alloc, writer, &reply)?;
+        if !goes_on(&reply) {
+            return Ok(made + 1);
+        }
+    }
+    Ok(most)
+}

@@ -1,0 +1,53 @@
+//! How a console ends.
+ghost use Rattle.std.specs.Prelude.{◌≡◌, ◌≤◌};
+ghost use Rattle.ng_run.specs.Endings.{ended_by, status_of};
+
+/// A console that did all that it was to do (own).
+#[derive(Clone, Copy, Debug, PartialEq, Eq)]
+pub enum Ended {
+    /// All of the text is answered, up to its end or to `quit`.
+    Whole,
+    /// The same, and a call of the device failed meanwhile.
+    Broken,
+    /// Power on was refused, and the line that says so is written.
+    Unpowered,
+}
+
+/// Why a console breaks off (own).
+#[derive(Clone, Copy, Debug, PartialEq, Eq)]
+pub enum Stop {
+    /// A read failed, or one more than can be made was needed, or a line of the operator found no memory: what was asked before is
+    /// answered.
+    Deaf,
+    /// A write or a flush failed, or an answer's line found no memory: a beginning of the answer is written.
+    Mute,
+}
+
+/// The exit status when all is done.
+const DONE: u8 = 0;
+
+/// The exit status when anything failed.
+const FAILED: u8 = 2;
+
+/// How a console ends whose text is answered.
+pub(crate) fn ended_by(is_broken: bool) -> Ended
+    ensures { result ≡ ended_by is_broken }
+{
+    if is_broken {
+        Ended::Broken
+    } else {
+        Ended::Whole
+    }
+}
+
+/// The exit status.
+pub(crate) fn status(ended: &Result<Ended, Stop>) -> u8
+    ensures value { result ≡ status_of ended.now }
+    ensures range { result ≤ 2 }
+{
+    match ended {
+        Ok(Ended::Whole) => DONE,
+        Ok(Ended::Broken | Ended::Unpowered) => FAILED,
+        Err(Stop::Deaf | Stop::Mute) => FAILED,
+    }
+}

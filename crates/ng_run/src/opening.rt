@@ -1,0 +1,68 @@
+//! A console from power on to its exit status.
+ghost use Rattle.std.specs.Prelude.{◌≤◌};
+ghost use Rattle.ng_run.specs.Consoles.{Consoles, Refuses, Runs};
+
+use crate::ending::{Ended, Stop, status};
+use crate::talking::talk;
+use ng_core::power_on;
+use ng_dialogue::tell_refusal;
+use ng_num::Fault;
+use ng_rig::Rig;
+use ng_settings::Settings;
+use std::alloc::Allocator;
+use std::io::{Read, Write};
+
+/// Powers on over a device, answers an operator's lines until they end or one asks to quit, and gives the exit status and the device
+/// (own).
+///
+/// A line that is no command is refused, and so is what the controller refuses: the console goes on. 0: all is answered. 2: all is
+/// answered, and a call of the device failed meanwhile; or power on is refused, and that is told; or the reader or the writer failed,
+/// or memory was wanting for a line of the operator or of an answer, and a beginning of the answers is written. Each line is flushed.
+/// Ticks take no memory but for their lines, and read nothing.
+pub fn console<I: Read, W: Write, R: Rig, A: Allocator + Copy + Drop>(
+    alloc: A,
+    reader: &mut I,
+    writer: &mut W,
+    rig: R,
+    settings: Settings,
+) -> (u8, R)
+    ensures range { result.0 ≤ 2 }
+    ensures console { Consoles A R.sectors R.failed R.honest R.life settings rig (I.remaining reader.old) (W.contents writer.old) (W.contents writer.new) result }
+{
+    let (ended, rig) = run(alloc, reader, writer, rig, settings);
+    (status(&ended), rig)
+}
+
+/// The same, with how it ended.
+fn run<I: Read, W: Write, R: Rig, A: Allocator + Copy + Drop>(
+    alloc: A,
+    reader: &mut I,
+    writer: &mut W,
+    rig: R,
+    settings: Settings,
+) -> (Result<Ended, Stop>, R)
+    ensures { Runs A R.sectors R.failed R.honest R.life settings rig (I.remaining reader.old) (W.contents writer.old) (W.contents writer.new) result }
+{
+    match power_on(alloc, rig, settings) {
+        Ok(controller) => {
+            let mut controller = controller;
+            let ended = talk(alloc, reader, writer, &mut controller);
+            (ended, controller.into_rig())
+        }
+        Err((fault, rig)) => (refuse(alloc, writer, fault), rig),
+    }
+}
+
+/// Tells why power on is refused.
+fn refuse<W: Write, A: Allocator + Copy + Drop>(
+    alloc: A,
+    writer: &mut W,
+    fault: Fault,
+) -> Result<Ended, Stop>
+    ensures { Refuses fault result (W.contents writer.old) (W.contents writer.new) }
+{
+    match tell_refusal(alloc, writer, fault) {
+        Ok(()) => Ok(Ended::Unpowered),
+        Err(_) => Err(Stop::Mute),
+    }
+}
