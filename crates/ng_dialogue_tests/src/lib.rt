@@ -5,3 +5,7 @@
 
 #[cfg(test)]
 mod console_lines;
+#[cfg(test)]
+mod dialogue;
+#[cfg(test)]
+mod files;
