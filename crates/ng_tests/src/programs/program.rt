@@ -106,7 +106,7 @@ fn words_ask_for_a_job_or_are_answered(rt: HostRuntime) -> Result<(), Fail> {
     }
     for (given, beginning) in ANSWERED {
         let mut text = Vec::new(rt.alloc());
-        assert!(rt; ngc(&rt, given, &mut text) == 2, "{given:?}");
+        assert!(rt; ngc(&rt, given, &mut io::empty(), &mut text) == 2, "{given:?}");
         assert!(rt;
             text.as_slice().starts_with(beginning.as_bytes()),
             "{given:?}"
@@ -242,7 +242,7 @@ fn runs_files(rt: HostRuntime) -> Result<(), Fail> {
         let wanted = joined(rt.alloc(), text.as_bytes(), end.as_bytes())?;
         let mut written = Vec::new(rt.alloc());
         assert!(rt;
-            ngc(&rt, words.as_slice(), &mut written) == status,
+            ngc(&rt, words.as_slice(), &mut io::empty(), &mut written) == status,
             "{program:?}"
         );
         assert!(rt; written == wanted, "{program:?}");
@@ -252,6 +252,6 @@ fn runs_files(rt: HostRuntime) -> Result<(), Fail> {
     // neither file is there
     let mut written = Vec::new(rt.alloc());
     let words = ["ngc", "dry", path, "--settings", machine];
-    assert!(rt; ngc(&rt, &words, &mut written) == 2 && written.is_empty());
+    assert!(rt; ngc(&rt, &words, &mut io::empty(), &mut written) == 2 && written.is_empty());
     Ok(())
 }
