@@ -105,7 +105,10 @@ fn words_ask_for_a_job_or_are_answered(rt: HostRuntime) -> Result<(), Fail> {
     }
     for (given, beginning) in ANSWERED {
         let mut text = Vec::new(rt.alloc());
-        assert!(rt; ngc(&rt, given, &mut io::empty(), &mut text) == 2, "{given:?}");
+        assert!(rt;
+            ngc(&rt, given, &mut io::empty(), &mut text) == 2,
+            "{given:?}"
+        );
         assert!(rt;
             text.as_slice().starts_with(beginning.as_bytes()),
             "{given:?}"
