@@ -1,6 +1,6 @@
 mod Walked
 mod Entered
-mod DeviceWalked
+mod Got
 mod JobWords
 mod Formatted
 mod Runs

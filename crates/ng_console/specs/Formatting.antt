@@ -5,10 +5,9 @@ use Rattle.ng_num.specs.declared.fault.Fault.TheVariants.{DeviceFailed, NotForma
 use Rattle.ng_rig.specs.Life.{Life}
 use Rattle.ng_rig.specs.Calls.{Promises}
 use Rattle.ng_file.specs.declared.device.NoDevice.{NoDevice}
-use Rattle.ng_file.specs.declared.device.NoDevice.TheVariants.{Unopened, Unusable}
 use Rattle.ng_journal.specs.Formats.{Formats}
 use Rattle.ng_journal.specs.Journal.{Tells}
-use Rattle.ng_console.specs.Refusals.{IsBroken, IsRefusedWith}
+use Rattle.ng_console.specs.Refusals.{IsRefusedWith, RefusesDevice}
 
 -- a device is fresh, and nothing is written; or the line of its fault is
 abbrev pub Answers : {T : Type 0} → Result T Fault → Option (List ℕ) → Option (List ℕ) → ℕ → Type 0
@@ -30,5 +29,4 @@ FormatsDevice old new status = ((status ≡ 0) × (new ≡ old)) ⊎ (IsRefusedW
 -- The same of a file as it was opened.
 abbrev pub FormatsOpened : {S : Type 0} → Result S NoDevice → Option (List ℕ) → Option (List ℕ) → ℕ → Type 0
 FormatsOpened (Ok file) old new status = FormatsDevice old new status
-FormatsOpened (Err Unopened) old new status = IsBroken old new status
-FormatsOpened (Err Unusable) old new status = IsRefusedWith DeviceFailed old new status
+FormatsOpened (Err why) old new status = RefusesDevice why old new status

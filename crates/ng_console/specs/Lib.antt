@@ -2,4 +2,5 @@ pub mod Words
 pub mod Chosen
 pub mod Refusals
 pub mod Formatting
+pub mod Operating
 pub mod Status

@@ -2,7 +2,12 @@
 use Rattle.std.specs.Prelude.{ℕ, ◌≡◌, List, ◌++◌, Option, codes}
 use Rattle.std.specs.Io.KnownBytes.{Appends}
 use Rattle.ng_num.specs.declared.fault.Fault.{Fault}
+use Rattle.ng_num.specs.declared.fault.Fault.TheVariants.{DeviceFailed}
 use Rattle.ng_num.specs.FaultText.{text as fault_text}
+use Rattle.ng_file.specs.declared.device.NoDevice.{NoDevice}
+use Rattle.ng_file.specs.declared.device.NoDevice.TheVariants.{Unopened, Unusable}
+use Rattle.ng_console.specs.declared.settings_file.NoSettings.{NoSettings}
+use Rattle.ng_console.specs.declared.settings_file.NoSettings.TheVariants.{Unread, Refused}
 
 -- a file that can't be opened or read: nothing is written
 abbrev pub IsBroken : Option (List ℕ) → Option (List ℕ) → ℕ → Type 0
@@ -14,3 +19,13 @@ refused_text fault = codes "refused " ++ (fault_text fault ++ codes "\n")
 
 abbrev pub IsRefusedWith : Fault → Option (List ℕ) → Option (List ℕ) → ℕ → Type 0
 IsRefusedWith fault old new status = (status ≡ 2) × Appends old new (refused_text fault)
+
+-- settings that can't be read, or that are refused
+abbrev pub RefusesSettings : NoSettings → Option (List ℕ) → Option (List ℕ) → ℕ → Type 0
+RefusesSettings Unread old new status = IsBroken old new status
+RefusesSettings (Refused fault) old new status = IsRefusedWith fault old new status
+
+-- a device that can't be opened, or that can't be used
+abbrev pub RefusesDevice : NoDevice → Option (List ℕ) → Option (List ℕ) → ℕ → Type 0
+RefusesDevice Unopened old new status = IsBroken old new status
+RefusesDevice Unusable old new status = IsRefusedWith DeviceFailed old new status

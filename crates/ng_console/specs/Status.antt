@@ -1,5 +1,5 @@
--- How `ngc` ends (own): 0 done, 1 a refused program, 2 anything that kept it from running the program. Faults of status 2 are
--- looked for in the order words, settings file, program file, the run.
+-- How `ngc` ends (own): 0 done, 1 a refused program of a dry run, 2 anything that kept it from its work. Faults of status 2 are
+-- looked for in the order words, settings file, other files, the run.
 use Rattle.std.specs.Prelude.{ℕ, ◌≡◌, Bool, List, Option, Result, Ok, Err, IfSome, is_some}
 use Rattle.std.specs.declared.io.Error.{Error}
 use Rattle.ng_settings.specs.declared.standard.Settings.{Settings}
@@ -11,11 +11,11 @@ use Rattle.ng_file.specs.declared.device.NoDevice.{NoDevice}
 use Rattle.ng_file.specs.declared.opened.OpenedFile.{OpenedFile}
 use Rattle.ng_console.specs.Chosen.{GivesChoice}
 use Rattle.ng_console.specs.Formatting.{FormatsOpened}
-use Rattle.ng_console.specs.Refusals.{IsBroken, IsRefusedWith}
+use Rattle.ng_console.specs.Operating.{Operates}
+use Rattle.ng_console.specs.Refusals.{IsBroken, RefusesSettings}
 use Rattle.ng_console.specs.declared.command_line.Job.{Job}
-use Rattle.ng_console.specs.declared.command_line.Job.TheVariants.{Dry, Format}
+use Rattle.ng_console.specs.declared.command_line.Job.TheVariants.{Dry, Format, Run}
 use Rattle.ng_console.specs.declared.settings_file.NoSettings.{NoSettings}
-use Rattle.ng_console.specs.declared.settings_file.NoSettings.TheVariants.{Unread, Refused}
 
 abbrev pub status_of : Result Ended DryFault → ℕ
 status_of (Ok ended.Done) = 0
@@ -45,12 +45,12 @@ module _ {F : Type 0} (bytes_of : F → Option (List ℕ)) where
   -- the same with the settings that were found; where there are none the program's file isn't looked at
   abbrev pub RunsChosen : Result Settings NoSettings → Bool → Result F Error → Option (List ℕ) → Option (List ℕ) → ℕ → Type 0
   RunsChosen (Ok settings) block_delete program old new status = RunsFile settings block_delete program old new status
-  RunsChosen (Err Unread) block_delete program old new status = IsBroken old new status
-  RunsChosen (Err (Refused fault)) block_delete program old new status = IsRefusedWith fault old new status
+  RunsChosen (Err why) block_delete program old new status = RefusesSettings why old new status
 
-  -- what the job asks for, of files that were opened or not
-  abbrev pub Does : Job → Option (List ℕ) → Option (List ℕ) → ℕ → Type 0
-  Does (Dry program settings block_delete) old new status =
+  -- what the job asks for, of files that were opened or not, and of the text of an operator
+  abbrev pub Does : Job → Option (List ℕ) → Option (List ℕ) → Option (List ℕ) → ℕ → Type 0
+  Does (Dry program settings block_delete) text old new status =
       (settings_file : Option (Result F Error)) × (program_file : Result F Error) × (is_some settings_file ≡ is_some settings)
       × ((chosen : Result Settings NoSettings) × GivesChoice bytes_of settings_file chosen × RunsChosen chosen block_delete program_file old new status)
-  Does (Format device) old new status = (opened : Result (OpenedFile F) NoDevice) × FormatsOpened opened old new status
+  Does (Format device) text old new status = (opened : Result (OpenedFile F) NoDevice) × FormatsOpened opened old new status
+  Does (Run device settings out) text old new status = Operates bytes_of text old new status

@@ -1,7 +1,7 @@
 //! The words of the command line, read with clap.
 ghost use Rattle.std.specs.Prelude.{◌≡◌, IfOk, IfErr, true, is_some, map, codes};
 ghost use Rattle.clap.specs.Words.{app_of, first_of, found_of, kind_of, rows_of, takes};
-ghost use Rattle.ng_console.specs.Words.{Asks, HasFiles, HasFlag, HasFlags, dry_app, format_app, ngc_app, subcommand_name};
+ghost use Rattle.ng_console.specs.Words.{Asks, HasFiles, HasFlag, HasFlags, dry_app, format_app, ngc_app, run_app, subcommand_name};
 
 use clap::error::ErrorKind;
 use clap::{Arg, ArgAction, ArgMatches, Command, Error};
@@ -10,13 +10,21 @@ use std::alloc::{AllocError, Global};
 /// The version that `ngc --version` prints.
 const VERSION: &str = "0.1.0";
 
-/// What stands below each help text: how a run ends.
+/// What stands below the help text of the program: how a job ends.
 const ENDINGS: &str =
-    "Exit status:\n  0  the program ran to its end\n  1  a line was refused; the last line printed says which one and why\n  2  the words are wrong, or ask for help or the version; or a file can't be\n     read, the settings are refused, the output can't be written, or memory\n     is wanting\n\nRefused settings print why. A file that can't be read prints nothing.";
+    "Exit status:\n  0  done: a program ran to its end, a device is fresh, an operator's commands are\n     answered\n  1  dry: a line was refused; the last line printed says which one and why\n  2  the words are wrong, or ask for help or the version; or a file can't be\n     opened or read, the settings or the device are refused, the device, the\n     input or the output fails, or memory is wanting\n\nRefused settings and devices print why. A file that can't be read prints nothing.";
 
-/// What stands below the help text of `format`.
+/// What stands below that of `dry`.
+const PROGRAM_ENDINGS: &str =
+    "Exit status:\n  0  the program ran to its end\n  1  a line was refused; the last line printed says which one and why\n  2  the words are wrong, or ask for help; or a file can't be read, the settings\n     are refused, the output can't be written, or memory is wanting\n\nRefused settings print why. A file that can't be read prints nothing.";
+
+/// What stands below that of `format`.
 const DEVICE_ENDINGS: &str =
     "Exit status:\n  0  the device is fresh\n  2  the words are wrong, or ask for help; or the file can't be opened or made, is\n     too short, is a directory, is held by another process, or fails\n\nA file that can't be opened prints nothing; the others print why.";
+
+/// What stands below that of `run`.
+const RUN_ENDINGS: &str =
+    "Exit status:\n  0  all commands are answered, up to `quit` or to the end of the input\n  2  the words are wrong, or ask for help; or a file can't be opened or read, the\n     settings or the device are refused, the device is held by another process or\n     failed, the input or the output failed, or memory is wanting\n\nA refused command or program line prints why, and the next one is read. Refused\nsettings and devices print why. A file that can't be read prints nothing.";
 
 /// What a command line asks for.
 #[derive(Clone, Copy, Debug, PartialEq, Eq)]
@@ -35,6 +43,15 @@ pub enum Job<'a> {
         /// The path of the device's file.
         device: &'a str,
     },
+    /// `ngc run DEVICE SETTINGS OUT`: a controller over a device, which an operator commands.
+    Run {
+        /// The path of the device's file.
+        device: &'a str,
+        /// The path of the settings file.
+        settings: &'a str,
+        /// The path of the file to which what is handed out is appended.
+        out: &'a str,
+    },
 }
 
 /// What a line of words asks for. The first word is the program's own name, as the system gives it.
@@ -49,8 +66,11 @@ pub fn words<'a>(alloc: Global, words: &'a [&'a str]) -> Result<Job<'a>, Error>
     if let Some(dry) = matches.subcommand_matches("dry") {
         return Ok(dry_job(dry));
     }
-    match matches.subcommand_matches("format") {
-        Some(format) => Ok(format_job(format)),
+    if let Some(format) = matches.subcommand_matches("format") {
+        return Ok(format_job(format));
+    }
+    match matches.subcommand_matches("run") {
+        Some(run) => Ok(run_job(run)),
         None => unreachable!(),
     }
 }
@@ -88,6 +108,31 @@ fn format_job<'a>(matches: &ArgMatches<'a>) -> Job<'a>
     }
 }
 
+/// The job of the matches of `run`.
+fn run_job<'a>(matches: &ArgMatches<'a>) -> Job<'a>
+    requires device { is_some (first_of (codes "DEVICE") (rows_of (found_of matches.now))) ≡ true }
+    requires settings { is_some (first_of (codes "SETTINGS") (rows_of (found_of matches.now))) ≡ true }
+    requires out { is_some (first_of (codes "OUT") (rows_of (found_of matches.now))) ≡ true }
+    ensures files { HasFiles (rows_of (found_of matches.now)) result }
+    ensures flags { HasFlags (rows_of (found_of matches.now)) result }
+    ensures name { subcommand_name result ≡ codes "run" }
+{
+    let Some(device) = matches.get_str("DEVICE") else {
+        unreachable!()
+    };
+    let Some(settings) = matches.get_str("SETTINGS") else {
+        unreachable!()
+    };
+    let Some(out) = matches.get_str("OUT") else {
+        unreachable!()
+    };
+    Job::Run {
+        device,
+        settings,
+        out,
+    }
+}
+
 /// The command `ngc`, with its subcommands.
 fn command<'a>(alloc: Global) -> Result<Command<'a>, AllocError>
     ensures { IfOk result (λ command. app_of command ≡ ngc_app) }
@@ -99,7 +144,8 @@ fn command<'a>(alloc: Global) -> Result<Command<'a>, AllocError>
         .subcommand_required(true)
         .arg_required_else_help(true)
         .subcommand(dry_command(alloc)?)?
-        .subcommand(format_command(alloc)?)
+        .subcommand(format_command(alloc)?)?
+        .subcommand(run_command(alloc)?)
 }
 
 /// The subcommand `dry`.
@@ -121,7 +167,7 @@ fn dry_command<'a>(alloc: Global) -> Result<Command<'a>, AllocError>
         .action(ArgAction::SetTrue);
     Command::new(alloc, "dry")
         .about("Run a program without a machine and print its canonical text")
-        .after_help(ENDINGS)
+        .after_help(PROGRAM_ENDINGS)
         .arg(program)?
         .arg(settings)?
         .arg(block_delete)
@@ -139,4 +185,30 @@ fn format_command<'a>(alloc: Global) -> Result<Command<'a>, AllocError>
         .about("Make a device fresh; whatever it held is gone")
         .after_help(DEVICE_ENDINGS)
         .arg(device)
+}
+
+/// The subcommand `run`.
+fn run_command<'a>(alloc: Global) -> Result<Command<'a>, AllocError>
+    ensures { IfOk result (λ command. app_of command ≡ run_app) }
+{
+    let device = Arg::new(alloc, "DEVICE")
+        .help("The file of the device, as `format` made it")
+        .required(true)
+        .action(ArgAction::Set);
+    let settings = Arg::new(alloc, "SETTINGS")
+        .help("The file of the machine's settings, in TOML")
+        .required(true)
+        .action(ArgAction::Set);
+    let out = Arg::new(alloc, "OUT")
+        .help(
+            "The file to which pulses, waits and switches are appended, a line each; it is made where there is none",
+        )
+        .required(true)
+        .action(ArgAction::Set);
+    Command::new(alloc, "run")
+        .about("Run a machine: read an operator's commands and hand out pulses")
+        .after_help(RUN_ENDINGS)
+        .arg(device)?
+        .arg(settings)?
+        .arg(out)
 }

@@ -1,6 +1,7 @@
 //! The job `format`: a device is made fresh.
 ghost use Rattle.std.specs.Prelude.{IfOk, ◌≤◌};
 ghost use Rattle.ng_console.specs.Formatting.{FormatsDevice, FormatsOpened, FormatsRig};
+ghost use Rattle.ng_console.specs.Refusals.{RefusesDevice};
 
 use crate::program::{BROKEN, DONE, refuse};
 use ng_file::{FileRig, NoDevice, Storage};
@@ -24,8 +25,19 @@ pub(crate) fn format_opened<S: Storage + Drop, W: Write>(
 {
     match opened {
         Ok(file) => format_storage(alloc, file, writer),
-        Err(NoDevice::Unopened) => Ok(BROKEN),
-        Err(NoDevice::Unusable) => {
+        Err(why) => refuse_device(writer, why),
+    }
+}
+
+/// Says why there is no device, and gives the exit status: of a file that couldn't be opened nothing is written, of one that can't
+/// be used the line of the fault. The error is that of the writer.
+pub(crate) fn refuse_device<W: Write>(writer: &mut W, why: NoDevice) -> io::Result<u8>
+    ensures run { IfOk result (RefusesDevice why (W.contents writer.old) (W.contents writer.new)) }
+    ensures range { IfOk result (λ status. status ≤ 2) }
+{
+    match why {
+        NoDevice::Unopened => Ok(BROKEN),
+        NoDevice::Unusable => {
             refuse(writer, Fault::DeviceFailed)?;
             Ok(BROKEN)
         }

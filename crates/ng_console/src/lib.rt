@@ -9,6 +9,7 @@
 
 mod command_line;
 mod format;
+mod operating;
 mod program;
 mod settings_file;
 

@@ -2,11 +2,12 @@
 ghost use Rattle.std.specs.Prelude.{ℕ, ◌≡◌, ◌⊎◌, ◌≤◌, List, IfOk, OnOk, map};
 ghost use Rattle.std.specs.Io.KnownBytes.{Appends};
 ghost use Rattle.ng_console.specs.Status.{Does, IsDryRun, RunsChosen, RunsFile, status_of};
-ghost use Rattle.ng_console.specs.Refusals.{refused_text};
+ghost use Rattle.ng_console.specs.Refusals.{RefusesSettings, refused_text};
 ghost use Rattle.ng_console.specs.Words.{Asks};
 
 use crate::command_line::{Job, words};
 use crate::format::format_opened;
+use crate::operating::operate_chosen;
 use crate::settings_file::{NoSettings, chosen_settings};
 use ng_block::{DryFault, Ended, dry};
 use ng_file::{Hold, make_device};
@@ -29,11 +30,15 @@ pub(crate) const BROKEN: u8 = 2;
 /// Does what the words that the process was started with ask for, and gives the exit status.
 ///
 /// Words that are not text, and memory wanting for them, print nothing and give 2; for the rest see `ngc`.
-pub fn start<R: Env + Files + AllocGlobal, W: Write>(rt: &R, writer: &mut W) -> u8
+pub fn start<R: Env + Files + AllocGlobal, I: Read, W: Write>(
+    rt: &R,
+    reader: &mut I,
+    writer: &mut W,
+) -> u8
 where
     R::File: Hold,
     ensures status { result ≤ 2 }
-    ensures run { (result ≡ 2) ⊎ ((texts : List (List ℕ)) × ((job : Job) × Asks texts job × Does R.File.remaining job (W.contents writer.old) (W.contents writer.new) result)) }
+    ensures run { (result ≡ 2) ⊎ ((texts : List (List ℕ)) × ((job : Job) × Asks texts job × Does R.File.remaining job (I.remaining reader.old) (W.contents writer.old) (W.contents writer.new) result)) }
 {
     let Ok(given) = given_words(rt) else {
         return BROKEN;
@@ -45,7 +50,7 @@ where
     else {
         return BROKEN;
     };
-    ngc(rt, texts.as_slice(), writer)
+    ngc(rt, texts.as_slice(), reader, writer)
 }
 
 /// The words that the process was started with.
@@ -53,22 +58,29 @@ fn given_words<R: Env + AllocGlobal>(rt: &R) -> io::Result<Vec<String>> {
     Ok(env::args(rt)?.collect(rt.alloc())?)
 }
 
-/// Does what a line of words asks for, writes what that prints, and gives the exit status.
+/// Does what a line of words asks for, writes what that prints, and gives the exit status. The reader is an operator's, whom
+/// `run` alone hears.
 ///
-/// 0: the program ran to its end. 1: it is refused, and the last line written says where and why. 2, for the first of
-/// these that holds: the words ask for nothing that `ngc` does, or for help, and clap's text is written; the settings
-/// file can't be opened or read, and nothing is written, or it is refused, and one line with its fault is written; the
-/// program's file can't be opened or read, the writer fails, or memory is wanting, and nothing more is written. Source:
-/// own.
-pub fn ngc<R: Files + AllocGlobal, W: Write>(rt: &R, given: &[&str], writer: &mut W) -> u8
+/// 0: the program ran to its end, the device is fresh, or all that the operator asked is answered. 1: the program of a dry run is
+/// refused, and the last line written says where and why. 2, for the first of these that holds: the words ask for nothing that
+/// `ngc` does, or for help, and clap's text is written; the settings file can't be opened or read, and nothing is written, or it
+/// is refused, and one line with its fault is written; another file can't be opened or read, and nothing is written, or a device
+/// can't be used, and one line with its fault is written; the device, the reader or the writer fails, or memory is wanting.
+/// Source: own.
+pub fn ngc<R: Files + AllocGlobal, I: Read, W: Write>(
+    rt: &R,
+    given: &[&str],
+    reader: &mut I,
+    writer: &mut W,
+) -> u8
 where
     R::File: Hold,
     ensures status { result ≤ 2 }
     ensures refused { ((job : Job) → Asks (map (λ s. s.now) given.now) job → ⊥) → result ≡ 2 }
-    ensures run { (result ≡ 2) ⊎ ((job : Job) × Asks (map (λ s. s.now) given.now) job × Does R.File.remaining job (W.contents writer.old) (W.contents writer.new) result) }
+    ensures run { (result ≡ 2) ⊎ ((job : Job) × Asks (map (λ s. s.now) given.now) job × Does R.File.remaining job (I.remaining reader.old) (W.contents writer.old) (W.contents writer.new) result) }
 {
     match words(rt.alloc(), given) {
-        Ok(job) => carry_out(rt, job, writer),
+        Ok(job) => carry_out(rt, job, reader, writer),
         Err(error) => {
             // The status says the same whether or not the writer takes the text.
             let _ = write!(writer, "{error}");
@@ -78,11 +90,16 @@ where
 }
 
 /// Does a job, and gives the exit status.
-fn carry_out<R: Files + AllocGlobal, W: Write>(rt: &R, job: Job<'_>, writer: &mut W) -> u8
+fn carry_out<R: Files + AllocGlobal, I: Read, W: Write>(
+    rt: &R,
+    job: Job<'_>,
+    reader: &mut I,
+    writer: &mut W,
+) -> u8
 where
     R::File: Hold,
     ensures status { result ≤ 2 }
-    ensures run { (result ≡ 2) ⊎ Does R.File.remaining job.entry (W.contents writer.old) (W.contents writer.new) result }
+    ensures run { (result ≡ 2) ⊎ Does R.File.remaining job.entry (I.remaining reader.old) (W.contents writer.old) (W.contents writer.new) result }
 {
     match job {
         Job::Dry {
@@ -102,6 +119,15 @@ where
             let opened = make_device(rt, device);
             format_opened(rt.alloc(), opened, writer).unwrap_or(BROKEN)
         }
+        Job::Run {
+            device,
+            settings,
+            out,
+        } => {
+            let settings = Some(fs::open(rt, settings));
+            let chosen = chosen_settings(rt.alloc(), settings);
+            operate_chosen(rt, chosen, device, out, reader, writer).unwrap_or(BROKEN)
+        }
     }
 }
 
@@ -120,8 +146,19 @@ fn run_chosen<R: Read + Drop, W: Write, A: Allocator + Copy + Drop>(
 {
     match chosen {
         Ok(settings) => Ok(run_file(alloc, &settings, program, writer, block_delete)),
-        Err(NoSettings::Unread) => Ok(BROKEN),
-        Err(NoSettings::Refused(fault)) => {
+        Err(why) => refuse_settings(writer, why),
+    }
+}
+
+/// Says why there are no settings, and gives the exit status: of a file that can't be read nothing is written, of a text that is
+/// refused the line of its fault. The error is that of the writer.
+pub(crate) fn refuse_settings<W: Write>(writer: &mut W, why: NoSettings) -> io::Result<u8>
+    ensures run { IfOk result (RefusesSettings why (W.contents writer.old) (W.contents writer.new)) }
+    ensures range { IfOk result (λ status. status ≤ 2) }
+{
+    match why {
+        NoSettings::Unread => Ok(BROKEN),
+        NoSettings::Refused(fault) => {
             refuse(writer, fault)?;
             Ok(BROKEN)
         }

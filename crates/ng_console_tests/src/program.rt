@@ -105,7 +105,10 @@ fn words_ask_for_a_job_or_are_answered(rt: HostRuntime) -> Result<(), Fail> {
     }
     for (given, beginning) in ANSWERED {
         let mut text = Vec::new(rt.alloc());
-        assert!(rt; ngc(&rt, given, &mut text) == 2, "{given:?}");
+        assert!(rt;
+            ngc(&rt, given, &mut io::empty(), &mut text) == 2,
+            "{given:?}"
+        );
         assert!(rt;
             text.as_slice().starts_with(beginning.as_bytes()),
             "{given:?}"
@@ -240,7 +243,7 @@ fn runs_files(rt: HostRuntime) -> Result<(), Fail> {
         let words = words_of(rt.alloc(), path, named, block_delete)?;
         let mut written = Vec::new(rt.alloc());
         assert!(rt;
-            ngc(&rt, words.as_slice(), &mut written) == status,
+            ngc(&rt, words.as_slice(), &mut io::empty(), &mut written) == status,
             "{program:?}"
         );
         let rest = written.as_slice().strip_prefix(text.as_bytes());
@@ -251,6 +254,6 @@ fn runs_files(rt: HostRuntime) -> Result<(), Fail> {
     // neither file is there
     let mut written = Vec::new(rt.alloc());
     let words = ["ngc", "dry", path, "--settings", machine];
-    assert!(rt; ngc(&rt, &words, &mut written) == 2 && written.is_empty());
+    assert!(rt; ngc(&rt, &words, &mut io::empty(), &mut written) == 2 && written.is_empty());
     Ok(())
 }

@@ -6,5 +6,5 @@ use std::io;
 use std::process::ExitCode;
 
 fn main(rt: HostRuntime) -> ExitCode {
-    ExitCode::from(start(&rt, &mut io::writer(&rt)))
+    ExitCode::from(start(&rt, &mut rt.reader(), &mut io::writer(&rt)))
 }

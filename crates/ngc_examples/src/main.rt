@@ -26,7 +26,7 @@ fn main(rt: HostRuntime) -> io::Result<()> {
         words.extend_from_slice(options)?;
         words.push(program)?;
         let mut text = Vec::new(rt.alloc());
-        let status = ngc(&rt, words.as_slice(), &mut text);
+        let status = ngc(&rt, words.as_slice(), &mut io::empty(), &mut text);
         let same = text == fs::read(&rt, wanted)?;
         println!(rt; "{program}: status {status}, as the text beside it: {same}")?;
     }

@@ -1,6 +1,6 @@
 //! Blocks that go on at one of their segments: where the machine stands then, how its spindle turns, and the segment that comes.
 //! Worked out by hand from the language.
-use ng_block::{State, Tools, execute};
+use ng_block::{Resumed, State, Tools, execute};
 use ng_canon::{Geometry, Pace, Segment, Spindle};
 use ng_num::{Len, Point};
 use std::alloc::Global;
@@ -174,31 +174,58 @@ fn spindle_text(spindle: Spindle) -> &'static str {
     }
 }
 
-fn point_text(alloc: Global, point: Point) -> Text {
-    Ok(format!(in alloc; "{} {} {}", point.x.nm(), point.y.nm(), point.z.nm())?)
+fn push_point(text: &mut String<Global>, alloc: Global, point: &Point) -> Result<(), Fail> {
+    let (x, y, z) = (point.x.nm(), point.y.nm(), point.z.nm());
+    text.push_str(&format!(in alloc; "{x} {y} {z}")?)?;
+    Ok(())
 }
 
-fn segment_text(alloc: Global, segment: Option<Segment>) -> Text {
-    let (name, end) = match segment {
-        None => return Ok(format!(in alloc; "nothing")?),
-        Some(Segment::Switch(outputs)) => {
-            return Ok(format!(in alloc; "{}", spindle_text(outputs.spindle))?);
+fn push_segment(text: &mut String<Global>, alloc: Global, segment: &Segment) -> Result<(), Fail> {
+    match segment {
+        Segment::Line(line) => {
+            text.push_str(match line.pace {
+                Pace::Traverse => "traverse ",
+                _ => "feed ",
+            })?;
+            push_point(text, alloc, &line.end)?;
         }
-        Some(Segment::Dwell(seconds)) => return Ok(format!(in alloc; "dwell {}", seconds.count())?),
-        Some(Segment::Arc(arc)) => ("arc", arc.end),
-        Some(Segment::Line(line)) => match line.pace {
-            Pace::Traverse => ("traverse", line.end),
-            _ => ("feed", line.end),
-        },
-    };
-    let end = point_text(alloc, end)?;
-    Ok(format!(in alloc; "{name} {end}")?)
+        Segment::Arc(arc) => {
+            text.push_str("arc ")?;
+            push_point(text, alloc, &arc.end)?;
+        }
+        Segment::Dwell(seconds) => {
+            text.push_str(&format!(in alloc; "dwell {}", seconds.count())?)?;
+        }
+        Segment::Switch(outputs) => text.push_str(spindle_text(outputs.spindle))?,
+    }
+    Ok(())
+}
+
+/// What holds where a block goes on.
+fn resumed_text(alloc: Global, resumed: Resumed) -> Text {
+    let standing = resumed.standing;
+    let mut course = resumed.course;
+    let mut text = String::new(alloc);
+    push_point(&mut text, alloc, &standing.point)?;
+    text.push_str(" ")?;
+    text.push_str(spindle_text(standing.outputs.spindle))?;
+    text.push_str(", ")?;
+    match course.next() {
+        Some(segment) => push_segment(&mut text, alloc, &segment)?,
+        None => text.push_str("nothing")?,
+    }
+    Ok(text)
 }
 
 /// What holds behind so many segments of a line.
 fn resumed(alloc: Global, line: &str, n: u64) -> Text {
+    let start = Point {
+        x: Len::zero(),
+        y: Len::zero(),
+        z: Len::of_nm(5_000_000)?,
+    };
     let mut state = State::fresh(alloc)?;
-    state.machine.point.z = Len::of_nm(5_000_000)?;
+    state.machine.point = start;
     state.machine.outputs.spindle = Spindle::Clockwise;
     let effect = execute(
         &state,
@@ -206,11 +233,7 @@ fn resumed(alloc: Global, line: &str, n: u64) -> Text {
         &Tools::new(),
         &Geometry::standard(),
     )?;
-    let mut resumed = effect.course_from(state.machine.point, n);
-    let at = point_text(alloc, resumed.standing.point)?;
-    let spindle = spindle_text(resumed.standing.outputs.spindle);
-    let next = segment_text(alloc, resumed.course.next())?;
-    Ok(format!(in alloc; "{at} {spindle}, {next}")?)
+    resumed_text(alloc, effect.course_from(start, n))
 }
 
 #[test]

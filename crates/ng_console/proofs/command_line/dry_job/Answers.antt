@@ -2,20 +2,16 @@ use Rattle.std.proofs.Common.{ap, sym, codes, Bool, true, false, ◌≡◌, ◌�
 use Rattle.clap.specs.Words.{found_of, rows_of}
 use Rattle.clap.proofs.WalkLemmas.{first_value-rows, one_text-rows}
 use Rattle.ng_console.specs.Words.{SaysFlag}
+use Rattle.ng_console.proofs.Got.{never_none, value_is}
 use Rattle.ng_console.proofs.command_line.dry_job.Goals as goal
 
 pub unreachable-requires : goal.unreachable-requires
-unreachable-requires c =
-    let program = codes "PROGRAM" in
-    let found = found_of c.args.matches.now in
-    let none = ap (option_map (λ s. s.now)) (sym c.in-None.is) ∙ (c.get_str.ensures ∙ first_value-rows found program) in
-    let bad = rw (← none) at c.requires.program in
-    cc
+unreachable-requires c = never_none (found_of c.args.matches.now) (codes "PROGRAM") c.get_str.result c.requires.program c.get_str.ensures c.in-None.is
 
 pub returns-clause-files : goal.returns-clause-files
 returns-clause-files c =
     let found = found_of c.args.matches.now in (
-      sym (first_value-rows found (codes "PROGRAM")) ∙ (sym c.get_str.ensures ∙ ap (option_map (λ s. s.now)) c.in-Some.is),
+      value_is found (codes "PROGRAM") c.get_str.result c.in-Some.program c.get_str.ensures c.in-Some.is,
       sym (first_value-rows found (codes "settings")) ∙ sym c.get_str-settings.ensures,
     )
 

@@ -1,16 +1,10 @@
-use Rattle.std.proofs.Common.{ap, sym, codes, ◌∙◌, option_map}
+use Rattle.std.proofs.Common.{codes}
 use Rattle.clap.specs.Words.{found_of}
-use Rattle.clap.proofs.WalkLemmas.{first_value-rows}
+use Rattle.ng_console.proofs.Got.{never_none, value_is}
 use Rattle.ng_console.proofs.command_line.format_job.Goals as goal
 
 pub unreachable-requires : goal.unreachable-requires
-unreachable-requires c =
-    let found = found_of c.args.matches.now in
-    let none = ap (option_map (λ s. s.now)) (sym c.in-None.is) ∙ (c.get_str.ensures ∙ first_value-rows found (codes "DEVICE")) in
-    let bad = rw (← none) at c.requires in
-    cc
+unreachable-requires c = never_none (found_of c.args.matches.now) (codes "DEVICE") c.get_str.result c.requires c.get_str.ensures c.in-None.is
 
 pub returns-clause-files : goal.returns-clause-files
-returns-clause-files c =
-    let found = found_of c.args.matches.now in
-    sym (first_value-rows found (codes "DEVICE")) ∙ (sym c.get_str.ensures ∙ ap (option_map (λ s. s.now)) c.in-Some.is)
+returns-clause-files c = value_is (found_of c.args.matches.now) (codes "DEVICE") c.get_str.result c.in-Some.device c.get_str.ensures c.in-Some.is

@@ -1,0 +1,48 @@
+-- What the job `run` does (own): an operator commands a controller over a device in a file, and what it hands out is appended to another.
+use Rattle.std.specs.Prelude.{ℕ, ◌≡◌, ◌⊎◌, ◌/◌, List, [], Option, Some, None, Result, Ok, Err, IfSome, length}
+use Rattle.std.specs.declared.io.Error.{Error}
+use Rattle.std.specs.declared.alloc.Global.{Global}
+use Rattle.ng_num.specs.declared.fault.Fault.TheVariants.{DeviceFailed}
+use Rattle.ng_rig.specs.Life.{Began}
+use Rattle.ng_settings.specs.declared.standard.Settings.{Settings}
+use Rattle.ng_file.specs.FileRig.{failure_count, outlet, sector_count, storage}
+use Rattle.ng_file.specs.declared.device.NoDevice.{NoDevice}
+use Rattle.ng_file.specs.declared.opened.OpenedFile.{OpenedFile}
+use Rattle.ng_file.specs.declared.rig.FileRig.{FileRig}
+use Rattle.ng_run.specs.Consoles.{Consoles}
+use Rattle.ng_console.specs.Chosen.{GivesChoice}
+use Rattle.ng_console.specs.Refusals.{IsBroken, IsRefusedWith, RefusesDevice, RefusesSettings}
+use Rattle.ng_console.specs.declared.settings_file.NoSettings.{NoSettings}
+
+-- The device is that of these bytes, as many sectors as they have whole ones, and hands out to this file.
+pub record IsOver {S O A : Type 0} (content : S → Option (List ℕ)) (device : S) (out : O) (rig : FileRig S O A) : Type 0 where
+  pub bytes : content (storage rig) ≡ content device
+  pub sectors : IfSome (content device) (λ held. sector_count rig ≡ length held / 512)
+  pub hands_out : outlet rig ≡ out
+  pub failures : failure_count rig ≡ 0
+
+-- the console's conversation over that device; or the file can't say how long it is
+abbrev pub OperatesDevice : {S O : Type 0} → (S → Option (List ℕ)) → Settings → S → O → Option (List ℕ) → Option (List ℕ) → Option (List ℕ) → ℕ → Type 0
+OperatesDevice {S} {O} content settings device out text old new status =
+    ((rig : FileRig S O Global) × (left : FileRig S O Global) × IsOver content device out rig
+    × Consoles Global sector_count failure_count (λ rig. ⊥) (λ rig. Began (λ sector. [])) settings rig text old new (status, left))
+    ⊎ IsRefusedWith DeviceFailed old new status
+
+-- the same of a device and a file as they were opened; where there is no device, the other isn't looked at
+abbrev pub OperatesOpened : {S O : Type 0} → (S → Option (List ℕ)) → Settings → Result S NoDevice → Result O Error → Option (List ℕ) → Option (List ℕ) → Option (List ℕ) → ℕ → Type 0
+OperatesOpened content settings (Err why) out text old new status = RefusesDevice why old new status
+OperatesOpened content settings (Ok device) (Err error) text old new status = IsBroken old new status
+OperatesOpened content settings (Ok device) (Ok out) text old new status = OperatesDevice content settings device out text old new status
+
+module _ {F : Type 0} (bytes_of : F → Option (List ℕ)) where
+  -- the same of some device, with the settings that were found; where there are none no device is looked at
+  abbrev pub OperatesChosen : Result Settings NoSettings → Option (List ℕ) → Option (List ℕ) → Option (List ℕ) → ℕ → Type 0
+  OperatesChosen (Err why) text old new status = RefusesSettings why old new status
+  OperatesChosen (Ok settings) text old new status =
+      (device : Result (OpenedFile F) NoDevice) × (out : Result F Error) × OperatesOpened (λ file. None) settings device out text old new status
+
+  -- the same with the settings of some file
+  abbrev pub Operates : Option (List ℕ) → Option (List ℕ) → Option (List ℕ) → ℕ → Type 0
+  Operates text old new status =
+      (settings_file : Result F Error) × (chosen : Result Settings NoSettings) × GivesChoice bytes_of (Some settings_file) chosen
+      × OperatesChosen chosen text old new status

@@ -1,0 +1,94 @@
+//! The job `run`: an operator commands a controller over a device.
+ghost use Rattle.std.specs.Prelude.{◌≤◌, ℕ, Option, None, Result, IfOk};
+ghost use Rattle.std.specs.declared.io.Error.{Error};
+ghost use Rattle.ng_file.specs.declared.device.NoDevice.{NoDevice};
+ghost use Rattle.ng_file.specs.declared.opened.OpenedFile.{OpenedFile};
+ghost use Rattle.ng_console.specs.Operating.{OperatesChosen, OperatesDevice, OperatesOpened};
+
+use crate::format::refuse_device;
+use crate::program::{BROKEN, refuse, refuse_settings};
+use crate::settings_file::NoSettings;
+use ng_file::{FileRig, Hold, Storage, open_device};
+use ng_num::Fault;
+use ng_run::console;
+use ng_settings::Settings;
+use std::alloc::Global;
+use std::fs::OpenOptions;
+use std::io;
+use std::io::{Read, Write};
+use std::rt::Files;
+
+/// Operates the machine of a device with the settings that were found, and gives the exit status. Where there are none no file is
+/// opened, and the fault of settings that are refused is written. The error is that of the writer of a refusal.
+pub(crate) fn operate_chosen<R: Files + AllocGlobal, I: Read, W: Write>(
+    rt: &R,
+    chosen: Result<Settings, NoSettings>,
+    device: &str,
+    out: &str,
+    reader: &mut I,
+    writer: &mut W,
+) -> io::Result<u8>
+where
+    R::File: Hold,
+    ensures run { IfOk result (OperatesChosen R.File.remaining chosen (I.remaining reader.old) (W.contents writer.old) (W.contents writer.new)) }
+    ensures range { IfOk result (λ status. status ≤ 2) }
+{
+    match chosen {
+        Ok(settings) => operate_files(rt, settings, device, out, reader, writer),
+        Err(why) => refuse_settings(writer, why),
+    }
+}
+
+/// Opens the device, then the file to which is handed out, and operates the machine. Where there is no device the other file isn't
+/// opened, and so not made.
+fn operate_files<R: Files + AllocGlobal, I: Read, W: Write>(
+    rt: &R,
+    settings: Settings,
+    device: &str,
+    out: &str,
+    reader: &mut I,
+    writer: &mut W,
+) -> io::Result<u8>
+where
+    R::File: Hold,
+    ensures run { IfOk result (λ status. (device : Result (OpenedFile R.File) NoDevice) × (out : Result R.File Error) × OperatesOpened (λ file. None) settings device out (I.remaining reader.old) (W.contents writer.old) (W.contents writer.new) status) }
+    ensures range { IfOk result (λ status. status ≤ 2) }
+{
+    match open_device(rt, device) {
+        Ok(file) => match open_to_append(rt, out) {
+            Ok(out) => operate_device(rt.alloc(), settings, file, out, reader, writer),
+            Err(_) => Ok(BROKEN),
+        },
+        Err(why) => refuse_device(writer, why),
+    }
+}
+
+/// Opens a file to append to it, and makes it where there is none.
+fn open_to_append<R: Files>(rt: &R, path: &str) -> io::Result<R::File> {
+    OpenOptions::new().append(true).create(true).open(rt, path)
+}
+
+/// Operates the machine of the device in these bytes, and appends what is handed out to a file. The error is that of the writer,
+/// where the bytes can't say how many they are.
+fn operate_device<S: Storage + Drop, O: Write + Drop, I: Read, W: Write>(
+    alloc: Global,
+    settings: Settings,
+    device: S,
+    out: O,
+    reader: &mut I,
+    writer: &mut W,
+) -> io::Result<u8>
+    ensures run { IfOk result (OperatesDevice S.content settings device out (I.remaining reader.old) (W.contents writer.old) (W.contents writer.new)) }
+    ensures range { IfOk result (λ status. status ≤ 2) }
+{
+    match FileRig::over(alloc, device, out) {
+        Ok(rig) => {
+            let (status, _) = console(alloc, reader, writer, rig, settings);
+            Ok(status)
+        }
+        Err(_) => {
+            refuse(writer, Fault::DeviceFailed)?;
+            Ok(BROKEN)
+        }
+    }
+}

@@ -1,0 +1,267 @@
+//! Devices over bytes of a storage: which bytes a sector is, the lines of what is handed out, and what a storage or a writer that
+//! fails leaves.
+use linked_list_allocator::LocalHeap;
+use ng_canon::{Item, Outputs, Pulse, Spindle, Step};
+use ng_file::{FileRig, Storage};
+use ng_num::Num;
+use ng_rig::{Failed, Rig};
+use std::alloc::{AllocError, Global};
+use std::io;
+use std::io::{ErrorKind, Write};
+use std::test::Fail;
+
+/// Bytes in memory, as a disk keeps them that gets full, and a file that gets shorter.
+#[derive(Drop)]
+struct Disk {
+    bytes: Vec<u8>,
+    /// The writes for which there is room.
+    writes_left: usize,
+    /// How often the length is asked for before the bytes from 1,024 on are gone.
+    lengths_left: usize,
+    syncs: usize,
+}
+
+impl Storage for Disk {
+    fn length(&mut self) -> io::Result<u64> {
+        if self.lengths_left == 0 {
+            self.bytes.truncate(1_024);
+        }
+        self.lengths_left = self.lengths_left.saturating_sub(1);
+        Ok(self.bytes.len() as u64)
+    }
+
+    fn read_at(&mut self, place: u64, into: &mut [u8; 512]) -> io::Result<()> {
+        let held = self.bytes.as_slice();
+        let begins = usize::try_from(place).unwrap_or(usize::MAX);
+        match held.get(begins..).and_then(|rest| rest.get(..512)) {
+            Some(sector) => {
+                into.copy_from_slice(sector);
+                Ok(())
+            }
+            None => Err(io::Error::from(ErrorKind::UnexpectedEof)),
+        }
+    }
+
+    fn write_at(&mut self, place: u64, bytes: &[u8; 512]) -> io::Result<()> {
+        if self.writes_left == 0 {
+            return Err(io::Error::from(ErrorKind::StorageFull));
+        }
+        self.writes_left -= 1;
+        let begins = usize::try_from(place).unwrap_or(usize::MAX);
+        match self
+            .bytes
+            .as_mut_slice()
+            .get_mut(begins..)
+            .and_then(|rest| rest.get_mut(..512))
+        {
+            Some(sector) => {
+                sector.copy_from_slice(bytes);
+                Ok(())
+            }
+            None => Err(io::Error::from(ErrorKind::UnexpectedEof)),
+        }
+    }
+
+    fn sync(&mut self) -> io::Result<()> {
+        self.syncs = self.syncs.saturating_add(1);
+        Ok(())
+    }
+}
+
+/// A disk of so many bytes, all zeros, on which so many writes have room.
+fn disk(alloc: Global, length: usize, writes_left: usize) -> Result<Disk, AllocError> {
+    let mut bytes = Vec::new(alloc);
+    bytes.resize(length, 0)?;
+    Ok(Disk {
+        bytes,
+        writes_left,
+        lengths_left: usize::MAX,
+        syncs: 0,
+    })
+}
+
+/// Writes a byte to a whole sector, where there is one.
+fn fill<R: Rig>(rig: &mut R, sector: usize, byte: u8) -> Result<(), Failed> {
+    if sector < rig.size() {
+        rig.write(sector, &[byte; 512])
+    } else {
+        Ok(())
+    }
+}
+
+/// Whether a sector reads as 512 times this byte.
+fn holds<R: Rig>(rig: &mut R, sector: usize, byte: u8) -> bool {
+    let mut bytes = [byte.wrapping_add(1); 512];
+    sector < rig.size() && rig.read(sector, &mut bytes).is_ok() && bytes == [byte; 512]
+}
+
+/// Lengths in bytes, and their whole sectors.
+const SIZES: &[(usize, usize)] = &[
+    (0, 0),
+    (511, 0),
+    (512, 1),
+    (1_023, 1),
+    (875_520, 1_710),
+    (875_521, 1_710),
+];
+
+#[test]
+fn a_device_has_the_whole_sectors(rt: HostRuntime) -> Result<(), Fail> {
+    for (length, sectors) in SIZES {
+        let rig = FileRig::over(rt.alloc(), disk(rt.alloc(), *length, 0)?, io::sink())?;
+        assert_eq!(rt; rig.size(), *sectors, "{length}");
+        assert_eq!(rt; rig.failures(), 0);
+    }
+    Ok(())
+}
+
+#[test]
+fn a_sector_is_512_bytes_at_512_times_its_number(rt: HostRuntime) -> Result<(), Fail> {
+    let mut rig = FileRig::over(rt.alloc(), disk(rt.alloc(), 1_600, 9)?, io::sink())?;
+    assert!(rt; fill(&mut rig, 1, 7).is_ok() && fill(&mut rig, 2, 9).is_ok());
+    assert!(rt; holds(&mut rig, 0, 0) && holds(&mut rig, 1, 7) && holds(&mut rig, 2, 9));
+    assert!(rt; rig.sync().is_ok() && rig.failures() == 0);
+    let (file, _) = rig.into_parts();
+    let mut wanted = Vec::new(rt.alloc());
+    wanted.resize(512, 0)?;
+    wanted.resize(1_024, 7)?;
+    wanted.resize(1_536, 9)?;
+    wanted.resize(1_600, 0)?;
+    assert!(rt; file.bytes == wanted && file.syncs == 1);
+    Ok(())
+}
+
+#[test]
+fn a_full_disk_fails_and_keeps_what_it_has(rt: HostRuntime) -> Result<(), Fail> {
+    let mut rig = FileRig::over(rt.alloc(), disk(rt.alloc(), 1_024, 1)?, io::sink())?;
+    assert!(rt; fill(&mut rig, 0, 7).is_ok() && rig.failures() == 0);
+    assert!(rt; fill(&mut rig, 0, 8) == Err(Failed) && rig.failures() == 1);
+    assert!(rt; fill(&mut rig, 1, 9) == Err(Failed) && rig.failures() == 2);
+    assert!(rt; holds(&mut rig, 0, 7) && holds(&mut rig, 1, 0) && rig.failures() == 2);
+    Ok(())
+}
+
+#[test]
+fn a_file_that_gets_shorter_fails_and_stays_short(rt: HostRuntime) -> Result<(), Fail> {
+    let mut file = disk(rt.alloc(), 1_536, 9)?;
+    // the first length is that of the device, the second that of its first write
+    file.lengths_left = 2;
+    let mut rig = FileRig::over(rt.alloc(), file, io::sink())?;
+    assert!(rt; fill(&mut rig, 2, 7).is_ok() && holds(&mut rig, 2, 7));
+    assert!(rt; fill(&mut rig, 2, 8) == Err(Failed) && rig.failures() == 1);
+    assert!(rt; rig.size() == 3 && !holds(&mut rig, 2, 7) && rig.failures() == 2);
+    assert!(rt; fill(&mut rig, 1, 8).is_ok() && holds(&mut rig, 1, 8));
+    let (file, _) = rig.into_parts();
+    assert_eq!(rt; file.bytes.len(), 1_024);
+    Ok(())
+}
+
+/// Items of each kind, and their lines.
+fn items() -> [(Item, &'static str); 4] {
+    let pulse = Pulse {
+        x: Step::Forward,
+        y: Step::Still,
+        z: Step::Backward,
+        period_us: 50,
+    };
+    let outputs = Outputs {
+        spindle: Spindle::Counterclockwise,
+        speed: Num::of(1_200_500_000).unwrap_or_default(),
+        mist: true,
+        flood: false,
+        selected_slot: 3,
+        spindle_slot: 64,
+    };
+    [
+        (Item::Pulse(pulse), "P 1 0 -1 50\n"),
+        (Item::Dwell { us: 10_000_000 }, "D 10000000\n"),
+        (Item::Switch(Outputs::fresh()), "S 0 0.000000 0 0 0 0\n"),
+        (Item::Switch(outputs), "S 2 1200.500000 1 0 3 64\n"),
+    ]
+}
+
+#[test]
+fn what_is_handed_out_is_a_line_behind_those_before(rt: HostRuntime) -> Result<(), Fail> {
+    let out = Vec::from_slice(rt.alloc(), b"D 1\n")?;
+    let mut wanted = Vec::from_slice(rt.alloc(), b"D 1\n")?;
+    let mut rig = FileRig::over(rt.alloc(), disk(rt.alloc(), 0, 0)?, out)?;
+    for (item, line) in items() {
+        assert!(rt; rig.hand_out(item).is_ok());
+        wanted.extend_from_slice(line.as_bytes())?;
+    }
+    assert_eq!(rt; rig.failures(), 0);
+    let (_, out) = rig.into_parts();
+    assert!(rt; out == wanted);
+    Ok(())
+}
+
+/// A writer whose calls fail but for so many at first.
+#[derive(Drop)]
+struct Short {
+    taken: Vec<u8>,
+    calls_left: usize,
+}
+
+impl Write for Short {
+    fn write(&mut self, buf: &[u8]) -> io::Result<usize> {
+        if self.calls_left == 0 {
+            return Err(io::Error::from(ErrorKind::StorageFull));
+        }
+        self.calls_left -= 1;
+        match self.taken.extend_from_slice(buf) {
+            Ok(()) => Ok(buf.len()),
+            Err(_) => Err(io::Error::from(ErrorKind::OutOfMemory)),
+        }
+    }
+
+    fn flush(&mut self) -> io::Result<()> {
+        if self.calls_left == 0 {
+            return Err(io::Error::from(ErrorKind::StorageFull));
+        }
+        self.calls_left -= 1;
+        Ok(())
+    }
+}
+
+/// Calls of a writer that succeed, the items of three that are handed out then, and what is written.
+const CALLS: &[(usize, usize, &str)] = &[
+    (0, 0, ""),
+    (1, 0, "D 5\n"),
+    (2, 1, "D 5\n"),
+    (3, 1, "D 5\nD 5\n"),
+    (4, 2, "D 5\nD 5\n"),
+    (6, 3, "D 5\nD 5\nD 5\n"),
+];
+
+#[test]
+fn a_hand_out_is_a_write_and_a_flush_and_fails_with_each(rt: HostRuntime) -> Result<(), Fail> {
+    for (calls_left, handed, written) in CALLS {
+        let out = Short {
+            taken: Vec::new(rt.alloc()),
+            calls_left: *calls_left,
+        };
+        let mut rig = FileRig::over(rt.alloc(), disk(rt.alloc(), 0, 0)?, out)?;
+        let mut good = 0usize;
+        for _ in 0..3 {
+            if rig.hand_out(Item::Dwell { us: 5 }).is_ok() {
+                good = good.saturating_add(1);
+            }
+        }
+        assert_eq!(rt; good, *handed, "{calls_left}");
+        assert_eq!(rt;
+            rig.failures(),
+            3u64.saturating_sub(good as u64),
+            "{calls_left}"
+        );
+        let (_, out) = rig.into_parts();
+        assert!(rt; out.taken.as_slice() == written.as_bytes(), "{calls_left}");
+    }
+    Ok(())
+}
+
+#[test]
+fn a_device_without_memory_for_a_line_is_none(rt: HostRuntime) -> Result<(), Fail> {
+    let heap = LocalHeap::new(rt.alloc(), 16)?;
+    assert!(rt; FileRig::over(&heap, disk(rt.alloc(), 0, 0)?, io::sink()).is_err());
+    Ok(())
+}
