@@ -10,6 +10,8 @@ mod arcs;
 #[cfg(test)]
 mod commands;
 #[cfg(test)]
+mod controller;
+#[cfg(test)]
 mod cycles;
 #[cfg(test)]
 mod device;
