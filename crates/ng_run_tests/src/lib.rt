@@ -1,4 +1,4 @@
-//! Tests of what an operator asks and is answered, over devices in memory, through public calls. No program stands on this crate.
+//! Tests of the controller and of its console, over devices in memory, through public calls. No program stands on this crate.
 //!
 //! Expected values are worked out by hand or by other means from the formats and the language, never taken from what the crates
 //! answer.
@@ -6,3 +6,5 @@
 
 #[cfg(test)]
 mod console;
+#[cfg(test)]
+mod controller;

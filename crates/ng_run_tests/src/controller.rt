@@ -1,0 +1,627 @@
+use linked_list_allocator::LocalHeap;
+use ng_canon::{Item, Outputs, Pulse, Step};
+use ng_core::{Condition, Controller, Event, HalfShown, Reply, Source, Status, Text, power_on};
+use ng_journal::format;
+use ng_num::Fault;
+use ng_rig::{FailRig, MemoryRig, Rig};
+use ng_settings::Settings;
+use std::alloc::{AllocError, Allocator};
+use std::test::Fail;
+
+/// An event, as a table tells it.
+#[derive(Clone, Copy, Debug, PartialEq, Eq)]
+enum Order {
+    Load(&'static str),
+    Start,
+    Hold,
+    Continue,
+    Mdi(&'static str),
+    OptionalStop(bool),
+    BlockDelete(bool),
+    Tick,
+}
+
+/// A reply but that of a status.
+#[derive(Clone, Copy, Debug, PartialEq, Eq)]
+enum Told {
+    Done(u64),
+    Going,
+    Held,
+    Idle,
+    Stopped,
+    Begun,
+    Taken,
+    Moved,
+    Opened(u64),
+    Refused(Fault),
+}
+
+/// An item: a pulse of X, forward or backward, with its period; a wait; all outputs off.
+#[derive(Clone, Copy, Debug, PartialEq, Eq)]
+enum Given {
+    Forward(u64),
+    Backward(u64),
+    Wait(u64),
+    Off,
+}
+
+/// What the status shows: entries, place, X in nanometres (Y and Z stay 0), whether the machine is known to stand there, a half-done
+/// block, and what the controller is about.
+type Shown = (u64, u64, i64, bool, Option<HalfShown>, Condition);
+
+/// Events with the replies to them, the status behind the last, and all items that were handed out.
+struct Job {
+    name: &'static str,
+    orders: &'static [(Order, Told)],
+    shown: Shown,
+    given: &'static [Given],
+}
+
+const BEGUN: (Order, Told) = (Order::Tick, Told::Begun);
+
+const OPENED: (Order, Told) = (Order::Tick, Told::Opened(0));
+
+const MOVED: (Order, Told) = (Order::Tick, Told::Moved);
+
+const IDLE: (Order, Told) = (Order::Tick, Told::Idle);
+
+const STOPPED: (Order, Told) = (Order::Tick, Told::Stopped);
+
+const HELD: (Order, Told) = (Order::Tick, Told::Held);
+
+const DONE_1: (Order, Told) = (Order::Tick, Told::Done(1));
+
+const DONE_2: (Order, Told) = (Order::Tick, Told::Done(2));
+
+const DONE_3: (Order, Told) = (Order::Tick, Told::Done(3));
+
+const DONE_4: (Order, Told) = (Order::Tick, Told::Done(4));
+
+const START: (Order, Told) = (Order::Start, Told::Going);
+
+const HOLD: (Order, Told) = (Order::Hold, Told::Held);
+
+const CONTINUE: (Order, Told) = (Order::Continue, Told::Going);
+
+/// The default machine has steps of 1,000 nm, a traverse rate of 6,000,000,000 nm a minute and a least period of 50 us, so a pulse of a
+/// traverse takes 50 us; at F60 it takes 1,000 us.
+const JOBS: &[Job] = &[
+    Job {
+        name: "a program from its load to its end",
+        orders: &[
+            (Order::Load("G0 X0.002\nM2\n"), Told::Done(1)),
+            START,
+            BEGUN,
+            OPENED,
+            MOVED,
+            MOVED,
+            DONE_2,
+            BEGUN,
+            OPENED,
+            MOVED,
+            DONE_3,
+            IDLE,
+        ],
+        shown: (3, 0, 2_000, true, None, Condition::Idle),
+        given: &[Given::Forward(50), Given::Forward(50), Given::Off],
+    },
+    Job {
+        name: "block delete while a line is worked",
+        orders: &[
+            (Order::Load("G0 X0.001\n/G0 X0.002\nM2\n"), Told::Done(1)),
+            START,
+            BEGUN,
+            OPENED,
+            MOVED,
+            (Order::BlockDelete(true), Told::Taken),
+            DONE_2,
+            BEGUN,
+            DONE_3,
+            BEGUN,
+            OPENED,
+            MOVED,
+            DONE_4,
+            IDLE,
+        ],
+        shown: (4, 0, 1_000, true, None, Condition::Idle),
+        given: &[Given::Forward(50), Given::Off],
+    },
+    Job {
+        name: "the block delete of a line is that of its beginning",
+        orders: &[
+            (Order::BlockDelete(true), Told::Taken),
+            (Order::Mdi("/G0 X0.002"), Told::Begun),
+            (Order::BlockDelete(false), Told::Taken),
+            DONE_1,
+            (Order::Mdi("/G0 X0.001"), Told::Begun),
+            (Order::BlockDelete(true), Told::Taken),
+            OPENED,
+            MOVED,
+            DONE_2,
+            IDLE,
+        ],
+        shown: (2, 0, 1_000, true, None, Condition::Idle),
+        given: &[Given::Forward(50)],
+    },
+    Job {
+        name: "nothing to do, and lines of the operator",
+        orders: &[
+            (Order::Start, Told::Refused(Fault::NoProgram)),
+            (Order::Continue, Told::Refused(Fault::NoProgram)),
+            (Order::Hold, Told::Idle),
+            IDLE,
+            (Order::Mdi("G1 X1"), Told::Refused(Fault::NoFeed)),
+            (Order::Mdi("%"), Told::Refused(Fault::Unreadable)),
+            (Order::Mdi("G4 P0.5"), Told::Begun),
+            (Order::Mdi("G4 P0.5"), Told::Refused(Fault::Busy)),
+            (Order::Load("M2"), Told::Refused(Fault::Busy)),
+            (Order::Start, Told::Refused(Fault::Busy)),
+            OPENED,
+            MOVED,
+            DONE_1,
+            (Order::Mdi("M0"), Told::Begun),
+            DONE_2,
+            IDLE,
+        ],
+        shown: (2, 0, 0, true, None, Condition::Idle),
+        given: &[Given::Wait(500_000)],
+    },
+    Job {
+        name: "a percent program with stops, and optional stop taken back before its line is committed",
+        orders: &[
+            (Order::Load("%\nM0\n\nM1\n%\n"), Told::Done(1)),
+            START,
+            BEGUN,
+            DONE_2,
+            BEGUN,
+            DONE_3,
+            STOPPED,
+            CONTINUE,
+            BEGUN,
+            DONE_4,
+            (Order::OptionalStop(true), Told::Taken),
+            BEGUN,
+            (Order::OptionalStop(false), Told::Taken),
+            (Order::Tick, Told::Done(5)),
+            BEGUN,
+            (Order::Tick, Told::Done(6)),
+            IDLE,
+            START,
+            BEGUN,
+            (Order::Tick, Told::Done(7)),
+            BEGUN,
+            (Order::Tick, Told::Done(8)),
+            STOPPED,
+        ],
+        shown: (8, 5, 0, true, None, Condition::Stopped),
+        given: &[],
+    },
+    Job {
+        name: "optional stop, wanted only once its line was begun",
+        orders: &[
+            (Order::Load("M1\nM2\n"), Told::Done(1)),
+            START,
+            BEGUN,
+            (Order::OptionalStop(true), Told::Taken),
+            DONE_2,
+            STOPPED,
+        ],
+        shown: (2, 3, 0, true, None, Condition::Stopped),
+        given: &[],
+    },
+    Job {
+        name: "a hold within a segment, and one between two lines that a line of the operator ends",
+        orders: &[
+            (Order::Load("G0 X0.002\nM2\n"), Told::Done(1)),
+            START,
+            BEGUN,
+            OPENED,
+            MOVED,
+            HOLD,
+            HELD,
+            (Order::Mdi("G4 P0"), Told::Refused(Fault::Busy)),
+            CONTINUE,
+            MOVED,
+            DONE_2,
+            HOLD,
+            HELD,
+            (Order::Mdi("G0 X0.001"), Told::Begun),
+            OPENED,
+            MOVED,
+            DONE_3,
+            STOPPED,
+            START,
+            BEGUN,
+            OPENED,
+            MOVED,
+            DONE_4,
+            IDLE,
+        ],
+        shown: (4, 0, 1_000, true, None, Condition::Idle),
+        given: &[
+            Given::Forward(50),
+            Given::Forward(50),
+            Given::Backward(50),
+            Given::Off,
+        ],
+    },
+    Job {
+        name: "a line that is refused, and a text without a program end",
+        orders: &[
+            (Order::Load("G0 X0.001\nG1 X0.002\n"), Told::Done(1)),
+            START,
+            BEGUN,
+            OPENED,
+            MOVED,
+            DONE_2,
+            (Order::Tick, Told::Refused(Fault::NoFeed)),
+            STOPPED,
+            (Order::Mdi("F60"), Told::Begun),
+            DONE_3,
+            CONTINUE,
+            BEGUN,
+            OPENED,
+            MOVED,
+            DONE_4,
+            (Order::Tick, Told::Refused(Fault::NoProgramEnd)),
+            STOPPED,
+        ],
+        shown: (4, 20, 2_000, true, None, Condition::Stopped),
+        given: &[Given::Forward(50), Given::Forward(1_000)],
+    },
+];
+
+/// The bytes of a text, as an event brings them.
+fn text_of<A: Allocator + Copy + Drop>(alloc: A, text: &str) -> Result<Text<A>, AllocError> {
+    let mut bytes = Vec::new(alloc);
+    bytes.extend_from_slice(text.as_bytes())?;
+    Ok(Text::of(bytes))
+}
+
+fn event_of<A: Allocator + Copy + Drop>(alloc: A, order: Order) -> Result<Event<A>, AllocError> {
+    Ok(match order {
+        Order::Load(text) => Event::Load(text_of(alloc, text)?),
+        Order::Start => Event::Start,
+        Order::Hold => Event::Hold,
+        Order::Continue => Event::Continue,
+        Order::Mdi(text) => Event::Mdi(text_of(alloc, text)?),
+        Order::OptionalStop(wanted) => Event::OptionalStop(wanted),
+        Order::BlockDelete(on) => Event::BlockDelete(on),
+        Order::Tick => Event::Tick,
+    })
+}
+
+fn told_of(reply: Reply) -> Option<Told> {
+    Some(match reply {
+        Reply::Done(count) => Told::Done(count),
+        Reply::Going => Told::Going,
+        Reply::Held => Told::Held,
+        Reply::Idle => Told::Idle,
+        Reply::Stopped => Told::Stopped,
+        Reply::Begun => Told::Begun,
+        Reply::Taken => Told::Taken,
+        Reply::Moved => Told::Moved,
+        Reply::Opened(index) => Told::Opened(index),
+        Reply::Status(_) => return None,
+        Reply::Refused(fault) => Told::Refused(fault),
+    })
+}
+
+fn item_of(given: Given) -> Item {
+    let (x, period_us) = match given {
+        Given::Forward(period_us) => (Step::Forward, period_us),
+        Given::Backward(period_us) => (Step::Backward, period_us),
+        Given::Wait(us) => return Item::Dwell { us },
+        Given::Off => return Item::Switch(Outputs::fresh()),
+    };
+    Item::Pulse(Pulse {
+        x,
+        y: Step::Still,
+        z: Step::Still,
+        period_us,
+    })
+}
+
+fn is_given(handed: &[Item], given: &[Given]) -> bool {
+    handed.len() == given.len()
+        && handed
+            .iter()
+            .zip(given)
+            .all(|(item, given)| *item == item_of(*given))
+}
+
+/// What a status shows, where Y and Z are 0.
+fn shown_of(status: Status) -> Option<Shown> {
+    let Status {
+        entries,
+        place,
+        point,
+        place_known,
+        half,
+        condition,
+    } = status;
+    if point.y.nm() != 0 || point.z.nm() != 0 {
+        return None;
+    }
+    Some((entries, place, point.x.nm(), place_known, half, condition))
+}
+
+/// What the status of a controller shows.
+fn shown<R: Rig, A: Allocator + Copy + Drop>(controller: &mut Controller<R, A>) -> Option<Shown> {
+    match controller.on(Event::Status) {
+        Reply::Status(status) => shown_of(status),
+        _ => None,
+    }
+}
+
+/// A controller over a new device, powered on.
+fn fresh<A: Allocator + Copy + Drop>(alloc: A) -> Result<Controller<MemoryRig<A>, A>, Fault> {
+    let mut rig = MemoryRig::new(alloc, 1_710)?;
+    format(&mut rig)?;
+    started(alloc, rig)
+}
+
+/// A controller over this device, powered on.
+fn started<R: Rig + Drop, A: Allocator + Copy + Drop>(
+    alloc: A,
+    rig: R,
+) -> Result<Controller<R, A>, Fault> {
+    match power_on(alloc, rig, Settings::standard()) {
+        Ok(controller) => Ok(controller),
+        Err((fault, _)) => Err(fault),
+    }
+}
+
+/// Gives the events one by one: which of them is the first with another reply.
+fn first_astray<R: Rig, A: Allocator + Copy + Drop>(
+    alloc: A,
+    controller: &mut Controller<R, A>,
+    orders: &[(Order, Told)],
+) -> Result<Option<(usize, Option<Told>)>, AllocError> {
+    for (n, (order, wanted)) in orders.iter().enumerate() {
+        let told = told_of(controller.on(event_of(alloc, *order)?));
+        if told != Some(*wanted) {
+            return Ok(Some((n, told)));
+        }
+    }
+    Ok(None)
+}
+
+/// The events as a list.
+fn events_of<A: Allocator + Copy + Drop>(
+    alloc: A,
+    orders: &[(Order, Told)],
+) -> Result<Vec<Event<A>, A>, AllocError> {
+    let mut events = Vec::new(alloc);
+    for (order, _) in orders {
+        events.push(event_of(alloc, *order)?)?;
+    }
+    Ok(events)
+}
+
+fn are_told(replies: &[Reply], orders: &[(Order, Told)]) -> bool {
+    replies.len() == orders.len()
+        && replies
+            .iter()
+            .zip(orders)
+            .all(|(reply, (_, wanted))| told_of(*reply) == Some(*wanted))
+}
+
+/// A job event by event: the first reply that is another, the status then, and whether its items were handed out.
+fn played<A: Allocator + Copy + Drop>(
+    alloc: A,
+    job: &Job,
+) -> Result<(Option<(usize, Option<Told>)>, Option<Shown>, bool), Fault> {
+    let mut controller = fresh(alloc)?;
+    let astray = first_astray(alloc, &mut controller, job.orders);
+    let shown = shown(&mut controller);
+    let handed = controller.into_rig().handed(usize::MAX)?;
+    Ok((astray?, shown, is_given(handed.as_slice(), job.given)))
+}
+
+/// A job as one list: whether its replies are told, the status then, and whether its items were handed out.
+fn run_whole<A: Allocator + Copy + Drop>(
+    alloc: A,
+    job: &Job,
+) -> Result<(bool, Option<Shown>, bool), Fault> {
+    let events = events_of(alloc, job.orders)?;
+    let mut controller = fresh(alloc)?;
+    let replies = controller.run(events.as_slice());
+    let shown = shown(&mut controller);
+    let handed = controller.into_rig().handed(usize::MAX)?;
+    Ok((
+        are_told(replies?.as_slice(), job.orders),
+        shown,
+        is_given(handed.as_slice(), job.given),
+    ))
+}
+
+#[test]
+fn jobs_event_by_event(rt: HostRuntime) -> Result<(), Fail> {
+    for job in JOBS {
+        assert_eq!(rt;
+            played(rt.alloc(), job),
+            Ok((None, Some(job.shown), true)),
+            "{}",
+            job.name
+        );
+    }
+    Ok(())
+}
+
+#[test]
+fn jobs_as_a_list(rt: HostRuntime) -> Result<(), Fail> {
+    for job in JOBS {
+        assert_eq!(rt;
+            run_whole(rt.alloc(), job),
+            Ok((true, Some(job.shown), true)),
+            "{}",
+            job.name
+        );
+    }
+    Ok(())
+}
+
+/// A move of the operator that is begun, and the tick that opens its segment.
+const MOVE: &[(Order, Told)] = &[(Order::Mdi("G0 X0.005"), Told::Begun), OPENED];
+
+/// The device behind the first n of these events.
+fn device_behind<A: Allocator + Copy + Drop>(
+    alloc: A,
+    orders: &[(Order, Told)],
+) -> Result<MemoryRig<A>, Fault> {
+    let mut controller = fresh(alloc)?;
+    let astray = first_astray(alloc, &mut controller, orders);
+    let rig = controller.into_rig();
+    astray?;
+    Ok(rig)
+}
+
+/// What the status shows once a device is powered on anew, after it was stopped behind so many of its calls with this many of the
+/// unsynced writes of each sector kept.
+fn shown_after<A: Allocator + Copy + Drop>(
+    alloc: A,
+    rig: &MemoryRig<A>,
+    calls: usize,
+    keep: &[usize],
+) -> Result<Option<Shown>, Fault> {
+    let mut controller = started(alloc, rig.stopped(calls, keep)?)?;
+    let shown = shown(&mut controller);
+    drop(controller.into_rig());
+    Ok(shown)
+}
+
+/// Power is cut behind so many of the calls that a tick makes to open a segment (87 writes, 2 syncs), with none of the unsynced
+/// writes kept or with all of them: whether its block is then half-done, with nothing known of where the machine stands.
+const CUTS: &[(usize, &[usize], bool)] = &[
+    (0, &[], false),
+    (0, &[1; 1_710], false),
+    (1, &[], false),
+    (1, &[1; 1_710], false),
+    (87, &[1; 1_710], false),
+    (88, &[], false),
+    (88, &[1; 1_710], true),
+    (89, &[], true),
+];
+
+#[test]
+fn power_is_cut_while_a_segment_is_opened(rt: HostRuntime) -> Result<(), Fail> {
+    let half = HalfShown {
+        source: Source::Mdi,
+        index: 0,
+    };
+    let before = device_behind(rt.alloc(), &MOVE[..1]).map(|rig| rig.calls());
+    let Ok(rig) = device_behind(rt.alloc(), MOVE) else {
+        panic!(rt; "no device")
+    };
+    for (calls, keep, is_open) in CUTS {
+        let wanted = if *is_open {
+            (0, 0, 0, false, Some(half), Condition::Idle)
+        } else {
+            (0, 0, 0, true, None, Condition::Idle)
+        };
+        let calls = before.unwrap_or_default().saturating_add(*calls);
+        assert_eq!(rt;
+            shown_after(rt.alloc(), &rig, calls, keep),
+            Ok(Some(wanted)),
+            "{calls}"
+        );
+    }
+    Ok(())
+}
+
+/// The replies of a controller whose device fails once, where the second of these events first writes, and then what the status shows; and
+/// what is shown once it is powered on anew.
+fn failed_once<A: Allocator + Copy + Drop>(
+    alloc: A,
+    orders: &[(Order, Told)],
+) -> Result<(Option<(usize, Option<Told>)>, Option<Shown>, Option<Shown>), Fault> {
+    let mut rig = MemoryRig::new(alloc, 1_710)?;
+    format(&mut rig)?;
+    let mut controller = started(alloc, FailRig::new(rig, POWER_ON))?;
+    let astray = first_astray(alloc, &mut controller, orders);
+    let broken = shown(&mut controller);
+    let rig = controller.into_rig().into_inner();
+    let anew = shown_after(alloc, &rig, usize::MAX, &[])?;
+    Ok((astray?, broken, anew))
+}
+
+/// How many calls of the device power on makes.
+const POWER_ON: u64 = 179;
+
+const FAILING: &[(Order, Told)] = &[
+    (Order::Mdi("G0 X0.005"), Told::Begun),
+    (Order::Tick, Told::Refused(Fault::DeviceFailed)),
+    (Order::Tick, Told::Refused(Fault::Broken)),
+    (Order::Start, Told::Refused(Fault::Broken)),
+    (Order::Hold, Told::Refused(Fault::Broken)),
+    (Order::Load("M2"), Told::Refused(Fault::Broken)),
+];
+
+#[test]
+fn a_device_that_fails_once(rt: HostRuntime) -> Result<(), Fail> {
+    assert_eq!(rt;
+        failed_once(rt.alloc(), FAILING),
+        Ok((
+            None,
+            Some((0, 0, 0, true, None, Condition::Broken)),
+            Some((0, 0, 0, true, None, Condition::Idle)),
+        ))
+    );
+    Ok(())
+}
+
+/// What a controller answers where memory is wanting, over a device that has memory of its own: to these events, and to a list of so
+/// many ticks; what the status shows then.
+fn short_of_memory<A: Allocator + Copy + Drop, B: Allocator + Copy + Drop>(
+    alloc: A,
+    device: B,
+    ticks: usize,
+) -> Result<
+    (
+        Option<(usize, Option<Told>)>,
+        Result<usize, Fault>,
+        Option<Shown>,
+    ),
+    Fault,
+> {
+    let mut events = Vec::with_capacity(alloc, ticks)?;
+    for _ in 0..ticks {
+        events.push(Event::Tick)?;
+    }
+    let mut rig = MemoryRig::new(device, 1_710)?;
+    format(&mut rig)?;
+    let mut controller = started(alloc, rig)?;
+    let astray = first_astray(alloc, &mut controller, WANTING);
+    let replies = controller.run(events.as_slice());
+    let shown = shown(&mut controller);
+    drop(controller.into_rig());
+    Ok((astray?, replies.map(|replies| replies.len()), shown))
+}
+
+const WANTING: &[(Order, Told)] = &[
+    (Order::Mdi("F1"), Told::Refused(Fault::OutOfMemory)),
+    (Order::Load("M2"), Told::Refused(Fault::OutOfMemory)),
+    (Order::Mdi("G1 X1"), Told::Refused(Fault::NoFeed)),
+    (Order::Tick, Told::Idle),
+];
+
+/// Ticks in a list, and the bytes of the heap: how many replies there are. Power on takes two tables of parameters of 43,192 bytes, and a
+/// line that is begun or a load takes one more.
+#[test]
+fn memory_that_is_wanting(rt: HostRuntime) -> Result<(), Fail> {
+    let shown = Some((0, 0, 0, true, None, Condition::Idle));
+    for (ticks, heap, replies) in [
+        (0, 100_000, Ok(0)),
+        (10, 100_000, Ok(10)),
+        (1_000, 140_000, Err(Fault::OutOfMemory)),
+    ] {
+        let heap = LocalHeap::new(rt.alloc(), heap)?;
+        assert_eq!(rt;
+            short_of_memory(&heap, rt.alloc(), ticks),
+            Ok((None, replies, shown)),
+            "{ticks}"
+        );
+    }
+    Ok(())
+}
