@@ -4,6 +4,7 @@ mod bad_input;
 mod blocks;
 mod cycles;
 mod grammar;
+mod machines;
 mod memory;
 mod modal;
 mod offsets;
