@@ -28,21 +28,25 @@ OperatesDevice {S} {O} content settings device out text old new status =
     × Consoles Global sector_count failure_count (λ rig. ⊥) (λ rig. Began (λ sector. [])) settings rig text old new (status, left))
     ⊎ IsRefusedWith DeviceFailed old new status
 
--- the same of a device and a file as they were opened; where there is no device, the other isn't looked at
-abbrev pub OperatesOpened : {S O : Type 0} → (S → Option (List ℕ)) → Settings → Result S NoDevice → Result O Error → Option (List ℕ) → Option (List ℕ) → Option (List ℕ) → ℕ → Type 0
-OperatesOpened content settings (Err why) out text old new status = RefusesDevice why old new status
-OperatesOpened content settings (Ok device) (Err error) text old new status = IsBroken old new status
-OperatesOpened content settings (Ok device) (Ok out) text old new status = OperatesDevice content settings device out text old new status
+-- the same of a file as it was opened
+abbrev pub OperatesInto : {S O : Type 0} → (S → Option (List ℕ)) → Settings → S → Result O Error → Option (List ℕ) → Option (List ℕ) → Option (List ℕ) → ℕ → Type 0
+OperatesInto content settings device (Err error) text old new status = IsBroken old new status
+OperatesInto content settings device (Ok out) text old new status = OperatesDevice content settings device out text old new status
 
-module _ {F : Type 0} (bytes_of : F → Option (List ℕ)) where
-  -- the same of some device, with the settings that were found; where there are none no device is looked at
-  abbrev pub OperatesChosen : Result Settings NoSettings → Option (List ℕ) → Option (List ℕ) → Option (List ℕ) → ℕ → Type 0
-  OperatesChosen (Err why) text old new status = RefusesSettings why old new status
-  OperatesChosen (Ok settings) text old new status =
-      (device : Result (OpenedFile F) NoDevice) × (out : Result F Error) × OperatesOpened (λ file. None) settings device out text old new status
+module _ {F : Type 0} where
+  -- the same of a device as it was opened; where there is none, no other file is
+  abbrev pub OperatesOpened : Settings → Result (OpenedFile F) NoDevice → Option (List ℕ) → Option (List ℕ) → Option (List ℕ) → ℕ → Type 0
+  OperatesOpened settings (Err why) text old new status = RefusesDevice why old new status
+  OperatesOpened settings (Ok device) text old new status =
+      (out : Result F Error) × OperatesInto (λ (file : OpenedFile F). None) settings device out text old new status
 
-  -- the same with the settings of some file
-  abbrev pub Operates : Option (List ℕ) → Option (List ℕ) → Option (List ℕ) → ℕ → Type 0
-  Operates text old new status =
-      (settings_file : Result F Error) × (chosen : Result Settings NoSettings) × GivesChoice bytes_of (Some settings_file) chosen
-      × OperatesChosen chosen text old new status
+-- the same of some device, with the settings that were found; where there are none, no device is opened
+abbrev pub OperatesChosen : (F : Type 0) → Result Settings NoSettings → Option (List ℕ) → Option (List ℕ) → Option (List ℕ) → ℕ → Type 0
+OperatesChosen F (Err why) text old new status = RefusesSettings why old new status
+OperatesChosen F (Ok settings) text old new status = (device : Result (OpenedFile F) NoDevice) × OperatesOpened settings device text old new status
+
+-- the same with the settings of some file
+abbrev pub Operates : {F : Type 0} → (F → Option (List ℕ)) → Option (List ℕ) → Option (List ℕ) → Option (List ℕ) → ℕ → Type 0
+Operates {F} bytes_of text old new status =
+    (settings_file : Result F Error) × (chosen : Result Settings NoSettings) × GivesChoice bytes_of (Some settings_file) chosen
+    × OperatesChosen F chosen text old new status

@@ -1,6 +1,5 @@
 //! The job `run`: an operator commands a controller over a device.
-ghost use Rattle.std.specs.Prelude.{◌≤◌, ℕ, Option, None, Result, IfOk};
-ghost use Rattle.std.specs.declared.io.Error.{Error};
+ghost use Rattle.std.specs.Prelude.{◌≤◌, Result, IfOk};
 ghost use Rattle.ng_file.specs.declared.device.NoDevice.{NoDevice};
 ghost use Rattle.ng_file.specs.declared.opened.OpenedFile.{OpenedFile};
 ghost use Rattle.ng_console.specs.Operating.{OperatesChosen, OperatesDevice, OperatesOpened};
@@ -30,7 +29,7 @@ pub(crate) fn operate_chosen<R: Files + AllocGlobal, I: Read, W: Write>(
 ) -> io::Result<u8>
 where
     R::File: Hold,
-    ensures run { IfOk result (OperatesChosen R.File.remaining chosen (I.remaining reader.old) (W.contents writer.old) (W.contents writer.new)) }
+    ensures run { IfOk result (OperatesChosen R.File chosen (I.remaining reader.old) (W.contents writer.old) (W.contents writer.new)) }
     ensures range { IfOk result (λ status. status ≤ 2) }
 {
     match chosen {
@@ -51,7 +50,7 @@ fn operate_files<R: Files + AllocGlobal, I: Read, W: Write>(
 ) -> io::Result<u8>
 where
     R::File: Hold,
-    ensures run { IfOk result (λ status. (device : Result (OpenedFile R.File) NoDevice) × (out : Result R.File Error) × OperatesOpened (λ file. None) settings device out (I.remaining reader.old) (W.contents writer.old) (W.contents writer.new) status) }
+    ensures run { IfOk result (λ status. (device : Result (OpenedFile R.File) NoDevice) × OperatesOpened settings device (I.remaining reader.old) (W.contents writer.old) (W.contents writer.new) status) }
     ensures range { IfOk result (λ status. status ≤ 2) }
 {
     match open_device(rt, device) {

@@ -6,6 +6,8 @@
 #![tactic(auto)]
 
 #[cfg(test)]
+mod machines;
+#[cfg(test)]
 mod program;
 #[cfg(test)]
 mod statuses;
