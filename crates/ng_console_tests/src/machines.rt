@@ -5,17 +5,18 @@ use std::test::Fail;
 use std::{env, fs};
 
 /// Files of a test, in the system's folder for such files.
-struct Folder {
+#[derive(Drop)]
+struct TestFiles {
     device: String,
     settings: String,
     out: String,
 }
 
-fn folder(rt: &HostRuntime, name: &str) -> Result<Folder, Fail> {
-    let folder = env::temp_dir(rt)?;
+fn files_named(rt: &HostRuntime, name: &str) -> Result<TestFiles, Fail> {
+    let room = env::temp_dir(rt)?;
     let number = std::process::id(rt.process());
-    let front = format!(in rt.alloc(); "{}/ngc_{name}_{number}", folder.display())?;
-    Ok(Folder {
+    let front = format!(in rt.alloc(); "{}/ngc_{name}_{number}", room.display())?;
+    Ok(TestFiles {
         device: format!(in rt.alloc(); "{front}.dev")?,
         settings: format!(in rt.alloc(); "{front}.toml")?,
         out: format!(in rt.alloc(); "{front}.out")?,
@@ -39,7 +40,7 @@ where
 
 #[test]
 fn format_makes_a_device_or_says_why_not(rt: HostRuntime) -> Result<(), Fail> {
-    let files = folder(&rt, "format")?;
+    let files = files_named(&rt, "format")?;
     let path = files.device.as_str();
     let words = ["ngc", "format", path];
     // there is none: it is made
@@ -101,7 +102,7 @@ const SESSIONS: &[(&str, &str, &str)] = &[
 
 #[test]
 fn run_answers_an_operator_and_keeps_what_is_done(rt: HostRuntime) -> Result<(), Fail> {
-    let files = folder(&rt, "run")?;
+    let files = files_named(&rt, "run")?;
     let (device, settings, out) = (
         files.device.as_str(),
         files.settings.as_str(),
@@ -130,7 +131,7 @@ fn run_answers_an_operator_and_keeps_what_is_done(rt: HostRuntime) -> Result<(),
 
 #[test]
 fn run_says_why_it_does_not_run(rt: HostRuntime) -> Result<(), Fail> {
-    let files = folder(&rt, "refused")?;
+    let files = files_named(&rt, "refused")?;
     let (device, settings, out) = (
         files.device.as_str(),
         files.settings.as_str(),
