@@ -69,7 +69,7 @@ impl Storage for Disk {
 }
 
 /// A disk of so many bytes, all zeros, on which so many writes have room.
-fn disk(alloc: Global, length: usize, writes_left: usize) -> Result<Disk, AllocError> {
+fn disk_with(alloc: Global, length: usize, writes_left: usize) -> Result<Disk, AllocError> {
     let mut bytes = Vec::new(alloc);
     bytes.resize(length, 0)?;
     Ok(Disk {
@@ -108,7 +108,7 @@ const SIZES: &[(usize, usize)] = &[
 #[test]
 fn a_device_has_the_whole_sectors(rt: HostRuntime) -> Result<(), Fail> {
     for (length, sectors) in SIZES {
-        let rig = FileRig::over(rt.alloc(), disk(rt.alloc(), *length, 0)?, io::sink())?;
+        let rig = FileRig::over(rt.alloc(), disk_with(rt.alloc(), *length, 0)?, io::sink())?;
         assert_eq!(rt; rig.size(), *sectors, "{length}");
         assert_eq!(rt; rig.failures(), 0);
     }
@@ -117,7 +117,7 @@ fn a_device_has_the_whole_sectors(rt: HostRuntime) -> Result<(), Fail> {
 
 #[test]
 fn a_sector_is_512_bytes_at_512_times_its_number(rt: HostRuntime) -> Result<(), Fail> {
-    let mut rig = FileRig::over(rt.alloc(), disk(rt.alloc(), 1_600, 9)?, io::sink())?;
+    let mut rig = FileRig::over(rt.alloc(), disk_with(rt.alloc(), 1_600, 9)?, io::sink())?;
     assert!(rt; fill(&mut rig, 1, 7).is_ok() && fill(&mut rig, 2, 9).is_ok());
     assert!(rt; holds(&mut rig, 0, 0) && holds(&mut rig, 1, 7) && holds(&mut rig, 2, 9));
     assert!(rt; rig.sync().is_ok() && rig.failures() == 0);
@@ -133,7 +133,7 @@ fn a_sector_is_512_bytes_at_512_times_its_number(rt: HostRuntime) -> Result<(), 
 
 #[test]
 fn a_full_disk_fails_and_keeps_what_it_has(rt: HostRuntime) -> Result<(), Fail> {
-    let mut rig = FileRig::over(rt.alloc(), disk(rt.alloc(), 1_024, 1)?, io::sink())?;
+    let mut rig = FileRig::over(rt.alloc(), disk_with(rt.alloc(), 1_024, 1)?, io::sink())?;
     assert!(rt; fill(&mut rig, 0, 7).is_ok() && rig.failures() == 0);
     assert!(rt; fill(&mut rig, 0, 8) == Err(Failed) && rig.failures() == 1);
     assert!(rt; fill(&mut rig, 1, 9) == Err(Failed) && rig.failures() == 2);
@@ -143,7 +143,7 @@ fn a_full_disk_fails_and_keeps_what_it_has(rt: HostRuntime) -> Result<(), Fail> 
 
 #[test]
 fn a_file_that_gets_shorter_fails_and_stays_short(rt: HostRuntime) -> Result<(), Fail> {
-    let mut file = disk(rt.alloc(), 1_536, 9)?;
+    let mut file = disk_with(rt.alloc(), 1_536, 9)?;
     // the first length is that of the device, the second that of its first write
     file.lengths_left = 2;
     let mut rig = FileRig::over(rt.alloc(), file, io::sink())?;
@@ -184,7 +184,7 @@ fn items() -> [(Item, &'static str); 4] {
 fn what_is_handed_out_is_a_line_behind_those_before(rt: HostRuntime) -> Result<(), Fail> {
     let out = Vec::from_slice(rt.alloc(), b"D 1\n")?;
     let mut wanted = Vec::from_slice(rt.alloc(), b"D 1\n")?;
-    let mut rig = FileRig::over(rt.alloc(), disk(rt.alloc(), 0, 0)?, out)?;
+    let mut rig = FileRig::over(rt.alloc(), disk_with(rt.alloc(), 0, 0)?, out)?;
     for (item, line) in items() {
         assert!(rt; rig.hand_out(item).is_ok());
         wanted.extend_from_slice(line.as_bytes())?;
@@ -240,7 +240,7 @@ fn a_hand_out_is_a_write_and_a_flush_and_fails_with_each(rt: HostRuntime) -> Res
             taken: Vec::new(rt.alloc()),
             calls_left: *calls_left,
         };
-        let mut rig = FileRig::over(rt.alloc(), disk(rt.alloc(), 0, 0)?, out)?;
+        let mut rig = FileRig::over(rt.alloc(), disk_with(rt.alloc(), 0, 0)?, out)?;
         let mut good = 0usize;
         for _ in 0..3 {
             if rig.hand_out(Item::Dwell { us: 5 }).is_ok() {
@@ -262,6 +262,6 @@ fn a_hand_out_is_a_write_and_a_flush_and_fails_with_each(rt: HostRuntime) -> Res
 #[test]
 fn a_device_without_memory_for_a_line_is_none(rt: HostRuntime) -> Result<(), Fail> {
     let heap = LocalHeap::new(rt.alloc(), 16)?;
-    assert!(rt; FileRig::over(&heap, disk(rt.alloc(), 0, 0)?, io::sink()).is_err());
+    assert!(rt; FileRig::over(&heap, disk_with(rt.alloc(), 0, 0)?, io::sink()).is_err());
     Ok(())
 }
