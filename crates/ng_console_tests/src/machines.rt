@@ -1,5 +1,6 @@
 //! The jobs `format` and `run` over files.
 use ng_console::ngc;
+use ng_test_programs::sector_after_first_session;
 use std::rt::Files;
 use std::test::Fail;
 use std::{env, fs};
@@ -121,6 +122,34 @@ fn run_answers_an_operator_and_keeps_what_is_done(rt: HostRuntime) -> Result<(),
         assert!(rt;
             fs::read(&rt, out)?.as_slice() == handed.as_bytes(),
             "{input:?}"
+        );
+    }
+    fs::remove_file(&rt, device)?;
+    fs::remove_file(&rt, settings)?;
+    fs::remove_file(&rt, out)?;
+    Ok(())
+}
+
+#[test]
+fn run_leaves_the_bytes_of_a_first_session(rt: HostRuntime) -> Result<(), Fail> {
+    let files = files_named(&rt, "bytes")?;
+    let (device, settings, out) = (
+        files.device.as_str(),
+        files.settings.as_str(),
+        files.out.as_str(),
+    );
+    fs::write(&rt, settings, SETTINGS)?;
+    let (status, _) = answered(&rt, &["ngc", "format", device], b"");
+    assert_eq!(rt; status, 0);
+    let input = b"load 13\nG0 X0.002\nM2\nstart\ntick 100\nstatus\n";
+    let (status, _) = answered(&rt, &["ngc", "run", device, settings, out], input);
+    assert_eq!(rt; status, 0);
+    let stored = fs::read(&rt, device)?;
+    assert_eq!(rt; stored.len(), 875_520);
+    for (sector, bytes) in stored.as_slice().chunks_exact(512).enumerate() {
+        assert!(rt;
+            bytes == sector_after_first_session(sector).as_slice(),
+            "{sector}"
         );
     }
     fs::remove_file(&rt, device)?;

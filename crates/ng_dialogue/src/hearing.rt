@@ -1,5 +1,5 @@
 //! What the console is asked to do, as its lines come.
-ghost use Rattle.std.specs.Prelude.{IfOk};
+ghost use Rattle.std.specs.Prelude.{◌≡◌, IfOk};
 ghost use Rattle.std.specs.Io.KnownBytes.{prepend_known};
 ghost use Rattle.ng_dialogue.specs.Orders.{Behind, Follows, TakesOrder};
 
@@ -24,13 +24,17 @@ pub enum Deaf {
 }
 
 impl From<Unread> for Deaf {
-    fn from(_: Unread) -> Deaf {
+    fn from(_: Unread) -> Deaf
+        ensures { result ≡ Deaf.Reader }
+    {
         Deaf::Reader
     }
 }
 
 impl From<AllocError> for Deaf {
-    fn from(_: AllocError) -> Deaf {
+    fn from(_: AllocError) -> Deaf
+        ensures { result ≡ Deaf.Memory }
+    {
         Deaf::Memory
     }
 }

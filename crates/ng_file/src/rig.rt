@@ -113,7 +113,7 @@ impl<S: Storage + Drop, W: Write + Drop, A: Allocator + Copy + Drop> FileRig<S, 
 }
 
 impl<S: Storage + Drop, W: Write + Drop, A: Allocator + Copy + Drop> Rig for FileRig<S, W, A> {
-    ghost use Rattle.std.specs.Prelude.{◌≡◌, ◌+◌, ◌*◌, ◌<◌, ◌≤◌, [], IfSome, OnOk, OnErr, length};
+    ghost use Rattle.std.specs.Prelude.{◌≡◌, ◌+◌, ◌*◌, ◌<◌, ◌≤◌, [], IfSome, OnOk, OnErr, Some, length};
     ghost use Rattle.std.specs.Io.KnownBytes.{Appends};
     ghost use Rattle.ng_rig.specs.Calls.{Counts};
     ghost use Rattle.ng_rig.specs.Life.{Began};
@@ -163,7 +163,9 @@ impl<S: Storage + Drop, W: Write + Drop, A: Allocator + Copy + Drop> Rig for Fil
         self.counted(put)
     }
 
+    /// Fails where the file does. After a good one all that the file holds lasts.
     fn sync(&mut self) -> Result<(), Failed>
+        ensures lasts { OnOk result (IfSome (S.lasting (storage self.new)) (λ kept. S.content (storage self.new) ≡ Some kept)) }
         ensures stays { (S.content (storage self.new) ≡ S.content (storage self.old)) × (outlet self.new ≡ outlet self.old) }
         ensures size { sector_count self.new ≡ sector_count self.old }
         ensures failures { Counts result (failure_count self.old) (failure_count self.new) }

@@ -9,6 +9,9 @@ pub trait Storage {
     /// The bytes that it holds, where that is known.
     ghost content: { Self → Option (List ℕ) } = { λ _. None };
 
+    /// The bytes that stay over a loss of power, where that is known.
+    ghost lasting: { Self → Option (List ℕ) } = { λ _. None };
+
     /// How many bytes it holds.
     fn length(&mut self) -> io::Result<u64>
         ensures value { IfOk result (λ n. IfSome (content self.old) (λ held. n ≡ length held)) }
@@ -27,5 +30,6 @@ pub trait Storage {
 
     /// Makes lasting what was written.
     fn sync(&mut self) -> io::Result<()>
+        ensures lasts { OnOk result (IfSome (lasting self.new) (λ kept. content self.new ≡ Some kept)) }
         ensures bytes { content self.new ≡ content self.old };
 }

@@ -5,6 +5,7 @@ use ng_journal::format;
 use ng_rig::{FailRig, MemoryRig, Rig};
 use ng_run::console;
 use ng_settings::Settings;
+use ng_test_programs::sector_after_first_session;
 use std::alloc::{AllocError, Global};
 use std::io;
 use std::io::{ErrorKind, Read, Write};
@@ -115,6 +116,28 @@ fn answers_an_operator(rt: HostRuntime) -> Result<(), Fail> {
         assert!(rt; text.as_slice() == row.text.as_bytes(), "{}", row.lines);
         let items = rig.handed(rig.calls())?;
         assert!(rt; is_handed_out(items.as_slice(), row), "{}", row.lines);
+    }
+    Ok(())
+}
+
+/// The sectors of the device, byte by byte, after an operator stored a program and ran it to its end.
+#[test]
+fn a_first_session_leaves_these_bytes(rt: HostRuntime) -> Result<(), Fail> {
+    let mut reader: &[u8] = b"load 13\nG0 X0.002\nM2\nstart\ntick 100\nstatus\n";
+    let mut text = Vec::new(rt.alloc());
+    let rig = formatted(rt.alloc())?;
+    let (status, mut rig) = console(
+        rt.alloc(),
+        &mut reader,
+        &mut text,
+        rig,
+        Settings::standard(),
+    );
+    assert_eq!(rt; (status, rig.size()), (0, 1_710));
+    for sector in 0..1_710 {
+        let mut bytes = [0; 512];
+        assert!(rt; sector < rig.size() && rig.read(sector, &mut bytes).is_ok());
+        assert!(rt; bytes == sector_after_first_session(sector), "{sector}");
     }
     Ok(())
 }

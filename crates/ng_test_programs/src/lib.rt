@@ -1,5 +1,5 @@
-//! Programs and the texts that a dry run of them writes (NISTIR 6556 in this project's profile), as tables that tests of several
-//! crates go over.
+//! Programs and the texts that a dry run of them writes (NISTIR 6556 in this project's profile), and the bytes of a device after a
+//! session, as tables that tests of several crates go over.
 //!
 //! Each text is worked out by hand from the language, in millimetres, for the default machine with one tool of 50 mm; none is
 //! taken from what the crates answer. This crate promises nothing of its own and stands on none. A function that names a table is
@@ -8,6 +8,7 @@
 
 mod arcs;
 mod cycles;
+mod device;
 mod ends;
 mod grammar;
 mod long;
@@ -17,6 +18,7 @@ mod rows;
 
 pub use arcs::ARCS;
 pub use cycles::{CYCLES, KEPT_WORDS, PECKS, REFUSED_CYCLES};
+pub use device::sector_after_first_session;
 pub use ends::{CUTS, CUTS_TEXT, NO_END, PROGRAM_END};
 pub use grammar::{COMMENTS, FAULTS_OF_VALUES, PERCENTS, UNREADABLE, VALUES};
 pub use long::LONG;
