@@ -158,6 +158,25 @@ fn run_leaves_the_bytes_of_a_first_session(rt: HostRuntime) -> Result<(), Fail> 
     Ok(())
 }
 
+/// What is handed out can't be written: the segment that was opened stays open, nothing more moves, and the status is 2.
+#[test]
+fn run_ends_with_2_where_the_disk_is_full(rt: HostRuntime) -> Result<(), Fail> {
+    let files = files_named(&rt, "full")?;
+    let (device, settings) = (files.device.as_str(), files.settings.as_str());
+    fs::write(&rt, settings, SETTINGS)?;
+    let (status, _) = answered(&rt, &["ngc", "format", device], b"");
+    assert_eq!(rt; status, 0);
+    let input = b"mdi G0 X0.001\ntick 5\nstatus\ntick 1\n";
+    let (status, written) = answered(&rt, &["ngc", "run", device, settings, "/dev/full"], input);
+    assert_eq!(rt; status, 2);
+    let answers =
+        "begun\nrefused J1 DeviceFailed\nticks 2\nstatus entries 0 place 0 at 0.000000 0.000000 0.000000 unknown half mdi 0 broken\nrefused K5 Broken\nticks 1\n";
+    assert!(rt; written.as_slice() == answers.as_bytes());
+    fs::remove_file(&rt, device)?;
+    fs::remove_file(&rt, settings)?;
+    Ok(())
+}
+
 #[test]
 fn run_says_why_it_does_not_run(rt: HostRuntime) -> Result<(), Fail> {
     let files = files_named(&rt, "refused")?;

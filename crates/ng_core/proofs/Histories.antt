@@ -1,14 +1,15 @@
 -- What a history leaves, by the session alone.
-use Rattle.std.proofs.Common.{◌≡◌, inl, inr, ⊎_elim, ℕ, suc, Bool, true, false, List, [], ◌∷◌, ◌++◌, map, take, Result, Ok, Err, refl, sym, ◌∙◌, ap, subst, append_assoc, arith}
+use Rattle.std.proofs.Common.{◌≡◌, inl, inr, ⊎_elim, ℕ, suc, Bool, true, false, List, [], ◌∷◌, ◌++◌, length, map, take, Result, Ok, Err, refl, sym, ◌∙◌, ap, subst, append_assoc, arith}
 use Rattle.std.proofs.lemmas.List.{append-nil}
 use Rattle.ng_num.specs.declared.fault.Fault.{Fault}
 use Rattle.ng_num.specs.declared.fault.Fault.TheVariants.{DeviceFailed, CountersUsed, OutOfMemory}
 use Rattle.ng_canon.specs.declared.item.Item.{Item}
-use Rattle.ng_rig.specs.Life.{Image, Life, items}
+use Rattle.ng_rig.specs.Life.{Image, Life, Began, Wrote, Perhaps, Synced, Handed, StopSince, items, moment}
 use Rattle.ng_rig.specs.Onward.{Onward}
 use Rattle.ng_rig.proofs.Running.{stays, joined, weaker}
 use Rattle.ng_layout.specs.Stored.{Standing}
 use Rattle.ng_journal.specs.Journal.{StandsFor}
+use Rattle.ng_journal.proofs.Resting.{alone}
 use Rattle.ng_session.specs.Entries.{Equipment}
 use Rattle.ng_session.specs.Session.{Sitting}
 use Rattle.ng_session.specs.Runs.{Scene, Left, leads_to, left_in, items_of, scene_after}
@@ -17,12 +18,33 @@ use Rattle.ng_session.specs.declared.reply.Reply.{Reply}
 use Rattle.ng_session.specs.declared.reply.Reply.TheVariants as reply
 use Rattle.ng_core.specs.Station.{Station, Rests}
 use Rattle.ng_core.specs.Acts.{IsEitherLeft, reply_to, scene_of}
-use Rattle.ng_core.specs.Runs.{History, Step, Serving, Turns, IsLeftBehind, Passes, came, came_by, told, told_by, tried, tried_by, program_behind, outcome_of}
+use Rattle.ng_core.specs.Runs.{History, Step, Serving, Turns, IsLeftBehind, IsLeftFrom, Passes, came, came_by, told, told_by, tried, tried_by, program_behind, outcome_of}
 
 -- ---- stops
 
 as_items : (standing : Standing) (given more : List Item) (image : Image) (handed : List Item) → more ≡ given → StandsFor standing given image handed → StandsFor standing more image handed
 as_items standing given more image handed same p = subst (λ (l : List Item). StandsFor standing l image handed) (sym same) p
+
+-- a stop since a moment is one since an earlier one
+since_earlier : (life : Life) (t s : ℕ) (image : Image) (handed : List Item) → t ≤ s → StopSince life s image handed → StopSince life t image handed
+since_earlier (Began first) t s image handed le p = p
+since_earlier (Wrote m bytes life) t s image handed le (inl now) = inl now
+since_earlier (Wrote m bytes life) t s image handed le (inr before) = inr (omega (arith, le, before.0), since_earlier life t s image handed le before.1)
+since_earlier (Perhaps m bytes life) t s image handed le (inl now) = inl now
+since_earlier (Perhaps m bytes life) t s image handed le (inr before) = inr (omega (arith, le, before.0), since_earlier life t s image handed le before.1)
+since_earlier (Synced life) t s image handed le (inl now) = inl now
+since_earlier (Synced life) t s image handed le (inr before) = inr (omega (arith, le, before.0), since_earlier life t s image handed le before.1)
+since_earlier (Handed item life) t s image handed le (inl now) = inl now
+since_earlier (Handed item life) t s image handed le (inr before) = inr (omega (arith, le, before.0), since_earlier life t s image handed le before.1)
+
+-- at rest, behind none
+none_left : {A R : Type 0} (life : Life) (program : List ℕ) (old : Station R) (events : List (Event A)) (image : Image) (handed : List Item)
+    → Rests life old program → StopSince life (moment life) image handed → IsLeftBehind old.equipment (scene_of program old) (items life) events image handed
+none_left life program old events image handed rests stop = record {
+  count = 0;
+  within = omega arith;
+  stands_for = as_items _ (items life) (items life ++ []) image handed (append-nil (items life)) (alone life _ _ image handed rests.0.at stop);
+}
 
 -- before the first event, or behind it
 first_left : {A : Type 0} (equipment : Equipment) (scene : Scene) (given : List Item) (event : Event A) (events : List (Event A)) (image : Image) (handed : List Item)
@@ -50,6 +72,14 @@ later_left equipment scene given event events image handed p = record {
   within = omega (arith, p.within);
   stands_for = as_items _ ((given ++ (leads_to equipment scene event).items) ++ items_of equipment (scene_after (leads_to equipment scene event)) (take p.count events)) _ image handed
       (sym (append_assoc given (leads_to equipment scene event).items (items_of equipment (scene_after (leads_to equipment scene event)) (take p.count events)))) p.stands_for;
+}
+
+later_from : {A : Type 0} (least : ℕ) (equipment : Equipment) (scene : Scene) (given : List Item) (event : Event A) (events : List (Event A)) (image : Image) (handed : List Item)
+    → IsLeftFrom least equipment (scene_after (leads_to equipment scene event)) (given ++ (leads_to equipment scene event).items) events image handed
+    → IsLeftFrom (suc least) equipment scene given (event ∷ events) image handed
+later_from least equipment scene given event events image handed p = record {
+  behind = later_left equipment scene given event events image handed p.behind;
+  all = omega (arith, p.all);
 }
 
 -- ---- one event more in front
@@ -103,6 +133,8 @@ passed_on life event events r v replies program old between new told_is s p =
           (weaker _ _ (IsLeftBehind old.equipment (scene_after out) (given ++ out.items) (tried events q.answers)) (IsLeftBehind old.equipment (scene_of program old) given (event ∷ tried events q.answers))
           (subst (λ (l : List Item). Onward (life between.journal.rig) (life new.journal.rig) (IsLeftBehind old.equipment (scene_after out) l (tried events q.answers))) s.acts.leaves.1 q.stops)
           (later_left old.equipment (scene_of program old) given event (tried events q.answers)));
+      lasts = λ image handed stop. later_from (length (came events q.answers)) old.equipment (scene_of program old) given event (tried events q.answers) image handed
+          (subst (λ (l : List Item). IsLeftFrom (length (came events q.answers)) old.equipment (scene_after out) l (tried events q.answers) image handed) s.acts.leaves.1 (q.lasts image handed stop));
       session_is = q.session_is;
       rests = q.rests;
       items_are = λ whole. q.items_are whole ∙ ap (λ (l : List Item). l ++ items_of old.equipment (scene_after out) (came events q.answers)) s.acts.leaves.1
@@ -119,6 +151,7 @@ passed_aside life event events r replies fault equipment scene lived new no_more
   replies_are = λ i. told_is i ∷ p.replies_are i;
   told_is = rw (no_more (came events p.answers), no_word (told p.answers)) p.told_is;
   stops = rw (no_try (tried events p.answers)) p.stops;
+  lasts = rw (no_more (came events p.answers), no_try (tried events p.answers)) p.lasts;
   session_is = rw (no_more (came events p.answers)) p.session_is;
   rests = rw (no_more (came events p.answers)) p.rests;
   items_are = rw (no_more (came events p.answers)) p.items_are;
@@ -126,9 +159,9 @@ passed_aside life event events r replies fault equipment scene lived new no_more
 
 -- the device failed in an event
 passed_lost : {A R : Type 0} (life : R → Life) (event : Event A) (events : List (Event A)) (r : Reply) (replies : List Reply) (program : List ℕ) (old between new : Station R)
-    → r ≡ reply.Refused DeviceFailed → Serving life (Err DeviceFailed) event program old between → Idles replies between new
+    → r ≡ reply.Refused DeviceFailed → Serving life (Err DeviceFailed) event program old between → Rests (life old.journal.rig) old program → Idles replies between new
     → Passes life (event ∷ events) (r ∷ replies) old.equipment (scene_of program old) (life old.journal.rig) new
-passed_lost life event events r replies program old between new told_is s idle =
+passed_lost {A} {R} life event events r replies program old between new told_is s rests idle =
     let failed : new.journal.broken ≡ true = ap (λ (c : Station _). c.journal.broken) idle.same ∙ s.broken in
     record {
       answers = Err DeviceFailed ∷ idle.answers;
@@ -136,6 +169,15 @@ passed_lost life event events r replies program old between new told_is s idle =
       told_is = refl;
       stops = subst (λ (c : Station _). Onward (life old.journal.rig) (life c.journal.rig) (IsLeftBehind old.equipment (scene_of program old) (items (life old.journal.rig)) (event ∷ []))) (sym idle.same)
           (weaker _ _ _ (IsLeftBehind old.equipment (scene_of program old) (items (life old.journal.rig)) (event ∷ [])) s.acts.stops (first_left old.equipment (scene_of program old) (items (life old.journal.rig)) event []));
+      lasts = λ image handed stop.
+          let since : StopSince (life between.journal.rig) (moment (life between.journal.rig)) image handed = subst (λ (c : Station R). StopSince (life c.journal.rig) (moment (life c.journal.rig)) image handed) idle.same stop in
+          record {
+            behind = ⊎_elim (λ before. none_left (life old.journal.rig) program old (event ∷ []) image handed rests before)
+                (λ p. first_left old.equipment (scene_of program old) (items (life old.journal.rig)) event [] image handed p)
+                (s.acts.stops.each (moment (life old.journal.rig)) image handed (omega arith)
+                (since_earlier (life between.journal.rig) (moment (life old.journal.rig)) (moment (life between.journal.rig)) image handed s.acts.stops.later since));
+            all = omega arith;
+          };
       session_is = λ whole. absurd (let z : true ≡ false = sym failed ∙ whole in cc);
       rests = λ whole. absurd (let z : true ≡ false = sym failed ∙ whole in cc);
       items_are = λ whole. absurd (let z : true ≡ false = sym failed ∙ whole in cc);
@@ -160,7 +202,7 @@ passed {A} {R} life event events r replies (Err fault) program old between new t
     (on program unbroken here h))) in
     let short : Goal OutOfMemory = λ t z. passed_aside life event events r replies OutOfMemory old.equipment (scene_of program old) (life old.journal.rig) new (λ l. refl) (λ l. refl) (λ l. refl) t (unmoved z.broken z.acts.comes z.acts.leaves.1 z.acts.leaves.0) in
     let used : Goal CountersUsed = λ t z. passed_aside life event events r replies CountersUsed old.equipment (scene_of program old) (life old.journal.rig) new (λ l. refl) (λ l. refl) (λ l. refl) t (unmoved z.broken z.acts.comes z.acts.leaves.1 z.acts.leaves.0) in
-    let lost : Goal DeviceFailed = λ t z. passed_lost life event events r replies program old between new t z (idles life events replies program between new h z.broken) in
+    let lost : Goal DeviceFailed = λ t z. passed_lost life event events r replies program old between new t z rests (idles life events replies program between new h z.broken) in
     let goal : Goal fault = ⊎_elim (λ e. subst Goal (sym e) short) (λ o. ⊎_elim (λ e. subst Goal (sym e) used) (λ e. subst Goal (sym e) lost) o) s.outside in
     goal told_is s
 
@@ -174,6 +216,7 @@ passes {A} {R} life [] [] program old new h whole rests =
       replies_are = refl;
       told_is = refl;
       stops = stays (life old.journal.rig) (IsLeftBehind {A = A} old.equipment (scene_of program old) (items (life old.journal.rig)) []);
+      lasts = λ image handed stop. record { behind = none_left {A = A} (life old.journal.rig) program old [] image handed rests stop; all = omega arith };
       session_is = λ b. refl;
       rests = λ b. rests;
       items_are = λ b. sym (append-nil (items (life old.journal.rig)));

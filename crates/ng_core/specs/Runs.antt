@@ -3,7 +3,7 @@ use Rattle.std.specs.Prelude.{◌≡◌, ◌≤◌, ◌+◌, ◌%◌, ◌^◌, �
 use Rattle.ng_num.specs.declared.fault.Fault.{Fault}
 use Rattle.ng_num.specs.declared.fault.Fault.TheVariants.{DeviceFailed}
 use Rattle.ng_canon.specs.declared.item.Item.{Item}
-use Rattle.ng_rig.specs.Life.{Image, Life, items}
+use Rattle.ng_rig.specs.Life.{Image, Life, StopSince, items, moment}
 use Rattle.ng_rig.specs.Onward.{Onward}
 use Rattle.ng_journal.specs.Journal.{StandsFor, IsBrokenBy}
 use Rattle.ng_session.specs.Entries.{Equipment}
@@ -88,12 +88,20 @@ pub record IsLeftBehind {A : Type 0} (equipment : Equipment) (scene : Scene) (be
   pub within : count ≤ length events
   pub stands_for : let left = left_behind equipment scene before (take count events) in StandsFor left.standing left.items image handed
 
--- The replies are the session's to the events that came, and each stop since leaves what stands behind some of those tried.
+-- The same, and n is no less than this.
+pub record IsLeftFrom {A : Type 0} (least : ℕ) (equipment : Equipment) (scene : Scene) (before : List Item) (events : List (Event A)) (image : Image) (handed : List Item) : Type 0 where
+  pub behind : IsLeftBehind equipment scene before events image handed
+  pub all : least ≤ behind.count
+
+-- The replies are the session's to the events that came, and each stop since leaves what stands behind some of those tried; from now on,
+-- also where the device failed, behind no fewer than came.
 pub record Passes {A R : Type 0} (life : R → Life) (events : List (Event A)) (replies : List Reply) (equipment : Equipment) (scene : Scene) (lived : Life) (new : Station R) : Type 0 where
   pub answers : List (Result Reply Fault)
   pub replies_are : replies ≡ map reply_to answers
   pub told_is : told answers ≡ replies_of equipment scene (came events answers)
   pub stops : Onward lived (life new.journal.rig) (IsLeftBehind equipment scene (items lived) (tried events answers))
+  pub lasts : (image : Image) (handed : List Item) → StopSince (life new.journal.rig) (moment (life new.journal.rig)) image handed
+      → IsLeftFrom (length (came events answers)) equipment scene (items lived) (tried events answers) image handed
   pub session_is : new.journal.broken ≡ false → new.session ≡ (scene_behind equipment scene (came events answers)).session
   pub rests : new.journal.broken ≡ false → Rests (life new.journal.rig) new (scene_behind equipment scene (came events answers)).program
   pub items_are : new.journal.broken ≡ false → items (life new.journal.rig) ≡ items lived ++ items_of equipment scene (came events answers)
