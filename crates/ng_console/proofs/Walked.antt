@@ -1,13 +1,13 @@
 -- What any words leave in the rows of a command of one level: the row of a positional has a value, since nothing but a word becomes a
 -- value of it, and the row of a flag says on or off.
-use Rattle.std.proofs.Common.{ℕ, zero, suc, ◌<◌, ◌==◌, ◌≡◌, ◌++◌, Bool, true, false, List, [], ◌∷◌, length, Option, Some, None, is_some, drop, codes, cond, refl, sym, ap, subst, ◌∙◌, arith, find, fold, slice_get, option_map, option_and_then, encode_utf8, bytes_eq, chars}
+use Rattle.std.proofs.Common.{ℕ, zero, suc, ◌<◌, ◌==◌, ◌≡◌, ◌++◌, Bool, true, false, List, [], ◌∷◌, length, Option, Some, None, is_some, drop, cond, refl, sym, ap, ◌∙◌, arith, find, fold, slice_get, option_map, option_and_then, encode_utf8, bytes_eq, chars}
 use Rattle.std.specs.Prelude.{◌&&◌, ◌||◌, not, nat_lt, if◌then◌else◌, ⊤}
 use Rattle.std.specs.List.{list_any}
 use Rattle.std.specs.Option.{option_map_or}
 use Rattle.std.proofs.lemmas.List.{length-append}
 use Rattle.std.proofs.lemmas.Slice.Eq.{bytes_eq-Decides}
 use Rattle.clap.specs.Lexer.{long_of, short_of}
-use Rattle.clap.specs.Walk.{Held, Outcome, Names, Row, Rule, Step, Text, Waiting, Walk, action_of, after_flag, after_step, answers_to, arg_by_id, arg_by_index, arg_by_long, arg_by_short, at_row, attached_value, bundle_met, bundle_step, default_rows, finished, first_of, flag_met, has_long, has_row, has_short, is_multiple, is_pending, long_met, long_or_other, more_values, most_values, nothing_held, option_met, option_word, pending_count, plain_word, positional_held, pushed, reacted, reading_by, row_text, rows_after, settled, settled_rows, short_met, short_or_plain, started, stronger, subcommand_met, subcommand_or_other, takes_several, takes_values, to_positional, used, used_as, used_by_id, values_or_missing, walk, walk_from, walked, walked_from, with_default, with_values, without, word_met}
+use Rattle.clap.specs.Walk.{Held, Outcome, Names, Row, Rule, Step, Text, Waiting, Walk, action_of, after_flag, after_step, arg_by_id, arg_by_index, arg_by_long, arg_by_short, attached_value, bundle_met, bundle_step, default_rows, first_of, flag_met, has_long, has_row, has_short, is_multiple, is_pending, long_met, long_or_other, more_values, most_values, nothing_held, option_met, option_word, pending_count, plain_word, positional_held, pushed, reacted, reading_by, row_text, rows_after, settled, settled_rows, short_met, short_or_plain, started, subcommand_met, subcommand_or_other, takes_several, takes_values, to_positional, used, used_as, used_by_id, values_or_missing, walk, walk_from, walked, walked_from, with_default, with_values, without, word_met}
 use Rattle.clap.specs.Walk.{done, waits, plain, refused, idle, option, positional, next, trailing, subcommand, value}
 use Rattle.clap.specs.Facts.{explicit_source}
 use Rattle.clap.specs.Takes.{is_given}

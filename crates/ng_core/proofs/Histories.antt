@@ -1,5 +1,5 @@
 -- What a history leaves, by the session alone.
-use Rattle.std.proofs.Common.{◌≡◌, inl, inr, ⊎_elim, ℕ, suc, Bool, true, false, List, [], ◌∷◌, ◌++◌, length, map, take, Result, Ok, Err, refl, sym, ◌∙◌, ap, subst, append_assoc, arith}
+use Rattle.std.proofs.Common.{◌≡◌, ◌≤◌, inl, inr, ⊎_elim, ℕ, suc, Bool, true, false, List, [], ◌∷◌, ◌++◌, length, map, take, Result, Ok, Err, refl, sym, ◌∙◌, ap, subst, append_assoc, arith}
 use Rattle.std.proofs.lemmas.List.{append-nil}
 use Rattle.ng_num.specs.declared.fault.Fault.{Fault}
 use Rattle.ng_num.specs.declared.fault.Fault.TheVariants.{DeviceFailed, CountersUsed, OutOfMemory}
@@ -77,10 +77,10 @@ later_left equipment scene given event events image handed p = record {
 later_from : {A : Type 0} (least : ℕ) (equipment : Equipment) (scene : Scene) (given : List Item) (event : Event A) (events : List (Event A)) (image : Image) (handed : List Item)
     → IsLeftFrom least equipment (scene_after (leads_to equipment scene event)) (given ++ (leads_to equipment scene event).items) events image handed
     → IsLeftFrom (suc least) equipment scene given (event ∷ events) image handed
-later_from least equipment scene given event events image handed p = record {
-  behind = later_left equipment scene given event events image handed p.behind;
-  all = omega (arith, p.all);
-}
+unfolding later_left
+later_from least equipment scene given event events image handed p =
+    let all : suc least ≤ suc p.behind.count = omega (arith, p.all) in
+    record { behind = later_left equipment scene given event events image handed p.behind; all = all }
 
 -- ---- one event more in front
 

@@ -1,16 +1,9 @@
 -- What a journal has stored.
-use Rattle.std.proofs.Common.{◌≡◌, ◌⊎◌, inl, inr, ℕ, ◌≤◌, true, false, List, length, ℤ, Err, Some, sym, ◌∙◌, ap, subst, arith}
-use Rattle.std.proofs.lemmas.List.{length-map}
-use Rattle.std.proofs.lemmas.List.FromFn.{length-enumerate_from}
-use Rattle.std.specs.List.{enumerate_from}
+use Rattle.std.proofs.Common.{◌≡◌, ◌⊎◌, inl, inr, true, false, Err, sym, ◌∙◌, ap, subst}
 use Rattle.ng_num.specs.declared.fault.Fault.{Fault}
-use Rattle.ng_params.specs.Lasting.{cleared}
-use Rattle.ng_layout.specs.Limits.{longest_program}
 use Rattle.ng_num.specs.declared.fault.Fault.TheVariants.{DeviceFailed, CountersUsed}
-use Rattle.ng_layout.specs.Stored.{HalfDone, Saved}
-use Rattle.ng_layout.specs.Storable.{IsStorable, CanWait}
+use Rattle.ng_layout.specs.Stored.{Saved}
 use Rattle.ng_journal.specs.Journal.{Logbook, IsBrokenBy}
-use Rattle.ng_session.specs.Entries.{after_load}
 
 -- what a journal stores that failed is what it stored, as long as its device didn't
 pub kept_failed : {R : Type 0} (T : Type 0) (e : Fault) (before after : Logbook R) (x : Saved) → (e ≡ CountersUsed) ⊎ (e ≡ DeviceFailed) → IsBrokenBy {T = T} (Err e) after.broken

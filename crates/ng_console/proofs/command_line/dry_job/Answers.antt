@@ -1,4 +1,4 @@
-use Rattle.std.proofs.Common.{ap, sym, codes, Bool, true, false, ◌≡◌, ◌∙◌, option_map}
+use Rattle.std.proofs.Common.{sym, codes, Bool, true, false, ◌≡◌, ◌∙◌}
 use Rattle.clap.specs.Words.{found_of, rows_of}
 use Rattle.clap.proofs.WalkLemmas.{first_value-rows, one_text-rows}
 use Rattle.ng_console.specs.Words.{SaysFlag}
