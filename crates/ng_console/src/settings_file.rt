@@ -1,5 +1,5 @@
 //! The settings that a run is made with.
-ghost use Rattle.std.specs.Prelude.{IfSome};
+ghost use Rattle.std.specs.Prelude.{◌≢◌, IfSome};
 ghost use Rattle.ng_console.specs.Chosen.{Gives, GivesChoice};
 
 use ng_num::Fault;
@@ -19,7 +19,8 @@ pub(crate) enum NoSettings {
 
 /// The settings of a text.
 fn settings_in(alloc: Global, text: &[u8]) -> Result<Settings, NoSettings>
-    ensures { Gives text.now result }
+    ensures gives { Gives text.now result }
+    ensures read { result ≢ Err NoSettings.Unread }
 {
     match settings(alloc, text) {
         Ok(settings) => Ok(settings),

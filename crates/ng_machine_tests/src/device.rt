@@ -184,50 +184,86 @@ fn the_three_devices_are_called_as_one(rt: HostRuntime) -> Result<(), Fail> {
     Ok(())
 }
 
-/// How many calls a fuse passes, which of four calls then succeed, and how many are made and fail.
-const FUSES: &[(u64, [bool; 4], usize, u64)] = &[
-    (0, [false, false, false, false], 0, 4),
-    (1, [true, false, false, false], 1, 3),
+/// Which of four calls succeed and which of the next four, and how many failures are counted behind each four.
+fn eight_calls<R: Rig>(rig: &mut R) -> ([[bool; 4]; 2], [u64; 2])
+    requires { 0 < R.sectors rig.old }
+{
+    let (first, _) = four_calls(rig, 5);
+    let failures = rig.failures();
+    let (second, _) = four_calls(rig, 6);
+    ([first, second], [failures, rig.failures()])
+}
+
+/// How many calls a fuse passes, which of four calls then succeed, how many of them fail, and how many writes, syncs and
+/// hand-outs are made.
+const FUSES: &[(u64, [bool; 4], u64, usize)] = &[
+    (0, [false, false, false, false], 4, 0),
+    (1, [true, false, false, false], 3, 1),
     (2, [true, true, false, false], 2, 2),
-    (3, [true, true, true, false], 3, 1),
-    (4, [true, true, true, true], 3, 0),
+    (3, [true, true, true, false], 1, 3),
+    (4, [true, true, true, true], 0, 3),
 ];
 
 #[test]
 fn a_fuse_passes_so_many_calls(rt: HostRuntime) -> Result<(), Fail> {
-    for (passed, want, calls, failures) in FUSES {
+    for (passed, succeed, fail, calls) in FUSES {
         let mut fuse = FuseRig::new(MemoryRig::new(rt.alloc(), 1)?, *passed);
-        assert_eq!(rt; four_calls(&mut fuse, 5).0, *want, "{passed}");
-        assert_eq!(rt; fuse.failures(), *failures, "{passed}");
-        assert_eq!(rt; four_calls(&mut fuse, 6).0, [false; 4], "{passed}");
-        assert_eq!(rt; fuse.failures(), failures.saturating_add(4), "{passed}");
-        let mut inner = fuse.into_inner();
-        assert_eq!(rt; (inner.calls(), inner.failures()), (*calls, 0), "{passed}");
+        let found = eight_calls(&mut fuse);
+        let want = ([*succeed, [false; 4]], [*fail, fail.saturating_add(4)]);
+        let inner = fuse.into_inner();
+        let counts = (inner.calls(), inner.failures());
+        assert_eq!(rt; (found, counts), (want, (*calls, 0)), "{passed}");
     }
     Ok(())
 }
 
-/// Behind how many calls one fails, which of four calls then succeed, which of the next four, and how many of the first
-/// four are made.
-const ONE_FAILS: &[(u64, [bool; 4], [bool; 4], usize)] = &[
-    (0, [false, true, true, true], [true, true, true, true], 2),
-    (1, [true, false, true, true], [true, true, true, true], 2),
-    (2, [true, true, false, true], [true, true, true, true], 2),
-    (3, [true, true, true, false], [true, true, true, true], 3),
-    (4, [true, true, true, true], [false, true, true, true], 3),
+/// Behind how many calls one fails, which of four calls then succeed, which of the next four, how many of the first four
+/// fail, and how many writes, syncs and hand-outs are made of all.
+const ONE_FAILS: &[(u64, [[bool; 4]; 2], u64, usize)] = &[
+    (
+        0,
+        [[false, true, true, true], [true, true, true, true]],
+        1,
+        5,
+    ),
+    (
+        1,
+        [[true, false, true, true], [true, true, true, true]],
+        1,
+        5,
+    ),
+    (
+        2,
+        [[true, true, false, true], [true, true, true, true]],
+        1,
+        5,
+    ),
+    (
+        3,
+        [[true, true, true, false], [true, true, true, true]],
+        1,
+        6,
+    ),
+    (
+        4,
+        [[true, true, true, true], [false, true, true, true]],
+        0,
+        5,
+    ),
 ];
 
 #[test]
 fn one_call_fails_once(rt: HostRuntime) -> Result<(), Fail> {
-    for (passed, want, then, calls) in ONE_FAILS {
+    for (passed, succeed, fail, calls) in ONE_FAILS {
         let mut once = FailRig::new(MemoryRig::new(rt.alloc(), 1)?, *passed);
-        assert_eq!(rt; four_calls(&mut once, 5).0, *want, "{passed}");
-        let mut inner = once.into_inner();
-        assert_eq!(rt; (inner.calls(), inner.failures()), (*calls, 0), "{passed}");
-        let mut again = FailRig::new(MemoryRig::new(rt.alloc(), 1)?, *passed);
-        assert_eq!(rt; four_calls(&mut again, 5).0, *want, "{passed}");
-        assert_eq!(rt; four_calls(&mut again, 6).0, *then, "{passed}");
-        assert_eq!(rt; again.failures(), 1, "{passed}");
+        let found = eight_calls(&mut once);
+        let inner = once.into_inner();
+        let counts = (inner.calls(), inner.failures());
+        assert_eq!(rt;
+            (found, counts),
+            ((*succeed, [*fail, 1]), (*calls, 0)),
+            "{passed}"
+        );
     }
     Ok(())
 }
@@ -247,31 +283,44 @@ fn failures_have_no_effect_and_are_counted(rt: HostRuntime) -> Result<(), Fail> 
     Ok(())
 }
 
+/// Syncs twice: whether that succeeds, and how many failures are counted behind it.
+fn two_syncs<R: Rig>(rig: &mut R) -> [(bool, u64); 2] {
+    let first = rig.sync().is_ok();
+    let failures = rig.failures();
+    [(first, failures), (rig.sync().is_ok(), rig.failures())]
+}
+
 #[test]
 fn failures_of_all_devices_are_counted(rt: HostRuntime) {
-    let mut worn = Worn::new(u64::MAX - 1);
-    assert_eq!(rt; (worn.sync(), worn.failures()), (Err(Failed), u64::MAX));
-    assert_eq!(rt; (worn.sync(), worn.failures()), (Err(Failed), 0));
     let mut fuse = FuseRig::new(Worn::new(u64::MAX), 1);
-    assert_eq!(rt; (fuse.sync(), fuse.failures()), (Err(Failed), 0));
-    assert_eq!(rt; (fuse.sync(), fuse.failures()), (Err(Failed), 1));
     let mut once = FailRig::new(Worn::new(u64::MAX - 1), 0);
-    assert_eq!(rt; (once.sync(), once.failures()), (Err(Failed), u64::MAX));
-    assert_eq!(rt; (once.sync(), once.failures()), (Err(Failed), 0));
+    let found = [
+        two_syncs(&mut Worn::new(u64::MAX - 1)),
+        two_syncs(&mut fuse),
+        two_syncs(&mut once),
+    ];
+    let past_the_last = [(false, u64::MAX), (false, 0)];
+    assert_eq!(rt;
+        found,
+        [past_the_last, [(false, 0), (false, 1)], past_the_last]
+    );
     assert_eq!(rt; once.into_inner().failures(), u64::MAX);
+}
+
+/// Writes each sector and syncs.
+fn fill<R: Rig>(rig: &mut R) -> Result<(), Failed> {
+    for sector in 0..rig.size() {
+        if sector < rig.size() {
+            rig.write(sector, &[9; 512])?;
+        }
+    }
+    rig.sync()
 }
 
 #[test]
 fn as_many_sectors_as_a_full_journal(rt: HostRuntime) -> Result<(), Fail> {
     let mut rig = MemoryRig::new(rt.alloc(), 5_806)?;
-    for _ in 0..3 {
-        for sector in 0..5_806 {
-            if sector < rig.size() {
-                assert!(rt; rig.write(sector, &[9; 512]).is_ok());
-            }
-        }
-        assert!(rt; rig.sync().is_ok());
-    }
+    assert!(rt; fill(&mut rig).is_ok() && fill(&mut rig).is_ok() && fill(&mut rig).is_ok());
     assert_eq!(rt; (rig.calls(), rig.size()), (17_421, 5_806));
     for n in [0, 9_000, 17_420, 17_421] {
         assert_eq!(rt; rig.stopped(n, &[1; 5_806])?.size(), 5_806);
