@@ -65,9 +65,20 @@ const MOTIONS: &[i64] = &[0, 1, 2, 3, 80, 81, 82, 83, 85, 86, 89];
 
 const NO_MOTIONS: &[i64] = &[4, 79, 84, 87, 88, 90, 255];
 
+/// A field's row of `CASES`.
+type Case = (
+    &'static str,
+    Base,
+    usize,
+    usize,
+    usize,
+    &'static [i64],
+    Answer,
+);
+
 /// Each field at its limits and past them: its name, the device, its sector, byte and width, what stands there, and what
 /// power on makes of each such device. -1 is the greatest number of its width where that has no sign.
-static CASES: [(&str, Base, usize, usize, usize, &[i64], Answer); 150] = [
+const CASES: &[Case] = &[
     ("text", Base::Odd, 1, 0, 8, &[TEXT], SAME),
     (
         "text",
@@ -356,6 +367,17 @@ pub fn powered<A: Allocator + Copy + Drop, R: Rig>(alloc: A, rig: R) -> (Option<
     }
 }
 
+/// What power on answers, what it writes in place of this number, and how many calls it makes.
+fn wanted(answer: Answer, number: i64) -> (Option<Fault>, i64, usize) {
+    match answer {
+        Answer::Same => (None, number, 90),
+        Answer::Next => (None, number.saturating_add(1), 90),
+        Answer::Zero => (None, 0, 90),
+        // the sync before the first read, and no write
+        Answer::Refused(fault) => (Some(fault), number, 1),
+    }
+}
+
 /// Whether power on makes this of a device with a number changed: its answer, its calls, and what stands in the number's
 /// place afterwards.
 fn answers<A: Allocator + Copy + Drop>(
@@ -369,29 +391,33 @@ fn answers<A: Allocator + Copy + Drop>(
     let is_laid = lay(&mut rig, base, at, number);
     let before = rig.calls();
     let (fault, mut rig) = powered(alloc, rig);
-    let (refusal, again, calls) = match answer {
-        Answer::Same => (None, number, 90),
-        Answer::Next => (None, number.saturating_add(1), 90),
-        Answer::Zero => (None, 0, 90),
-        // the sync before the first read, and no write
-        Answer::Refused(fault) => (Some(fault), number, 1),
-    };
+    let (refusal, again, calls) = wanted(answer, number);
     let place = if fault.is_none() { twin(at.0) } else { at.0 };
     let found = sector_of(&mut rig, place);
-    let mut wanted = found;
-    put(&mut wanted, at.1, at.2, again);
+    let mut want = found;
+    put(&mut want, at.1, at.2, again);
     let is_called = rig.calls() == before.saturating_add(calls);
-    Ok(is_laid && fault == refusal && is_called && found == wanted)
+    Ok(is_laid && fault == refusal && is_called && found == want)
+}
+
+/// The first number of a row of which power on makes something else.
+fn first_unlike<A: Allocator + Copy + Drop>(
+    alloc: A,
+    case: &Case,
+) -> Result<Option<i64>, AllocError> {
+    let (_, base, sector, byte, width, numbers, answer) = case;
+    for number in *numbers {
+        if !answers(alloc, *base, (*sector, *byte, *width), *number, *answer)? {
+            return Ok(Some(*number));
+        }
+    }
+    Ok(None)
 }
 
 #[test]
 fn each_field_at_its_limits_and_past_them(rt: HostRuntime) -> Result<(), Fail> {
-    for (field, base, sector, byte, width, numbers, answer) in &CASES {
-        let at = (*sector, *byte, *width);
-        for number in *numbers {
-            let is_so = answers(rt.alloc(), *base, at, *number, *answer)?;
-            assert!(rt; is_so, "{field}: {number}");
-        }
+    for case in CASES {
+        assert_eq!(rt; first_unlike(rt.alloc(), case)?, None, "{}", case.0);
     }
     Ok(())
 }

@@ -89,7 +89,33 @@ fn push_pulse(text: &mut String<Global>, pulse: Pulse) -> Result<(), Fail> {
     push_step(text, pulse.z, "Z")
 }
 
-/// All items: a pulse as its steps, and its period where it differs from the one before.
+/// An item: a pulse as its steps, and its period where it differs from the one before. The period behind it.
+fn push_item(
+    alloc: Global,
+    text: &mut String<Global>,
+    item: Item,
+    period_us: u64,
+) -> Result<u64, Fail> {
+    match item {
+        Item::Pulse(pulse) => {
+            if pulse.period_us != period_us {
+                text.push_str(&format!(in alloc; "{}: ", pulse.period_us)?)?;
+            }
+            push_pulse(text, pulse)?;
+            Ok(pulse.period_us)
+        }
+        Item::Dwell { us } => {
+            text.push_str(&format!(in alloc; "dwell {us}")?)?;
+            Ok(period_us)
+        }
+        Item::Switch(outputs) => {
+            text.push_str(&format!(in alloc; "switch {}", outputs.selected_slot)?)?;
+            Ok(period_us)
+        }
+    }
+}
+
+/// All items, with a space between them.
 fn items(alloc: Global, segment: &Segment, machine: &Geometry) -> Text {
     let mut text = String::new(alloc);
     let mut period_us = 0;
@@ -101,19 +127,7 @@ fn items(alloc: Global, segment: &Segment, machine: &Geometry) -> Text {
         if !text.is_empty() {
             text.push_str(" ")?;
         }
-        match item {
-            Item::Pulse(pulse) => {
-                if pulse.period_us != period_us {
-                    period_us = pulse.period_us;
-                    text.push_str(&format!(in alloc; "{period_us}: ")?)?;
-                }
-                push_pulse(&mut text, pulse)?;
-            }
-            Item::Dwell { us } => text.push_str(&format!(in alloc; "dwell {us}")?)?,
-            Item::Switch(outputs) => {
-                text.push_str(&format!(in alloc; "switch {}", outputs.selected_slot)?)?
-            }
-        }
+        period_us = push_item(alloc, &mut text, item, period_us)?;
     }
     text.push_str(" and more")?;
     Ok(text)
