@@ -313,19 +313,31 @@ fn first_unlike<R: Rig>(rig: &mut R, wanted: &mut R, old: u8) -> Option<usize> {
     None
 }
 
+/// What format answers for a device whose bytes are all this one but for its first header, its writes and syncs, and the
+/// device.
+fn format_old<A: Allocator + Copy + Drop>(
+    alloc: A,
+    old: u8,
+) -> Result<((Result<(), Fault>, u64, u64), MemoryRig<A>), Fail> {
+    let mut rig = MemoryRig::new(alloc, 1_711)?;
+    if !(fill(&mut rig, old) && store(&mut rig, 0, &header(8, 1, 3))) {
+        return Err(Fail::from("a device isn't filled"));
+    }
+    let mut counting = Counting::new(rig);
+    let done = format(&mut counting);
+    let ([_, writes, syncs], rig) = counting.counted();
+    Ok(((done, writes, syncs), rig))
+}
+
 /// A device of old bytes that is formatted: its writes and syncs, and each sector, as it is made by hand.
 #[test]
 fn format_leaves_a_fresh_controller(rt: HostRuntime) -> Result<(), Fail> {
     let short = [format_of(rt.alloc(), 0)?, format_of(rt.alloc(), 1_709)?];
     assert_eq!(rt; short, [(Err(Fault::NotFormatted), 0); 2]);
     let mut wanted = device(rt.alloc(), 1_711, true)?;
-    let mut old = MemoryRig::new(rt.alloc(), 1_711)?;
-    assert!(rt; fill(&mut old, 85) && store(&mut old, 0, &header(8, 1, 3)));
-    let mut counting = Counting::new(old);
-    let done = format(&mut counting);
-    let ([_, writes, syncs], mut rig) = counting.counted();
+    let (found, mut rig) = format_old(rt.alloc(), 85)?;
     let unlike = first_unlike(&mut rig, &mut wanted, 85);
-    assert_eq!(rt; (done, writes, syncs, unlike), (Ok(()), 1_113, 4, None));
+    assert_eq!(rt; (found, unlike), ((Ok(()), 1_113, 4), None));
     Ok(())
 }
 
@@ -580,31 +592,37 @@ fn deeds_past_a_limit(rt: HostRuntime) -> Result<(), Fail> {
 
 /// So many bytes `x` of one line as a program: how many of them are read, the last of them, and where the next line
 /// begins. More than 131,072 are refused.
-const LENGTHS: &[(usize, Result<Option<(usize, u8, u64)>, Fault>)] = &[
+const LENGTHS: &[(usize, Read)] = &[
     (0, Ok(None)),
     (131_072, Ok(Some((257, b'x', 131_072)))),
     (131_073, Err(Fault::ProgramTooLong)),
 ];
 
+/// A line as it is read: how many bytes there are, the last of them (0 where there is none), and where the next line begins.
+type Read = Result<Option<(usize, u8, u64)>, Fault>;
+
+/// Loads so many bytes `x` and reads the line at their begin.
+fn line_of_length(alloc: Global, length: usize) -> Result<Read, Fail> {
+    let mut text = Vec::new(alloc);
+    text.resize(length, b'x')?;
+    Ok(line_of(alloc, formatted(alloc)?, &text, 0))
+}
+
 #[test]
 fn programs_up_to_a_limit(rt: HostRuntime) -> Result<(), Fail> {
     for (length, wanted) in LENGTHS {
-        let mut text = Vec::new(rt.alloc());
-        text.resize(*length, b'x')?;
-        let line = line_of(rt.alloc(), formatted(rt.alloc())?, &text, 0);
-        assert_eq!(rt; line, *wanted, "{length}");
+        assert_eq!(rt; line_of_length(rt.alloc(), *length)?, *wanted, "{length}");
     }
     Ok(())
 }
 
-/// Loads a program and reads its line at a place: how many bytes there are, the last of them (0 where there is none), and
-/// where the next line begins.
+/// Loads a program and reads its line at a place.
 fn line_of<A: Allocator + Copy + Drop, R: Rig + Drop>(
     alloc: A,
     rig: R,
     text: &[u8],
     place: u64,
-) -> Result<Option<(usize, u8, u64)>, Fault> {
+) -> Read {
     match recover(alloc, rig) {
         Ok((mut journal, mut stored)) => {
             stored.entries = 1;
