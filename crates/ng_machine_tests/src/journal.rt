@@ -314,19 +314,21 @@ fn first_unlike<R: Rig>(rig: &mut R, wanted: &mut R, old: u8) -> Option<usize> {
 }
 
 /// What format answers for a device whose bytes are all this one but for its first header, its writes and syncs, and the
-/// device.
+/// first sector that is then unlike one made by hand.
 fn format_old<A: Allocator + Copy + Drop>(
     alloc: A,
     old: u8,
-) -> Result<((Result<(), Fault>, u64, u64), MemoryRig<A>), Fail> {
+) -> Result<(Result<(), Fault>, u64, u64, Option<usize>), Fail> {
+    let mut wanted = device(alloc, 1_711, true)?;
     let mut rig = MemoryRig::new(alloc, 1_711)?;
     if !(fill(&mut rig, old) && store(&mut rig, 0, &header(8, 1, 3))) {
         return Err(Fail::from("a device isn't filled"));
     }
     let mut counting = Counting::new(rig);
     let done = format(&mut counting);
-    let ([_, writes, syncs], rig) = counting.counted();
-    Ok(((done, writes, syncs), rig))
+    let ([_, writes, syncs], mut rig) = counting.counted();
+    let unlike = first_unlike(&mut rig, &mut wanted, old);
+    Ok((done, writes, syncs, unlike))
 }
 
 /// A device of old bytes that is formatted: its writes and syncs, and each sector, as it is made by hand.
@@ -334,10 +336,7 @@ fn format_old<A: Allocator + Copy + Drop>(
 fn format_leaves_a_fresh_controller(rt: HostRuntime) -> Result<(), Fail> {
     let short = [format_of(rt.alloc(), 0)?, format_of(rt.alloc(), 1_709)?];
     assert_eq!(rt; short, [(Err(Fault::NotFormatted), 0); 2]);
-    let mut wanted = device(rt.alloc(), 1_711, true)?;
-    let (found, mut rig) = format_old(rt.alloc(), 85)?;
-    let unlike = first_unlike(&mut rig, &mut wanted, 85);
-    assert_eq!(rt; (found, unlike), ((Ok(()), 1_113, 4), None));
+    assert_eq!(rt; format_old(rt.alloc(), 85)?, (Ok(()), 1_113, 4, None));
     Ok(())
 }
 
