@@ -589,6 +589,9 @@ fn deeds_past_a_limit(rt: HostRuntime) -> Result<(), Fail> {
     Ok(())
 }
 
+/// A line as it is read: how many bytes there are, the last of them (0 where there is none), and where the next line begins.
+type Read = Result<Option<(usize, u8, u64)>, Fault>;
+
 /// So many bytes `x` of one line as a program: how many of them are read, the last of them, and where the next line
 /// begins. More than 131,072 are refused.
 const LENGTHS: &[(usize, Read)] = &[
@@ -596,9 +599,6 @@ const LENGTHS: &[(usize, Read)] = &[
     (131_072, Ok(Some((257, b'x', 131_072)))),
     (131_073, Err(Fault::ProgramTooLong)),
 ];
-
-/// A line as it is read: how many bytes there are, the last of them (0 where there is none), and where the next line begins.
-type Read = Result<Option<(usize, u8, u64)>, Fault>;
 
 /// Loads so many bytes `x` and reads the line at their begin.
 fn line_of_length(alloc: Global, length: usize) -> Result<Read, Fail> {
