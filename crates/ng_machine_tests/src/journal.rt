@@ -9,7 +9,7 @@ use ng_layout::{Half, Header, Opened, Source, Stored, text_of};
 use ng_num::{Fault, Num, Point};
 use ng_params::Index;
 use ng_rig::{FailRig, MemoryRig, Rig};
-use std::alloc::{AllocError, Allocator};
+use std::alloc::{AllocError, Allocator, Global};
 use std::test::Fail;
 
 mod counting;
@@ -52,21 +52,48 @@ const DEVICES: &[(usize, bool, usize, Option<Fault>, usize)] = &[
     (5_000, true, 100_000, None, 90),
 ];
 
+/// A device of so many sectors, formatted or not.
+fn device<A: Allocator + Copy + Drop>(
+    alloc: A,
+    sectors: usize,
+    is_laid: bool,
+) -> Result<MemoryRig<A>, Fail> {
+    let mut rig = MemoryRig::new(alloc, sectors)?;
+    if !is_laid || lay_formatted(&mut rig) {
+        Ok(rig)
+    } else {
+        Err(Fail::from("a device isn't laid"))
+    }
+}
+
+/// A formatted device of the least size.
+fn formatted<A: Allocator + Copy + Drop>(alloc: A) -> Result<MemoryRig<A>, Fail> {
+    device(alloc, 1_710, true)
+}
+
+/// What power on answers with so many bytes of heap, how many calls it makes, and the device's sectors and failures.
+fn power_on(
+    alloc: Global,
+    rig: MemoryRig<Global>,
+    heap: usize,
+) -> Result<(Option<Fault>, usize, usize, u64), Fail> {
+    let heap = LocalHeap::new(alloc, heap)?;
+    let before = rig.calls();
+    let (fault, rig) = powered(&heap, rig);
+    let calls = rig.calls().wrapping_sub(before);
+    Ok((fault, calls, rig.size(), rig.failures()))
+}
+
 #[test]
 fn devices_that_power_on_refuses(rt: HostRuntime) -> Result<(), Fail> {
     for (sectors, is_laid, heap, wanted, calls) in DEVICES {
-        let heap = LocalHeap::new(rt.alloc(), *heap)?;
-        let mut rig = MemoryRig::new(rt.alloc(), *sectors)?;
-        assert!(rt; !*is_laid || lay_formatted(&mut rig));
-        let before = rig.calls();
-        let (fault, rig) = powered(&heap, rig);
-        assert_eq!(rt; fault, *wanted, "{sectors} {is_laid}");
+        let rig = device(rt.alloc(), *sectors, *is_laid)?;
+        let found = power_on(rt.alloc(), rig, *heap)?;
         assert_eq!(rt;
-            rig.calls(),
-            before.saturating_add(*calls),
-            "{sectors} {is_laid}"
+            found,
+            (*wanted, *calls, *sectors, 0),
+            "{sectors} {is_laid} {heap}"
         );
-        assert_eq!(rt; (rig.size(), rig.failures()), (*sectors, 0));
     }
     Ok(())
 }
@@ -78,13 +105,41 @@ fn lay_state<R: Rig>(rig: &mut R, first: usize, entries: i64) -> bool {
     store(rig, first, &state)
 }
 
-/// How many entries power on finds, and where it puts which header.
+/// A device whose headers have these epochs, with none where it is 0, and whose state has 7 entries in area 0 and 8 in
+/// area 1.
+fn two_headers<A: Allocator + Copy + Drop>(
+    alloc: A,
+    even: i64,
+    odd: i64,
+) -> Result<MemoryRig<A>, Fail> {
+    let mut rig = MemoryRig::new(alloc, 1_710)?;
+    let are_states = lay_state(&mut rig, 2, 7) && lay_state(&mut rig, 88, 8);
+    let is_even = even == 0 || store(&mut rig, 0, &header(even, 0, 0));
+    let is_odd = odd == 0 || store(&mut rig, 1, &header(odd, 0, 0));
+    if are_states && is_even && is_odd {
+        Ok(rig)
+    } else {
+        Err(Fail::from("a device isn't laid"))
+    }
+}
+
+/// Where a header of this epoch stands.
+fn header_sector(epoch: i64) -> usize {
+    if epoch % 2 == 0 { 0 } else { 1 }
+}
+
+/// How many entries power on finds, and whether it writes a header of this epoch.
 fn entries_found<A: Allocator + Copy + Drop, R: Rig + Drop>(
     alloc: A,
     rig: R,
-) -> Result<(u64, R), Fault> {
+    next: i64,
+) -> Result<(u64, bool), Fault> {
     match recover(alloc, rig) {
-        Ok((journal, stored)) => Ok((stored.entries, journal.into_rig())),
+        Ok((journal, stored)) => {
+            let mut rig = journal.into_rig();
+            let written = sector_of(&mut rig, header_sector(next));
+            Ok((stored.entries, written == header(next, 0, 0)))
+        }
         Err((fault, _)) => Err(fault),
     }
 }
@@ -110,21 +165,13 @@ const HEADERS: &[(i64, i64, Result<u64, Fault>, i64)] = &[
 #[test]
 fn the_header_of_the_greater_epoch_is_in_force(rt: HostRuntime) -> Result<(), Fail> {
     for (even, odd, wanted, next) in HEADERS {
-        let mut rig = MemoryRig::new(rt.alloc(), 1_710)?;
-        assert!(rt; lay_state(&mut rig, 2, 7) && lay_state(&mut rig, 88, 8));
-        assert!(rt; *even == 0 || store(&mut rig, 0, &header(*even, 0, 0)));
-        assert!(rt; *odd == 0 || store(&mut rig, 1, &header(*odd, 0, 0)));
-        match entries_found(rt.alloc(), rig) {
-            Ok((entries, mut rig)) => {
-                assert_eq!(rt; Ok(entries), *wanted, "{even} {odd}");
-                let sector = if *next % 2 == 0 { 0 } else { 1 };
-                assert!(rt;
-                    sector_of(&mut rig, sector) == header(*next, 0, 0),
-                    "{even} {odd}"
-                );
-            }
-            Err(fault) => assert_eq!(rt; Err(fault), *wanted, "{even} {odd}"),
-        }
+        let rig = two_headers(rt.alloc(), *even, *odd)?;
+        let found = entries_found(rt.alloc(), rig, *next);
+        assert_eq!(rt;
+            found,
+            wanted.map(|entries| (entries, true)),
+            "{even} {odd}"
+        );
     }
     Ok(())
 }
@@ -236,36 +283,60 @@ fn fill<R: Rig>(rig: &mut R, byte: u8) -> bool {
     is_filled
 }
 
+/// What format answers for a device of so many sectors, and how many calls it makes.
+fn format_of<A: Allocator + Copy + Drop>(
+    alloc: A,
+    sectors: usize,
+) -> Result<(Result<(), Fault>, usize), AllocError> {
+    let mut rig = MemoryRig::new(alloc, sectors)?;
+    let done = format(&mut rig);
+    Ok((done, rig.calls()))
+}
+
+/// Whether format writes this sector: the headers, the snapshot in area 1 and the log.
+fn is_formatted(sector: usize) -> bool {
+    sector < 2 || (88..174).contains(&sector) || (686..1_710).contains(&sector)
+}
+
+/// The first of 1,711 sectors that isn't as wanted where format writes, or isn't as old elsewhere.
+fn first_unlike<R: Rig>(rig: &mut R, wanted: &mut R, old: u8) -> Option<usize> {
+    for sector in 0..1_711 {
+        let want = if is_formatted(sector) {
+            sector_of(wanted, sector)
+        } else {
+            [old; 512]
+        };
+        if sector_of(rig, sector) != want {
+            return Some(sector);
+        }
+    }
+    None
+}
+
+/// What format answers for a device whose bytes are all this one but for its first header, its writes and syncs, and the
+/// first sector that is then unlike one made by hand.
+fn format_old<A: Allocator + Copy + Drop>(
+    alloc: A,
+    old: u8,
+) -> Result<(Result<(), Fault>, u64, u64, Option<usize>), Fail> {
+    let mut wanted = device(alloc, 1_711, true)?;
+    let mut rig = MemoryRig::new(alloc, 1_711)?;
+    if !(fill(&mut rig, old) && store(&mut rig, 0, &header(8, 1, 3))) {
+        return Err(Fail::from("a device isn't filled"));
+    }
+    let mut counting = Counting::new(rig);
+    let done = format(&mut counting);
+    let ([_, writes, syncs], mut rig) = counting.counted();
+    let unlike = first_unlike(&mut rig, &mut wanted, old);
+    Ok((done, writes, syncs, unlike))
+}
+
 /// A device of old bytes that is formatted: its writes and syncs, and each sector, as it is made by hand.
 #[test]
 fn format_leaves_a_fresh_controller(rt: HostRuntime) -> Result<(), Fail> {
-    for sectors in [0, 1_709] {
-        let mut rig = MemoryRig::new(rt.alloc(), sectors)?;
-        assert_eq!(rt;
-            (format(&mut rig), rig.calls()),
-            (Err(Fault::NotFormatted), 0),
-            "{sectors}"
-        );
-    }
-    let mut old = MemoryRig::new(rt.alloc(), 1_711)?;
-    assert!(rt; fill(&mut old, 85) && store(&mut old, 0, &header(8, 1, 3)));
-    let mut counting = Counting::new(old);
-    assert_eq!(rt; format(&mut counting), Ok(()));
-    let ([_, writes, syncs], mut rig) = counting.counted();
-    assert_eq!(rt; (writes, syncs), (1_113, 4));
-    let mut wanted = MemoryRig::new(rt.alloc(), 1_711)?;
-    assert!(rt; lay_formatted(&mut wanted));
-    for sector in 0..1_711 {
-        let is_written = sector < 2
-            || (88..174).contains(&sector)
-            || (686..1_710).contains(&sector);
-        let want = if is_written {
-            sector_of(&mut wanted, sector)
-        } else {
-            [85; 512]
-        };
-        assert!(rt; sector_of(&mut rig, sector) == want, "sector {sector}");
-    }
+    let short = [format_of(rt.alloc(), 0)?, format_of(rt.alloc(), 1_709)?];
+    assert_eq!(rt; short, [(Err(Fault::NotFormatted), 0); 2]);
+    assert_eq!(rt; format_old(rt.alloc(), 85)?, (Ok(()), 1_113, 4, None));
     Ok(())
 }
 
@@ -310,21 +381,31 @@ const DEEDS: &[(Deed, u64, u64, (i64, i64, i64), usize, Holds)] = &[
     (Deed::Load, 175, 6, (3, 1, 13), 430, Holds::Text),
 ];
 
+/// What a deed on a formatted device answers, whether the journal is broken then, how many writes and syncs there are
+/// from power on, and the device.
+fn counted<A: Allocator + Copy + Drop>(
+    alloc: A,
+    deed: Deed,
+) -> Result<((Result<(), Fault>, bool, u64, u64), MemoryRig<A>), Fail> {
+    let mut rig = MemoryRig::new(alloc, 1_710)?;
+    format(&mut rig)?;
+    let (done, is_broken, counting) = after(alloc, Counting::new(rig), deed, 1);
+    let ([_, writes, syncs], rig) = counting.counted();
+    Ok(((done, is_broken, writes, syncs), rig))
+}
+
 #[test]
 fn writes_and_syncs_of_each_deed(rt: HostRuntime) -> Result<(), Fail> {
     for (deed, writes, syncs, (epoch, area, length), sector, holds) in DEEDS {
-        let mut rig = MemoryRig::new(rt.alloc(), 1_710)?;
-        assert_eq!(rt; format(&mut rig), Ok(()));
-        let (done, is_broken, counting) = after(rt.alloc(), Counting::new(rig), *deed, 1);
-        let (counts, mut rig) = counting.counted();
-        assert_eq!(rt; (done, is_broken), (Ok(()), false), "{deed:?}");
-        assert_eq!(rt; (counts[1], counts[2]), (*writes, *syncs), "{deed:?}");
-        let in_force = if *epoch == 2 { 0 } else { 1 };
-        assert!(rt;
-            sector_of(&mut rig, in_force) == header(*epoch, *area, *length),
+        let (found, mut rig) = counted(rt.alloc(), *deed)?;
+        let in_force = sector_of(&mut rig, header_sector(*epoch));
+        let is_in_force = in_force == header(*epoch, *area, *length);
+        let is_held = sector_of(&mut rig, *sector) == content(*holds);
+        assert_eq!(rt;
+            (found, [is_in_force, is_held]),
+            ((Ok(()), false, *writes, *syncs), [true; 2]),
             "{deed:?}"
         );
-        assert!(rt; sector_of(&mut rig, *sector) == content(*holds), "{deed:?}");
     }
     Ok(())
 }
@@ -346,27 +427,28 @@ fn a_header_is_written_and_read(rt: HostRuntime) {
     assert!(rt; Header::read(0, &worked).is_some() && Header::read(1, &worked).is_none());
 }
 
-/// A formatted device of the least size.
-fn formatted<A: Allocator + Copy + Drop>(alloc: A) -> Result<MemoryRig<A>, Fail> {
-    let mut rig = MemoryRig::new(alloc, 1_710)?;
-    if lay_formatted(&mut rig) {
-        Ok(rig)
-    } else {
-        Err(Fail::from("a device isn't laid"))
-    }
+/// What a deed answers, whether the journal is broken then, and the failures.
+type Done = (Result<(), Fault>, bool, u64);
+
+/// Does it on a formatted device of which one call behind so many fails with no effect.
+fn done_failing<A: Allocator + Copy + Drop>(
+    alloc: A,
+    deed: Deed,
+    calls: u64,
+) -> Result<(Done, FailRig<MemoryRig<A>>), Fail> {
+    let rig = FailRig::new(formatted(alloc)?, calls);
+    let (done, is_broken, rig) = after(alloc, rig, deed, 1);
+    Ok(((done, is_broken, rig.failures()), rig))
 }
 
-/// What a deed answers, whether the journal is broken then, the failures, and what stands, where one call of the device
-/// behind so many fails with no effect.
+/// The same, and what stands then.
 fn failing<A: Allocator + Copy + Drop>(
     alloc: A,
     deed: Deed,
     calls: u64,
-) -> Result<(Result<(), Fault>, bool, u64, Standing), Fail> {
-    let rig = FailRig::new(formatted(alloc)?, calls);
-    let (done, is_broken, rig) = after(alloc, rig, deed, 1);
-    let failures = rig.failures();
-    Ok((done, is_broken, failures, standing(alloc, rig)))
+) -> Result<(Done, Standing), Fail> {
+    let (done, rig) = done_failing(alloc, deed, calls)?;
+    Ok((done, standing(alloc, rig)))
 }
 
 /// The deeds that call the device, how many calls each makes, and what stands behind it. Only the last sync can fail with the
@@ -383,7 +465,7 @@ const CALLS_OF_POWER_ON: &[u64] = &[0, 1, 3, 4, 89, 90, 176, 177, 178];
 
 #[test]
 fn each_call_of_power_on_fails_once(rt: HostRuntime) -> Result<(), Fail> {
-    let wanted = (Err(Fault::DeviceFailed), false, 1, NOTHING_DONE);
+    let wanted = ((Err(Fault::DeviceFailed), false, 1), NOTHING_DONE);
     for (deed, _, _) in FAILED {
         for k in CALLS_OF_POWER_ON {
             assert_eq!(rt; failing(rt.alloc(), *deed, *k)?, wanted, "{deed:?} {k}");
@@ -395,17 +477,28 @@ fn each_call_of_power_on_fails_once(rt: HostRuntime) -> Result<(), Fail> {
 /// The calls of a deed that fail, by how many of its own there are before.
 const CALLS_OF_DEEDS: &[u64] = &[0, 1, 43, 86, 87, 88, 89, 90];
 
-#[test]
-fn each_call_of_a_deed_fails_once(rt: HostRuntime) -> Result<(), Fail> {
-    for (deed, calls, new) in FAILED {
-        for k in CALLS_OF_DEEDS {
-            if *k < *calls {
-                let stands = if *k + 1 == *calls { *new } else { NOTHING_DONE };
-                let wanted = (Err(Fault::DeviceFailed), true, 1, stands);
-                let found = failing(rt.alloc(), *deed, 179 + *k)?;
-                assert_eq!(rt; found, wanted, "{deed:?} {k}");
+/// The first of those calls of a deed, which makes so many and leaves what stands behind them, whose failure isn't answered
+/// and counted once, doesn't break the journal or leaves something else; and what is found there.
+fn first_unlike_failure<A: Allocator + Copy + Drop>(
+    alloc: A,
+    (deed, calls, new): (Deed, u64, Standing),
+) -> Result<Option<(u64, Done, Standing)>, Fail> {
+    for k in CALLS_OF_DEEDS {
+        if *k < calls {
+            let stands = if *k + 1 == calls { new } else { NOTHING_DONE };
+            let (done, found) = failing(alloc, deed, 179 + *k)?;
+            if done != (Err(Fault::DeviceFailed), true, 1) || found != stands {
+                return Ok(Some((*k, done, found)));
             }
         }
+    }
+    Ok(None)
+}
+
+#[test]
+fn each_call_of_a_deed_fails_once(rt: HostRuntime) -> Result<(), Fail> {
+    for row in FAILED {
+        assert_eq!(rt; first_unlike_failure(rt.alloc(), *row)?, None, "{row:?}");
     }
     Ok(())
 }
@@ -413,32 +506,39 @@ fn each_call_of_a_deed_fails_once(rt: HostRuntime) -> Result<(), Fail> {
 #[test]
 fn a_deed_makes_so_many_calls(rt: HostRuntime) -> Result<(), Fail> {
     for (deed, calls, new) in FAILED {
-        let rig = FailRig::new(formatted(rt.alloc())?, 179u64.saturating_add(*calls));
-        let (done, is_broken, rig) = after(rt.alloc(), rig, *deed, 1);
-        assert_eq!(rt;
-            (done, is_broken, rig.failures()),
-            (Ok(()), false, 0),
-            "{deed:?}"
-        );
-        assert_eq!(rt; standing(rt.alloc(), rig.into_inner()), *new, "{deed:?}");
+        let (done, rig) = done_failing(rt.alloc(), *deed, 179u64.saturating_add(*calls))?;
+        let stands = standing(rt.alloc(), rig.into_inner());
+        assert_eq!(rt; (done, stands), ((Ok(()), false, 0), *new), "{deed:?}");
     }
     Ok(())
 }
 
-/// What stands after a cut behind each call of an entry, with none of the unsynced writes kept and with all of them.
+/// What stands after a stop behind so many calls, with none of the unsynced writes kept and with all of them.
+fn cut<A: Allocator + Copy + Drop>(
+    alloc: A,
+    rig: &MemoryRig<A>,
+    calls: usize,
+) -> Result<[Standing; 2], AllocError> {
+    let none = rig.stopped(calls, &[0; 1_710])?;
+    let all = rig.stopped(calls, &[1; 1_710])?;
+    Ok([standing(alloc, none), standing(alloc, all)])
+}
+
+/// What stands after a cut behind each call of an entry.
 #[test]
 fn a_cut_leaves_the_old_or_the_new(rt: HostRuntime) -> Result<(), Fail> {
-    let (none, all) = ([0; 1_710], [1; 1_710]);
     let (_, rig) = powered(rt.alloc(), formatted(rt.alloc())?);
     let before = rig.calls().saturating_add(90);
     let (done, _, rig) = after(rt.alloc(), rig, Deed::Commit, 1);
     assert_eq!(rt; (done, rig.calls()), (Ok(()), before.saturating_add(89)));
     for n in 0..=89 {
-        let calls = before.saturating_add(n);
-        let stop = standing(rt.alloc(), rig.stopped(calls, &none)?);
-        assert_eq!(rt; stop, if n < 89 { NOTHING_DONE } else { COMMITTED }, "{n}");
-        let stop = standing(rt.alloc(), rig.stopped(calls, &all)?);
-        assert_eq!(rt; stop, if n < 88 { NOTHING_DONE } else { COMMITTED }, "{n}");
+        let wanted = match n {
+            0..=87 => [NOTHING_DONE, NOTHING_DONE],
+            88 => [NOTHING_DONE, COMMITTED],
+            _ => [COMMITTED, COMMITTED],
+        };
+        let found = cut(rt.alloc(), &rig, before.saturating_add(n))?;
+        assert_eq!(rt; found, wanted, "{n}");
     }
     Ok(())
 }
@@ -459,58 +559,69 @@ const LIMITS: &[(i64, Deed, u64, Result<(), Fault>, usize)] = &[
     (999_999_999_999, Deed::HandOut, 1, Ok(()), 1),
 ];
 
+/// What a deed with an entry of this number answers where this epoch is in force, whether the journal is broken then, and
+/// how many calls the deed makes.
+fn limited<A: Allocator + Copy + Drop>(
+    alloc: A,
+    epoch: i64,
+    deed: Deed,
+    entries: u64,
+) -> Result<(Result<(), Fault>, bool, usize), Fail> {
+    let mut rig = formatted(alloc)?;
+    if !store(&mut rig, 1, &header(epoch, 0, 0)) {
+        return Err(Fail::from("a header isn't laid"));
+    }
+    let before = rig.calls().saturating_add(90);
+    let (done, is_broken, rig) = after(alloc, rig, deed, entries);
+    Ok((done, is_broken, rig.calls().wrapping_sub(before)))
+}
+
 #[test]
 fn deeds_past_a_limit(rt: HostRuntime) -> Result<(), Fail> {
     for (epoch, deed, entries, wanted, calls) in LIMITS {
-        let mut rig = formatted(rt.alloc())?;
-        assert!(rt; store(&mut rig, 1, &header(*epoch, 0, 0)));
-        let before = rig.calls().saturating_add(90);
-        let (done, is_broken, rig) = after(rt.alloc(), rig, *deed, *entries);
+        let found = limited(rt.alloc(), *epoch, *deed, *entries)?;
         assert_eq!(rt;
-            (done, is_broken),
-            (*wanted, false),
-            "{epoch} {deed:?} {entries}"
-        );
-        assert_eq!(rt;
-            rig.calls(),
-            before.saturating_add(*calls),
+            found,
+            (*wanted, false, *calls),
             "{epoch} {deed:?} {entries}"
         );
     }
     Ok(())
 }
 
-/// So many bytes of one line as a program: how many of them are read, and where the next line begins. More than 131,072 are
-/// refused.
-const LENGTHS: &[(usize, Result<Option<(usize, u64)>, Fault>)] = &[
+/// A line as it is read: how many bytes there are, the last of them (0 where there is none), and where the next line begins.
+type Read = Result<Option<(usize, u8, u64)>, Fault>;
+
+/// So many bytes `x` of one line as a program: how many of them are read, the last of them, and where the next line
+/// begins. More than 131,072 are refused.
+const LENGTHS: &[(usize, Read)] = &[
     (0, Ok(None)),
-    (131_072, Ok(Some((257, 131_072)))),
+    (131_072, Ok(Some((257, b'x', 131_072)))),
     (131_073, Err(Fault::ProgramTooLong)),
 ];
+
+/// Loads so many bytes `x` and reads the line at their begin.
+fn line_of_length(alloc: Global, length: usize) -> Result<Read, Fail> {
+    let mut text = Vec::new(alloc);
+    text.resize(length, b'x')?;
+    Ok(line_of(alloc, formatted(alloc)?, &text, 0))
+}
 
 #[test]
 fn programs_up_to_a_limit(rt: HostRuntime) -> Result<(), Fail> {
     for (length, wanted) in LENGTHS {
-        let mut text = Vec::new(rt.alloc());
-        text.resize(*length, b'x')?;
-        let line = line_of(rt.alloc(), formatted(rt.alloc())?, &text, 0);
-        assert_eq!(rt;
-            line.map(|line| line.map(|line| (line.0, line.2))),
-            *wanted,
-            "{length}"
-        );
+        assert_eq!(rt; line_of_length(rt.alloc(), *length)?, *wanted, "{length}");
     }
     Ok(())
 }
 
-/// Loads a program and reads its line at a place: how many bytes there are, the last of them (0 where there is none), and
-/// where the next line begins.
+/// Loads a program and reads its line at a place.
 fn line_of<A: Allocator + Copy + Drop, R: Rig + Drop>(
     alloc: A,
     rig: R,
     text: &[u8],
     place: u64,
-) -> Result<Option<(usize, u8, u64)>, Fault> {
+) -> Read {
     match recover(alloc, rig) {
         Ok((mut journal, mut stored)) => {
             stored.entries = 1;

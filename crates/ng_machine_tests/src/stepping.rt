@@ -1,4 +1,4 @@
-use ng_block::{State, Tools, execute};
+use ng_block::{Effect, State, Tools, execute};
 use ng_canon::{
     Arc, Axis, Geometry, InverseTime, Item, Outputs, Pace, Plane, Pulse, Rate, Segment, Step,
     StraightMove, Turn,
@@ -89,7 +89,39 @@ fn push_pulse(text: &mut String<Global>, pulse: Pulse) -> Result<(), Fail> {
     push_step(text, pulse.z, "Z")
 }
 
-/// All items: a pulse as its steps, and its period where it differs from the one before.
+/// A pulse as its steps, behind its period where that isn't the one before.
+fn push_paced(
+    alloc: Global,
+    text: &mut String<Global>,
+    pulse: Pulse,
+    period_us: u64,
+) -> Result<(), Fail> {
+    if pulse.period_us != period_us {
+        text.push_str(&format!(in alloc; "{}: ", pulse.period_us)?)?;
+    }
+    push_pulse(text, pulse)
+}
+
+/// An item, and the period behind it.
+fn push_item(
+    alloc: Global,
+    text: &mut String<Global>,
+    item: Item,
+    period_us: u64,
+) -> Result<u64, Fail> {
+    let (word, number) = match item {
+        Item::Pulse(pulse) => {
+            push_paced(alloc, text, pulse, period_us)?;
+            return Ok(pulse.period_us);
+        }
+        Item::Dwell { us } => ("dwell", us),
+        Item::Switch(outputs) => ("switch", outputs.selected_slot as u64),
+    };
+    text.push_str(&format!(in alloc; "{word} {number}")?)?;
+    Ok(period_us)
+}
+
+/// All items, with a space between them.
 fn items(alloc: Global, segment: &Segment, machine: &Geometry) -> Text {
     let mut text = String::new(alloc);
     let mut period_us = 0;
@@ -101,19 +133,7 @@ fn items(alloc: Global, segment: &Segment, machine: &Geometry) -> Text {
         if !text.is_empty() {
             text.push_str(" ")?;
         }
-        match item {
-            Item::Pulse(pulse) => {
-                if pulse.period_us != period_us {
-                    period_us = pulse.period_us;
-                    text.push_str(&format!(in alloc; "{period_us}: ")?)?;
-                }
-                push_pulse(&mut text, pulse)?;
-            }
-            Item::Dwell { us } => text.push_str(&format!(in alloc; "dwell {us}")?)?,
-            Item::Switch(outputs) => {
-                text.push_str(&format!(in alloc; "switch {}", outputs.selected_slot)?)?
-            }
-        }
+        period_us = push_item(alloc, &mut text, item, period_us)?;
     }
     text.push_str(" and more")?;
     Ok(text)
@@ -348,16 +368,19 @@ const PROGRAMS: &[(&str, &str)] = &[
     ),
 ];
 
+/// All items of the first segment of what a line does.
+fn first_items(alloc: Global, effect: &Effect) -> Text {
+    match effect.segments().next() {
+        Some(segment) => items(alloc, &segment, &Geometry::standard()),
+        None => Ok(String::new(alloc)),
+    }
+}
+
 /// All items of a line's first segment; the state becomes that behind the line.
 fn line_items(alloc: Global, state: &mut State<Global>, line: &str) -> Text {
-    let machine = Geometry::standard();
-    let effect = execute(state, line.as_bytes(), &Tools::new(), &machine)?;
-    let text = match effect.segments().next() {
-        Some(segment) => items(alloc, &segment, &machine),
-        None => Ok(String::new(alloc)),
-    };
+    let effect = execute(state, line.as_bytes(), &Tools::new(), &Geometry::standard())?;
     state.apply(&effect);
-    text
+    first_items(alloc, &effect)
 }
 
 /// Whether the moves of a program, one a line, give just these items.
