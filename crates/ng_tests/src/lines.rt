@@ -409,15 +409,32 @@ fn count(line: &Line) -> usize {
     PIECES + 1
 }
 
+/// Reads a line: whether it is deletable, by itself and by its bytes, its block number, and whether it has just these words.
+fn read_words(
+    line: &mut Line,
+    text: &[u8],
+    words: &[(Letter, i64)],
+) -> Result<(bool, bool, Option<u32>, bool), Fault> {
+    line.read(text)?;
+    let has_words = has_words(line, words);
+    Ok((
+        line.is_deletable(),
+        is_deletable(text),
+        line.number(),
+        has_words,
+    ))
+}
+
 #[test]
 fn lines_are_read_as_they_stand(rt: HostRuntime) {
     let mut line = Line::new();
     for (i, (text, deletable, number, words)) in LINES.iter().enumerate() {
-        assert!(rt; line.read(text).is_ok(), "line {i}");
-        assert_eq!(rt; line.is_deletable(), *deletable, "line {i}");
-        assert_eq!(rt; is_deletable(text), *deletable, "line {i}");
-        assert_eq!(rt; line.number(), *number, "line {i}");
-        assert!(rt; has_words(&line, words), "line {i}");
+        let found = read_words(&mut line, text, words);
+        assert_eq!(rt;
+            found,
+            Ok((*deletable, *deletable, *number, true)),
+            "line {i}"
+        );
     }
 }
 
@@ -438,8 +455,12 @@ fn comments_are_read_as_they_stand(rt: HostRuntime) {
 fn what_is_no_line_is_refused(rt: HostRuntime) {
     let mut line = Line::new();
     for (i, text) in UNREADABLE.iter().enumerate() {
-        assert_eq!(rt; line.read(text), Err(Fault::Unreadable), "line {i}");
-        assert_eq!(rt; count(&line), 0, "line {i}");
+        let read = line.read(text);
+        assert_eq!(rt;
+            (read, count(&line)),
+            (Err(Fault::Unreadable), 0),
+            "line {i}"
+        );
     }
 }
 
@@ -461,14 +482,23 @@ fn numbers_are_read_as_they_stand(rt: HostRuntime) {
     }
 }
 
+/// Reads a line: whether its first piece is a word X with these codes, and whether no other follows.
+fn read_value(line: &mut Line, text: &[u8], codes: &[u8]) -> Result<(bool, bool), Fault> {
+    line.read(text)?;
+    let mut pieces = line.pieces();
+    let is_value = is_value(&mut pieces, codes);
+    Ok((is_value, is_end(&mut pieces)))
+}
+
 #[test]
 fn values_are_read_as_they_stand(rt: HostRuntime) {
     let mut line = Line::new();
     for (i, (text, codes)) in VALUES.iter().enumerate() {
-        assert!(rt; line.read(text).is_ok(), "value {i}");
-        let mut pieces = line.pieces();
-        assert!(rt; is_value(&mut pieces, codes), "value {i}");
-        assert!(rt; is_end(&mut pieces), "value {i}");
+        assert_eq!(rt;
+            read_value(&mut line, text, codes),
+            Ok((true, true)),
+            "value {i}"
+        );
     }
 }
 
@@ -483,57 +513,97 @@ fn settings_are_read_as_they_stand(rt: HostRuntime) {
     }
 }
 
-#[test]
-fn reads_pieces_in_order(rt: HostRuntime) -> Result<(), Fail> {
-    let mut line = Line::new();
-    assert_eq!(rt; line.read(b"/n12 g1(in)#3=[4+5]x[6*#7] (out) y-8"), Ok(()));
-    assert!(rt; line.is_deletable());
-    assert_eq!(rt; line.number(), Some(12));
+/// Whether the pieces of a line are a word G, a comment, a setting, a value X, a comment and a word Y, and no more.
+fn pieces_in_order(line: &Line) -> [bool; 7] {
     let mut pieces = line.pieces();
-    assert!(rt; is_word(&mut pieces, Letter::G, Some(1_000_000)));
-    assert!(rt; is_comment(&mut pieces, b"in"));
-    assert!(rt; is_setting(&mut pieces, b"3", b"45+]"));
-    assert!(rt; is_value(&mut pieces, b"67#*]"));
-    assert!(rt; is_comment(&mut pieces, b"out"));
-    assert!(rt; is_word(&mut pieces, Letter::Y, Some(-8_000_000)));
-    assert!(rt; is_end(&mut pieces));
-    assert!(rt; line.last_comment() == Some(b"out"));
-    assert_eq!(rt; line.read(b"G1"), Ok(()));
-    assert!(rt; line.last_comment().is_none());
-    Ok(())
+    [
+        is_word(&mut pieces, Letter::G, Some(1_000_000)),
+        is_comment(&mut pieces, b"in"),
+        is_setting(&mut pieces, b"3", b"45+]"),
+        is_value(&mut pieces, b"67#*]"),
+        is_comment(&mut pieces, b"out"),
+        is_word(&mut pieces, Letter::Y, Some(-8_000_000)),
+        is_end(&mut pieces),
+    ]
 }
 
 #[test]
-fn the_longest_lines_are_read(rt: HostRuntime) -> Result<(), Fail> {
+fn reads_pieces_in_order(rt: HostRuntime) {
     let mut line = Line::new();
-    let blanks = [b' '; 257];
+    let read = line.read(b"/n12 g1(in)#3=[4+5]x[6*#7] (out) y-8");
+    assert_eq!(rt;
+        (read, line.is_deletable(), line.number()),
+        (Ok(()), true, Some(12))
+    );
+    assert_eq!(rt; pieces_in_order(&line), [true; 7]);
+    assert!(rt; line.last_comment() == Some(b"out"));
+    let read = line.read(b"G1");
+    assert_eq!(rt; (read, line.last_comment().is_none()), (Ok(()), true));
+}
+
+/// A line of as many words as one can have pieces.
+fn longest_words() -> [u8; 256] {
     let mut words = [b'0'; 256];
     for i in 0..PIECES {
         words[2 * i] = b'Z';
     }
+    words
+}
+
+/// A word whose value is an index of an index, and so on.
+fn longest_indices() -> [u8; 256] {
     let mut indices = [b'#'; 256];
     indices[0] = b'X';
     indices[255] = b'1';
+    indices
+}
+
+/// A word whose value stands in 127 pairs of brackets.
+fn longest_brackets() -> [u8; 256] {
     let mut brackets = [b'['; 256];
     brackets[0] = b'X';
     brackets[128] = b'1';
     for i in 129..256 {
         brackets[i] = b']';
     }
-    for (text, pieces) in [
-        (&blanks[..256], 0),
-        (&words, PIECES),
-        (&indices, 1),
-        (&brackets, 1),
-    ] {
-        assert_eq!(rt; line.read(text), Ok(()), "{pieces} pieces");
-        assert_eq!(rt; count(&line), pieces);
-    }
-    assert!(rt; matches!(read_line(&words), Ok(read) if count(&read) == PIECES));
+    brackets
+}
+
+/// Reads a line: how many pieces it has.
+fn read_count(line: &mut Line, text: &[u8]) -> Result<usize, Fault> {
+    line.read(text)?;
+    Ok(count(line))
+}
+
+/// How many pieces a text has that is read as a line of its own.
+fn count_of(text: &[u8]) -> Result<usize, Fault> {
+    let line = read_line(text)?;
+    Ok(count(&line))
+}
+
+#[test]
+fn the_longest_lines_are_read(rt: HostRuntime) {
+    let mut line = Line::new();
+    let blanks = [b' '; 257];
+    let words = longest_words();
+    let mut brackets = longest_brackets();
+    let counts = [
+        read_count(&mut line, &blanks[..256]),
+        read_count(&mut line, &words),
+        read_count(&mut line, &longest_indices()),
+        read_count(&mut line, &brackets),
+    ];
+    assert_eq!(rt; counts, [Ok(0), Ok(PIECES), Ok(1), Ok(1)]);
     brackets[255] = b' ';
-    assert_eq!(rt; line.read(&brackets), Err(Fault::Unreadable));
-    assert_eq!(rt; line.read(&blanks), Err(Fault::LineTooLong));
-    assert_eq!(rt; line.read(&[b'%'; 257]), Err(Fault::LineTooLong));
-    assert!(rt; matches!(read_line(&blanks), Err(Fault::LineTooLong)));
-    Ok(())
+    let read = [
+        line.read(&brackets),
+        line.read(&blanks),
+        line.read(&[b'%'; 257]),
+    ];
+    let too_long = Err(Fault::LineTooLong);
+    assert_eq!(rt; read, [Err(Fault::Unreadable), too_long, too_long]);
+    assert_eq!(rt;
+        [count_of(&words), count_of(&blanks)],
+        [Ok(PIECES), Err(Fault::LineTooLong)]
+    );
 }

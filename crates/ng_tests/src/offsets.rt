@@ -69,10 +69,19 @@ fn stored(alloc: Global) -> Result<Params<Global>, AllocError> {
     Ok(table)
 }
 
-/// What words make of the worked offsets at the machine point (13, 21, 36): origin, G92 offset and what is printed.
-fn words(table: &Params<Global>) -> Result<[(NewOffsets, [Point; 3]); 7], Fault> {
+/// Points in whole millimetres: an origin, a G92 offset and what is printed.
+type Points = [Point; 3];
+
+/// The points of new offsets, and their tool length.
+fn of(new: &NewOffsets) -> (Points, Len) {
+    let points = [new.offsets.origin, new.offsets.g92, new.shown];
+    (points, new.offsets.tool_length)
+}
+
+/// What words make of the worked offsets at the machine point (13, 21, 36), and the points that are wanted.
+fn words(table: &Params<Global>) -> Result<[(NewOffsets, Points); 7], Fault> {
     let machine = point(13, 21, 36);
-    let (one, two) = (system(1), system(2));
+    let two = system(2);
     let line = [change(5242, 7)];
     Ok([
         (
@@ -122,6 +131,12 @@ fn are_stored(table: &Params<Global>) -> Result<bool, Fault> {
     )
 }
 
+/// The origin and the printed point that a G10 for X50 of a system makes of the worked offsets, those of system 1.
+fn moved_origin(number: i64, table: &Params<Global>) -> Result<Option<[Point; 2]>, Fault> {
+    let (new, _) = worked().g10(system(number), system(1), &only_x(50), table, &[])?;
+    Ok(new.map(|new| [new.offsets.origin, new.shown]))
+}
+
 /// The tool length of the worked offsets after a slot of a table of 7 and 8 mm is taken.
 fn length_of_slot(slot: u8) -> Option<Len> {
     let mut tools = Tools::new();
@@ -134,58 +149,67 @@ fn length_of_slot(slot: u8) -> Option<Len> {
     }
 }
 
+/// The point (3, 4, 5) once a line has named an X and a Z in a unit.
+fn named(x: i64, z: i64, unit: Unit) -> Result<Point, Fault> {
+    let named = Named::of(number(x), None, number(z), unit)?;
+    Ok(named.put(point(3, 4, 5)))
+}
+
+/// Points that offsets move, without any, by the worked ones there and back, and past the last length; and points of lines
+/// in each unit.
+fn points() -> [Result<Point, Fault>; 6] {
+    [
+        Offsets::none().to_machine(point(1, 2, 3)),
+        worked().to_machine(point(1, 1, 1)),
+        worked().to_program(point(13, 21, 36)),
+        worked().to_machine(point(9_999_990, 0, 0)),
+        named(1, -2, Unit::Inches),
+        named(25, -50, Unit::Millimetres),
+    ]
+}
+
+/// The tool lengths of the slots of a table of two, and of one more.
+fn lengths_of_slots() -> [Option<Len>; 4] {
+    [
+        length_of_slot(0),
+        length_of_slot(1),
+        length_of_slot(2),
+        length_of_slot(3),
+    ]
+}
+
 #[test]
 fn offsets_and_points(rt: HostRuntime) -> Result<(), Fail> {
     let table = stored(rt.alloc())?;
-    let worked = worked();
-    assert_eq!(rt;
-        Offsets::none().to_machine(point(1, 2, 3)),
-        Ok(point(1, 2, 3))
-    );
-    assert_eq!(rt; worked.to_machine(point(1, 1, 1)), Ok(point(13, 21, 36)));
-    assert_eq!(rt; worked.to_program(point(13, 21, 36)), Ok(point(1, 1, 1)));
-    assert_eq!(rt;
-        worked.to_machine(point(9_999_990, 0, 0)),
-        Err(Fault::OutOfRange)
-    );
-    let rows = words(&table).ok().ok_or("a word is refused")?;
-    for (k, (new, wanted)) in rows.iter().enumerate() {
-        let found = [new.offsets.origin, new.offsets.g92, new.shown];
-        assert_eq!(rt; found, *wanted, "word {k}");
-        assert_eq!(rt; new.offsets.tool_length, mm(5));
-    }
-    assert!(rt; are_stored(&table) == Ok(true));
-    let in_force = worked.g10(system(1), system(1), &only_x(50), &table, &[]);
-    let new = in_force
-        .ok()
-        .ok_or("G10 is refused")?
-        .0
-        .ok_or("no origin is taken")?;
-    assert_eq!(rt;
-        (new.offsets.origin, new.shown),
-        (point(50, 0, 0), point(52, 0, 0))
-    );
-    let other = worked.g10(system(2), system(1), &only_x(50), &table, &[]);
-    assert!(rt; other.ok().ok_or("G10 is refused")?.0.is_none());
-    for (slot, wanted) in [
-        (0, Some(mm(0))),
-        (1, Some(mm(7))),
-        (2, Some(mm(8))),
-        (3, None),
-    ] {
-        assert_eq!(rt; length_of_slot(slot), wanted, "slot {slot}");
-    }
-    let inch = Named::of(number(1), None, number(-2), Unit::Inches);
-    let millimetres = Named::of(number(25), None, number(-50), Unit::Millimetres);
-    let wanted = Point {
+    let inches = Point {
         x: Len::of_nm(25_400_000).unwrap(),
         y: mm(4),
         z: Len::of_nm(-50_800_000).unwrap(),
     };
-    assert_eq!(rt; inch.map(|named| named.put(point(3, 4, 5))), Ok(wanted));
     assert_eq!(rt;
-        millimetres.map(|named| named.put(point(3, 4, 5))),
-        Ok(point(25, 4, -50))
+        points(),
+        [
+            Ok(point(1, 2, 3)),
+            Ok(point(13, 21, 36)),
+            Ok(point(1, 1, 1)),
+            Err(Fault::OutOfRange),
+            Ok(inches),
+            Ok(point(25, 4, -50))
+        ]
+    );
+    let rows = words(&table).ok().ok_or("a word is refused")?;
+    for (k, (new, wanted)) in rows.iter().enumerate() {
+        let (found, length) = of(new);
+        assert_eq!(rt; (&found, length), (wanted, mm(5)), "word {k}");
+    }
+    assert!(rt; are_stored(&table) == Ok(true));
+    assert_eq!(rt;
+        [moved_origin(1, &table), moved_origin(2, &table)],
+        [Ok(Some([point(50, 0, 0), point(52, 0, 0)])), Ok(None)]
+    );
+    assert_eq!(rt;
+        lengths_of_slots(),
+        [Some(mm(0)), Some(mm(7)), Some(mm(8)), None]
     );
     Ok(())
 }

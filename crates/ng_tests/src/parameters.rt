@@ -50,28 +50,35 @@ const LASTING: &[(i64, bool)] = &[
     (5399, false),
 ];
 
+/// Gives each parameter its own number as its count of millionths.
+fn fill<A: Allocator + Copy + Drop>(params: &mut Params<A>) {
+    for number in 1..=5399 {
+        put(params, number, number);
+    }
+}
+
+/// How many parameters have their own number as their count of millionths.
+fn filled<A: Allocator + Copy + Drop>(params: &Params<A>) -> u32 {
+    let mut filled = 0u32;
+    for number in 1..=5399 {
+        if count(params, number) == number && filled < 5399 {
+            filled += 1;
+        }
+    }
+    filled
+}
+
 #[test]
 fn what_outlives_a_program(rt: HostRuntime) -> Result<(), Fail> {
     let mut params = Params::new(rt.alloc())?;
-    assert_eq!(rt;
-        (
-            count(&params, 1),
-            count(&params, 5220),
-            count(&params, 5399)
-        ),
-        (0, 1_000_000, 0)
-    );
-    for number in 1..=5399 {
-        put(&mut params, number, number);
-    }
+    let fresh = [
+        count(&params, 1),
+        count(&params, 5220),
+        count(&params, 5399),
+    ];
+    fill(&mut params);
     params.clear_passing();
-    let mut left = 0u32;
-    for number in 1..=5399 {
-        if count(&params, number) == number && left < 5399 {
-            left += 1;
-        }
-    }
-    assert_eq!(rt; left, 37);
+    assert_eq!(rt; (fresh, filled(&params)), ([0, 1_000_000, 0], 37));
     for (number, is_kept) in LASTING {
         let want = if *is_kept { *number } else { 0 };
         assert_eq!(rt; count(&params, *number), want, "parameter {number}");
@@ -129,6 +136,17 @@ const CHANGED: &[(i64, i64)] = &[
     (5221, 0),
 ];
 
+/// The origins of a system and of the first one, the stored G92 offset, and the two homes.
+fn points(params: &Params<Global>, system: System) -> [Point; 5] {
+    [
+        params.origin(system),
+        params.origin(System::first()),
+        params.g92_stored(),
+        params.home(),
+        params.second_home(),
+    ]
+}
+
 #[test]
 fn changes_set_their_parameters(rt: HostRuntime) -> Result<(), Fail> {
     let mut params = Params::new(rt.alloc())?;
@@ -141,11 +159,16 @@ fn changes_set_their_parameters(rt: HostRuntime) -> Result<(), Fail> {
     for (number, want) in CHANGED {
         assert_eq!(rt; count(&params, *number), *want, "parameter {number}");
     }
-    assert_eq!(rt; params.origin(nine), point(-1, 2, 3));
-    assert_eq!(rt; params.origin(System::first()), Point::zero());
-    assert_eq!(rt; params.g92_stored(), point(4, 5, 6));
-    assert_eq!(rt; params.home(), point(7, 0, 0));
-    assert_eq!(rt; params.second_home(), point(0, 0, 8));
+    assert_eq!(rt;
+        points(&params, nine),
+        [
+            point(-1, 2, 3),
+            Point::zero(),
+            point(4, 5, 6),
+            point(7, 0, 0),
+            point(0, 0, 8)
+        ]
+    );
     Ok(())
 }
 

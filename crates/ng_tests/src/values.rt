@@ -72,38 +72,64 @@ fn values_of_lines_or_their_faults(rt: HostRuntime) -> Result<(), Fail> {
     Ok(())
 }
 
+/// How many words there are, and the first one's letter and count of millionths.
+type Words = (usize, Option<(Letter, i64)>);
+
+fn words(values: &Values) -> Words {
+    match values.words.as_slice() {
+        [first, ..] => (
+            values.words.len(),
+            Some((first.letter, first.value.count())),
+        ),
+        [] => (0, None),
+    }
+}
+
+/// Reads and evaluates a line, applies its settings, and answers its words.
+fn apply_line<A: Allocator + Copy + Drop>(
+    line: &mut Line,
+    values: &mut Values,
+    params: &mut Params<A>,
+    text: &[u8],
+) -> Result<Words, Fault> {
+    line.read(text)?;
+    values.evaluate_into(line, params)?;
+    params.apply(values.settings.as_slice());
+    Ok(words(values))
+}
+
 #[test]
 fn values_of_parameters(rt: HostRuntime) -> Result<(), Fail> {
     let heap = LocalHeap::new(rt.alloc(), 65_536)?;
     let mut params = Params::new(&heap)?;
     let mut line = Line::new();
     let mut values = Values::new();
-    line.read(b"#3=15 #4=#3 #5399=-0.5")?;
-    values.evaluate_into(&line, &params)?;
-    params.apply(values.settings.as_slice());
+    apply_line(
+        &mut line,
+        &mut values,
+        &mut params,
+        b"#3=15 #4=#3 #5399=-0.5",
+    )?;
     assert_eq!(rt;
         (count(&params, 3), count(&params, 4), count(&params, 5399)),
         (15_000_000, 0, -500_000)
     );
     // The word has the old value, and the last setting counts.
-    line.read(b"#3=6 X#3 (a comment) #3=[#3+1] Y##[1+2]")?;
-    let ended = values.evaluate_into(&line, &params);
-    assert_eq!(rt; ended, Ok(()));
-    assert_eq!(rt; values.words.len(), 2);
-    assert_eq!(rt; values.words.as_slice()[0].letter, Letter::X);
-    assert_eq!(rt; values.words.as_slice()[0].value.count(), 15_000_000);
-    params.apply(values.settings.as_slice());
-    assert_eq!(rt; count(&params, 3), 16_000_000);
-    // After a fault there are no values.
-    line.read(b"#7=1 X1 Y#0")?;
-    let ended = values.evaluate_into(&line, &params);
-    assert_eq!(rt; ended, Err(Fault::BadIndex));
-    assert_eq!(rt; (values.words.len(), values.settings.len()), (0, 0));
-    // An index within 0.0001 of a whole number names its parameter.
-    assert_eq!(rt; last_word(&mut line, &params, b"X#3.0001"), Ok(16_000_000));
+    let text = b"#3=6 X#3 (a comment) #3=[#3+1] Y##[1+2]";
+    let words = apply_line(&mut line, &mut values, &mut params, text);
     assert_eq!(rt;
-        last_word(&mut line, &params, b"X#3.0002"),
-        Err(Fault::BadIndex)
+        (words, count(&params, 3)),
+        (Ok((2, Some((Letter::X, 15_000_000)))), 16_000_000)
     );
+    // After a fault there are no values.
+    let words = apply_line(&mut line, &mut values, &mut params, b"#7=1 X1 Y#0");
+    assert_eq!(rt;
+        (words, values.words.len(), values.settings.len()),
+        (Err(Fault::BadIndex), 0, 0)
+    );
+    // An index within 0.0001 of a whole number names its parameter.
+    let within = last_word(&mut line, &params, b"X#3.0001");
+    let beyond = last_word(&mut line, &params, b"X#3.0002");
+    assert_eq!(rt; (within, beyond), (Ok(16_000_000), Err(Fault::BadIndex)));
     Ok(())
 }
