@@ -73,7 +73,7 @@ fn stored(alloc: Global) -> Result<Params<Global>, AllocError> {
 type Points = [Point; 3];
 
 /// The points of new offsets, and their tool length.
-fn of(new: &NewOffsets) -> (Points, Len) {
+fn points_of(new: &NewOffsets) -> (Points, Len) {
     let points = [new.offsets.origin, new.offsets.g92, new.shown];
     (points, new.offsets.tool_length)
 }
@@ -199,7 +199,7 @@ fn offsets_and_points(rt: HostRuntime) -> Result<(), Fail> {
     );
     let rows = words(&table).ok().ok_or("a word is refused")?;
     for (k, (new, wanted)) in rows.iter().enumerate() {
-        let (found, length) = of(new);
+        let (found, length) = points_of(new);
         assert_eq!(rt; (&found, length), (wanted, mm(5)), "word {k}");
     }
     assert!(rt; are_stored(&table) == Ok(true));
