@@ -366,31 +366,36 @@ const HEAPS: &[(usize, &str, u8)] = &[
     ),
 ];
 
-/// A console with a heap of so many bytes: what it writes of these lines, and its status.
+/// What these lines are answered with a heap of so many bytes: the status, and whether this text is written.
 fn answered_from_heap(
     alloc: Global,
-    lines: &[u8],
     bytes: usize,
-) -> Result<(Vec<u8>, u8), AllocError> {
+    lines: &[u8],
+    wanted: &str,
+) -> Result<(u8, bool), AllocError> {
     let heap = LocalHeap::new(alloc, bytes)?;
     let mut reader = lines;
     let mut text = Vec::new(alloc);
     let rig = formatted(alloc)?;
     let (status, _) = console(&heap, &mut reader, &mut text, rig, Settings::standard());
-    Ok((text, status))
+    Ok((status, text.as_slice() == wanted.as_bytes()))
+}
+
+/// A program of 100,000 empty lines, and the status behind it.
+fn long_program(alloc: Global) -> Result<Vec<u8>, AllocError> {
+    let mut lines = Vec::from_slice(alloc, b"load 100000\n")?;
+    lines.resize(100_012, b'\n')?;
+    lines.extend_from_slice(b"status\n")?;
+    Ok(lines)
 }
 
 /// A program that finds no memory is refused, and its bytes are passed over.
 #[test]
 fn a_program_finds_no_memory(rt: HostRuntime) -> Result<(), Fail> {
-    let mut lines = Vec::new(rt.alloc());
-    lines.extend_from_slice(b"load 100000\n")?;
-    lines.resize(100_012, b'\n')?;
-    lines.extend_from_slice(b"status\n")?;
+    let lines = long_program(rt.alloc())?;
     for (bytes, wanted, status) in HEAPS {
-        let (text, ended) = answered_from_heap(rt.alloc(), lines.as_slice(), *bytes)?;
-        let is_told = text.as_slice() == wanted.as_bytes();
-        assert_eq!(rt; (is_told, ended), (true, *status), "{bytes}");
+        let found = answered_from_heap(rt.alloc(), *bytes, lines.as_slice(), wanted)?;
+        assert_eq!(rt; found, (*status, true), "{bytes}");
     }
     Ok(())
 }

@@ -612,21 +612,33 @@ fn ticks_of<A: Allocator + Copy + Drop>(
     Ok(events)
 }
 
-/// What a controller answers where memory is wanting, over a device that has memory of its own: to these events, and to a list of so
-/// many ticks; what the status shows then.
+/// What a controller answers where memory is wanting: to these events, and to a list; what the status shows then.
+fn answers_short_of_memory<R: Rig + Drop, A: Allocator + Copy + Drop>(
+    alloc: A,
+    controller: Controller<R, A>,
+    events: &[Event<A>],
+) -> (
+    Result<Astray, AllocError>,
+    Result<usize, Fault>,
+    Option<Shown>,
+) {
+    let mut controller = controller;
+    let astray = first_astray(alloc, &mut controller, WANTING);
+    let replies = controller.run(events).map(|replies| replies.len());
+    let shown = shown(&mut controller);
+    drop(controller.into_rig());
+    (astray, replies, shown)
+}
+
+/// The same, over a device that has memory of its own, where the list is of so many ticks.
 fn short_of_memory<A: Allocator + Copy + Drop, B: Allocator + Copy + Drop>(
     alloc: A,
     device: B,
     ticks: usize,
 ) -> Result<(Astray, Result<usize, Fault>, Option<Shown>), Fault> {
     let events = ticks_of(alloc, ticks)?;
-    let mut controller = started(alloc, formatted(device)?)?;
-    let astray = first_astray(alloc, &mut controller, WANTING);
-    let replies = controller
-        .run(events.as_slice())
-        .map(|replies| replies.len());
-    let shown = shown(&mut controller);
-    drop(controller.into_rig());
+    let controller = started(alloc, formatted(device)?)?;
+    let (astray, replies, shown) = answers_short_of_memory(alloc, controller, events.as_slice());
     Ok((astray?, replies, shown))
 }
 
