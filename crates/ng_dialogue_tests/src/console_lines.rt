@@ -291,19 +291,13 @@ fn a_status_is_told_in_a_line(rt: HostRuntime) -> Result<(), Fail> {
     Ok(())
 }
 
-/// What is told of two numbers of ticks and of two refusals.
-fn ticks_and_refusals(alloc: Global) -> Result<Vec<u8>, AllocError> {
-    let mut lines = Vec::new(alloc);
+#[test]
+fn ticks_and_refusals_are_told_in_lines(rt: HostRuntime) -> Result<(), Fail> {
+    let mut lines = Vec::new(rt.alloc());
     push_ticks(&mut lines, 1)?;
     push_ticks(&mut lines, 1_000_000)?;
     push_refusal(&mut lines, Fault::NotFormatted)?;
     push_refusal(&mut lines, Fault::OutOfMemory)?;
-    Ok(lines)
-}
-
-#[test]
-fn ticks_and_refusals_are_told_in_lines(rt: HostRuntime) -> Result<(), Fail> {
-    let lines = ticks_and_refusals(rt.alloc())?;
     assert!(rt;
         lines.as_slice()
             == "ticks 1\nticks 1000000\nrefused J2 NotFormatted\nrefused M1 OutOfMemory\n".as_bytes()
