@@ -6,6 +6,7 @@ use ng_commands::{
 use ng_layout::Source;
 use ng_num::{Fault, Len, Point};
 use ng_session::{Condition, HalfShown, Reply, Status};
+use std::alloc::{AllocError, Global};
 use std::test::Fail;
 
 /// Lines, and what each asks for; none where it is no command.
@@ -150,21 +151,32 @@ const TOLD: &[(Plain, &str, bool, bool)] = &[
     ),
 ];
 
+/// Whether a reply is told as this line, behind what was there.
+fn is_told(alloc: Global, reply: &Reply, line: &str) -> Result<bool, AllocError> {
+    let mut told = Vec::from_slice(alloc, b"> ")?;
+    push_reply(&mut told, reply)?;
+    Ok(told.as_slice().strip_prefix(b"> ") == Some(line.as_bytes()))
+}
+
+/// Whether a reply to a tick is told as this line.
+fn is_told_of_a_tick(alloc: Global, reply: &Reply, line: &str) -> Result<bool, AllocError> {
+    let mut told = Vec::new(alloc);
+    push_tick(&mut told, reply)?;
+    Ok(told.as_slice() == line.as_bytes())
+}
+
 #[test]
 fn replies_are_told_in_lines(rt: HostRuntime) -> Result<(), Fail> {
     for (plain, line, is_same, goes) in TOLD {
         let reply = reply_of(plain);
-        let mut told = Vec::from_slice(rt.alloc(), b"> ")?;
-        push_reply(&mut told, &reply)?;
-        assert!(rt;
-            told.as_slice().strip_prefix(b"> ") == Some(line.as_bytes()),
+        let told = is_told(rt.alloc(), &reply, line)?;
+        let of_a_tick = if *is_same { *line } else { "" };
+        let told_of_a_tick = is_told_of_a_tick(rt.alloc(), &reply, of_a_tick)?;
+        assert_eq!(rt;
+            (told, told_of_a_tick, goes_on(&reply)),
+            (true, true, *goes),
             "{line:?}"
         );
-        let mut of_a_tick = Vec::new(rt.alloc());
-        push_tick(&mut of_a_tick, &reply)?;
-        let wanted = if *is_same { *line } else { "" };
-        assert!(rt; of_a_tick.as_slice() == wanted.as_bytes(), "{line:?}");
-        assert!(rt; goes_on(&reply) == *goes, "{line:?}");
     }
     Ok(())
 }

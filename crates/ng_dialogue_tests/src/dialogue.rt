@@ -34,22 +34,16 @@ impl Read for Drip<'_> {
 
 /// Appends what an order asks, and a bar: the word of an event, and the bytes that come with it.
 fn show<A: Allocator>(shown: &mut Vec<u8>, order: &Order<A>) -> Result<(), AllocError> {
-    match order {
-        Order::Give(Event::Load(text)) => {
-            shown.extend_from_slice(b"load:")?;
-            shown.extend_from_slice(text.bytes())?;
-        }
-        Order::Give(Event::Mdi(text)) => {
-            shown.extend_from_slice(b"mdi:")?;
-            shown.extend_from_slice(text.bytes())?;
-        }
-        Order::Give(event) => shown.extend_from_slice(word_of(event))?,
-        Order::Ticks(count) => {
-            shown.extend_from_slice(b"ticks:")?;
-            shown.extend_from_slice(if *count == 100 { b"100" } else { b"?" })?;
-        }
-        Order::Refuse(fault) => shown.extend_from_slice(fault.text())?,
-    }
+    let (word, bytes) = match order {
+        Order::Give(Event::Load(text)) => (b"load:".as_slice(), text.bytes()),
+        Order::Give(Event::Mdi(text)) => (b"mdi:".as_slice(), text.bytes()),
+        Order::Give(event) => (word_of(event), b"".as_slice()),
+        Order::Ticks(100) => (b"ticks:".as_slice(), b"100".as_slice()),
+        Order::Ticks(_) => (b"ticks:".as_slice(), b"?".as_slice()),
+        Order::Refuse(fault) => (fault.text(), b"".as_slice()),
+    };
+    shown.extend_from_slice(word)?;
+    shown.extend_from_slice(bytes)?;
     shown.extend_from_slice(b"|")
 }
 
@@ -68,15 +62,16 @@ fn word_of<A: Allocator>(event: &Event<A>) -> &'static [u8] {
     }
 }
 
-/// All that a reader's text asks, and why it ended before its end, if it did.
-fn orders_of<R: Read>(
+/// All that a reader's text asks with this heap, and why it ended before its end, if it did.
+fn orders_of<R: Read, A: Allocator + Copy + Drop>(
     alloc: Global,
+    heap: A,
     reader: &mut R,
 ) -> Result<(Vec<u8>, Option<Deaf>), AllocError> {
     let mut input = Input::new();
     let mut shown = Vec::new(alloc);
     for _ in 0..10_000 {
-        match next_order(alloc, &mut input, reader) {
+        match next_order(heap, &mut input, reader) {
             Ok(Some(order)) => show(&mut shown, &order)?,
             Ok(None) => return Ok((shown, None)),
             Err(deaf) => return Ok((shown, Some(deaf))),
@@ -122,19 +117,30 @@ const TEXTS: &[(&str, &str)] = &[
     ("load 00000002\nhold\n", "U1 BadCommand|hold|"),
 ];
 
+/// The first number of bytes at a read, of 1 to 9, with which a text asks something else, and why it ended before its end then.
+fn first_astray(
+    alloc: Global,
+    text: &str,
+    asked: &str,
+) -> Result<Option<(usize, Option<Deaf>)>, AllocError> {
+    for at_most in 1..10 {
+        let mut reader = Drip {
+            bytes: text.as_bytes(),
+            at_most,
+            reads_left: 1_000,
+        };
+        let (shown, deaf) = orders_of(alloc, alloc, &mut reader)?;
+        if deaf.is_some() || shown.as_slice() != asked.as_bytes() {
+            return Ok(Some((at_most, deaf)));
+        }
+    }
+    Ok(None)
+}
+
 #[test]
 fn a_text_asks_line_by_line(rt: HostRuntime) -> Result<(), Fail> {
     for (text, asked) in TEXTS {
-        for at_most in 1..10 {
-            let mut reader = Drip {
-                bytes: text.as_bytes(),
-                at_most,
-                reads_left: 1_000,
-            };
-            let (shown, deaf) = orders_of(rt.alloc(), &mut reader)?;
-            assert!(rt; deaf.is_none(), "{text:?} {at_most}");
-            assert!(rt; shown.as_slice() == asked.as_bytes(), "{text:?} {at_most}");
-        }
+        assert_eq!(rt; first_astray(rt.alloc(), text, asked)?, None, "{text:?}");
     }
     Ok(())
 }
@@ -151,86 +157,122 @@ const LENGTHS: &[(usize, bool, usize)] = &[
     (50_000, true, 8192),
 ];
 
+/// A line of `mdi` with so many bytes, without its newline.
+fn long_line(alloc: Global, length: usize) -> Result<Vec<u8>, AllocError> {
+    let mut line = Vec::from_slice(alloc, b"mdi ")?;
+    line.resize(length, b'x')?;
+    Ok(line)
+}
+
+/// Such a line, and a hold.
+fn long_text(alloc: Global, length: usize) -> Result<Vec<u8>, AllocError> {
+    let mut text = long_line(alloc, length)?;
+    text.extend_from_slice(b"\nhold\n")?;
+    Ok(text)
+}
+
+/// What those ask where the line isn't too long.
+fn long_order(alloc: Global, length: usize) -> Result<Vec<u8>, AllocError> {
+    // the four bytes of `mdi:` stand for as many of the line
+    let mut asked = Vec::from_slice(alloc, b"mdi:")?;
+    asked.resize(length, b'x')?;
+    asked.extend_from_slice(b"|hold|")?;
+    Ok(asked)
+}
+
+/// Whether such a line and a hold are heard as they should be, and why they aren't heard to their end.
+fn long_line_heard(
+    alloc: Global,
+    (length, is_long, at_most): (usize, bool, usize),
+) -> Result<(bool, Option<Deaf>), AllocError> {
+    let text = long_text(alloc, length)?;
+    let order = long_order(alloc, length)?;
+    let asked = if is_long {
+        b"U1 BadCommand|hold|".as_slice()
+    } else {
+        order.as_slice()
+    };
+    let mut reader = Drip {
+        bytes: text.as_slice(),
+        at_most,
+        reads_left: 1_000_000,
+    };
+    let (shown, deaf) = orders_of(alloc, alloc, &mut reader)?;
+    Ok((shown.as_slice() == asked, deaf))
+}
+
 #[test]
 fn a_line_that_is_too_long_is_one_refusal(rt: HostRuntime) -> Result<(), Fail> {
-    for (length, is_long, at_most) in LENGTHS {
-        let mut text = Vec::from_slice(rt.alloc(), b"mdi ")?;
-        text.resize(*length, b'x')?;
-        let mut asked = Vec::new(rt.alloc());
-        if *is_long {
-            asked.extend_from_slice(b"U1 BadCommand|hold|")?;
-        } else {
-            asked.extend_from_slice(b"mdi:")?;
-            asked.extend_from_slice(&text.as_slice()[4..])?;
-            asked.extend_from_slice(b"|hold|")?;
-        }
-        text.extend_from_slice(b"\nhold\n")?;
-        let mut reader = Drip {
-            bytes: text.as_slice(),
-            at_most: *at_most,
-            reads_left: 1_000_000,
-        };
-        let (shown, deaf) = orders_of(rt.alloc(), &mut reader)?;
-        assert!(rt; deaf.is_none() && shown == asked, "{length} {at_most}");
+    for row in LENGTHS {
+        let found = long_line_heard(rt.alloc(), *row)?;
+        assert_eq!(rt; found, (true, None), "{} {}", row.0, row.2);
     }
     Ok(())
+}
+
+/// A text whose reader fails at a read, and what it asks.
+const FAILING: (&str, &str) = (
+    "hold\nload 3\nM2\nstart\nmdi M3\n",
+    "hold|load:M2\n|start|mdi:M3|",
+);
+
+/// That text, a byte at a read, where so many reads succeed: why it ended before its end, if it did, and whether all that it asks
+/// is heard, or a beginning where it ended before.
+fn heard_behind(alloc: Global, reads_left: usize) -> Result<(Option<Deaf>, bool), AllocError> {
+    let (text, asked) = FAILING;
+    let mut reader = Drip {
+        bytes: text.as_bytes(),
+        at_most: 1,
+        reads_left,
+    };
+    let (shown, deaf) = orders_of(alloc, alloc, &mut reader)?;
+    let is_heard = match deaf {
+        None => shown.as_slice() == asked.as_bytes(),
+        Some(_) => asked.as_bytes().starts_with(shown.as_slice()),
+    };
+    Ok((deaf, is_heard))
 }
 
 #[test]
 fn a_reader_that_fails_ends_the_dialogue(rt: HostRuntime) -> Result<(), Fail> {
-    let text = "hold\nload 3\nM2\nstart\nmdi M3\n";
-    let asked = "hold|load:M2\n|start|mdi:M3|";
-    let mut whole = 0u32;
     for reads_left in 0..40 {
-        let mut reader = Drip {
-            bytes: text.as_bytes(),
-            at_most: 1,
-            reads_left,
-        };
-        let (shown, deaf) = orders_of(rt.alloc(), &mut reader)?;
         // 28 bytes, and the read that finds the end
-        assert!(rt;
-            deaf == (if reads_left < 29 {
-                Some(Deaf::Reader)
-            } else {
-                None
-            }),
-            "{reads_left}"
-        );
-        assert!(rt;
-            asked.as_bytes().starts_with(shown.as_slice()),
-            "{reads_left}"
-        );
-        if deaf.is_none() {
-            assert!(rt; shown.as_slice() == asked.as_bytes());
-            whole = whole.saturating_add(1);
-        }
+        let wanted = if reads_left < 29 {
+            Some(Deaf::Reader)
+        } else {
+            None
+        };
+        let found = heard_behind(rt.alloc(), reads_left)?;
+        assert_eq!(rt; found, (wanted, true), "{reads_left}");
     }
-    assert_eq!(rt; whole, 11);
     Ok(())
+}
+
+/// A program of 20,000 bytes, a hold, and a line of `mdi` with 304 bytes.
+fn greedy_text(alloc: Global) -> Result<Vec<u8>, AllocError> {
+    let mut text = Vec::from_slice(alloc, b"load 20000\n")?;
+    text.resize(20_011, b'x')?;
+    text.extend_from_slice(b"hold\nmdi ")?;
+    text.resize(20_320, b'y')?;
+    Ok(text)
 }
 
 #[test]
 fn a_program_without_memory_is_passed_over(rt: HostRuntime) -> Result<(), Fail> {
-    let mut text = Vec::from_slice(rt.alloc(), b"load 20000\n")?;
-    text.resize(20_011, b'x')?;
-    text.extend_from_slice(b"hold\nmdi ")?;
-    text.resize(20_320, b'y')?;
+    let text = greedy_text(rt.alloc())?;
     let heap = LocalHeap::new(rt.alloc(), 256)?;
-    let mut input = Input::new();
     let mut reader = text.as_slice();
-    let order = next_order(&heap, &mut input, &mut reader);
-    assert!(rt; matches!(order, Ok(Some(Order::Refuse(Fault::OutOfMemory)))));
-    let order = next_order(&heap, &mut input, &mut reader);
-    assert!(rt; matches!(order, Ok(Some(Order::Give(Event::Hold)))));
-    // 304 bytes: too long, so that it takes no memory
-    let order = next_order(&heap, &mut input, &mut reader);
-    assert!(rt; matches!(order, Ok(Some(Order::Refuse(Fault::BadCommand)))));
+    let (shown, deaf) = orders_of(rt.alloc(), &heap, &mut reader)?;
+    // the last line is too long, so that it takes no memory
+    let is_passed_over = shown.as_slice() == b"M1 OutOfMemory|hold|U1 BadCommand|".as_slice();
     // a line of the operator finds none
-    let mut input = Input::new();
-    let mut reader = &text.as_slice()[20_016..20_316];
-    let order = next_order(&heap, &mut input, &mut reader);
-    assert!(rt; matches!(order, Err(Deaf::Memory)));
+    let line = long_line(rt.alloc(), 300)?;
+    let mut reader = line.as_slice();
+    let (short, ended) = orders_of(rt.alloc(), &heap, &mut reader)?;
+    assert_eq!(rt;
+        ((is_passed_over, deaf), (short.len(), ended)),
+        ((true, None), (0, Some(Deaf::Memory)))
+    );
     Ok(())
 }
 
@@ -288,30 +330,46 @@ fn tell_all<W: Write>(alloc: Global, writer: &mut W) -> Result<(), Unsent> {
     tell_refusal(alloc, writer, Fault::Busy)
 }
 
+/// What is told of those answers.
+const ANSWERS: &str = "begun\ndone 7\nticks 12\nrefused K1 Busy\n";
+
+/// Tells them to a writer of which so many calls succeed: how that ends, whether all is written, or a beginning where it ends in an
+/// error, and how many calls are left.
+fn told_behind(
+    alloc: Global,
+    calls_left: usize,
+    takes_none: bool,
+) -> (Result<(), Unsent>, bool, usize) {
+    let mut writer = Slow {
+        taken: Vec::new(alloc),
+        calls_left,
+        takes_none,
+    };
+    let ended = tell_all(alloc, &mut writer);
+    let taken = writer.taken.as_slice();
+    let is_told = match ended {
+        Ok(()) => taken == ANSWERS.as_bytes(),
+        Err(_) => ANSWERS.as_bytes().starts_with(taken),
+    };
+    (ended, is_told, writer.calls_left)
+}
+
 #[test]
 fn an_answer_is_written_and_flushed_or_a_beginning_of_it(rt: HostRuntime) -> Result<(), Fail> {
-    let told = b"begun\ndone 7\nticks 12\nrefused K1 Busy\n".as_slice();
     // each byte is a write, and each of the four lines a flush
-    let calls = told.len().saturating_add(4);
+    let calls = ANSWERS.len().saturating_add(4);
     for calls_left in 0..60usize {
-        for takes_none in [false, true] {
-            let mut writer = Slow {
-                taken: Vec::new(rt.alloc()),
-                calls_left,
-                takes_none,
-            };
-            let ended = tell_all(rt.alloc(), &mut writer);
-            if calls_left < calls {
-                assert!(rt; ended == Err(Unsent::Writer), "{calls_left}");
-                assert!(rt; told.starts_with(writer.taken.as_slice()), "{calls_left}");
-            } else {
-                assert!(rt;
-                    ended == Ok(()) && writer.taken.as_slice() == told,
-                    "{calls_left}"
-                );
-                assert_eq!(rt; writer.calls_left, calls_left.saturating_sub(calls));
-            }
-        }
+        let ended = if calls_left < calls {
+            Err(Unsent::Writer)
+        } else {
+            Ok(())
+        };
+        let found = [
+            told_behind(rt.alloc(), calls_left, false),
+            told_behind(rt.alloc(), calls_left, true),
+        ];
+        let wanted = (ended, true, calls_left.saturating_sub(calls));
+        assert_eq!(rt; found, [wanted; 2], "{calls_left}");
     }
     Ok(())
 }

@@ -109,25 +109,42 @@ const SIZES: &[(usize, usize)] = &[
 fn a_device_has_the_whole_sectors(rt: HostRuntime) -> Result<(), Fail> {
     for (length, sectors) in SIZES {
         let rig = FileRig::over(rt.alloc(), disk_with(rt.alloc(), *length, 0)?, io::sink())?;
-        assert_eq!(rt; rig.size(), *sectors, "{length}");
-        assert_eq!(rt; rig.failures(), 0);
+        assert_eq!(rt; (rig.size(), rig.failures()), (*sectors, 0), "{length}");
     }
     Ok(())
 }
 
+/// Writes the second and the third sector and syncs: which writes succeed, which of three sectors hold what they should, and
+/// whether the sync succeeds.
+fn two_sectors<R: Rig>(rig: &mut R) -> ([bool; 2], [bool; 3], bool) {
+    let written = [fill(rig, 1, 7).is_ok(), fill(rig, 2, 9).is_ok()];
+    let held = [holds(rig, 0, 0), holds(rig, 1, 7), holds(rig, 2, 9)];
+    (written, held, rig.sync().is_ok())
+}
+
+/// Runs of a byte, one behind the other: where each ends, and its byte.
+const RUNS: &[(usize, u8)] = &[(512, 0), (1_024, 7), (1_536, 9), (1_600, 0)];
+
+/// The bytes of those runs.
+fn bytes_of_runs(alloc: Global) -> Result<Vec<u8>, AllocError> {
+    let mut bytes = Vec::new(alloc);
+    for (end, byte) in RUNS {
+        bytes.resize(*end, *byte)?;
+    }
+    Ok(bytes)
+}
+
 #[test]
 fn a_sector_is_512_bytes_at_512_times_its_number(rt: HostRuntime) -> Result<(), Fail> {
+    let wanted = bytes_of_runs(rt.alloc())?;
     let mut rig = FileRig::over(rt.alloc(), disk_with(rt.alloc(), 1_600, 9)?, io::sink())?;
-    assert!(rt; fill(&mut rig, 1, 7).is_ok() && fill(&mut rig, 2, 9).is_ok());
-    assert!(rt; holds(&mut rig, 0, 0) && holds(&mut rig, 1, 7) && holds(&mut rig, 2, 9));
-    assert!(rt; rig.sync().is_ok() && rig.failures() == 0);
+    let found = two_sectors(&mut rig);
+    let failures = rig.failures();
     let (file, _) = rig.into_parts();
-    let mut wanted = Vec::new(rt.alloc());
-    wanted.resize(512, 0)?;
-    wanted.resize(1_024, 7)?;
-    wanted.resize(1_536, 9)?;
-    wanted.resize(1_600, 0)?;
-    assert!(rt; file.bytes == wanted && file.syncs == 1);
+    assert_eq!(rt;
+        (found, failures, file.bytes == wanted, file.syncs),
+        (([true; 2], [true; 3], true), 0, true, 1)
+    );
     Ok(())
 }
 
@@ -141,23 +158,34 @@ fn a_full_disk_fails_and_keeps_what_it_has(rt: HostRuntime) -> Result<(), Fail> 
     Ok(())
 }
 
+/// Writes the last of three sectors and reads it, and does both again, with how many failures are counted behind each; and
+/// the device's size between them.
+fn last_sector_twice<R: Rig>(rig: &mut R) -> ([bool; 2], [(bool, u64); 2], usize) {
+    let whole = [fill(rig, 2, 7).is_ok(), holds(rig, 2, 7)];
+    let written = (fill(rig, 2, 8).is_ok(), rig.failures());
+    let size = rig.size();
+    let held = (holds(rig, 2, 7), rig.failures());
+    (whole, [written, held], size)
+}
+
 #[test]
 fn a_file_that_gets_shorter_fails_and_stays_short(rt: HostRuntime) -> Result<(), Fail> {
     let mut file = disk_with(rt.alloc(), 1_536, 9)?;
     // the first length is that of the device, the second that of its first write
     file.lengths_left = 2;
     let mut rig = FileRig::over(rt.alloc(), file, io::sink())?;
-    assert!(rt; fill(&mut rig, 2, 7).is_ok() && holds(&mut rig, 2, 7));
-    assert!(rt; fill(&mut rig, 2, 8) == Err(Failed) && rig.failures() == 1);
-    assert!(rt; rig.size() == 3 && !holds(&mut rig, 2, 7) && rig.failures() == 2);
-    assert!(rt; fill(&mut rig, 1, 8).is_ok() && holds(&mut rig, 1, 8));
+    let found = last_sector_twice(&mut rig);
+    let before = [fill(&mut rig, 1, 8).is_ok(), holds(&mut rig, 1, 8)];
     let (file, _) = rig.into_parts();
-    assert_eq!(rt; file.bytes.len(), 1_024);
+    assert_eq!(rt;
+        (found, before, file.bytes.len()),
+        (([true; 2], [(false, 1), (false, 2)], 3), [true; 2], 1_024)
+    );
     Ok(())
 }
 
-/// Items of each kind, and their lines.
-fn items() -> [(Item, &'static str); 4] {
+/// Items of each kind.
+fn items() -> [Item; 4] {
     let pulse = Pulse {
         x: Step::Forward,
         y: Step::Still,
@@ -173,25 +201,36 @@ fn items() -> [(Item, &'static str); 4] {
         spindle_slot: 64,
     };
     [
-        (Item::Pulse(pulse), "P 1 0 -1 50\n"),
-        (Item::Dwell { us: 10_000_000 }, "D 10000000\n"),
-        (Item::Switch(Outputs::fresh()), "S 0 0.000000 0 0 0 0\n"),
-        (Item::Switch(outputs), "S 2 1200.500000 1 0 3 64\n"),
+        Item::Pulse(pulse),
+        Item::Dwell { us: 10_000_000 },
+        Item::Switch(Outputs::fresh()),
+        Item::Switch(outputs),
     ]
+}
+
+/// A line that is there before, and those of the items behind it.
+const LINES: &str =
+    "D 1\nP 1 0 -1 50\nD 10000000\nS 0 0.000000 0 0 0 0\nS 2 1200.500000 1 0 3 64\n";
+
+/// Hands out an item of each kind.
+fn hand_out_each<R: Rig>(rig: &mut R) -> Result<(), Failed> {
+    for item in &items() {
+        rig.hand_out(*item)?;
+    }
+    Ok(())
 }
 
 #[test]
 fn what_is_handed_out_is_a_line_behind_those_before(rt: HostRuntime) -> Result<(), Fail> {
     let out = Vec::from_slice(rt.alloc(), b"D 1\n")?;
-    let mut wanted = Vec::from_slice(rt.alloc(), b"D 1\n")?;
     let mut rig = FileRig::over(rt.alloc(), disk_with(rt.alloc(), 0, 0)?, out)?;
-    for (item, line) in items() {
-        assert!(rt; rig.hand_out(item).is_ok());
-        wanted.extend_from_slice(line.as_bytes())?;
-    }
-    assert_eq!(rt; rig.failures(), 0);
+    let handed = hand_out_each(&mut rig);
+    let failures = rig.failures();
     let (_, out) = rig.into_parts();
-    assert!(rt; out == wanted);
+    assert_eq!(rt;
+        (handed, failures, out.as_slice() == LINES.as_bytes()),
+        (Ok(()), 0, true)
+    );
     Ok(())
 }
 
@@ -233,28 +272,41 @@ const CALLS: &[(usize, usize, &str)] = &[
     (6, 3, "D 5\nD 5\nD 5\n"),
 ];
 
+/// Hands out three items: how many of them are.
+fn hand_out_three<R: Rig>(rig: &mut R) -> usize {
+    let mut good = 0usize;
+    for _ in 0..3 {
+        if rig.hand_out(Item::Dwell { us: 5 }).is_ok() {
+            good = good.saturating_add(1);
+        }
+    }
+    good
+}
+
+/// Hands out three items over a writer of which so many calls succeed: how many are, how many failures are counted, and what
+/// is written.
+fn three_over_short(alloc: Global, calls_left: usize) -> io::Result<(usize, u64, Vec<u8>)> {
+    let out = Short {
+        taken: Vec::new(alloc),
+        calls_left,
+    };
+    let mut rig = FileRig::over(alloc, disk_with(alloc, 0, 0)?, out)?;
+    let good = hand_out_three(&mut rig);
+    let failures = rig.failures();
+    let (_, out) = rig.into_parts();
+    Ok((good, failures, out.taken))
+}
+
 #[test]
 fn a_hand_out_is_a_write_and_a_flush_and_fails_with_each(rt: HostRuntime) -> Result<(), Fail> {
     for (calls_left, handed, written) in CALLS {
-        let out = Short {
-            taken: Vec::new(rt.alloc()),
-            calls_left: *calls_left,
-        };
-        let mut rig = FileRig::over(rt.alloc(), disk_with(rt.alloc(), 0, 0)?, out)?;
-        let mut good = 0usize;
-        for _ in 0..3 {
-            if rig.hand_out(Item::Dwell { us: 5 }).is_ok() {
-                good = good.saturating_add(1);
-            }
-        }
-        assert_eq!(rt; good, *handed, "{calls_left}");
+        let (good, failures, taken) = three_over_short(rt.alloc(), *calls_left)?;
+        let failing = 3u64.saturating_sub(*handed as u64);
         assert_eq!(rt;
-            rig.failures(),
-            3u64.saturating_sub(good as u64),
+            (good, failures, taken.as_slice() == written.as_bytes()),
+            (*handed, failing, true),
             "{calls_left}"
         );
-        let (_, out) = rig.into_parts();
-        assert!(rt; out.taken.as_slice() == written.as_bytes(), "{calls_left}");
     }
     Ok(())
 }

@@ -99,75 +99,75 @@ fn is_handed_out(items: &[Item], row: &Row) -> bool {
         && items.iter().skip(row.pulses).all(|item| *item == switch)
 }
 
+/// What a console answers to these lines over a device: its status, what it writes, and the device then.
+fn answered<R: Rig>(alloc: Global, lines: &str, rig: R) -> (u8, Vec<u8>, R) {
+    let mut reader = lines.as_bytes();
+    let mut text = Vec::new(alloc);
+    let (status, rig) = console(alloc, &mut reader, &mut text, rig, Settings::standard());
+    (status, text, rig)
+}
+
+/// How a row's lines are answered: the status, whether its text is written, and whether its items are handed out.
+fn row_answered(alloc: Global, row: &Row) -> Result<(u8, bool, bool), AllocError> {
+    let (status, text, rig) = answered(alloc, row.lines, formatted(alloc)?);
+    let items = rig.handed(rig.calls())?;
+    Ok((
+        status,
+        text.as_slice() == row.text.as_bytes(),
+        is_handed_out(items.as_slice(), row),
+    ))
+}
+
 #[test]
 fn answers_an_operator(rt: HostRuntime) -> Result<(), Fail> {
     for row in ROWS {
-        let mut reader = row.lines.as_bytes();
-        let mut text = Vec::new(rt.alloc());
-        let rig = formatted(rt.alloc())?;
-        let (status, rig) = console(
-            rt.alloc(),
-            &mut reader,
-            &mut text,
-            rig,
-            Settings::standard(),
-        );
-        assert_eq!(rt; status, row.status, "{}", row.lines);
-        assert!(rt; text.as_slice() == row.text.as_bytes(), "{}", row.lines);
-        let items = rig.handed(rig.calls())?;
-        assert!(rt; is_handed_out(items.as_slice(), row), "{}", row.lines);
+        let found = row_answered(rt.alloc(), row)?;
+        assert_eq!(rt; found, (row.status, true, true), "{}", row.lines);
     }
     Ok(())
+}
+
+/// Whether a sector can be read and holds what it does after the first session.
+fn is_after_first_session<R: Rig>(rig: &mut R, sector: usize) -> bool {
+    let mut bytes = [0; 512];
+    sector < rig.size()
+        && rig.read(sector, &mut bytes).is_ok()
+        && bytes == sector_after_first_session(sector)
+}
+
+/// The first of a device's sectors that isn't as after the first session.
+fn first_other_sector<R: Rig>(rig: &mut R) -> Option<usize> {
+    for sector in 0..1_710 {
+        if !is_after_first_session(rig, sector) {
+            return Some(sector);
+        }
+    }
+    None
 }
 
 /// The sectors of the device, byte by byte, after an operator stored a program and ran it to its end.
 #[test]
 fn a_first_session_leaves_these_bytes(rt: HostRuntime) -> Result<(), Fail> {
-    let mut reader: &[u8] = b"load 13\nG0 X0.002\nM2\nstart\ntick 100\nstatus\n";
-    let mut text = Vec::new(rt.alloc());
-    let rig = formatted(rt.alloc())?;
-    let (status, mut rig) = console(
-        rt.alloc(),
-        &mut reader,
-        &mut text,
-        rig,
-        Settings::standard(),
-    );
-    assert_eq!(rt; (status, rig.size()), (0, 1_710));
-    for sector in 0..1_710 {
-        let mut bytes = [0; 512];
-        assert!(rt; sector < rig.size() && rig.read(sector, &mut bytes).is_ok());
-        assert!(rt; bytes == sector_after_first_session(sector), "{sector}");
-    }
+    let lines = "load 13\nG0 X0.002\nM2\nstart\ntick 100\nstatus\n";
+    let (status, _, mut rig) = answered(rt.alloc(), lines, formatted(rt.alloc())?);
+    let other = first_other_sector(&mut rig);
+    assert_eq!(rt; (status, rig.size(), other), (0, 1_710, None));
     Ok(())
 }
 
 /// A device that isn't formatted, and one that fails: power on is refused, and that is told.
 #[test]
 fn power_on_is_refused(rt: HostRuntime) -> Result<(), Fail> {
-    let mut reader: &[u8] = b"status\n";
-    let mut text = Vec::new(rt.alloc());
     let bare = MemoryRig::new(rt.alloc(), 1_710)?;
-    let (status, _) = console(
-        rt.alloc(),
-        &mut reader,
-        &mut text,
-        bare,
-        Settings::standard(),
+    let (status, text, _) = answered(rt.alloc(), "status\n", bare);
+    let is_told = text.as_slice() == b"refused J2 NotFormatted\n".as_slice();
+    let failing = FailRig::new(formatted(rt.alloc())?, 0);
+    let (failed, text, rig) = answered(rt.alloc(), "status\n", failing);
+    let is_failure_told = text.as_slice() == b"refused J1 DeviceFailed\n".as_slice();
+    assert_eq!(rt;
+        ((status, is_told), (failed, is_failure_told, rig.failures())),
+        ((2, true), (2, true, 1))
     );
-    assert_eq!(rt; status, 2);
-    assert!(rt; text.as_slice() == b"refused J2 NotFormatted\n".as_slice());
-    let mut failed = Vec::new(rt.alloc());
-    let rig = FailRig::new(formatted(rt.alloc())?, 0);
-    let (status, rig) = console(
-        rt.alloc(),
-        &mut reader,
-        &mut failed,
-        rig,
-        Settings::standard(),
-    );
-    assert_eq!(rt; (status, rig.failures()), (2, 1));
-    assert!(rt; failed.as_slice() == b"refused J1 DeviceFailed\n".as_slice());
     Ok(())
 }
 
@@ -197,29 +197,29 @@ fn place_of(text: &[u8]) -> usize {
     FAILING.len()
 }
 
+/// That move over a device that fails behind so many calls: the place of what is written, the status, and the failures.
+fn moved_over_failing(alloc: Global, calls: u64) -> Result<(usize, u8, u64), AllocError> {
+    let rig = FailRig::new(formatted(alloc)?, calls);
+    let (status, text, rig) = answered(alloc, MOVE, rig);
+    Ok((place_of(text.as_slice()), status, rig.failures()))
+}
+
 /// Each call of the device fails in turn: the answers are those above, in that order, and the status is 0 where none failed.
 #[test]
 fn goes_on_over_a_device_that_failed(rt: HostRuntime) -> Result<(), Fail> {
+    let whole = FAILING.len().saturating_sub(1);
     let mut last = 0;
     for calls in 0..400 {
-        let mut reader = MOVE.as_bytes();
-        let mut text = Vec::new(rt.alloc());
-        let rig = FailRig::new(formatted(rt.alloc())?, calls);
-        let (status, rig) = console(
-            rt.alloc(),
-            &mut reader,
-            &mut text,
-            rig,
-            Settings::standard(),
+        let (place, status, failures) = moved_over_failing(rt.alloc(), calls)?;
+        let in_order = place.max(last).min(whole);
+        assert_eq!(rt;
+            (place, status == 0, failures == 0),
+            (in_order, place == whole, place == whole),
+            "{calls}"
         );
-        let place = place_of(text.as_slice());
-        assert!(rt; last <= place && place < FAILING.len(), "{calls}");
         last = place;
-        let is_whole = last.saturating_add(1) == FAILING.len();
-        assert_eq!(rt; status == 0, is_whole, "{calls}");
-        assert_eq!(rt; rig.failures() == 0, is_whole, "{calls}");
     }
-    assert_eq!(rt; last.saturating_add(1), FAILING.len());
+    assert_eq!(rt; last, whole);
     Ok(())
 }
 
@@ -273,64 +273,79 @@ impl Write for Full {
     }
 }
 
+/// Lines for a reader that fails, the last without its newline.
+const DRIPPING: &str = "status\nmdi G0 X0.001\ntick 9\nquit";
+
+/// What is written of them where so many reads succeed.
+fn text_behind(reads: usize) -> &'static str {
+    if reads < 7 {
+        ""
+    } else if reads < 21 {
+        "status entries 0 place 0 at 0.000000 0.000000 0.000000 known half none idle\n"
+    } else if reads < 28 {
+        "status entries 0 place 0 at 0.000000 0.000000 0.000000 known half none idle\nbegun\n"
+    } else {
+        "status entries 0 place 0 at 0.000000 0.000000 0.000000 known half none idle\nbegun\ndone 1\nidle\nticks 4\n"
+    }
+}
+
+/// A console whose reader fails behind so many reads: its status, and whether what was asked before is answered.
+fn dripped(alloc: Global, reads: usize) -> Result<(u8, bool), AllocError> {
+    let mut reader = Drip {
+        bytes: DRIPPING.as_bytes(),
+        reads_left: reads,
+    };
+    let mut text = Vec::new(alloc);
+    let rig = formatted(alloc)?;
+    let (status, _) = console(alloc, &mut reader, &mut text, rig, Settings::standard());
+    Ok((status, text.as_slice() == text_behind(reads).as_bytes()))
+}
+
 /// The reader fails in mid-stream: what was asked before is answered whole, and the status is 2.
 #[test]
 fn ends_where_the_reader_fails(rt: HostRuntime) -> Result<(), Fail> {
     for reads in 0..60 {
-        let mut reader = Drip {
-            bytes: b"status\nmdi G0 X0.001\ntick 9\nquit",
-            reads_left: reads,
-        };
-        let wanted: &str = if reads < 7 {
-            ""
-        } else if reads < 21 {
-            "status entries 0 place 0 at 0.000000 0.000000 0.000000 known half none idle\n"
-        } else if reads < 28 {
-            "status entries 0 place 0 at 0.000000 0.000000 0.000000 known half none idle\nbegun\n"
-        } else {
-            "status entries 0 place 0 at 0.000000 0.000000 0.000000 known half none idle\nbegun\ndone 1\nidle\nticks 4\n"
-        };
-        let mut text = Vec::new(rt.alloc());
-        let rig = formatted(rt.alloc())?;
-        let (status, _) = console(
-            rt.alloc(),
-            &mut reader,
-            &mut text,
-            rig,
-            Settings::standard(),
-        );
-        assert!(rt; text.as_slice() == wanted.as_bytes(), "{reads}");
+        let (status, is_told) = dripped(rt.alloc(), reads)?;
         // the end behind the last line, which lacks its newline, is read too
-        assert_eq!(rt; status == 2, reads < 33, "{reads}");
+        assert_eq!(rt; (status == 2, is_told), (reads < 33, true), "{reads}");
     }
     Ok(())
+}
+
+/// What is written of a move by hand, where there is room.
+const MOVED: &str = "begun\ndone 1\nidle\nticks 5\n";
+
+/// That move over a writer with so much room: the status, whether a beginning is written, its length, and the items handed out.
+fn moved_in_room(alloc: Global, room: usize) -> Result<(u8, bool, usize, usize), AllocError> {
+    let mut reader: &[u8] = b"mdi G0 X0.002\ntick 9\nquit\n";
+    let mut writer = Full {
+        taken: Vec::new(alloc),
+        room,
+        takes_none: room % 2 == 0,
+    };
+    let rig = formatted(alloc)?;
+    let (status, rig) = console(alloc, &mut reader, &mut writer, rig, Settings::standard());
+    let text = writer.taken.as_slice();
+    let items = rig.handed(rig.calls())?;
+    Ok((
+        status,
+        MOVED.as_bytes().starts_with(text),
+        text.len(),
+        items.len(),
+    ))
 }
 
 /// The writer fails in mid-stream: a beginning is written, nothing more is asked of the device, and the status is 2.
 #[test]
 fn ends_where_the_writer_fails(rt: HostRuntime) -> Result<(), Fail> {
-    let wanted = "begun\ndone 1\nidle\nticks 5\n";
     for room in 0..30 {
-        let mut reader: &[u8] = b"mdi G0 X0.002\ntick 9\nquit\n";
-        let mut writer = Full {
-            taken: Vec::new(rt.alloc()),
-            room,
-            takes_none: room % 2 == 0,
-        };
-        let rig = formatted(rt.alloc())?;
-        let (status, rig) = console(
-            rt.alloc(),
-            &mut reader,
-            &mut writer,
-            rig,
-            Settings::standard(),
+        let (status, is_beginning, length, items) = moved_in_room(rt.alloc(), room)?;
+        let handed = if room < 6 { 0 } else { 2 };
+        assert_eq!(rt;
+            (status == 2, is_beginning, length, items),
+            (room < MOVED.len(), true, room.min(MOVED.len()), handed),
+            "{room}"
         );
-        let text = writer.taken.as_slice();
-        assert!(rt; wanted.as_bytes().starts_with(text), "{room}");
-        assert_eq!(rt; text.len(), room.min(wanted.len()), "{room}");
-        assert_eq!(rt; status == 2, room < wanted.len(), "{room}");
-        let items = rig.handed(rig.calls())?;
-        assert_eq!(rt; items.len(), if room < 6 { 0 } else { 2 }, "{room}");
     }
     Ok(())
 }
@@ -351,21 +366,36 @@ const HEAPS: &[(usize, &str, u8)] = &[
     ),
 ];
 
+/// What these lines are answered with a heap of so many bytes: the status, and whether this text is written.
+fn answered_from_heap(
+    alloc: Global,
+    bytes: usize,
+    lines: &[u8],
+    wanted: &str,
+) -> Result<(u8, bool), AllocError> {
+    let heap = LocalHeap::new(alloc, bytes)?;
+    let mut reader = lines;
+    let mut text = Vec::new(alloc);
+    let rig = formatted(alloc)?;
+    let (status, _) = console(&heap, &mut reader, &mut text, rig, Settings::standard());
+    Ok((status, text.as_slice() == wanted.as_bytes()))
+}
+
+/// A program of 100,000 empty lines, and the status behind it.
+fn long_program(alloc: Global) -> Result<Vec<u8>, AllocError> {
+    let mut lines = Vec::from_slice(alloc, b"load 100000\n")?;
+    lines.resize(100_012, b'\n')?;
+    lines.extend_from_slice(b"status\n")?;
+    Ok(lines)
+}
+
 /// A program that finds no memory is refused, and its bytes are passed over.
 #[test]
 fn a_program_finds_no_memory(rt: HostRuntime) -> Result<(), Fail> {
-    let mut lines = Vec::new(rt.alloc());
-    lines.extend_from_slice(b"load 100000\n")?;
-    lines.resize(100_012, b'\n')?;
-    lines.extend_from_slice(b"status\n")?;
+    let lines = long_program(rt.alloc())?;
     for (bytes, wanted, status) in HEAPS {
-        let heap = LocalHeap::new(rt.alloc(), *bytes)?;
-        let mut reader = lines.as_slice();
-        let mut text = Vec::new(rt.alloc());
-        let rig = formatted(rt.alloc())?;
-        let (ended, _) = console(&heap, &mut reader, &mut text, rig, Settings::standard());
-        assert!(rt; text.as_slice() == wanted.as_bytes(), "{bytes}");
-        assert_eq!(rt; ended, *status, "{bytes}");
+        let found = answered_from_heap(rt.alloc(), *bytes, lines.as_slice(), wanted)?;
+        assert_eq!(rt; found, (*status, true), "{bytes}");
     }
     Ok(())
 }

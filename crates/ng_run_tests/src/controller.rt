@@ -9,7 +9,7 @@ use std::alloc::{AllocError, Allocator};
 use std::test::Fail;
 
 /// An event, as a table tells it.
-#[derive(Clone, Copy, Debug, PartialEq, Eq)]
+#[derive(Clone, Copy)]
 enum Order {
     Load(&'static str),
     Start,
@@ -37,7 +37,7 @@ enum Told {
 }
 
 /// An item: a pulse of X, forward or backward, with its period; a wait; all outputs off.
-#[derive(Clone, Copy, Debug, PartialEq, Eq)]
+#[derive(Clone, Copy)]
 enum Given {
     Forward(u64),
     Backward(u64),
@@ -48,6 +48,9 @@ enum Given {
 /// What the status shows: entries, place, X in nanometres (Y and Z stay 0), whether the machine is known to stand there, a half-done
 /// block, and what the controller is about.
 type Shown = (u64, u64, i64, bool, Option<HalfShown>, Condition);
+
+/// Which of some events is the first with another reply than the wanted one, and that reply; none where each reply is as wanted.
+type Astray = Option<(usize, Option<Told>)>;
 
 /// Events with the replies to them, the status behind the last, and all items that were handed out.
 struct Job {
@@ -322,6 +325,15 @@ fn item_of(given: Given) -> Item {
     })
 }
 
+/// Whether these items were handed out to a device, and no others.
+fn has_given<A: Allocator + Copy + Drop>(
+    rig: &MemoryRig<A>,
+    given: &[Given],
+) -> Result<bool, AllocError> {
+    let handed = rig.handed(usize::MAX)?;
+    Ok(is_given(handed.as_slice(), given))
+}
+
 fn is_given(handed: &[Item], given: &[Given]) -> bool {
     handed.len() == given.len()
         && handed
@@ -354,11 +366,16 @@ fn shown<R: Rig, A: Allocator + Copy + Drop>(controller: &mut Controller<R, A>) 
     }
 }
 
-/// A controller over a new device, powered on.
-fn fresh<A: Allocator + Copy + Drop>(alloc: A) -> Result<Controller<MemoryRig<A>, A>, Fault> {
+/// A new device, formatted.
+fn formatted<A: Allocator + Copy + Drop>(alloc: A) -> Result<MemoryRig<A>, Fault> {
     let mut rig = MemoryRig::new(alloc, 1_710)?;
     format(&mut rig)?;
-    started(alloc, rig)
+    Ok(rig)
+}
+
+/// A controller over a new device, powered on.
+fn fresh<A: Allocator + Copy + Drop>(alloc: A) -> Result<Controller<MemoryRig<A>, A>, Fault> {
+    started(alloc, formatted(alloc)?)
 }
 
 /// A controller over this device, powered on.
@@ -377,7 +394,7 @@ fn first_astray<R: Rig, A: Allocator + Copy + Drop>(
     alloc: A,
     controller: &mut Controller<R, A>,
     orders: &[(Order, Told)],
-) -> Result<Option<(usize, Option<Told>)>, AllocError> {
+) -> Result<Astray, AllocError> {
     for (n, (order, wanted)) in orders.iter().enumerate() {
         let told = told_of(controller.on(event_of(alloc, *order)?));
         if told != Some(*wanted) {
@@ -385,6 +402,18 @@ fn first_astray<R: Rig, A: Allocator + Copy + Drop>(
         }
     }
     Ok(None)
+}
+
+/// Gives the events one by one: the first with another reply, what the status shows behind the last, and the device then.
+fn behind<R: Rig, A: Allocator + Copy + Drop>(
+    alloc: A,
+    controller: Controller<R, A>,
+    orders: &[(Order, Told)],
+) -> (Result<Astray, AllocError>, Option<Shown>, R) {
+    let mut controller = controller;
+    let astray = first_astray(alloc, &mut controller, orders);
+    let shown = shown(&mut controller);
+    (astray, shown, controller.into_rig())
 }
 
 /// The events as a list.
@@ -411,12 +440,23 @@ fn are_told(replies: &[Reply], orders: &[(Order, Told)]) -> bool {
 fn played<A: Allocator + Copy + Drop>(
     alloc: A,
     job: &Job,
-) -> Result<(Option<(usize, Option<Told>)>, Option<Shown>, bool), Fault> {
-    let mut controller = fresh(alloc)?;
-    let astray = first_astray(alloc, &mut controller, job.orders);
+) -> Result<(Astray, Option<Shown>, bool), Fault> {
+    let (astray, shown, rig) = behind(alloc, fresh(alloc)?, job.orders);
+    Ok((astray?, shown, has_given(&rig, job.given)?))
+}
+
+/// Gives the events as one list: whether the replies are told, what the status shows then, and the device.
+fn behind_list<A: Allocator + Copy + Drop>(
+    controller: Controller<MemoryRig<A>, A>,
+    events: &[Event<A>],
+    orders: &[(Order, Told)],
+) -> (Result<bool, Fault>, Option<Shown>, MemoryRig<A>) {
+    let mut controller = controller;
+    let are_told = controller
+        .run(events)
+        .map(|replies| are_told(replies.as_slice(), orders));
     let shown = shown(&mut controller);
-    let handed = controller.into_rig().handed(usize::MAX)?;
-    Ok((astray?, shown, is_given(handed.as_slice(), job.given)))
+    (are_told, shown, controller.into_rig())
 }
 
 /// A job as one list: whether its replies are told, the status then, and whether its items were handed out.
@@ -425,15 +465,8 @@ fn run_whole<A: Allocator + Copy + Drop>(
     job: &Job,
 ) -> Result<(bool, Option<Shown>, bool), Fault> {
     let events = events_of(alloc, job.orders)?;
-    let mut controller = fresh(alloc)?;
-    let replies = controller.run(events.as_slice());
-    let shown = shown(&mut controller);
-    let handed = controller.into_rig().handed(usize::MAX)?;
-    Ok((
-        are_told(replies?.as_slice(), job.orders),
-        shown,
-        is_given(handed.as_slice(), job.given),
-    ))
+    let (are_told, shown, rig) = behind_list(fresh(alloc)?, events.as_slice(), job.orders);
+    Ok((are_told?, shown, has_given(&rig, job.given)?))
 }
 
 #[test]
@@ -535,14 +568,10 @@ fn power_is_cut_while_a_segment_is_opened(rt: HostRuntime) -> Result<(), Fail> {
 fn failed_once<A: Allocator + Copy + Drop>(
     alloc: A,
     orders: &[(Order, Told)],
-) -> Result<(Option<(usize, Option<Told>)>, Option<Shown>, Option<Shown>), Fault> {
-    let mut rig = MemoryRig::new(alloc, 1_710)?;
-    format(&mut rig)?;
-    let mut controller = started(alloc, FailRig::new(rig, POWER_ON))?;
-    let astray = first_astray(alloc, &mut controller, orders);
-    let broken = shown(&mut controller);
-    let rig = controller.into_rig().into_inner();
-    let anew = shown_after(alloc, &rig, usize::MAX, &[])?;
+) -> Result<(Astray, Option<Shown>, Option<Shown>), Fault> {
+    let controller = started(alloc, FailRig::new(formatted(alloc)?, POWER_ON))?;
+    let (astray, broken, rig) = behind(alloc, controller, orders);
+    let anew = shown_after(alloc, &rig.into_inner(), usize::MAX, &[])?;
     Ok((astray?, broken, anew))
 }
 
@@ -571,32 +600,46 @@ fn a_device_that_fails_once(rt: HostRuntime) -> Result<(), Fail> {
     Ok(())
 }
 
-/// What a controller answers where memory is wanting, over a device that has memory of its own: to these events, and to a list of so
-/// many ticks; what the status shows then.
-fn short_of_memory<A: Allocator + Copy + Drop, B: Allocator + Copy + Drop>(
+/// So many ticks as a list.
+fn ticks_of<A: Allocator + Copy + Drop>(
     alloc: A,
-    device: B,
     ticks: usize,
-) -> Result<
-    (
-        Option<(usize, Option<Told>)>,
-        Result<usize, Fault>,
-        Option<Shown>,
-    ),
-    Fault,
-> {
+) -> Result<Vec<Event<A>, A>, AllocError> {
     let mut events = Vec::with_capacity(alloc, ticks)?;
     for _ in 0..ticks {
         events.push(Event::Tick)?;
     }
-    let mut rig = MemoryRig::new(device, 1_710)?;
-    format(&mut rig)?;
-    let mut controller = started(alloc, rig)?;
+    Ok(events)
+}
+
+/// What a controller answers where memory is wanting: to these events, and to a list; what the status shows then.
+fn answers_short_of_memory<R: Rig + Drop, A: Allocator + Copy + Drop>(
+    alloc: A,
+    controller: Controller<R, A>,
+    events: &[Event<A>],
+) -> (
+    Result<Astray, AllocError>,
+    Result<usize, Fault>,
+    Option<Shown>,
+) {
+    let mut controller = controller;
     let astray = first_astray(alloc, &mut controller, WANTING);
-    let replies = controller.run(events.as_slice());
+    let replies = controller.run(events).map(|replies| replies.len());
     let shown = shown(&mut controller);
     drop(controller.into_rig());
-    Ok((astray?, replies.map(|replies| replies.len()), shown))
+    (astray, replies, shown)
+}
+
+/// The same, over a device that has memory of its own, where the list is of so many ticks.
+fn short_of_memory<A: Allocator + Copy + Drop, B: Allocator + Copy + Drop>(
+    alloc: A,
+    device: B,
+    ticks: usize,
+) -> Result<(Astray, Result<usize, Fault>, Option<Shown>), Fault> {
+    let events = ticks_of(alloc, ticks)?;
+    let controller = started(alloc, formatted(device)?)?;
+    let (astray, replies, shown) = answers_short_of_memory(alloc, controller, events.as_slice());
+    Ok((astray?, replies, shown))
 }
 
 const WANTING: &[(Order, Told)] = &[
