@@ -1,7 +1,6 @@
 //! The jobs `format` and `run` over files.
-use ng_console::ngc;
+use crate::answers::{Answer, answered};
 use ng_test_programs::sector_after_first_session;
-use std::rt::Files;
 use std::test::Fail;
 use std::{env, fs};
 
@@ -11,6 +10,27 @@ struct TestFiles {
     device: String,
     settings: String,
     out: String,
+}
+
+impl TestFiles {
+    /// The words that run the machine over them.
+    fn run_words(&self) -> [&str; 5] {
+        [
+            "ngc",
+            "run",
+            self.device.as_str(),
+            self.settings.as_str(),
+            self.out.as_str(),
+        ]
+    }
+
+    /// Removes all of them.
+    fn remove(&self, rt: &HostRuntime) -> Result<(), Fail> {
+        fs::remove_file(rt, self.device.as_str())?;
+        fs::remove_file(rt, self.settings.as_str())?;
+        fs::remove_file(rt, self.out.as_str())?;
+        Ok(())
+    }
 }
 
 fn files_named(rt: &HostRuntime, name: &str) -> Result<TestFiles, Fail> {
@@ -28,15 +48,53 @@ fn files_named(rt: &HostRuntime, name: &str) -> Result<TestFiles, Fail> {
 const SETTINGS: &str =
     "step_nm = [1000, 1000, 1000]\nlow_nm = [-1000000000, -1000000000, -1000000000]\nhigh_nm = [1000000000, 1000000000, 1000000000]\ntraverse_nm_per_min = 6000000000\nperiod_us = 50\ntools_nm = [50000000]\n";
 
-/// The exit status of these words with this input, and what is written.
-fn answered<R: Files + AllocGlobal>(rt: &R, words: &[&str], input: &[u8]) -> (u8, Vec<u8>)
-where
-    R::File: ng_file::Hold,
-{
-    let mut reader = input;
-    let mut written = Vec::new(rt.alloc());
-    let status = ngc(rt, words, &mut reader, &mut written);
-    (status, written)
+/// Files of a test: the default settings, and a device that is formatted.
+fn formatted(rt: &HostRuntime, name: &str) -> Result<TestFiles, Fail> {
+    let files = files_named(rt, name)?;
+    fs::write(rt, files.settings.as_str(), SETTINGS)?;
+    let answer = answered(rt, &["ngc", "format", files.device.as_str()], "")?;
+    if answer.status != 0 {
+        return Err(Fail::from("the device isn't formatted"));
+    }
+    Ok(files)
+}
+
+/// What is answered to these words while another one holds a device.
+fn answered_while_held(
+    rt: &HostRuntime,
+    device: &str,
+    words: &[&str],
+    input: &str,
+) -> Result<Answer, Fail> {
+    let other = fs::open(rt, device)?;
+    if other.try_lock().is_err() {
+        return Err(Fail::from("the device can't be held"));
+    }
+    let answer = answered(rt, words, input)?;
+    drop(other);
+    Ok(answer)
+}
+
+/// The answers where a device can't be used.
+const DEVICE_FAILED: &str = "refused J1 DeviceFailed\n";
+
+const NOT_FORMATTED: &str = "refused J2 NotFormatted\n";
+
+/// What `format` answers over a file of these bytes, and the bytes that it leaves.
+fn format_over(rt: &HostRuntime, path: &str, bytes: &[u8]) -> Result<(Answer, Vec<u8>), Fail> {
+    fs::write(rt, path, bytes)?;
+    let answer = answered(rt, &["ngc", "format", path], "")?;
+    Ok((answer, fs::read(rt, path)?))
+}
+
+/// What `format` answers over a folder, and over a file in a folder that isn't there.
+fn format_over_folders(rt: &HostRuntime, path: &str) -> Result<(Answer, Answer), Fail> {
+    fs::create_dir(rt, path)?;
+    let folder = answered(rt, &["ngc", "format", path], "")?;
+    fs::remove_dir(rt, path)?;
+    let below = format!(in rt.alloc(); "{path}/mill.dev")?;
+    let file = answered(rt, &["ngc", "format", below.as_str()], "")?;
+    Ok((folder, file))
 }
 
 #[test]
@@ -45,38 +103,31 @@ fn format_makes_a_device_or_says_why_not(rt: HostRuntime) -> Result<(), Fail> {
     let path = files.device.as_str();
     let words = ["ngc", "format", path];
     // there is none: it is made
-    let (status, written) = answered(&rt, &words, b"");
-    assert!(rt; status == 0 && written.is_empty());
-    assert_eq!(rt; fs::metadata(&rt, path)?.len(), 875_520);
-    // another one holds it
-    let other = fs::open(&rt, path)?;
-    assert!(rt; other.try_lock().is_ok());
-    let (status, written) = answered(&rt, &words, b"");
-    assert!(rt; status == 2 && written.as_slice() == "refused J1 DeviceFailed\n".as_bytes());
-    drop(other);
+    let made = answered(&rt, &words, "")?;
+    let length = fs::metadata(&rt, path)?.len();
+    let held = answered_while_held(&rt, path, &words, "")?;
     // too short: it stays as it is
-    fs::write(&rt, path, "no device")?;
-    let (status, written) = answered(&rt, &words, b"");
-    assert!(rt; status == 2 && written.as_slice() == "refused J2 NotFormatted\n".as_bytes());
-    assert!(rt; fs::read(&rt, path)?.as_slice() == "no device".as_bytes());
+    let (short, kept) = format_over(&rt, path, b"no device")?;
     // longer: it keeps its length, and the bytes behind the last whole sector
-    let mut long = Vec::new(rt.alloc());
-    long.resize(876_100, b'x')?;
-    fs::write(&rt, path, long.as_slice())?;
-    let (status, written) = answered(&rt, &words, b"");
-    assert!(rt; status == 0 && written.is_empty());
-    let left = fs::read(&rt, path)?;
-    assert_eq!(rt; left.len(), 876_100);
-    assert!(rt; left.as_slice()[876_032..] == long.as_slice()[876_032..]);
+    let mut bytes = Vec::new(rt.alloc());
+    bytes.resize(876_100, b'x')?;
+    let (long, left) = format_over(&rt, path, bytes.as_slice())?;
     fs::remove_file(&rt, path)?;
-    // a folder, and a file in a folder that isn't there
-    fs::create_dir(&rt, path)?;
-    let (status, written) = answered(&rt, &words, b"");
-    assert!(rt; status == 2 && written.as_slice() == "refused J1 DeviceFailed\n".as_bytes());
-    fs::remove_dir(&rt, path)?;
-    let below = format!(in rt.alloc(); "{path}/mill.dev")?;
-    let (status, written) = answered(&rt, &["ngc", "format", below.as_str()], b"");
-    assert!(rt; status == 2 && written.is_empty());
+    let (folder, below) = format_over_folders(&rt, path)?;
+    assert_eq!(rt;
+        [made.seen(), held.seen(), short.seen(), long.seen()],
+        [(0, ""), (2, DEVICE_FAILED), (2, NOT_FORMATTED), (0, "")]
+    );
+    assert_eq!(rt;
+        [folder.seen(), below.seen()],
+        [(2, DEVICE_FAILED), (2, "")]
+    );
+    let is_kept = kept.as_slice() == b"no device".as_slice();
+    let ends_alike = left.as_slice().ends_with(&bytes.as_slice()[876_032..]);
+    assert_eq!(rt;
+        (length, is_kept, left.len(), ends_alike),
+        (875_520, true, 876_100, true)
+    );
     Ok(())
 }
 
@@ -103,114 +154,90 @@ const SESSIONS: &[(&str, &str, &str)] = &[
 
 #[test]
 fn run_answers_an_operator_and_keeps_what_is_done(rt: HostRuntime) -> Result<(), Fail> {
-    let files = files_named(&rt, "run")?;
-    let (device, settings, out) = (
-        files.device.as_str(),
-        files.settings.as_str(),
-        files.out.as_str(),
-    );
-    fs::write(&rt, settings, SETTINGS)?;
-    let (status, _) = answered(&rt, &["ngc", "format", device], b"");
-    assert_eq!(rt; status, 0);
-    let words = ["ngc", "run", device, settings, out];
+    let files = formatted(&rt, "run")?;
     for (input, answers, handed) in SESSIONS {
-        let (status, written) = answered(&rt, &words, input.as_bytes());
-        assert!(rt;
-            status == 0 && written.as_slice() == answers.as_bytes(),
-            "{input:?}"
-        );
-        assert!(rt;
-            fs::read(&rt, out)?.as_slice() == handed.as_bytes(),
+        let answer = answered(&rt, &files.run_words(), input)?;
+        let out = String::from_utf8(fs::read(&rt, files.out.as_str())?)?;
+        assert_eq!(rt;
+            (answer.seen(), out.as_str()),
+            ((0, *answers), *handed),
             "{input:?}"
         );
     }
-    fs::remove_file(&rt, device)?;
-    fs::remove_file(&rt, settings)?;
-    fs::remove_file(&rt, out)?;
-    Ok(())
+    files.remove(&rt)
+}
+
+/// The first sector that isn't as the first session leaves it, if there is one.
+fn first_other_sector(stored: &[u8]) -> Option<usize> {
+    for (sector, bytes) in stored.chunks_exact(512).enumerate() {
+        if bytes != sector_after_first_session(sector).as_slice() {
+            return Some(sector);
+        }
+    }
+    None
 }
 
 #[test]
 fn run_leaves_the_bytes_of_a_first_session(rt: HostRuntime) -> Result<(), Fail> {
-    let files = files_named(&rt, "bytes")?;
-    let (device, settings, out) = (
-        files.device.as_str(),
-        files.settings.as_str(),
-        files.out.as_str(),
-    );
-    fs::write(&rt, settings, SETTINGS)?;
-    let (status, _) = answered(&rt, &["ngc", "format", device], b"");
-    assert_eq!(rt; status, 0);
-    let input = b"load 13\nG0 X0.002\nM2\nstart\ntick 100\nstatus\n";
-    let (status, _) = answered(&rt, &["ngc", "run", device, settings, out], input);
-    assert_eq!(rt; status, 0);
-    let stored = fs::read(&rt, device)?;
-    assert_eq!(rt; stored.len(), 875_520);
-    for (sector, bytes) in stored.as_slice().chunks_exact(512).enumerate() {
-        assert!(rt;
-            bytes == sector_after_first_session(sector).as_slice(),
-            "{sector}"
-        );
-    }
-    fs::remove_file(&rt, device)?;
-    fs::remove_file(&rt, settings)?;
-    fs::remove_file(&rt, out)?;
-    Ok(())
+    let files = formatted(&rt, "bytes")?;
+    let input = "load 13\nG0 X0.002\nM2\nstart\ntick 100\nstatus\n";
+    let answer = answered(&rt, &files.run_words(), input)?;
+    let stored = fs::read(&rt, files.device.as_str())?;
+    let other = first_other_sector(stored.as_slice());
+    assert_eq!(rt; (answer.status, stored.len(), other), (0, 875_520, None));
+    files.remove(&rt)
 }
 
 /// What is handed out can't be written: the segment that was opened stays open, nothing more moves, and the status is 2.
 #[test]
 fn run_ends_with_2_where_the_disk_is_full(rt: HostRuntime) -> Result<(), Fail> {
-    let files = files_named(&rt, "full")?;
+    let files = formatted(&rt, "full")?;
     let (device, settings) = (files.device.as_str(), files.settings.as_str());
-    fs::write(&rt, settings, SETTINGS)?;
-    let (status, _) = answered(&rt, &["ngc", "format", device], b"");
-    assert_eq!(rt; status, 0);
-    let input = b"mdi G0 X0.001\ntick 5\nstatus\ntick 1\n";
-    let (status, written) = answered(&rt, &["ngc", "run", device, settings, "/dev/full"], input);
-    assert_eq!(rt; status, 2);
+    let words = ["ngc", "run", device, settings, "/dev/full"];
+    let answer = answered(&rt, &words, "mdi G0 X0.001\ntick 5\nstatus\ntick 1\n")?;
     let answers =
         "begun\nrefused J1 DeviceFailed\nticks 2\nstatus entries 0 place 0 at 0.000000 0.000000 0.000000 unknown half mdi 0 broken\nrefused K5 Broken\nticks 1\n";
-    assert!(rt; written.as_slice() == answers.as_bytes());
+    assert_eq!(rt; answer.seen(), (2, answers));
     fs::remove_file(&rt, device)?;
     fs::remove_file(&rt, settings)?;
     Ok(())
 }
 
+/// What `run` answers without settings, with settings that are refused, and without a device.
+fn run_without_files(rt: &HostRuntime, files: &TestFiles) -> Result<[Answer; 3], Fail> {
+    let words = files.run_words();
+    let settings = files.settings.as_str();
+    let unset = answered(rt, &words, "status\n")?;
+    fs::write(rt, settings, "step_nm = 1")?;
+    let refused = answered(rt, &words, "status\n")?;
+    fs::write(rt, settings, SETTINGS)?;
+    let missing = answered(rt, &words, "status\n")?;
+    Ok([unset, refused, missing])
+}
+
 #[test]
 fn run_says_why_it_does_not_run(rt: HostRuntime) -> Result<(), Fail> {
     let files = files_named(&rt, "refused")?;
-    let (device, settings, out) = (
-        files.device.as_str(),
-        files.settings.as_str(),
-        files.out.as_str(),
+    let [unset, refused, missing] = run_without_files(&rt, &files)?;
+    assert_eq!(rt;
+        [unset.seen(), refused.seen(), missing.seen()],
+        [(2, ""), (2, "refused S2 MissingKey\n"), (2, "")]
     );
-    let words = ["ngc", "run", device, settings, out];
-    // no settings, settings that are refused, no device: no file is made
-    let (status, written) = answered(&rt, &words, b"status\n");
-    assert!(rt; status == 2 && written.is_empty());
-    fs::write(&rt, settings, "step_nm = 1")?;
-    let (status, written) = answered(&rt, &words, b"status\n");
-    assert!(rt; status == 2 && written.as_slice() == "refused S2 MissingKey\n".as_bytes());
-    fs::write(&rt, settings, SETTINGS)?;
-    let (status, written) = answered(&rt, &words, b"status\n");
-    assert!(rt; status == 2 && written.is_empty());
-    assert!(rt; fs::metadata(&rt, out).is_err());
+    // no file is made
+    let out = files.out.as_str();
+    let is_made = fs::metadata(&rt, out).is_ok();
     // a device that isn't formatted; the file of what is handed out is there, and empty
+    let device = files.device.as_str();
     let mut zeros = Vec::new(rt.alloc());
     zeros.resize(875_520, 0)?;
     fs::write(&rt, device, zeros.as_slice())?;
-    let (status, written) = answered(&rt, &words, b"status\n");
-    assert!(rt; status == 2 && written.as_slice() == "refused J2 NotFormatted\n".as_bytes());
-    assert_eq!(rt; fs::metadata(&rt, out)?.len(), 0);
-    // another one holds it
-    let other = fs::open(&rt, device)?;
-    assert!(rt; other.try_lock().is_ok());
-    let (status, written) = answered(&rt, &words, b"status\n");
-    assert!(rt; status == 2 && written.as_slice() == "refused J1 DeviceFailed\n".as_bytes());
-    drop(other);
-    fs::remove_file(&rt, device)?;
-    fs::remove_file(&rt, settings)?;
-    fs::remove_file(&rt, out)?;
-    Ok(())
+    let words = files.run_words();
+    let blank = answered(&rt, &words, "status\n")?;
+    let length = fs::metadata(&rt, out)?.len();
+    let held = answered_while_held(&rt, device, &words, "status\n")?;
+    assert_eq!(rt;
+        (is_made, blank.seen(), length, held.seen()),
+        (false, (2, NOT_FORMATTED), 0, (2, DEVICE_FAILED))
+    );
+    files.remove(&rt)
 }

@@ -1,5 +1,6 @@
 //! The program itself, over words and files.
-use ng_console::{Job, ngc, words};
+use crate::answers::{Answer, answered};
+use ng_console::{Job, words};
 use ng_test_programs::{ALL_MOVES, CUTS, CUTS_TEXT, LEFT_MOVES, PROGRAM_END, SLASHES};
 use std::alloc::{AllocError, Global};
 use std::rt::Files;
@@ -8,7 +9,7 @@ use std::{env, fs, io};
 
 /// Words behind `ngc dry` that ask for a dry run: of which program, with which settings file, and whether block delete
 /// is on.
-const JOBS: [(&[&str], &str, Option<&str>, bool); 12] = [
+const JOBS: &[(&[&str], &str, Option<&str>, bool)] = &[
     (&["part.ngc"], "part.ngc", None, false),
     (&["--", "-part.ngc"], "-part.ngc", None, false),
     (&["part.ngc", "--block-delete"], "part.ngc", None, true),
@@ -52,7 +53,7 @@ const DRY_HELP: &str =
 const WRONG: &str = "error: ";
 
 /// Words that are answered with text, and how that begins.
-const ANSWERED: [(&[&str], &str); 23] = [
+const ANSWERED: &[(&[&str], &str)] = &[
     (&["ngc"], HELP),
     (&["ngc", "--help"], HELP),
     (&["ngc", "help"], HELP),
@@ -90,35 +91,40 @@ const ANSWERED: [(&[&str], &str); 23] = [
     (&["ngc", "--settings", "b", "dry", "a.ngc"], WRONG),
 ];
 
+/// Whether these words behind `ngc dry` ask for a job.
+fn ask_for(alloc: Global, given: &[&str], job: &Job<'_>) -> Result<bool, Fail> {
+    let mut all = vec![in alloc; "ngc", "dry"]?;
+    all.extend_from_slice(given)?;
+    Ok(words(alloc, all.as_slice())? == *job)
+}
+
+/// The first of `JOBS` whose words ask for another job or for none, if there is one.
+fn first_other_job(alloc: Global) -> Result<Option<&'static [&'static str]>, Fail> {
+    for (given, program, settings, block_delete) in JOBS {
+        let job = Job::Dry {
+            program,
+            settings: *settings,
+            block_delete: *block_delete,
+        };
+        if !ask_for(alloc, given, &job)? {
+            return Ok(Some(given));
+        }
+    }
+    Ok(None)
+}
+
 #[test]
 fn words_ask_for_a_job_or_are_answered(rt: HostRuntime) -> Result<(), Fail> {
-    for (given, program, settings, block_delete) in JOBS {
-        let mut all = vec![in rt.alloc(); "ngc", "dry"]?;
-        all.extend_from_slice(given)?;
-        let job = words(rt.alloc(), all.as_slice())?;
-        let wanted = Job::Dry {
-            program,
-            settings,
-            block_delete,
-        };
-        assert!(rt; job == wanted, "{given:?}");
-    }
+    assert_eq!(rt; first_other_job(rt.alloc())?, None);
     for (given, beginning) in ANSWERED {
-        let mut text = Vec::new(rt.alloc());
-        assert!(rt;
-            ngc(&rt, given, &mut io::empty(), &mut text) == 2,
-            "{given:?}"
-        );
-        assert!(rt;
-            text.as_slice().starts_with(beginning.as_bytes()),
-            "{given:?}"
-        );
+        let answer = answered(&rt, given, "")?;
+        let text = answer.text.as_str();
         // help says what an exit status means
-        let says = text
-            .as_slice()
-            .ends_with(b"A file that can't be read prints nothing.\n");
-        assert!(rt;
-            says == (beginning == HELP || beginning == DRY_HELP),
+        let is_said = text.ends_with("A file that can't be read prints nothing.\n");
+        let is_help = *beginning == HELP || *beginning == DRY_HELP;
+        assert_eq!(rt;
+            (answer.status, text.starts_with(*beginning), is_said),
+            (2, true, is_help),
             "{given:?}"
         );
     }
@@ -129,9 +135,19 @@ fn words_ask_for_a_job_or_are_answered(rt: HostRuntime) -> Result<(), Fail> {
 const NO_TOOLS: &str =
     "step_nm = [10, 10, 10]\nlow_nm = [-1, -1, -1]\nhigh_nm = [1000000, 1000000, 1000000]\ntraverse_nm_per_min = 1\nperiod_us = 1\ntools_nm = []\n";
 
+/// A row of `FILES`.
+type Row = (
+    Option<&'static str>,
+    Option<&'static str>,
+    bool,
+    u8,
+    &'static str,
+    &'static str,
+);
+
 /// A settings file and a program, where they are there; whether block delete is on; the exit status, and what is
 /// written. The default settings have one tool and a metre on each side.
-const FILES: [(Option<&str>, Option<&str>, bool, u8, &str, &str); 14] = [
+const FILES: &[Row] = &[
     (None, Some(CUTS), false, 0, CUTS_TEXT, ""),
     (
         None,
@@ -225,35 +241,52 @@ fn words_of<'a>(
     Ok(words)
 }
 
+/// Where a program and its settings are put.
+#[derive(Drop)]
+struct Paths {
+    program: String,
+    settings: String,
+}
+
+/// What a dry run of a row's files answers. They are there only meanwhile.
+fn run_row(rt: &HostRuntime, paths: &Paths, row: &Row) -> Result<Answer, Fail> {
+    let (settings, program, block_delete, _, _, _) = *row;
+    let (path, machine) = (paths.program.as_str(), paths.settings.as_str());
+    put_file(rt, path, program)?;
+    put_file(rt, machine, settings)?;
+    let named = if settings.is_some() {
+        Some(machine)
+    } else {
+        None
+    };
+    let words = words_of(rt.alloc(), path, named, block_delete)?;
+    let answer = answered(rt, words.as_slice(), "")?;
+    remove_file(rt, path, program)?;
+    remove_file(rt, machine, settings)?;
+    Ok(answer)
+}
+
 #[test]
 fn runs_files(rt: HostRuntime) -> Result<(), Fail> {
     let folder = env::temp_dir(&rt)?;
     let number = std::process::id(rt.process());
-    let program_name = format!(in rt.alloc(); "{}/ngc_console_{number}.ngc", folder.display())?;
-    let machine_name = format!(in rt.alloc(); "{}/ngc_console_{number}.toml", folder.display())?;
-    let (path, machine) = (program_name.as_str(), machine_name.as_str());
-    for (settings, program, block_delete, status, text, end) in FILES {
-        put_file(&rt, path, program)?;
-        put_file(&rt, machine, settings)?;
-        let named = if settings.is_some() {
-            Some(machine)
-        } else {
-            None
-        };
-        let words = words_of(rt.alloc(), path, named, block_delete)?;
-        let mut written = Vec::new(rt.alloc());
-        assert!(rt;
-            ngc(&rt, words.as_slice(), &mut io::empty(), &mut written) == status,
+    let front = format!(in rt.alloc(); "{}/ngc_console_{number}", folder.display())?;
+    let paths = Paths {
+        program: format!(in rt.alloc(); "{front}.ngc")?,
+        settings: format!(in rt.alloc(); "{front}.toml")?,
+    };
+    for row in FILES {
+        let answer = run_row(&rt, &paths, row)?;
+        let (_, program, _, status, text, end) = row;
+        assert_eq!(rt;
+            (answer.status, answer.text.as_str().strip_prefix(*text)),
+            (*status, Some(*end)),
             "{program:?}"
         );
-        let rest = written.as_slice().strip_prefix(text.as_bytes());
-        assert!(rt; rest == Some(end.as_bytes()), "{program:?}");
-        remove_file(&rt, path, program)?;
-        remove_file(&rt, machine, settings)?;
     }
     // neither file is there
-    let mut written = Vec::new(rt.alloc());
-    let words = ["ngc", "dry", path, "--settings", machine];
-    assert!(rt; ngc(&rt, &words, &mut io::empty(), &mut written) == 2 && written.is_empty());
+    let (path, machine) = (paths.program.as_str(), paths.settings.as_str());
+    let answer = answered(&rt, &["ngc", "dry", path, "--settings", machine], "")?;
+    assert_eq!(rt; answer.seen(), (2, ""));
     Ok(())
 }
