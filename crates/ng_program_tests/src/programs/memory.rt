@@ -106,8 +106,11 @@ fn traverses(alloc: Global) -> Result<String<Global>, Fail> {
 /// The bytes of a heap in which each of these programs runs.
 const HEAP: usize = 131_072;
 
+/// 10,000 pecks, which are 30,000 segments.
+const PECKS: &str = "G83 X0 Z-1000 R0 Q0.1 F100\nM2";
+
 /// 333,334 pecks, which are 1,000,002 segments of one block.
-const PECKS: &str = "G83 X0 Z-1000 R0 Q0.003 F100\nM2";
+const MILLION: &str = "G83 X0 Z-1000 R0 Q0.003 F100\nM2";
 
 /// 9,999,999 holes of 10,000,000 pecks each: nobody walks them to their end.
 const ENDLESS: &str = "G91 G83 X0.0001 Z-1000 R0 Q0.0001 L9999999 F100\nM2";
@@ -121,7 +124,7 @@ fn cycles_run_in_flat_memory_and_begin_at_once(rt: HostRuntime) -> Result<(), Fa
         usize::MAX,
     )?;
     assert!(rt; matches!(ended, Ok(Ended::Done)));
-    let (lines, ended) = lines_in(rt.alloc(), HEAP, PECKS, usize::MAX)?;
+    let (lines, ended) = lines_in(rt.alloc(), HEAP, MILLION, usize::MAX)?;
     assert!(rt; matches!(ended, Ok(Ended::Done)));
     // the feed, the segments, and the six commands of the end
     assert_eq!(rt; lines, 1_000_009);
