@@ -81,7 +81,7 @@ does_end honest life answer old new is does =
 
 -- ---- no block, and the program runs
 
-begins_there : (q : Equipment) (P : List ℕ) (s : Sitting) → s.current ≡ None → is_running s.activity ≡ true → end q P s s.current ≡ begin q P s (line_at P s.stored.place)
+pub begins_there : (q : Equipment) (P : List ℕ) (s : Sitting) → s.current ≡ None → is_running s.activity ≡ true → end q P s s.current ≡ begin q P s (line_at P s.stored.place)
 begins_there q P s none runs = ap (λ (o : Option Underway). end q P s o) none ∙ rw runs refl
 
 pub does_next_line : {R : Type 0} (honest : R → Type 0) (life : R → Life) (answer : Result Reply Fault) (old new : Station R)

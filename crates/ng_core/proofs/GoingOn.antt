@@ -5,12 +5,12 @@ use Rattle.ng_num.specs.declared.fault.Fault.{Fault}
 use Rattle.ng_num.specs.declared.fault.Fault.TheVariants.{DeviceFailed, CountersUsed, OutOfMemory}
 use Rattle.ng_rig.specs.Life.{Life}
 use Rattle.ng_rig.specs.Calls.{Promises}
-use Rattle.ng_session.specs.Session.{step}
 use Rattle.ng_session.specs.declared.event.Event.{Event}
 use Rattle.ng_session.specs.declared.reply.Reply.{Reply}
 use Rattle.ng_core.specs.Station.{Station, Rests}
 use Rattle.ng_core.specs.Acts.{Serves, reply_to, broken_answer}
-use Rattle.ng_core.specs.Runs.{History, Step, Serving, Turns, program_behind, outcome_of}
+use Rattle.ng_core.specs.Causes.{outcome_of}
+use Rattle.ng_core.specs.Runs.{History, Step, Serving, Turns, program_behind}
 
 -- So many of these events were answered: whatever comes of the rest makes a history of all.
 pub record GoesOn {A R : Type 0} (life : R → Life) (events rest : List (Event A)) (done : List Reply) (program : List ℕ) (old now : Station R) : Type 0 where
@@ -48,12 +48,12 @@ rests_behind {A} {R} life event (Err fault) here now next s rests whole =
     let short : Goal OutOfMemory = λ z. z.acts.leaves.0 in
     let used : Goal CountersUsed = λ z. z.acts.leaves.0 in
     let lost : Goal DeviceFailed = λ z. absurd (let b : true ≡ false = sym z.broken ∙ whole in cc) in
-    let goal : Goal fault = ⊎_elim (λ e. subst Goal (sym e) short) (λ o. ⊎_elim (λ e. subst Goal (sym e) used) (λ e. subst Goal (sym e) lost) o) s.outside in
+    let goal : Goal fault = ⊎_elim (λ e. subst Goal (sym e.0) short) (λ o. ⊎_elim (λ e. subst Goal (sym e.0) used) (λ e. subst Goal (sym e.0) lost) o) s.hindered in
     goal s
 
 -- an event of a whole controller
 goes_whole : {A R : Type 0} (honest : R → Type 0) (life : R → Life) (failed : R → ℕ) (events : List (Event A)) (event : Event A) (rest : List (Event A)) (done : List Reply) (r : Reply) (old now next : Station R)
-    → now.journal.broken ≡ false → Serves honest life failed r (λ program. step now.equipment program now.session event) now next → next.equipment ≡ now.equipment
+    → now.journal.broken ≡ false → Serves honest life failed event r now next → next.equipment ≡ now.equipment
     → Promises (honest old.journal.rig) (honest now.journal.rig) (GoesFrom life events (event ∷ rest) done old now)
     → Promises (honest old.journal.rig) (honest next.journal.rig) (GoesFrom life events rest (done ++ r ∷ []) old next)
 goes_whole honest life failed events event rest done r old now next whole s equipment p = record {
@@ -61,7 +61,7 @@ goes_whole honest life failed events event rest done r old now next whole s equi
   back = λ h. p.back (s.does.back h);
   holds = λ h program rests.
       let g = p.holds h program rests in
-      let serving : Serving life s.answer event g.here now next = record { acts = s.does.holds (p.keeps h) g.here (g.rests whole); outside = s.outside; broken = s.broken; equipment = equipment } in
+      let serving : Serving life s.answer event g.here now next = record { acts = s.does.holds (p.keeps h) g.here (g.rests whole); hindered = s.hindered; broken = s.broken; equipment = equipment } in
       goes_more life events event rest done r s.answer program old now next g
       (record { told_is = s.told_is; turns = subst (λ (b : Bool). Turns life b s.answer event g.here now next) (sym whole) serving })
       (rests_behind life event s.answer g.here now next serving (g.rests whole));
@@ -84,7 +84,7 @@ goes_broken {A} {R} honest life events event rest done r old now next broken sam
 
 pub goes_next : {A R : Type 0} (honest : R → Type 0) (life : R → Life) (failed : R → ℕ) (events : List (Event A)) (event : Event A) (rest : List (Event A)) (done : List Reply) (r : Reply) (b : Bool) (old now next : Station R)
     → now.journal.broken ≡ b
-    → (now.journal.broken ≡ false → Serves honest life failed r (λ program. step now.equipment program now.session event) now next) → next.equipment ≡ now.equipment
+    → (now.journal.broken ≡ false → Serves honest life failed event r now next) → next.equipment ≡ now.equipment
     → (now.journal.broken ≡ true → (next ≡ now) × (r ≡ reply_to (broken_answer now.session event)))
     → Promises (honest old.journal.rig) (honest now.journal.rig) (GoesFrom life events (event ∷ rest) done old now)
     → Promises (honest old.journal.rig) (honest next.journal.rig) (GoesFrom life events rest (done ++ r ∷ []) old next)

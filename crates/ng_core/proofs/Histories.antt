@@ -18,7 +18,8 @@ use Rattle.ng_session.specs.declared.reply.Reply.{Reply}
 use Rattle.ng_session.specs.declared.reply.Reply.TheVariants as reply
 use Rattle.ng_core.specs.Station.{Station, Rests}
 use Rattle.ng_core.specs.Acts.{IsEitherLeft, reply_to, scene_of}
-use Rattle.ng_core.specs.Runs.{History, Step, Serving, Turns, IsLeftBehind, IsLeftFrom, Passes, came, came_by, told, told_by, tried, tried_by, program_behind, outcome_of}
+use Rattle.ng_core.specs.Runs.{History, Step, Serving, Turns, IsLeftBehind, IsLeftFrom, Passes, came, came_by, told, told_by, tried, tried_by, program_behind}
+use Rattle.ng_core.specs.Causes.{outcome_of}
 
 -- ---- stops
 
@@ -203,7 +204,7 @@ passed {A} {R} life event events r replies (Err fault) program old between new t
     let short : Goal OutOfMemory = λ t z. passed_aside life event events r replies OutOfMemory old.equipment (scene_of program old) (life old.journal.rig) new (λ l. refl) (λ l. refl) (λ l. refl) t (unmoved z.broken z.acts.comes z.acts.leaves.1 z.acts.leaves.0) in
     let used : Goal CountersUsed = λ t z. passed_aside life event events r replies CountersUsed old.equipment (scene_of program old) (life old.journal.rig) new (λ l. refl) (λ l. refl) (λ l. refl) t (unmoved z.broken z.acts.comes z.acts.leaves.1 z.acts.leaves.0) in
     let lost : Goal DeviceFailed = λ t z. passed_lost life event events r replies program old between new t z rests (idles life events replies program between new h z.broken) in
-    let goal : Goal fault = ⊎_elim (λ e. subst Goal (sym e) short) (λ o. ⊎_elim (λ e. subst Goal (sym e) used) (λ e. subst Goal (sym e) lost) o) s.outside in
+    let goal : Goal fault = ⊎_elim (λ e. subst Goal (sym e.0) short) (λ o. ⊎_elim (λ e. subst Goal (sym e.0) used) (λ e. subst Goal (sym e.0) lost) o) s.hindered in
     goal told_is s
 
 -- Each history passes as the session does.

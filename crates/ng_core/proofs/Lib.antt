@@ -8,5 +8,6 @@ pub mod Storing
 pub mod Ticks
 pub mod Beginning
 pub mod Choosing
+pub mod Hindering
 pub mod Answering
 pub mod Powering

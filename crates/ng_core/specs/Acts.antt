@@ -1,7 +1,7 @@
 -- What an event does to a controller and to its device (own).
 use Rattle.std.specs.Prelude.{◌≡◌, ◌⊎◌, ℕ, List, ◌++◌, Result, Ok, Err, IfErr}
 use Rattle.ng_num.specs.declared.fault.Fault.{Fault}
-use Rattle.ng_num.specs.declared.fault.Fault.TheVariants.{DeviceFailed, CountersUsed, OutOfMemory, Broken}
+use Rattle.ng_num.specs.declared.fault.Fault.TheVariants.{DeviceFailed, Broken}
 use Rattle.ng_canon.specs.declared.item.Item.{Item}
 use Rattle.ng_rig.specs.Life.{Image, Life, items}
 use Rattle.ng_rig.specs.Calls.{Promises}
@@ -15,16 +15,13 @@ use Rattle.ng_session.specs.declared.reply.Reply.{Reply}
 use Rattle.ng_session.specs.declared.reply.Reply.TheVariants as reply
 use Rattle.ng_session.specs.declared.reply.Status.{Status}
 use Rattle.ng_session.specs.declared.reply.Condition.TheVariants as condition
+use Rattle.ng_core.specs.Causes.{Hinders, outcome_of}
 use Rattle.ng_core.specs.Station.{Station, Rests}
 
 -- the reply to an event that the session answered, or why it didn't
 abbrev pub reply_to : Result Reply Fault → Reply
 reply_to (Ok r) = r
 reply_to (Err fault) = reply.Refused fault
-
--- the faults that aren't the session's: memory is wanting, a count is used up, the device failed
-abbrev pub IsOutside : Fault → Type 0
-IsOutside fault = (fault ≡ OutOfMemory) ⊎ ((fault ≡ CountersUsed) ⊎ (fault ≡ DeviceFailed))
 
 -- What is told, and the session then, of an event that leads to this. Where memory or a count is wanting, the session stays; where
 -- the device failed, what the status shows stays.
@@ -60,12 +57,12 @@ Does honest life answer out old new =
     Promises (honest old.journal.rig) (honest new.journal.rig) ((program : List ℕ) → Rests (life old.journal.rig) old program
     → Acts answer (out program) program old new (life old.journal.rig) (life new.journal.rig))
 
--- A reply and what became of its event; the device counted a failure exactly where that is why the session didn't answer.
-pub record Serves {R : Type 0} (honest : R → Type 0) (life : R → Life) (failed : R → ℕ) (told : Reply) (out : List ℕ → Outcome) (old new : Station R) : Type 0 where
+-- A reply and what became of its event, or what hindered it; the device counted a failure exactly where that did.
+pub record Serves {A R : Type 0} (honest : R → Type 0) (life : R → Life) (failed : R → ℕ) (event : Event A) (told : Reply) (old new : Station R) : Type 0 where
   pub answer : Result Reply Fault
   pub told_is : told ≡ reply_to answer
-  pub does : Does honest life answer out old new
-  pub outside : IfErr answer IsOutside
+  pub does : Does honest life answer (λ program. outcome_of old program event) old new
+  pub hindered : IfErr answer (Hinders old event)
   pub broken : IsBrokenBy answer new.journal.broken
   pub failures : Tells answer (failed old.journal.rig) (failed new.journal.rig)
 

@@ -7,25 +7,23 @@ use Rattle.ng_rig.specs.Life.{Image, Life, StopSince, items, moment}
 use Rattle.ng_rig.specs.Onward.{Onward}
 use Rattle.ng_journal.specs.Journal.{StandsFor, IsBrokenBy}
 use Rattle.ng_session.specs.Entries.{Equipment}
-use Rattle.ng_session.specs.Session.{Outcome, step}
+use Rattle.ng_session.specs.Session.{Outcome}
 use Rattle.ng_session.specs.Runs.{Scene, left_behind, replies_of, items_of, scene_behind}
 use Rattle.ng_session.specs.declared.event.Event.{Event}
 use Rattle.ng_session.specs.declared.reply.Reply.{Reply}
 use Rattle.ng_core.specs.Station.{Station, Rests}
-use Rattle.ng_core.specs.Acts.{Acts, IsOutside, reply_to, broken_answer, scene_of}
+use Rattle.ng_core.specs.Causes.{Hinders, outcome_of}
+use Rattle.ng_core.specs.Acts.{Acts, reply_to, broken_answer, scene_of}
 
 -- the program that the device has behind an event: that of its outcome, where it was answered
 abbrev pub program_behind : Result Reply Fault → Outcome → List ℕ → List ℕ
 program_behind (Ok r) out program = out.program
 program_behind (Err fault) out program = program
 
-abbrev pub outcome_of : {A R : Type 0} → Station R → List ℕ → Event A → Outcome
-outcome_of c program event = step c.equipment program c.session event
-
--- An event came to its outcome in a whole controller, which is broken then where the device failed.
+-- An event came to its outcome in a whole controller, or was hindered; the controller is broken then where the device failed.
 pub record Serving {A R : Type 0} (life : R → Life) (answer : Result Reply Fault) (event : Event A) (program : List ℕ) (old new : Station R) : Type 0 where
   pub acts : Acts answer (outcome_of old program event) program old new (life old.journal.rig) (life new.journal.rig)
-  pub outside : IfErr answer IsOutside
+  pub hindered : IfErr answer (Hinders old event)
   pub broken : IsBrokenBy answer new.journal.broken
   pub equipment : new.equipment ≡ old.equipment
 

@@ -1,6 +1,7 @@
 //! A controller, and how it answers events.
-ghost use Rattle.std.specs.Prelude.{◌≡◌, ℕ, List, true, false, IfErr};
+ghost use Rattle.std.specs.Prelude.{◌≡◌, ℕ, List, true, false, None, IfErr};
 ghost use Rattle.ng_num.specs.declared.fault.Fault.{Fault};
+ghost use Rattle.ng_num.specs.declared.fault.Fault.TheVariants.{OutOfMemory};
 ghost use Rattle.ng_journal.specs.Journal.{Tells, IsBrokenBy};
 
 use ng_canon::Geometry;
@@ -36,8 +37,9 @@ impl<R: Rig, A: Allocator + Copy + Drop> Model for Controller<R, A> {
 }
 
 impl<R: Rig, A: Allocator + Copy + Drop> Controller<R, A> {
-    ghost use Rattle.ng_session.specs.Session.{step, load, IsQuiet};
-    ghost use Rattle.ng_core.specs.Acts.{Does, Serves, IsOutside, reply_to, broken_answer};
+    ghost use Rattle.ng_session.specs.Session.{step, load, load_refusal, IsQuiet, TakesMemory};
+    ghost use Rattle.ng_core.specs.Acts.{Does, Serves, reply_to, broken_answer};
+    ghost use Rattle.ng_core.specs.Causes.{Hinders, IsHinderedBy};
 
     /// The device as it is, with no call to it.
     pub fn into_rig(self) -> R
@@ -63,21 +65,23 @@ impl<R: Rig, A: Allocator + Copy + Drop> Controller<R, A> {
 
     /// Answers an event (own).
     ///
-    /// Refused by the session: K1, K2, K3, J5, a line's own faults; then M1 where memory is wanting, J4 where the entry count or the epoch
-    /// would be beyond its limit: nothing is changed then. J1 where the device failed: the controller is broken then, and the device
-    /// stands for what stood before the event or for what stands behind it. K5 to all but Status where it is broken already. Only a Load,
-    /// a line of the operator and a Tick that begins a line take memory.
+    /// Refused by the session, which stays as it is: K1, K2, K3, J5, an operator's line by its own faults. A line of the program that
+    /// is refused, and a text that ends before its program does (X3, X4), leave the program stopped there. M1 where memory is wanting,
+    /// which only a Load, a line of the operator and a Tick that begins a line take; J4 where the epoch or the entry count that a Load,
+    /// an opened segment or an entry needs would be beyond its limit: nothing is changed then. J1 where the device failed: the controller
+    /// is broken then, and the device stands for what stood before the event or for what stands behind it. K5 to all but Status where
+    /// it is broken already.
     pub fn on(&mut self, event: Event<A>) -> Reply
-        ensures serves { self.old.journal.broken ≡ false → Serves R.honest R.life R.failed result (λ program. step self.old.equipment program self.old.session event) self.old self.new }
+        ensures serves { self.old.journal.broken ≡ false → Serves R.honest R.life R.failed event result self.old self.new }
         ensures broken { self.old.journal.broken ≡ true → (self.new ≡ self.old) × (result ≡ reply_to (broken_answer self.old.session event)) }
         ensures equipment { self.new.equipment ≡ self.old.equipment }
     {
         self.reply(&event)
     }
 
-    /// The same of an event that is kept.
+    /// Answers an event that stays the caller's as `on` does: the same is refused, and the same is left.
     pub fn reply(&mut self, event: &Event<A>) -> Reply
-        ensures serves { self.old.journal.broken ≡ false → Serves R.honest R.life R.failed result (λ program. step self.old.equipment program self.old.session event.now) self.old self.new }
+        ensures serves { self.old.journal.broken ≡ false → Serves R.honest R.life R.failed event.now result self.old self.new }
         ensures broken { self.old.journal.broken ≡ true → (self.new ≡ self.old) × (result ≡ reply_to (broken_answer self.old.session event.now)) }
         ensures equipment { self.new.equipment ≡ self.old.equipment }
     {
@@ -90,7 +94,7 @@ impl<R: Rig, A: Allocator + Copy + Drop> Controller<R, A> {
     /// What the session answers, or why it doesn't answer: M1, J4, J1 or K5.
     fn handle(&mut self, event: &Event<A>) -> Result<Reply, Fault>
         ensures does { self.old.journal.broken ≡ false → Does R.honest R.life result (λ program. step self.old.equipment program self.old.session event.now) self.old self.new }
-        ensures outside { self.old.journal.broken ≡ false → IfErr result IsOutside }
+        ensures hindered { self.old.journal.broken ≡ false → IfErr result (Hinders self.old event.now) }
         ensures fails { self.old.journal.broken ≡ false → IsBrokenBy result self.new.journal.broken }
         ensures broken { self.old.journal.broken ≡ true → (self.new ≡ self.old) × (result ≡ broken_answer self.old.session event.now) }
         ensures failures { Tells result (R.failed self.old.journal.rig) (R.failed self.new.journal.rig) }
@@ -138,7 +142,7 @@ impl<R: Rig, A: Allocator + Copy + Drop> Controller<R, A> {
         ensures does { Does R.honest R.life result (λ program. load program self.old.session text.now) self.old self.new }
         ensures equipment { self.new.equipment ≡ self.old.equipment }
         ensures broken { IsBrokenBy result self.new.journal.broken }
-        ensures outside { IfErr result IsOutside }
+        ensures hindered { IfErr result (IsHinderedBy (load_refusal self.old.session text.now ≡ None) (load_refusal self.old.session text.now ≡ None) self.old.journal.header.epoch (λ program. (load program self.old.session text.now).reply)) }
         ensures failures { Tells result (R.failed self.old.journal.rig) (R.failed self.new.journal.rig) }
     {
         if let Some(fault) = self.session.load_refusal(text) {
@@ -157,7 +161,7 @@ impl<R: Rig, A: Allocator + Copy + Drop> Controller<R, A> {
         ensures does { Does R.honest R.life result (λ program. step self.old.equipment program self.old.session event.now) self.old self.new }
         ensures equipment { self.new.equipment ≡ self.old.equipment }
         ensures broken { IsBrokenBy result self.new.journal.broken }
-        ensures outside { IfErr result IsOutside }
+        ensures hindered { IfErr result (λ fault. (fault ≡ OutOfMemory) × TakesMemory self.old.session event.now) }
         ensures failures { Tells result (R.failed self.old.journal.rig) (R.failed self.new.journal.rig) }
     {
         Ok(self.session.answer(event, &self.tools, &self.geometry)?)

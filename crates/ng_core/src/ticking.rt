@@ -1,6 +1,6 @@
 //! A Tick: held, or the first of these that applies. An item is handed out, a segment is opened, an entry is committed, a line is begun.
-ghost use Rattle.std.specs.Prelude.{◌≡◌, ◌≤◌, [], ◌∷◌, ℕ, List, false, Ok, IfErr, IsSome};
-ghost use Rattle.ng_num.specs.declared.fault.Fault.TheVariants.{DeviceFailed};
+ghost use Rattle.std.specs.Prelude.{◌≡◌, ◌≤◌, ◌⊎◌, [], ◌∷◌, ℕ, List, true, false, Ok, IfErr, IsSome};
+ghost use Rattle.ng_num.specs.declared.fault.Fault.TheVariants.{DeviceFailed, OutOfMemory};
 ghost use Rattle.ng_rig.specs.Calls.{Promises};
 ghost use Rattle.ng_layout.specs.Storable.{CanWait};
 ghost use Rattle.ng_layout.specs.Stored.{Standing};
@@ -51,9 +51,10 @@ fn lines_behind(known: &LinesBefore, place: u64, first: Kind, text: &[u8], next:
 }
 
 impl<R: Rig, A: Allocator + Copy + Drop> Controller<R, A> {
-    ghost use Rattle.ng_session.specs.Session.{answers, opened, tick, open_next, end, begin, opening_of};
+    ghost use Rattle.ng_session.specs.Session.{answers, opened, tick, open_next, end, begin, opening_of, is_busy, IsBetweenLines};
     ghost use Rattle.ng_layout.specs.Programs.{line_at};
-    ghost use Rattle.ng_core.specs.Acts.{Does, IsOutside};
+    ghost use Rattle.ng_core.specs.Acts.{Does};
+    ghost use Rattle.ng_core.specs.Causes.{IsHinderedBy};
 
     /// Does the next thing that is to do, of those above the first that applies.
     pub(crate) fn tick(&mut self) -> Result<Reply, Fault>
@@ -61,7 +62,7 @@ impl<R: Rig, A: Allocator + Copy + Drop> Controller<R, A> {
         ensures does { Does R.honest R.life result (λ program. tick self.old.equipment program self.old.session) self.old self.new }
         ensures equipment { self.new.equipment ≡ self.old.equipment }
         ensures broken { IsBrokenBy result self.new.journal.broken }
-        ensures outside { IfErr result IsOutside }
+        ensures hindered { IfErr result (IsHinderedBy ((self.old.session.held ≡ false) × IsBetweenLines self.old.session) ((self.old.session.held ≡ false) × (is_busy self.old.session ≡ true)) self.old.journal.header.epoch (λ program. (tick self.old.equipment program self.old.session).reply)) }
         ensures failures { Tells result (R.failed self.old.journal.rig) (R.failed self.new.journal.rig) }
     {
         if self.session.is_held() {
@@ -79,7 +80,7 @@ impl<R: Rig, A: Allocator + Copy + Drop> Controller<R, A> {
         ensures does { Does R.honest R.life result (λ program. open_next self.old.equipment program self.old.session (opening_of self.old.session.current)) self.old self.new }
         ensures equipment { self.new.equipment ≡ self.old.equipment }
         ensures broken { IsBrokenBy result self.new.journal.broken }
-        ensures outside { IfErr result IsOutside }
+        ensures hindered { IfErr result (IsHinderedBy (IsBetweenLines self.old.session) (is_busy self.old.session ≡ true) self.old.journal.header.epoch (λ program. (open_next self.old.equipment program self.old.session (opening_of self.old.session.current)).reply)) }
         ensures failures { Tells result (R.failed self.old.journal.rig) (R.failed self.new.journal.rig) }
     {
         match self.session.opening() {
@@ -94,7 +95,7 @@ impl<R: Rig, A: Allocator + Copy + Drop> Controller<R, A> {
         ensures does { Does R.honest R.life result (λ program. end self.old.equipment program self.old.session self.old.session.current) self.old self.new }
         ensures equipment { self.new.equipment ≡ self.old.equipment }
         ensures broken { IsBrokenBy result self.new.journal.broken }
-        ensures outside { IfErr result IsOutside }
+        ensures hindered { IfErr result (IsHinderedBy (IsBetweenLines self.old.session) (is_busy self.old.session ≡ true) self.old.journal.header.epoch (λ program. (end self.old.equipment program self.old.session self.old.session.current).reply)) }
         ensures failures { Tells result (R.failed self.old.journal.rig) (R.failed self.new.journal.rig) }
     {
         if self.session.after().is_some() {
@@ -112,7 +113,6 @@ impl<R: Rig, A: Allocator + Copy + Drop> Controller<R, A> {
         ensures does { Does R.honest R.life result (λ program. record { reply = Reply.Moved; items = item ∷ []; entries = []; program = program; next = self.old.session }) self.old self.new }
         ensures equipment { self.new.equipment ≡ self.old.equipment }
         ensures broken { IsBrokenBy result self.new.journal.broken }
-        ensures outside { IfErr result IsOutside }
         ensures errors { IfErr result (λ e. e ≡ DeviceFailed) }
         ensures failures { Tells result (R.failed self.old.journal.rig) (R.failed self.new.journal.rig) }
     {
@@ -127,7 +127,7 @@ impl<R: Rig, A: Allocator + Copy + Drop> Controller<R, A> {
         ensures does { Does R.honest R.life result (λ program. answers program (Reply.Opened half.index) (opened self.old.equipment.geometry self.old.session half)) self.old self.new }
         ensures equipment { self.new.equipment ≡ self.old.equipment }
         ensures broken { IsBrokenBy result self.new.journal.broken }
-        ensures outside { IfErr result IsOutside }
+        ensures hindered { IfErr result (IsHinderedBy ⊥ (Unit {0}) self.old.journal.header.epoch (λ program. Reply.Opened half.index)) }
         ensures failures { Tells result (R.failed self.old.journal.rig) (R.failed self.new.journal.rig) }
     {
         self.journal.open_segment(&half)?;
@@ -141,7 +141,7 @@ impl<R: Rig, A: Allocator + Copy + Drop> Controller<R, A> {
         ensures does { Does R.honest R.life result (λ program. end self.old.equipment program self.old.session self.old.session.current) self.old self.new }
         ensures equipment { self.new.equipment ≡ self.old.equipment }
         ensures broken { IsBrokenBy result self.new.journal.broken }
-        ensures outside { IfErr result IsOutside }
+        ensures hindered { IfErr result (IsHinderedBy ⊥ (Unit {0}) self.old.journal.header.epoch (λ program. (end self.old.equipment program self.old.session self.old.session.current).reply)) }
         ensures failures { Tells result (R.failed self.old.journal.rig) (R.failed self.new.journal.rig) }
     {
         let Some(after) = self.session.after() else {
@@ -157,7 +157,7 @@ impl<R: Rig, A: Allocator + Copy + Drop> Controller<R, A> {
         ensures does { Does R.honest R.life result (λ program. begin self.old.equipment program self.old.session (line_at program self.old.session.stored.place)) self.old self.new }
         ensures equipment { self.new.equipment ≡ self.old.equipment }
         ensures broken { IsBrokenBy result self.new.journal.broken }
-        ensures outside { IfErr result IsOutside }
+        ensures hindered { IfErr result (λ fault. (fault ≡ OutOfMemory) ⊎ (fault ≡ DeviceFailed)) }
         ensures failures { Tells result (R.failed self.old.journal.rig) (R.failed self.new.journal.rig) }
     {
         let place = self.session.place();

@@ -1,7 +1,6 @@
 -- What events do to a controller and to its device, one after the other (own).
 use Rattle.std.specs.Prelude.{◌≡◌, ℕ, true, false, List, [], ◌∷◌}
 use Rattle.ng_rig.specs.Life.{Life}
-use Rattle.ng_session.specs.Session.{step}
 use Rattle.ng_session.specs.declared.event.Event.{Event}
 use Rattle.ng_session.specs.declared.reply.Reply.{Reply}
 use Rattle.ng_core.specs.Acts.{Serves, reply_to, broken_answer}
@@ -9,7 +8,7 @@ use Rattle.ng_core.specs.Station.{Station}
 
 -- An event with its reply: a whole controller serves it, a broken one refuses it.
 pub record Turn {A R : Type 0} (honest : R → Type 0) (life : R → Life) (failed : R → ℕ) (event : Event A) (r : Reply) (old new : Station R) : Type 0 where
-  pub serves : old.journal.broken ≡ false → Serves honest life failed r (λ program. step old.equipment program old.session event) old new
+  pub serves : old.journal.broken ≡ false → Serves honest life failed event r old new
   pub refuses : old.journal.broken ≡ true → (new ≡ old) × (r ≡ reply_to (broken_answer old.session event))
   pub equipment : new.equipment ≡ old.equipment
 

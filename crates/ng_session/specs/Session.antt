@@ -1,5 +1,5 @@
 -- What a session answers, hands out, commits and goes on to, for each event (own).
-use Rattle.std.specs.Prelude.{ℕ, ◌+◌, ◌==◌, nat_lt, min, Bool, true, false, not, ◌&&◌, ◌||◌, if◌then◌else◌, Option, None, Some, unwrap_or, Result, Ok, Err, List, [], ◌∷◌, length}
+use Rattle.std.specs.Prelude.{◌≡◌, ℕ, ◌+◌, ◌==◌, nat_lt, min, Bool, true, false, not, ◌&&◌, ◌||◌, if◌then◌else◌, Option, None, Some, unwrap_or, Result, Ok, Err, List, [], ◌∷◌, length}
 use Rattle.std.specs.Option.{is_some, is_none, option_map}
 use Rattle.ng_num.specs.declared.point.Point.{Point}
 use Rattle.ng_num.specs.declared.fault.Fault.{Fault}
@@ -309,6 +309,27 @@ step equipment program s (event.OptionalStop wanted) = answers program reply.Tak
 step equipment program s (event.BlockDelete on) = answers program reply.Taken (record s { block_delete = on })
 step equipment program s event.Status = answers program (reply.Status (shown s)) s
 step equipment program s event.Tick = tick equipment program s
+
+-- a block is current, or the program runs
+abbrev pub is_busy : Sitting → Bool
+is_busy s = is_running s.activity || is_some s.current
+
+-- the program runs, and no block is current
+abbrev pub IsBetweenLines : Sitting → Type 0
+IsBetweenLines s = (s.current ≡ None) × (is_running s.activity ≡ true)
+
+-- the events that take memory: a program that is loaded, a line of the operator that is tried, a Tick that begins a line
+abbrev pub TakesMemory : {A : Type 0} → Sitting → Event A → Type 0
+TakesMemory s (event.Load text) = load_refusal s text ≡ None
+TakesMemory s (event.Mdi text) = (is_engaged s ≡ false) × (s.stored.setup.machine.place_known ≡ true)
+TakesMemory s event.Tick = (s.held ≡ false) × IsBetweenLines s
+TakesMemory s _ = ⊥
+
+-- the events that ask something of the device: a program that is loaded, a Tick that finds something to do
+abbrev pub AsksDevice : {A : Type 0} → Sitting → Event A → Type 0
+AsksDevice s (event.Load text) = load_refusal s text ≡ None
+AsksDevice s event.Tick = (s.held ≡ false) × (is_busy s ≡ true)
+AsksDevice s _ = ⊥
 
 -- an event that neither writes to the device nor hands anything out
 abbrev pub IsQuiet : {A : Type 0} → Event A → Type 0

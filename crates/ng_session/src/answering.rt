@@ -9,7 +9,7 @@ use ng_canon::Geometry;
 use std::alloc::{AllocError, Allocator};
 
 impl<A: Allocator + Copy + Drop> Session<A> {
-    ghost use Rattle.ng_session.specs.Session.{step, IsQuiet};
+    ghost use Rattle.ng_session.specs.Session.{step, IsQuiet, TakesMemory};
 
     /// Answers an event that neither writes to the device nor hands anything out: all but a Load and a Tick. `AllocError` where
     /// the state after a line of the operator found no memory: nothing is changed then.
@@ -23,6 +23,7 @@ impl<A: Allocator + Copy + Drop> Session<A> {
         ensures reply { IfOk result (λ reply. (program : List ℕ) → reply ≡ (step (record { tools = tools.now; geometry = geometry.now }) program self.old event.now).reply) }
         ensures next { OnOk result ((program : List ℕ) → self.new ≡ (step (record { tools = tools.now; geometry = geometry.now }) program self.old event.now).next) }
         ensures err { OnErr result (self.new ≡ self.old) }
+        ensures memory { OnErr result (TakesMemory self.old event.now) }
     {
         match event {
             Event::Start => Ok(self.start()),

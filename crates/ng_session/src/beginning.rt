@@ -1,5 +1,5 @@
 //! How a line is begun: by the operator, or by the program.
-ghost use Rattle.std.specs.Prelude.{◌≡◌, ◌≤◌, ℕ, List, Some, Ok, Err, IfOk, OnOk, OnErr, MatchResult, length};
+ghost use Rattle.std.specs.Prelude.{◌≡◌, ◌≤◌, ℕ, List, Some, true, false, Ok, Err, IfOk, OnOk, OnErr, MatchResult, length};
 ghost use Rattle.ng_block.specs.Dry.{first_kind};
 ghost use Rattle.ng_block.specs.Effects.{Done, in_state};
 ghost use Rattle.ng_layout.specs.declared.half.Source.TheVariants as source;
@@ -55,7 +55,7 @@ fn execute_behind<A: Allocator + Copy + Drop>(
 }
 
 impl<A: Allocator + Copy + Drop> Session<A> {
-    ghost use Rattle.ng_session.specs.Session.{mdi, begin, break_off};
+    ghost use Rattle.ng_session.specs.Session.{mdi, begin, break_off, is_engaged};
 
     /// Begins a line of the operator; where the session was held, that ends, and a program that ran waits. K1 where a block is
     /// current or half-done, or the program runs and isn't held, K3 where it isn't known where the machine stands, then the
@@ -70,6 +70,7 @@ impl<A: Allocator + Copy + Drop> Session<A> {
         ensures reply { IfOk result (λ reply. (program : List ℕ) → reply ≡ (mdi (record { tools = tools.now; geometry = geometry.now }) program self.old text.now).reply) }
         ensures next { OnOk result ((program : List ℕ) → self.new ≡ (mdi (record { tools = tools.now; geometry = geometry.now }) program self.old text.now).next) }
         ensures err { OnErr result (self.new ≡ self.old) }
+        ensures memory { OnErr result ((is_engaged self.old ≡ false) × (self.old.stored.setup.machine.place_known ≡ true)) }
     {
         if self.is_engaged() {
             return Ok(Reply::Refused(Fault::Busy));

@@ -1,13 +1,15 @@
-use Rattle.std.proofs.Common.{◌≡◌, ◌⊎◌, inl, length, Err, refl, sym, ◌∙◌, ap, subst}
+use Rattle.std.proofs.Common.{◌≡◌, ◌⊎◌, inl, ℕ, List, length, None, Err, refl, sym, ◌∙◌, ap, subst}
 use Rattle.std.proofs.lemmas.Result.{err_from_is_err_and}
 use Rattle.ng_num.specs.declared.fault.Fault.{Fault}
 use Rattle.ng_num.specs.declared.fault.Fault.TheVariants.{DeviceFailed, CountersUsed}
 use Rattle.ng_journal.specs.Journal.{Tells}
 use Rattle.ng_session.specs.Entries.{Equipment}
-use Rattle.ng_session.specs.Session.{Sitting}
+use Rattle.ng_session.specs.Session.{Sitting, load, load_refusal}
 use Rattle.ng_session.specs.declared.reply.Reply.{Reply}
+use Rattle.ng_core.specs.Causes.{IsHinderedBy}
 use Rattle.ng_core.specs.Station.{Station}
 use Rattle.ng_core.proofs.Answering.{does_load, does_not_load, not_too_long}
+use Rattle.ng_core.proofs.Hindering.{hindered_load}
 use Rattle.ng_core.proofs.Storing.{kept_failed}
 use Rattle.ng_core.proofs.controller.Controller.load.Goals as goal
 
@@ -34,6 +36,16 @@ returns-in_err-load_program-clause-does g c =
     rw (p.1, ← c.self.view_is) (does_not_load g.R.Rig.honest g.R.Rig.life p.0 e c.in_ok-stored.stored c.args.text.now old new (sym c.in_default.ensures.value) c.in_ok-stored.ensures.value refl
     (subst (λ (f : Fault). (f ≡ CountersUsed) ⊎ (f ≡ DeviceFailed)) (sym p.2) which)
     (λ used. c.in_err-load_program.ensures.unchanged (inl (ap (λ (f : Fault). Err f) (sym p.2 ∙ used)))) c.in_err-load_program.ensures.stops refl)
+
+pub returns-in_err-load_program-clause-hindered : goal.returns-in_err-load_program-clause-hindered
+returns-in_err-load_program-clause-hindered g c =
+    let p = err_from_is_err_and c.from_residual-in_err-load_program.result c.from_residual-in_err-load_program.ensures.1 in
+    let e = c.in_err-load_program.field-0.0 in
+    let session = c.self.inside.session in
+    let epoch = c.self.inside.journal.header.epoch in
+    let which : (e ≡ CountersUsed) ⊎ (e ≡ DeviceFailed) = not_too_long (Unit {0}) e (length c.args.text.now) c.in_default.ensures.none.1 c.in_err-load_program.ensures.errors c.in_err-load_program.ensures.too_long in
+    rw (p.1, ← c.self.view_is) (subst (λ (f : Fault). IsHinderedBy (load_refusal session c.args.text.now ≡ None) (load_refusal session c.args.text.now ≡ None) epoch (λ (program : List ℕ). (load program session c.args.text.now).reply) f) (sym p.2)
+    (hindered_load (Unit {0}) e session c.in_ok-stored.stored c.args.text.now epoch (sym c.in_default.ensures.value) c.in_default.ensures.none.1 c.in_ok-stored.ensures.value which c.in_err-load_program.ensures.used_up))
 
 pub returns-in_err-load_program-clause-failures : goal.returns-in_err-load_program-clause-failures
 returns-in_err-load_program-clause-failures g c =
