@@ -45,7 +45,7 @@ impl<A: Allocator + Drop> Text<A> {
 /// What happens to a session (own).
 #[derive(Drop)]
 pub enum Event<A: Allocator> {
-    /// A program to be stored.
+    /// A program to be stored, of at most 131,072 bytes: a longer one is refused with J5.
     Load(Text<A>),
     /// The program is to run from its place on.
     Start,
@@ -59,6 +59,7 @@ pub enum Event<A: Allocator> {
     OptionalStop(bool),
     /// Whether lines that begin with a slash are deleted.
     BlockDelete(bool),
+    /// What is stored and what the controller is about is to be told.
     Status,
     /// The next thing that is to do is done.
     Tick,

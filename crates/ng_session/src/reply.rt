@@ -5,6 +5,7 @@ use ng_num::{Fault, Point};
 /// A half-done block, as the status shows it.
 #[derive(Clone, Copy, Debug, PartialEq, Eq)]
 pub struct HalfShown {
+    /// Where its line came from: the program, or the operator.
     pub source: Source,
     /// The segment that is open or comes next, counted from 0.
     pub index: u64,
@@ -13,27 +14,33 @@ pub struct HalfShown {
 /// What a controller is about, as the status shows it: the last of these that holds.
 #[derive(Clone, Copy, Debug, PartialEq, Eq)]
 pub enum Condition {
+    /// No program was started, or it has ended.
     Idle,
+    /// The program's lines are begun one after the other.
     Running,
+    /// The program waits to go on.
     Stopped,
+    /// It is held: a Tick does nothing.
     Held,
-    /// The device failed.
+    /// The device failed: all but a Status is refused.
     Broken,
 }
 
-/// What is told of a session (own).
+/// What is stored and what the controller is about, as an event Status asks for it (own).
 #[derive(Clone, Copy, Debug, PartialEq, Eq)]
 pub struct Status {
     /// The number of entries that were committed.
     pub entries: u64,
     /// The byte of the program at which the next line begins.
     pub place: u64,
-    /// Where the machine stands, in machine coordinates, if that is known; else where it stood before the block.
+    /// In nm of machine coordinates: where the half-done block says that the machine stands, if there is one and it says so; else the
+    /// stored point.
     pub point: Point,
     /// Whether the machine is known to stand there.
     pub place_known: bool,
-    /// A block with an open segment counts as half-done.
+    /// The half-done block; one with an open segment counts as such.
     pub half: Option<HalfShown>,
+    /// What the controller is about.
     pub condition: Condition,
 }
 
@@ -44,8 +51,11 @@ pub enum Reply {
     Done(u64),
     /// The program goes on.
     Going,
+    /// It is held: a Tick does nothing until it goes on.
     Held,
+    /// Nothing is to do.
     Idle,
+    /// Nothing is to do until the program, which waits, goes on.
     Stopped,
     /// A line was begun.
     Begun,
@@ -55,6 +65,8 @@ pub enum Reply {
     Moved,
     /// The segment of this number was opened.
     Opened(u64),
+    /// What an event Status asked for.
     Status(Status),
+    /// Why the event is refused, or the line of the program that was to begin.
     Refused(Fault),
 }

@@ -123,7 +123,8 @@ impl<A: Allocator + Copy + Drop> Session<A> {
         Reply::Going
     }
 
-    /// Nothing more is to be handed out for now, if the program runs or a block is current.
+    /// Nothing more is to be handed out for now. The reply is Held where the program runs or a block is current; else it is Stopped
+    /// where the program waits to go on and Idle where it doesn't, and nothing is changed.
     pub fn hold(&mut self) -> Reply
         ensures reply { (program : List ℕ) → result ≡ (hold program self.old).reply }
         ensures next { (program : List ℕ) → self.new ≡ (hold program self.old).next }
@@ -135,7 +136,8 @@ impl<A: Allocator + Copy + Drop> Session<A> {
         self.activity.idleness()
     }
 
-    /// What was held goes on, or the program that was stopped. K1 where neither waits, K2 where no program is on its way.
+    /// What was held goes on, or the program that was stopped. Unless it is held, K1 where the program runs or a block is current, and
+    /// else K2 where it is Idle; nothing is changed then.
     pub fn go_on(&mut self) -> Reply
         ensures reply { (program : List ℕ) → result ≡ (goes_on program self.old).reply }
         ensures next { (program : List ℕ) → self.new ≡ (goes_on program self.old).next }
