@@ -1,10 +1,9 @@
 -- The ticks of one command, one after the other.
-use Rattle.std.proofs.Common.{◌≡◌, ◌<◌, ◌+◌, ◌-◌, ℕ, Bool, true, false, List, [], ◌∷◌, ◌++◌, length, map, take, Option, Ok, Err, refl, sym, ap, ◌∙◌, subst, inl, inr, arith, append-nil, replicate, length-append}
+use Rattle.std.proofs.Common.{◌≡◌, ◌<◌, ◌+◌, ℕ, true, false, List, [], ◌∷◌, ◌++◌, length, map, take, Option, Ok, Err, refl, sym, ◌∙◌, subst, inl, inr, arith, length-append}
 use Rattle.std.specs.List.{AllPass, flat_map}
-use Rattle.std.proofs.lemmas.List.{length-replicate, map-append}
+use Rattle.std.proofs.lemmas.List.{map-append}
 use Rattle.std.specs.Io.KnownBytes.{Appends}
-use Rattle.std.proofs.Math.Seq.{take-append-add}
-use Rattle.std.proofs.lemmas.List.Elements.{All-append, All-push, All-replicate}
+use Rattle.std.proofs.lemmas.List.Elements.{All-push}
 use Rattle.ng_block.proofs.Streams.{Appends-trans}
 use Rattle.ng_rig.specs.Life.{Life}
 use Rattle.ng_commands.specs.Replies.{goes_on, tick_line}
@@ -14,7 +13,6 @@ use Rattle.ng_session.specs.declared.reply.Reply.{Reply}
 use Rattle.ng_dialogue.specs.declared.telling.Unsent.{Unsent}
 use Rattle.ng_core.specs.Station.{Station}
 use Rattle.ng_run.specs.Consoles.{TicksOn}
-use Rattle.ng_run.specs.Talks.{AreTicks}
 use Rattle.ng_run.specs.Turns.{Turn, Turns}
 use Rattle.ng_run.proofs.Asking.{one_more}
 use Rattle.ng_run.proofs.Turning.{turns_joined, turns_one}
@@ -67,9 +65,12 @@ ticks_end A honest life failed most count r old mid new before now after p below
     let longer = one_longer p.replies r count p.count_is in
     record {
       replies = p.replies ++ r ∷ [];
-      makes = (inr (p.replies, r, refl, p.go_on, off, omega (arith, longer, below)), sym longer);
       given = given_more A honest life failed p.replies r before now after p.given t;
-      tells = tells_more old mid new p.replies r p.tells told;
+      makes = (
+        inr (p.replies, r, (refl, p.go_on, omega (arith, longer, below)), off),
+        sym longer,
+        tells_more old mid new p.replies r p.tells told,
+      );
     }
 
 -- all were made
@@ -77,43 +78,23 @@ pub ticks_all : {R : Type 0} (A : Type 0) (honest : R → Type 0) (life : R → 
     → Ticked A honest life failed count old new before after → count ≡ most → TicksOn A honest life failed most (Ok most) old new before after
 ticks_all A honest life failed most count old new before after p all = record {
   replies = p.replies;
-  makes = (inl (p.go_on, p.count_is ∙ all), sym (p.count_is ∙ all));
   given = p.given;
-  tells = p.tells;
+  makes = (inl (p.go_on, p.count_is ∙ all), sym (p.count_is ∙ all), p.tells);
 }
-
--- more might have come
-more_may_come : (most : ℕ) (replies : List Reply) (r : Reply) (b : Bool) → goes_on r ≡ b → AllPass goes_on replies → length replies < most
-    → (more : List Reply) × AreTicks most ((replies ++ r ∷ []) ++ more)
-more_may_come most replies r false off on below = (
-  [],
-  subst (λ (l : List Reply). AreTicks most l) (sym (append-nil (replies ++ r ∷ [])))
-      (inr (replies, r, refl, on, off, omega (arith, length-append replies (r ∷ []), below))),
-)
-more_may_come most replies r true goes on below =
-    let P : Reply → Type 0 = λ x. goes_on x ≡ true in
-    let left = most - (length replies + 1) in (
-      replicate left r,
-      inl (
-        All-append P (replies ++ r ∷ []) (replicate left r) (All-push P replies r on goes) (All-replicate P left r goes),
-        omega (arith, length-append (replies ++ r ∷ []) (replicate left r), length-append replies (r ∷ []), length-replicate left r, below),
-      ),
-    )
 
 -- a line can't be written
 pub ticks_break : {R : Type 0} (A : Type 0) (honest : R → Type 0) (life : R → Life) (failed : R → ℕ) (most count : ℕ) (r : Reply) (fault : Unsent) (old mid new : Option (List ℕ)) (before now after : Station R)
     → Ticked A honest life failed count old mid before now → count < most → Turn {A = A} honest life failed event.Tick r now after → (n : ℕ) × Appends mid new (take n (tick_line r))
     → TicksOn A honest life failed most (Err fault) old new before after
 ticks_break A honest life failed most count r fault old mid new before now after p below t told =
-    let lines = flat_map tick_line p.replies in
+    let begun = flat_map tick_line p.replies ++ take told.0 (tick_line r) in
+    let longer = one_longer p.replies r count p.count_is in
     record {
       replies = p.replies ++ r ∷ [];
-      makes = more_may_come most p.replies r (goes_on r) refl p.go_on (omega (arith, p.count_is, below));
       given = given_more A honest life failed p.replies r before now after p.given t;
-      tells = (
-        length lines + told.0,
-        subst (λ (l : List ℕ). Appends old new l)
-            (sym (take-append-add lines (tick_line r) told.0) ∙ ap (λ l. take (length lines + told.0) l) (one_more tick_line p.replies r))
-            (Appends-trans old mid new lines (take told.0 (tick_line r)) p.tells told.1),
+      makes = (
+        begun,
+        (p.replies, r, (refl, p.go_on, omega (arith, longer, below)), (told.0, refl)),
+        Appends-trans old mid new (flat_map tick_line p.replies) (take told.0 (tick_line r)) p.tells told.1,
       );
     }

@@ -12,7 +12,6 @@ use Rattle.ng_commands.specs.Replies.{refused_line, tick_line}
 use Rattle.ng_session.specs.Session.{resting}
 use Rattle.ng_session.specs.declared.reply.Reply.{Reply}
 use Rattle.ng_dialogue.specs.Orders.{Ends}
-use Rattle.ng_dialogue.specs.Telling.{Sends}
 use Rattle.ng_dialogue.specs.declared.order.Order.{Order}
 use Rattle.ng_dialogue.specs.declared.order.Order.TheVariants.{Ticks}
 use Rattle.ng_dialogue.specs.declared.telling.Unsent.{Unsent}
@@ -21,7 +20,7 @@ use Rattle.ng_core.specs.Powers.{Answer, Powers, rig_of, fault_of}
 use Rattle.ng_core.specs.Runs.{Passes}
 use Rattle.ng_core.specs.Station.{Station, Rests}
 use Rattle.ng_run.specs.Endings.{ended_by, status_of}
-use Rattle.ng_run.specs.Talks.{AreTicks, Exchange, Hears, IsAnswered, IsBegun, events_in, events_of, replies_in, words_in, words_of}
+use Rattle.ng_run.specs.Talks.{AreBrokenOff, AreTicks, Exchange, Hears, IsAnswered, IsBegun, events_in, events_of, replies_in, words_in, words_of}
 use Rattle.ng_run.specs.Turns.{Turns}
 use Rattle.ng_run.specs.declared.ending.Ended.{Ended}
 use Rattle.ng_run.specs.declared.ending.Ended.TheVariants.{Unpowered}
@@ -30,17 +29,16 @@ use Rattle.ng_run.specs.declared.ending.Stop.TheVariants.{Deaf, Mute}
 
 -- ---- one order
 
--- the replies to the ticks of one command, and how many they are; where a line can't be written, more may have come
-abbrev pub Makes : {E : Type 0} → ℕ → Result ℕ E → List Reply → Type 0
-Makes most (Ok made) replies = AreTicks most replies × (made ≡ length replies)
-Makes most (Err fault) replies = (more : List Reply) × AreTicks most (replies ++ more)
+-- the replies to the ticks of one command are so many, and their lines are written; or the ticks are broken off
+abbrev pub Makes : {E : Type 0} → ℕ → Result ℕ E → List Reply → Option (List ℕ) → Option (List ℕ) → Type 0
+Makes most (Ok made) replies old new = AreTicks most replies × (made ≡ length replies) × Appends old new (flat_map tick_line replies)
+Makes most (Err fault) replies old new = (written : List ℕ) × AreBrokenOff most replies written × Appends old new written
 
--- The controller is given ticks, and the lines of their replies are written.
+-- The controller is given ticks, and the lines of their replies are written, or they are broken off in the last.
 pub record TicksOn {R : Type 0} (A : Type 0) (honest : R → Type 0) (life : R → Life) (failed : R → ℕ) (most : ℕ) (made : Result ℕ Unsent) (old new : Option (List ℕ)) (before after : Station R) : Type 0 where
   pub replies : List Reply
-  pub makes : Makes most made replies
   pub given : Turns honest life failed (events_of {A = A} (Ticks most) replies) replies before after
-  pub tells : Sends old new (flat_map tick_line replies) made
+  pub makes : Makes most made replies old new
 
 -- an answer is written, or a beginning of it
 abbrev pub Told : {A T : Type 0} → Exchange A → Result T Unsent → Option (List ℕ) → Option (List ℕ) → Type 0

@@ -15,17 +15,31 @@ events_of (Give event) replies = event ∷ []
 events_of (Ticks n) replies = map (λ r. event.Tick) replies
 events_of (Refuse fault) replies = []
 
--- the text of an answer: the lines of its replies; behind ticks, how many were made; or why there are none
-abbrev pub words_of : {A : Type 0} → Order A → List Reply → List ℕ
-words_of (Give event) replies = flat_map reply_line replies
-words_of (Ticks n) replies = flat_map tick_line replies ++ ticks_line (length replies)
-words_of (Refuse fault) replies = refused_line fault
+-- the last line of an answer: that of its reply; behind ticks, how many were made; or why there is none
+abbrev pub last_line : {A : Type 0} → Order A → List Reply → List ℕ
+last_line (Give event) replies = flat_map reply_line replies
+last_line (Ticks n) replies = ticks_line (length replies)
+last_line (Refuse fault) replies = refused_line fault
 
--- the replies to n ticks, which all go on, or to fewer, of which the last ends them
+-- the lines before it: of ticks, those of the replies
+abbrev pub lines_before : {A : Type 0} → Order A → List Reply → List ℕ
+lines_before (Give event) replies = []
+lines_before (Ticks n) replies = flat_map tick_line replies
+lines_before (Refuse fault) replies = []
+
+-- the text of an answer
+abbrev pub words_of : {A : Type 0} → Order A → List Reply → List ℕ
+words_of order replies = lines_before order replies ++ last_line order replies
+
+-- the replies to at most n ticks: those before the last go on
+abbrev pub GoOnTo : ℕ → List Reply → List Reply → Reply → Type 0
+GoOnTo n replies before last = (replies ≡ before ++ last ∷ []) × AllPass goes_on before × (length replies ≤ n)
+
+-- the replies to n ticks, which all go on, or to at most n, of which the last ends them
 abbrev pub AreTicks : ℕ → List Reply → Type 0
 AreTicks n replies =
     (AllPass goes_on replies × (length replies ≡ n))
-    ⊎ ((before : List Reply) × (last : Reply) × (replies ≡ before ++ last ∷ []) × AllPass goes_on before × (goes_on last ≡ false) × (length replies ≤ n))
+    ⊎ ((before : List Reply) × (last : Reply) × GoOnTo n replies before last × (goes_on last ≡ false))
 
 -- the replies to an order
 abbrev pub AreReplies : {A : Type 0} → Order A → List Reply → Type 0
@@ -41,17 +55,20 @@ pub record Exchange (A : Type 0) : Type 0 where
 abbrev pub IsAnswered : {A : Type 0} → Exchange A → Type 0
 IsAnswered x = AreReplies x.order x.replies
 
--- Ticks are broken off: more may have come of them, and their lines are begun.
-abbrev pub AreBrokenOff : {A : Type 0} → Order A → List Reply → List ℕ → Type 0
-AreBrokenOff (Give event) replies lines = ⊥
-AreBrokenOff (Ticks n) replies lines = (more : List Reply) × AreTicks n (replies ++ more) × (lines ≡ flat_map tick_line replies)
-AreBrokenOff (Refuse fault) replies lines = ⊥
+-- these lines are written, and a beginning of the line behind them
+abbrev pub EndsIn : List ℕ → List ℕ → List ℕ → Type 0
+EndsIn lines line written = (n : ℕ) × (written ≡ lines ++ take n line)
 
--- An answer of which a beginning is written: it came whole, or its ticks are broken off.
+-- Ticks are broken off in the line of the last reply: the lines before it are whole.
+abbrev pub AreBrokenOff : ℕ → List Reply → List ℕ → Type 0
+AreBrokenOff n replies written =
+    (before : List Reply) × (last : Reply) × GoOnTo n replies before last × EndsIn (flat_map tick_line before) (tick_line last) written
+
+-- An answer is broken off, and this of it is written: it came up to its last line, or its ticks are broken off.
 abbrev pub IsBegun : {A : Type 0} → Exchange A → List ℕ → Type 0
 IsBegun x written =
-    (words : List ℕ) × ((IsAnswered x × (words ≡ words_of x.order x.replies)) ⊎ AreBrokenOff x.order x.replies words)
-    × ((n : ℕ) × (written ≡ take n words))
+    (IsAnswered x × EndsIn (lines_before x.order x.replies) (last_line x.order x.replies) written)
+    ⊎ ((n : ℕ) × (x.order ≡ Ticks n) × AreBrokenOff n x.replies written)
 
 abbrev pub events_in : {A : Type 0} → List (Exchange A) → List (Event A)
 events_in talk = flat_map (λ x. events_of x.order x.replies) talk

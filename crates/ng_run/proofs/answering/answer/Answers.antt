@@ -1,5 +1,5 @@
 use Rattle.ng_run.specs.Turns.{Turn}
-use Rattle.ng_run.proofs.Replying.{answers_event, answers_refusal, answers_ticks}
+use Rattle.ng_run.proofs.Replying.{answers_event, answers_refusal, answers_ticks, answers_ticks_broken}
 use Rattle.ng_run.proofs.answering.answer.Goals as goal
 
 pub returns-in-Give : goal.returns-in-Give
@@ -11,6 +11,10 @@ returns-in-Give g c =
 pub returns-in-Ok : goal.returns-in-Ok
 returns-in-Ok g c =
     rw (c.in-Ticks.is) (answers_ticks g.R.Rig.honest g.R.Rig.life g.R.Rig.failed c.in-Ticks.most c.in-Ok.made c.tell_ticks.result _ _ _ _ _ c.in-Ok.ensures c.tell_ticks.ensures)
+
+pub returns-in-Err : goal.returns-in-Err
+returns-in-Err g c =
+    rw (c.in-Ticks.is) (answers_ticks_broken {T = Unit {0}} g.R.Rig.honest g.R.Rig.life g.R.Rig.failed c.in-Ticks.most c.in-Err.fault c.in-Err.fault _ _ _ _ c.in-Err.ensures)
 
 pub returns-in-Refuse : goal.returns-in-Refuse
 returns-in-Refuse g c =
