@@ -161,23 +161,27 @@ done_once (reply.Opened n) = omega arith
 done_once (reply.Status shown) = omega arith
 done_once (reply.Refused f) = omega arith
 
+-- the entries of one event more
 entries_more : {A : Type 0} (q : Equipment) (s : Scene) (events : List (Event A)) (e : Event A)
-    → length (entries_of q s (events ++ e ∷ [])) ≡ length (entries_of q s events) + length (leads_to q (scene_behind q s events) e).entries
-entries_more q s [] e = omega (arith, length-append (leads_to q s e).entries [])
+    → entries_of q s (events ++ e ∷ []) ≡ entries_of q s events ++ (leads_to q (scene_behind q s events) e).entries
+entries_more q s [] e = append-nil (leads_to q s e).entries
 entries_more q s (d ∷ events) e =
-    omega (arith, length-append (leads_to q s d).entries (entries_of q (scene_after (leads_to q s d)) (events ++ e ∷ [])), length-append (leads_to q s d).entries (entries_of q (scene_after (leads_to q s d)) events), entries_more q (scene_after (leads_to q s d)) events e)
+    ap (λ (l : List Entry). (leads_to q s d).entries ++ l) (entries_more q (scene_after (leads_to q s d)) events e)
+    ∙ sym (append_assoc (leads_to q s d).entries (entries_of q (scene_after (leads_to q s d)) events) (leads_to q (scene_behind q (scene_after (leads_to q s d)) events) e).entries)
 
 cut_all : {A : Type 0} (q : Equipment) (x : Standing) (events : List (Event A)) → IsCut q x [] (entries_of q (resting_scene x) events) (left_behind q (resting_scene x) [] events)
 cut_all q x events = cut_events q x [] (resting_scene x) events [] [] [] refl refl (refl, refl)
 
 pub cuts_within_event : (A : Type 0) → CutsWithinEvent A
 cuts_within_event A q x events e left (inl is) =
-    let all = counts_all q (resting_scene x) events in
-    (entries_of q (resting_scene x) events, omega arith, omega arith, subst (IsCut q x [] (entries_of q (resting_scene x) events)) (sym is) (cut_all q x events))
+    let entries = entries_of q (resting_scene x) events in
+    ([], omega arith, subst (λ (l : List Entry). IsCut q x [] l left) (sym (append-nil entries)) (subst (IsCut q x [] entries) (sym is) (cut_all q x events)))
 cuts_within_event A q x events e left (inr is) =
     let last = scene_behind q (resting_scene x) events in
-    let all = counts_all q (resting_scene x) events in
-    let more = entries_more q (resting_scene x) events e in
     let once = done_once (leads_to q last e).reply in
-    let counted = counts q last.program last.session e in
-    (entries_of q (resting_scene x) (events ++ e ∷ []), omega arith, omega arith, subst (IsCut q x [] (entries_of q (resting_scene x) (events ++ e ∷ []))) (sym is) (cut_all q x (events ++ e ∷ [])))
+    let counted = counts q last.program last.session e in (
+      (leads_to q last e).entries,
+      omega arith,
+      subst (λ (l : List Entry). IsCut q x [] l left) (entries_more q (resting_scene x) events e)
+      (subst (IsCut q x [] (entries_of q (resting_scene x) (events ++ e ∷ []))) (sym is) (cut_all q x (events ++ e ∷ []))),
+    )

@@ -11,11 +11,11 @@ cut_standing : (q : Equipment) (x : Standing) (es : List Entry) (left : Left) (c
     → left.standing ≡ standing_lived q x (Some (record { entries = es; saved = left.standing.saved; more = cut.more }))
 cut_standing q x es left cut = ap (λ (P : List ℕ). let s : Standing = record { saved = left.standing.saved; program = P } in s) cut.program
 
-lived_one : (q : Equipment) (x : Standing) (acknowledged : ℕ) (left : Left) → IsSession q x acknowledged left
+lived_one : (q : Equipment) (x : Standing) (acknowledged : List Entry) (left : Left) → IsSession q x acknowledged left
     → (l : Option Lived) × IsLawful q x acknowledged l × (left.items ≡ items_lived q x l) × (left.standing ≡ standing_lived q x l)
 lived_one q x acknowledged left (inl p) = (None, p.2, p.1, p.0)
 lived_one q x acknowledged left (inr p) =
-    (Some (record { entries = p.0; saved = left.standing.saved; more = p.3.more }), (p.1, p.2, p.3.follows), p.3.items, cut_standing q x p.0 left p.3)
+    (Some (record { entries = acknowledged ++ p.0; saved = left.standing.saved; more = p.2.more }), (p.0, p.1, refl, p.2.follows), p.2.items, cut_standing q x (acknowledged ++ p.0) left p.2)
 
 pub cuts_of_life : CutsOfLife
 cuts_of_life q x [] life = ([], tt, refl, refl)

@@ -1,5 +1,5 @@
 -- What a cut of power leaves, by the fold alone; and the law that each event keeps to it.
-use Rattle.std.specs.Prelude.{◌≡◌, ◌⊎◌, ◌≤◌, ℕ, ◌+◌, min, List, [], ◌∷◌, ◌++◌, length, Bool, Some, None, Ok}
+use Rattle.std.specs.Prelude.{◌≡◌, ◌⊎◌, ◌≤◌, ℕ, min, List, [], ◌∷◌, ◌++◌, length, Bool, Some, None, Ok}
 use Rattle.ng_canon.specs.declared.item.Item.{Item}
 use Rattle.ng_canon.specs.declared.segment.Segment.{Segment}
 use Rattle.ng_step.specs.Hands.{hand}
@@ -38,9 +38,8 @@ CutsBehindEvents A = (equipment : Equipment) (x : Standing) (before : List Item)
     IsCut equipment x before (entries_of equipment (resting_scene x) events) (left_behind equipment (resting_scene x) before events)
     × (length (entries_of equipment (resting_scene x) events) ≡ dones (replies_of equipment (resting_scene x) events))
 
--- Within an event, a cut leaves what stood before it or what stands behind it: it is of all entries acknowledged before, and of at most one more.
+-- Within an event, a cut leaves what stood before it or what stands behind it: it is of the entries committed before, and of at most one more.
 abbrev pub CutsWithinEvent : Type 0 → Type 0
 CutsWithinEvent A = (equipment : Equipment) (x : Standing) (events : List (Event A)) (event : Event A) (left : Left) →
     (left ≡ left_behind equipment (resting_scene x) [] events) ⊎ (left ≡ left_behind equipment (resting_scene x) [] (events ++ event ∷ [])) →
-    let acknowledged = dones (replies_of equipment (resting_scene x) events) in
-    (entries : List Entry) × (acknowledged ≤ length entries) × (length entries ≤ acknowledged + 1) × IsCut equipment x [] entries left
+    (more : List Entry) × (length more ≤ 1) × IsCut equipment x [] (entries_of equipment (resting_scene x) events ++ more) left

@@ -1,5 +1,5 @@
 -- Lives of a device: sessions one after another, each from what the one before left.
-use Rattle.std.specs.Prelude.{◌≡◌, ◌⊎◌, ◌≤◌, ℕ, ◌+◌, Option, None, Some, List, [], ◌∷◌, ◌++◌, length}
+use Rattle.std.specs.Prelude.{◌≡◌, ◌⊎◌, ◌≤◌, Option, None, Some, List, [], ◌∷◌, ◌++◌, length}
 use Rattle.ng_canon.specs.declared.item.Item.{Item}
 use Rattle.ng_layout.specs.Stands.{recovered}
 use Rattle.ng_layout.specs.Stored.{Saved, Standing}
@@ -8,22 +8,22 @@ use Rattle.ng_session.specs.Fold.{after_all, items_all}
 use Rattle.ng_session.specs.Runs.{Left}
 use Rattle.ng_session.specs.Cuts.{Follows, IsCut}
 
--- One session from what stood, cut with so many entries acknowledged: within power on, or behind it.
-abbrev pub IsSession : Equipment → Standing → ℕ → Left → Type 0
+-- One session from what stood, cut with these entries acknowledged: within power on; or behind it, with at most one entry more.
+abbrev pub IsSession : Equipment → Standing → List Entry → Left → Type 0
 IsSession equipment x acknowledged left =
-    ((left.standing ≡ x) × (left.items ≡ []) × (acknowledged ≡ 0))
-    ⊎ ((entries : List Entry) × (acknowledged ≤ length entries) × (length entries ≤ acknowledged + 1) × IsCut equipment (recovered x) [] entries left)
+    ((left.standing ≡ x) × (left.items ≡ []) × (acknowledged ≡ []))
+    ⊎ ((more : List Entry) × (length more ≤ 1) × IsCut equipment (recovered x) [] (acknowledged ++ more) left)
 
 -- each session begins with what the one before left
-abbrev pub IsLife : Equipment → Standing → List (ℕ × Left) → Type 0
+abbrev pub IsLife : Equipment → Standing → List (List Entry × Left) → Type 0
 IsLife equipment x [] = Unit {0}
 IsLife equipment x (s ∷ ss) = IsSession equipment x s.0 s.1 × IsLife equipment s.1.standing ss
 
-abbrev pub all_items : List (ℕ × Left) → List Item
+abbrev pub all_items : List (List Entry × Left) → List Item
 all_items [] = []
 all_items (s ∷ ss) = s.1.items ++ all_items ss
 
-abbrev pub last_standing : Standing → List (ℕ × Left) → Standing
+abbrev pub last_standing : Standing → List (List Entry × Left) → Standing
 last_standing x [] = x
 last_standing x (s ∷ ss) = last_standing s.1.standing ss
 
@@ -42,14 +42,14 @@ abbrev pub items_lived : Equipment → Standing → Option Lived → List Item
 items_lived equipment x None = []
 items_lived equipment x (Some l) = items_all equipment (recovered x) l.entries ++ l.more
 
--- all acknowledged entries and at most one more, and behind them what may follow
-abbrev pub IsLawful : Equipment → Standing → ℕ → Option Lived → Type 0
-IsLawful equipment x acknowledged None = acknowledged ≡ 0
+-- the acknowledged entries and at most one more, and behind them what may follow
+abbrev pub IsLawful : Equipment → Standing → List Entry → Option Lived → Type 0
+IsLawful equipment x acknowledged None = acknowledged ≡ []
 IsLawful equipment x acknowledged (Some l) =
-    (acknowledged ≤ length l.entries) × (length l.entries ≤ acknowledged + 1) × Follows equipment (after_all equipment (recovered x) l.entries) l.saved l.more
+    (more : List Entry) × (length more ≤ 1) × (l.entries ≡ acknowledged ++ more) × Follows equipment (after_all equipment (recovered x) l.entries) l.saved l.more
 
 -- the same of each session, each from the fold of the one before
-abbrev pub AreLawful : Equipment → Standing → List (ℕ × Left) → List (Option Lived) → Type 0
+abbrev pub AreLawful : Equipment → Standing → List (List Entry × Left) → List (Option Lived) → Type 0
 AreLawful equipment x [] [] = Unit {0}
 AreLawful equipment x [] (l ∷ ls) = ⊥
 AreLawful equipment x (s ∷ ss) [] = ⊥
@@ -65,6 +65,6 @@ fold_standing equipment x (l ∷ ls) = fold_standing equipment (standing_lived e
 
 -- However often power is cut: what was handed out in all sessions, and what stands at last, is the fold's over lawful entries.
 abbrev pub CutsOfLife : Type 0
-CutsOfLife = (equipment : Equipment) (x : Standing) (life : List (ℕ × Left)) → IsLife equipment x life →
+CutsOfLife = (equipment : Equipment) (x : Standing) (life : List (List Entry × Left)) → IsLife equipment x life →
     (lived : List (Option Lived)) × AreLawful equipment x life lived
     × (all_items life ≡ fold_items equipment x lived) × (last_standing x life ≡ fold_standing equipment x lived)

@@ -4,8 +4,8 @@ ghost use Rattle.ng_session.specs.Lives.{CutsOfLife};
 
 use std::alloc::Allocator;
 
-/// Wherever power is cut, and however often, what is found and what was handed out is the fold's, over a beginning of the entries
-/// that has all acknowledged ones and at most one more, with a beginning of one further block behind it.
+/// Wherever power is cut, and however often, what is found and what was handed out is the fold's, over the acknowledged entries and at
+/// most one more, with a beginning of one further block behind them.
 pub fn cuts<A: Allocator>()
     ensures behind { CutsBehindEvents A }
     ensures within { CutsWithinEvent A }
