@@ -20,7 +20,7 @@ const PROGRAM_ENDINGS: &str =
 
 /// What stands below that of `format`.
 const DEVICE_ENDINGS: &str =
-    "Exit status:\n  0  the device is fresh\n  2  the words are wrong, or ask for help; or the file can't be opened or made, is\n     too short, is a directory, is held by another process, or fails\n\nA file that can't be opened prints nothing; the others print why.";
+    "Exit status:\n  0  the device is fresh\n  2  the words are wrong, or ask for help; or the file can't be opened or made, is\n     too short, is a directory, is held by another process, or fails, or memory\n     is wanting\n\nA file that can't be opened prints nothing; the others print why.";
 
 /// What stands below that of `run`.
 const RUN_ENDINGS: &str =
