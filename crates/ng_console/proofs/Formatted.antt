@@ -10,7 +10,7 @@ by_answer : (formatted : Result (Unit {0}) Fault) (old new : Option (List ℕ)) 
     → IfErr formatted (λ fault. (fault ≡ NotFormatted) ⊎ (fault ≡ DeviceFailed)) → FormatsDevice old new status
 by_answer (Ok done) old new status is faults = inl is
 by_answer (Err fault) old new status is (inl e) = inr (inl (subst (λ f. IsRefusedWith f old new status) e is))
-by_answer (Err fault) old new status is (inr e) = inr (inr (subst (λ f. IsRefusedWith f old new status) e is))
+by_answer (Err fault) old new status is (inr e) = inr (inr (inl (subst (λ f. IsRefusedWith f old new status) e is)))
 
 pub device_formatted : {R : Type 0} {sectors failed : R → ℕ} {honest : R → Type 0} {life : R → Life} (rig_old rig_new : R) (old new : Option (List ℕ)) (status : ℕ)
     → FormatsRig sectors failed honest life rig_old rig_new old new status → FormatsDevice old new status

@@ -1,5 +1,6 @@
 -- What the job `format` does (own).
 use Rattle.std.specs.Prelude.{ℕ, ◌≡◌, ◌⊎◌, ◌≤◌, List, Option, Result, Ok, Err, IfErr}
+use Rattle.std.specs.declared.io.Error.{Error}
 use Rattle.ng_num.specs.declared.fault.Fault.{Fault}
 use Rattle.ng_num.specs.declared.fault.Fault.TheVariants.{DeviceFailed, NotFormatted}
 use Rattle.ng_rig.specs.Life.{Life}
@@ -7,7 +8,7 @@ use Rattle.ng_rig.specs.Calls.{Promises}
 use Rattle.ng_file.specs.declared.device.NoDevice.{NoDevice}
 use Rattle.ng_journal.specs.Formats.{Formats}
 use Rattle.ng_journal.specs.Journal.{Tells}
-use Rattle.ng_console.specs.Refusals.{IsRefusedWith, RefusesDevice}
+use Rattle.ng_console.specs.Refusals.{IsRefusedWith, RefusesDevice, RefusesStorage}
 
 -- a device is fresh, and nothing is written; or the line of its fault is
 abbrev pub Answers : {T : Type 0} → Result T Fault → Option (List ℕ) → Option (List ℕ) → ℕ → Type 0
@@ -22,9 +23,11 @@ pub record FormatsRig {R : Type 0} (sectors failed : R → ℕ) (honest : R → 
   pub formats : 1710 ≤ sectors rig_old → Promises (honest rig_old) (honest rig_new) (Formats formatted (life rig_old) (life rig_new))
   pub tells : Tells formatted (failed rig_old) (failed rig_new)
 
--- The same of a file's bytes, of which nothing is known: it is done, or refused as too short or as failing.
+-- The same of a file's bytes, of which nothing is known: it is done, or refused as too short or as failing; or no device can be made of them.
 abbrev pub FormatsDevice : Option (List ℕ) → Option (List ℕ) → ℕ → Type 0
-FormatsDevice old new status = ((status ≡ 0) × (new ≡ old)) ⊎ (IsRefusedWith NotFormatted old new status ⊎ IsRefusedWith DeviceFailed old new status)
+FormatsDevice old new status =
+    ((status ≡ 0) × (new ≡ old))
+    ⊎ (IsRefusedWith NotFormatted old new status ⊎ (IsRefusedWith DeviceFailed old new status ⊎ ((error : Error) × RefusesStorage error old new status)))
 
 -- The same of a file as it was opened.
 abbrev pub FormatsOpened : {S : Type 0} → Result S NoDevice → Option (List ℕ) → Option (List ℕ) → ℕ → Type 0

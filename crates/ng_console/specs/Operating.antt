@@ -2,7 +2,6 @@
 use Rattle.std.specs.Prelude.{ℕ, ◌≡◌, ◌⊎◌, ◌/◌, List, [], Option, Some, None, Result, Ok, Err, IfSome, length}
 use Rattle.std.specs.declared.io.Error.{Error}
 use Rattle.std.specs.declared.alloc.Global.{Global}
-use Rattle.ng_num.specs.declared.fault.Fault.TheVariants.{DeviceFailed}
 use Rattle.ng_rig.specs.Life.{Began}
 use Rattle.ng_settings.specs.declared.standard.Settings.{Settings}
 use Rattle.ng_file.specs.FileRig.{failure_count, outlet, sector_count, storage}
@@ -11,7 +10,7 @@ use Rattle.ng_file.specs.declared.opened.OpenedFile.{OpenedFile}
 use Rattle.ng_file.specs.declared.rig.FileRig.{FileRig}
 use Rattle.ng_run.specs.Consoles.{Consoles}
 use Rattle.ng_console.specs.Chosen.{GivesChoice}
-use Rattle.ng_console.specs.Refusals.{IsBroken, IsRefusedWith, RefusesDevice, RefusesSettings}
+use Rattle.ng_console.specs.Refusals.{IsBroken, RefusesDevice, RefusesSettings, RefusesStorage}
 use Rattle.ng_console.specs.declared.settings_file.NoSettings.{NoSettings}
 
 -- The device is that of these bytes, as many sectors as they have whole ones, and hands out to this file.
@@ -21,12 +20,12 @@ pub record IsOver {S O A : Type 0} (content : S → Option (List ℕ)) (device :
   pub hands_out : outlet rig ≡ out
   pub failures : failure_count rig ≡ 0
 
--- the console's conversation over that device; or the file can't say how long it is
+-- the console's conversation over that device; or none can be made of these bytes: they can't say how many they are, or memory is wanting
 abbrev pub OperatesDevice : {S O : Type 0} → (S → Option (List ℕ)) → Settings → S → O → Option (List ℕ) → Option (List ℕ) → Option (List ℕ) → ℕ → Type 0
 OperatesDevice {S} {O} content settings device out text old new status =
     ((rig : FileRig S O Global) × (left : FileRig S O Global) × IsOver content device out rig
     × Consoles Global sector_count failure_count (λ rig. ⊥) (λ rig. Began (λ sector. [])) settings rig text old new (status, left))
-    ⊎ IsRefusedWith DeviceFailed old new status
+    ⊎ ((error : Error) × RefusesStorage error old new status)
 
 -- the same of a file as it was opened
 abbrev pub OperatesInto : {S O : Type 0} → (S → Option (List ℕ)) → Settings → S → Result O Error → Option (List ℕ) → Option (List ℕ) → Option (List ℕ) → ℕ → Type 0

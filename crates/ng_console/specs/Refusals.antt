@@ -1,8 +1,11 @@
 -- How a job that can't be done ends (own).
-use Rattle.std.specs.Prelude.{ℕ, ◌≡◌, List, ◌++◌, Option, codes}
+use Rattle.std.specs.Prelude.{ℕ, ◌≡◌, ◌≢◌, ◌⊎◌, List, ◌++◌, Option, codes}
 use Rattle.std.specs.Io.KnownBytes.{Appends}
+use Rattle.std.specs.IoError.{error_kind}
+use Rattle.std.specs.declared.io.Error.{Error}
+use Rattle.std.specs.declared.io.ErrorKind.TheVariants as kind
 use Rattle.ng_num.specs.declared.fault.Fault.{Fault}
-use Rattle.ng_num.specs.declared.fault.Fault.TheVariants.{DeviceFailed}
+use Rattle.ng_num.specs.declared.fault.Fault.TheVariants.{DeviceFailed, OutOfMemory}
 use Rattle.ng_num.specs.FaultText.{text as fault_text}
 use Rattle.ng_file.specs.declared.device.NoDevice.{NoDevice}
 use Rattle.ng_file.specs.declared.device.NoDevice.TheVariants.{Unopened, Unusable}
@@ -29,3 +32,13 @@ RefusesSettings (Refused fault) old new status = IsRefusedWith fault old new sta
 abbrev pub RefusesDevice : NoDevice → Option (List ℕ) → Option (List ℕ) → ℕ → Type 0
 RefusesDevice Unopened old new status = IsBroken old new status
 RefusesDevice Unusable old new status = IsRefusedWith DeviceFailed old new status
+
+-- the fault of an error over a file that was opened: memory was wanting, or else the file failed
+abbrev pub IsFaultOf : Error → Fault → Type 0
+IsFaultOf error fault =
+    ((error_kind error ≡ kind.OutOfMemory) × (fault ≡ OutOfMemory))
+    ⊎ ((error_kind error ≢ kind.OutOfMemory) × (fault ≡ DeviceFailed))
+
+-- a file that was opened, and no device can be made of it for this error
+abbrev pub RefusesStorage : Error → Option (List ℕ) → Option (List ℕ) → ℕ → Type 0
+RefusesStorage error old new status = (fault : Fault) × IsFaultOf error fault × IsRefusedWith fault old new status

@@ -20,11 +20,11 @@ const PROGRAM_ENDINGS: &str =
 
 /// What stands below that of `format`.
 const DEVICE_ENDINGS: &str =
-    "Exit status:\n  0  the device is fresh\n  2  the words are wrong, or ask for help; or the file can't be opened or made, is\n     too short, is a directory, is held by another process, or fails\n\nA file that can't be opened prints nothing; the others print why.";
+    "Exit status:\n  0  the device is fresh\n  2  the words are wrong, or ask for help; or the file can't be opened or made, is\n     too short, is a directory, is held by another process, or fails, or memory\n     is wanting\n\nA file that can't be opened prints nothing; the others print why.";
 
-/// What stands below that of `run`.
-const RUN_ENDINGS: &str =
-    "Exit status:\n  0  all commands are answered, up to `quit` or to the end of the input\n  2  the words are wrong, or ask for help; or a file can't be opened or read, the\n     settings or the device are refused, the device is held by another process or\n     failed, the input or the output failed, or memory is wanting\n\nA refused command or program line prints why, and the next one is read. Refused\nsettings and devices print why. A file that can't be read prints nothing.";
+/// What stands below that of `run`: the commands of its console, and how it ends.
+const RUN_COMMANDS_AND_ENDINGS: &str =
+    "Commands, read from the input, a line each:\n  load N           store the program in the N bytes behind the line\n  start            run the program from its place on\n  hold             hand out nothing more until `continue`\n  continue         go on with what was held, or stopped at M0, M1 or M60\n  mdi LINE         do a line of the operator's own\n  optional on|off  stop the program at M1, or don't\n  delete on|off    leave out the lines that begin with a slash, or don't\n  tick N           do up to N steps of the work, 1 to 1000000\n  status           tell where the machine stands and what it does\n  quit             end, as the end of the input does\n\nExit status:\n  0  all commands are answered, up to `quit` or to the end of the input\n  2  the words are wrong, or ask for help; or a file can't be opened or read, the\n     settings or the device are refused, the device is held by another process or\n     failed, the input or the output failed, or memory is wanting\n\nA refused command or program line prints why, and the next one is read. Refused\nsettings and devices print why. A file that can't be read prints nothing.";
 
 /// What a command line asks for.
 #[derive(Clone, Copy, Debug, PartialEq, Eq)]
@@ -207,7 +207,7 @@ fn run_command<'a>(alloc: Global) -> Result<Command<'a>, AllocError>
         .action(ArgAction::Set);
     Command::new(alloc, "run")
         .about("Run a machine: read an operator's commands and hand out pulses")
-        .after_help(RUN_ENDINGS)
+        .after_help(RUN_COMMANDS_AND_ENDINGS)
         .arg(device)?
         .arg(settings)?
         .arg(out)

@@ -1,7 +1,7 @@
 //! The job `format`: a device is made fresh.
 ghost use Rattle.std.specs.Prelude.{IfOk, ◌≤◌};
 ghost use Rattle.ng_console.specs.Formatting.{FormatsDevice, FormatsOpened, FormatsRig};
-ghost use Rattle.ng_console.specs.Refusals.{RefusesDevice};
+ghost use Rattle.ng_console.specs.Refusals.{IsFaultOf, RefusesDevice, RefusesStorage};
 
 use crate::program::{BROKEN, DONE, refuse};
 use ng_file::{FileRig, NoDevice, Storage};
@@ -10,11 +10,11 @@ use ng_num::Fault;
 use ng_rig::Rig;
 use std::alloc::Global;
 use std::io;
-use std::io::Write;
+use std::io::{ErrorKind, Write};
 
 /// Makes the device in a file that was opened fresh, and gives the exit status: 0 where that is done. Where the file couldn't be
-/// opened nothing is written; where it can't be used, is too short or fails, the line of the fault is. The error is that of
-/// the writer.
+/// opened nothing is written; where it can't be used, is too short or fails, or memory is wanting, the line of the fault is. The
+/// error is that of the writer.
 pub(crate) fn format_opened<S: Storage + Drop, W: Write>(
     alloc: Global,
     opened: Result<S, NoDevice>,
@@ -55,10 +55,28 @@ fn format_storage<S: Storage + Drop, W: Write>(
 {
     match FileRig::over(alloc, file, io::sink()) {
         Ok(mut rig) => format_rig(&mut rig, writer),
-        Err(_) => {
-            refuse(writer, Fault::DeviceFailed)?;
-            Ok(BROKEN)
-        }
+        Err(error) => refuse_storage(writer, error),
+    }
+}
+
+/// Says why no device can be made of a file that was opened, and gives the exit status: the line of the fault is written. The
+/// error is that of the writer.
+pub(crate) fn refuse_storage<W: Write>(writer: &mut W, why: io::Error) -> io::Result<u8>
+    ensures run { IfOk result (RefusesStorage why (W.contents writer.old) (W.contents writer.new)) }
+    ensures range { IfOk result (λ status. status ≤ 2) }
+{
+    refuse(writer, fault_of(&why))?;
+    Ok(BROKEN)
+}
+
+/// The fault of an error over a file that was opened. Want of memory is no failure of the device.
+fn fault_of(error: &io::Error) -> Fault
+    ensures { IsFaultOf error.now result }
+{
+    if error.kind() == ErrorKind::OutOfMemory {
+        Fault::OutOfMemory
+    } else {
+        Fault::DeviceFailed
     }
 }
 

@@ -1,10 +1,14 @@
 //! What the program `ngc` does (NISTIR 6556 in this project's profile), as a library that `main` and tests call.
 //!
-//! This crate promises what the program writes and how it ends: which job a command line asks for (`words`), with which
-//! settings it is done, and that the text and the exit status of a dry run are those of the program's lines (`run_dry`).
-//! It stands on `ng_block`, whose `dry` reads the program and writes the text, on `ng_settings`, which reads the
-//! settings, and on `clap`, which reads the words. It leaves out what a file holds and what the system does with the
-//! bytes that are written.
+//! This crate promises what the program writes and how it ends: which job a command line asks for (`words`); of a dry run the text
+//! and the status of the program's lines with the settings that were chosen (`run_dry`); of `format` that the device is fresh, or
+//! the line that says why not (`format_rig`); and of `run` that it is the console's conversation over the device in a file, or the
+//! line that says why there is none (`ngc`, for any job).
+//!
+//! Each job is done by a crate below: `ng_block` reads a program and writes its text, `ng_journal` formats a device, and `ng_run`
+//! talks to an operator. `clap` reads the words and `ng_settings` the settings; `ng_file` opens devices and makes a `Rig` (`ng_rig`)
+//! of a file; `ng_num` has the faults. The crate leaves out what a file holds and what the system does with the bytes that are
+//! written.
 #![tactic(auto)]
 
 mod command_line;

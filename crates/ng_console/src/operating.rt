@@ -4,11 +4,10 @@ ghost use Rattle.ng_file.specs.declared.device.NoDevice.{NoDevice};
 ghost use Rattle.ng_file.specs.declared.opened.OpenedFile.{OpenedFile};
 ghost use Rattle.ng_console.specs.Operating.{OperatesChosen, OperatesDevice, OperatesOpened};
 
-use crate::format::refuse_device;
-use crate::program::{BROKEN, refuse, refuse_settings};
+use crate::format::{refuse_device, refuse_storage};
+use crate::program::{BROKEN, refuse_settings};
 use crate::settings_file::NoSettings;
 use ng_file::{FileRig, Hold, Storage, open_device};
-use ng_num::Fault;
 use ng_run::console;
 use ng_settings::Settings;
 use std::alloc::Global;
@@ -68,7 +67,7 @@ fn open_to_append<R: Files>(rt: &R, path: &str) -> io::Result<R::File> {
 }
 
 /// Operates the machine of the device in these bytes, and appends what is handed out to a file. The error is that of the writer,
-/// where the bytes can't say how many they are.
+/// where the bytes can't say how many they are or memory for a line is wanting.
 fn operate_device<S: Storage + Drop, O: Write + Drop, I: Read, W: Write>(
     alloc: Global,
     settings: Settings,
@@ -85,9 +84,6 @@ fn operate_device<S: Storage + Drop, O: Write + Drop, I: Read, W: Write>(
             let (status, _) = console(alloc, reader, writer, rig, settings);
             Ok(status)
         }
-        Err(_) => {
-            refuse(writer, Fault::DeviceFailed)?;
-            Ok(BROKEN)
-        }
+        Err(error) => refuse_storage(writer, error),
     }
 }
