@@ -1,6 +1,6 @@
 -- A line that is carried out keeps feed and speed from 0, and the slots among those of the tool table.
 use Rattle.std.proofs.Common.{◌≡◌, ℕ, ◌*◌, ◌≤◌, ℤ, pos, negsuc, Bool, true, false, Option, Some, None, Result, Ok, Err, refl, sym, subst, arith, rules}
-use Rattle.std.specs.Prelude.{◌≤ℤ◌, ◌*ℤ◌, cond, unsigned_abs, nat_le, unwrap_or, IfSome}
+use Rattle.std.specs.Prelude.{◌≤ℤ◌, cond, unsigned_abs, nat_le, unwrap_or, IfSome}
 use Rattle.ng_num.specs.declared.fault.Fault.{Fault}
 use Rattle.ng_num.specs.declared.fault.Fault.TheVariants.{OutOfRange}
 use Rattle.ng_num.specs.declared.unit.Unit.{Unit as LengthUnit}
