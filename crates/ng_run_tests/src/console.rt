@@ -187,21 +187,21 @@ const FAILING: &[&str] = &[
     "begun\nticks 1\ndone 1\nidle\nticks 7\nstatus entries 1 place 0 at 0.005000 0.000000 0.000000 known half none idle\n",
 ];
 
-/// Which of them a text is; their number where it is none.
-fn place_of(text: &[u8]) -> usize {
-    for (place, wanted) in FAILING.iter().enumerate() {
-        if wanted.as_bytes() == text {
+/// Which of these texts a text is; their number where it is none.
+fn place_of(wanted: &[&str], text: &[u8]) -> usize {
+    for (place, one) in wanted.iter().enumerate() {
+        if one.as_bytes() == text {
             return place;
         }
     }
-    FAILING.len()
+    wanted.len()
 }
 
 /// That move over a device that fails behind so many calls: the place of what is written, the status, and the failures.
 fn moved_over_failing(alloc: Global, calls: u64) -> Result<(usize, u8, u64), AllocError> {
     let rig = FailRig::new(formatted(alloc)?, calls);
     let (status, text, rig) = answered(alloc, MOVE, rig);
-    Ok((place_of(text.as_slice()), status, rig.failures()))
+    Ok((place_of(FAILING, text.as_slice()), status, rig.failures()))
 }
 
 /// Each call of the device fails in turn: the answers are those above, in that order, and the status is 0 where none failed.
@@ -346,6 +346,55 @@ fn ends_where_the_writer_fails(rt: HostRuntime) -> Result<(), Fail> {
             (room < MOVED.len(), true, room.min(MOVED.len()), handed),
             "{room}"
         );
+    }
+    Ok(())
+}
+
+/// A program of two moves, of one pulse and of two, is stored and run.
+const TWO_MOVES: &str = "load 23\nG0 X0.001\nG0 X0.003\nM2\nstart\ntick 100\n";
+
+/// What is written of that up to the line of the second move: 13 bytes of `load` and `start`, and 7 behind each move.
+const BOTH_DONE: &str = "done 1\ngoing\ndone 2\ndone 3\n";
+
+/// What the status tells once power is on again, behind the first move and behind the second.
+const BEHIND_MOVES: &[&str] = &[
+    "status entries 2 place 10 at 0.001000 0.000000 0.000000 known half none idle\n",
+    "status entries 3 place 20 at 0.003000 0.000000 0.000000 known half none idle\n",
+];
+
+/// That over a writer with so much room: the status, whether a beginning is written, its length, the items handed out, and the place
+/// of what the status tells once power is on again.
+fn two_moves_in_room(
+    alloc: Global,
+    room: usize,
+) -> Result<(u8, bool, usize, usize, usize), AllocError> {
+    let mut reader = TWO_MOVES.as_bytes();
+    let mut writer = Full {
+        taken: Vec::new(alloc),
+        room,
+        takes_none: room % 2 == 0,
+    };
+    let rig = formatted(alloc)?;
+    let (status, rig) = console(alloc, &mut reader, &mut writer, rig, Settings::standard());
+    let text = writer.taken.as_slice();
+    let items = rig.handed(rig.calls())?;
+    let (_, shown, _) = answered(alloc, "status\n", rig);
+    Ok((
+        status,
+        BOTH_DONE.as_bytes().starts_with(text),
+        text.len(),
+        items.len(),
+        place_of(BEHIND_MOVES, shown.as_slice()),
+    ))
+}
+
+/// The writer fails in the line of a move that is done: no tick is made behind it, so the machine stands behind that move.
+#[test]
+fn makes_no_tick_behind_a_line_that_is_not_written(rt: HostRuntime) -> Result<(), Fail> {
+    for room in 13..27 {
+        let found = two_moves_in_room(rt.alloc(), room)?;
+        let (items, moves) = if room < 20 { (1, 0) } else { (3, 1) };
+        assert_eq!(rt; found, (2, true, room, items, moves), "{room}");
     }
     Ok(())
 }
