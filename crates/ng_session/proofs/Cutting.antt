@@ -183,5 +183,5 @@ cuts_within_event A q x events e left (inr is) =
       (leads_to q last e).entries,
       omega arith,
       subst (λ (l : List Entry). IsCut q x [] l left) (entries_more q (resting_scene x) events e)
-      (subst (IsCut q x [] (entries_of q (resting_scene x) (events ++ e ∷ []))) (sym is) (cut_all q x (events ++ e ∷ []))),
+          (subst (IsCut q x [] (entries_of q (resting_scene x) (events ++ e ∷ []))) (sym is) (cut_all q x (events ++ e ∷ []))),
     )
