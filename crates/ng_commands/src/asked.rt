@@ -1,3 +1,5 @@
+//! The commands of the console.
+
 /// The most bytes of a command's line, without its end.
 pub const LONGEST: usize = 300;
 

@@ -7,9 +7,10 @@ use crate::asked::{Command, LONGEST};
 use crate::digits::whole;
 use crate::words::{behind, is};
 
-/// The most digits of a program's length, and the greatest number of so many.
+/// The most digits of a program's length.
 const LENGTH_DIGITS: usize = 7;
 
+/// The greatest number of so many digits.
 const GREATEST_LENGTH: u32 = 9_999_999;
 
 /// The most ticks of one command.

@@ -10,7 +10,7 @@ use Rattle.ng_file.specs.declared.opened.OpenedFile.{OpenedFile}
 use Rattle.ng_file.specs.declared.rig.FileRig.{FileRig}
 use Rattle.ng_run.specs.Consoles.{Consoles}
 use Rattle.ng_console.specs.Chosen.{GivesChoice}
-use Rattle.ng_console.specs.Refusals.{IsBroken, RefusesDevice, RefusesSettings, RefusesStorage}
+use Rattle.ng_console.specs.Refusals.{IsSilent, RefusesDevice, RefusesSettings, RefusesStorage}
 use Rattle.ng_console.specs.declared.settings_file.NoSettings.{NoSettings}
 
 -- The device is that of these bytes, as many sectors as they have whole ones, and hands out to this file.
@@ -29,7 +29,7 @@ OperatesDevice {S} {O} content settings device out text old new status =
 
 -- the same of a file as it was opened
 abbrev pub OperatesInto : {S O : Type 0} → (S → Option (List ℕ)) → Settings → S → Result O Error → Option (List ℕ) → Option (List ℕ) → Option (List ℕ) → ℕ → Type 0
-OperatesInto content settings device (Err error) text old new status = IsBroken old new status
+OperatesInto content settings device (Err error) text old new status = IsSilent old new status
 OperatesInto content settings device (Ok out) text old new status = OperatesDevice content settings device out text old new status
 
 module _ {F : Type 0} where

@@ -13,8 +13,8 @@ use Rattle.ng_console.specs.declared.settings_file.NoSettings.{NoSettings}
 use Rattle.ng_console.specs.declared.settings_file.NoSettings.TheVariants.{Unread, Refused}
 
 -- a file that can't be opened or read: nothing is written
-abbrev pub IsBroken : Option (List ℕ) → Option (List ℕ) → ℕ → Type 0
-IsBroken old new status = (status ≡ 2) × (new ≡ old)
+abbrev pub IsSilent : Option (List ℕ) → Option (List ℕ) → ℕ → Type 0
+IsSilent old new status = (status ≡ 2) × (new ≡ old)
 
 -- what is written of a fault
 abbrev pub refused_text : Fault → List ℕ
@@ -25,12 +25,12 @@ IsRefusedWith fault old new status = (status ≡ 2) × Appends old new (refused_
 
 -- settings that can't be read, or that are refused
 abbrev pub RefusesSettings : NoSettings → Option (List ℕ) → Option (List ℕ) → ℕ → Type 0
-RefusesSettings Unread old new status = IsBroken old new status
+RefusesSettings Unread old new status = IsSilent old new status
 RefusesSettings (Refused fault) old new status = IsRefusedWith fault old new status
 
 -- a device that can't be opened, or that can't be used
 abbrev pub RefusesDevice : NoDevice → Option (List ℕ) → Option (List ℕ) → ℕ → Type 0
-RefusesDevice Unopened old new status = IsBroken old new status
+RefusesDevice Unopened old new status = IsSilent old new status
 RefusesDevice Unusable old new status = IsRefusedWith DeviceFailed old new status
 
 -- the fault of an error over a file that was opened: memory was wanting, or else the file failed

@@ -12,7 +12,7 @@ use Rattle.ng_file.specs.declared.opened.OpenedFile.{OpenedFile}
 use Rattle.ng_console.specs.Chosen.{GivesChoice}
 use Rattle.ng_console.specs.Formatting.{FormatsOpened}
 use Rattle.ng_console.specs.Operating.{Operates}
-use Rattle.ng_console.specs.Refusals.{IsBroken, RefusesSettings}
+use Rattle.ng_console.specs.Refusals.{IsSilent, RefusesSettings}
 use Rattle.ng_console.specs.declared.command_line.Job.{Job}
 use Rattle.ng_console.specs.declared.command_line.Job.TheVariants.{Dry, Format, Run}
 use Rattle.ng_console.specs.declared.settings_file.NoSettings.{NoSettings}
@@ -40,7 +40,7 @@ module _ {F : Type 0} (bytes_of : F → Option (List ℕ)) where
   -- a dry run of a program's file, as it was opened
   abbrev pub RunsFile : Settings → Bool → Result F Error → Option (List ℕ) → Option (List ℕ) → ℕ → Type 0
   RunsFile settings block_delete (Ok file) old new status = IsDryRun settings block_delete (bytes_of file) old new status
-  RunsFile settings block_delete (Err error) old new status = IsBroken old new status
+  RunsFile settings block_delete (Err error) old new status = IsSilent old new status
 
   -- the same with the settings that were found; where there are none the program's file isn't looked at
   abbrev pub RunsChosen : Result Settings NoSettings → Bool → Result F Error → Option (List ℕ) → Option (List ℕ) → ℕ → Type 0

@@ -31,15 +31,15 @@ abbrev pub format_app : App
 format_app = with_rule (new_app (codes "format")) device_rule
 
 -- SETTINGS and OUT, files that have to be named
-abbrev pub machine_rule : Rule
-machine_rule = record (new_rule (codes "SETTINGS")) { action = Some Set; required = true }
+abbrev pub settings_file_rule : Rule
+settings_file_rule = record (new_rule (codes "SETTINGS")) { action = Some Set; required = true }
 
 abbrev pub out_rule : Rule
 out_rule = record (new_rule (codes "OUT")) { action = Some Set; required = true }
 
 -- run DEVICE SETTINGS OUT
 abbrev pub run_app : App
-run_app = with_rule (with_rule (with_rule (new_app (codes "run")) device_rule) machine_rule) out_rule
+run_app = with_rule (with_rule (with_rule (new_app (codes "run")) device_rule) settings_file_rule) out_rule
 
 -- a command line names one of the subcommands; --version and help, asked for in either way, are answered
 abbrev pub only_by_subcommands : App → App

@@ -3,7 +3,7 @@ ghost use Rattle.std.specs.Prelude.{IfOk, ◌≤◌};
 ghost use Rattle.ng_console.specs.Formatting.{FormatsDevice, FormatsOpened, FormatsRig};
 ghost use Rattle.ng_console.specs.Refusals.{IsFaultOf, RefusesDevice, RefusesStorage};
 
-use crate::program::{BROKEN, DONE, refuse};
+use crate::program::{DONE, FAILED, refuse};
 use ng_file::{FileRig, NoDevice, Storage};
 use ng_journal::format;
 use ng_num::Fault;
@@ -36,10 +36,10 @@ pub(crate) fn refuse_device<W: Write>(writer: &mut W, why: NoDevice) -> io::Resu
     ensures range { IfOk result (λ status. status ≤ 2) }
 {
     match why {
-        NoDevice::Unopened => Ok(BROKEN),
+        NoDevice::Unopened => Ok(FAILED),
         NoDevice::Unusable => {
             refuse(writer, Fault::DeviceFailed)?;
-            Ok(BROKEN)
+            Ok(FAILED)
         }
     }
 }
@@ -66,7 +66,7 @@ pub(crate) fn refuse_storage<W: Write>(writer: &mut W, why: io::Error) -> io::Re
     ensures range { IfOk result (λ status. status ≤ 2) }
 {
     refuse(writer, fault_of(&why))?;
-    Ok(BROKEN)
+    Ok(FAILED)
 }
 
 /// The fault of an error over a file that was opened. Want of memory is no failure of the device.
@@ -90,7 +90,7 @@ pub fn format_rig<R: Rig, W: Write>(rig: &mut R, writer: &mut W) -> io::Result<u
         Ok(()) => Ok(DONE),
         Err(fault) => {
             refuse(writer, fault)?;
-            Ok(BROKEN)
+            Ok(FAILED)
         }
     }
 }

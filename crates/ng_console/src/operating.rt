@@ -5,7 +5,7 @@ ghost use Rattle.ng_file.specs.declared.opened.OpenedFile.{OpenedFile};
 ghost use Rattle.ng_console.specs.Operating.{OperatesChosen, OperatesDevice, OperatesOpened};
 
 use crate::format::{refuse_device, refuse_storage};
-use crate::program::{BROKEN, refuse_settings};
+use crate::program::{FAILED, refuse_settings};
 use crate::settings_file::NoSettings;
 use ng_file::{FileRig, Hold, Storage, open_device};
 use ng_run::console;
@@ -55,7 +55,7 @@ where
     match open_device(rt, device) {
         Ok(file) => match open_to_append(rt, out) {
             Ok(out) => operate_device(rt.alloc(), settings, file, out, reader, writer),
-            Err(_) => Ok(BROKEN),
+            Err(_) => Ok(FAILED),
         },
         Err(why) => refuse_device(writer, why),
     }

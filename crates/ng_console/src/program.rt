@@ -24,8 +24,8 @@ pub(crate) const DONE: u8 = 0;
 /// The program that was to be run is refused.
 const REFUSED: u8 = 1;
 
-/// The words, a file, the settings, the reader, the writer or memory kept the program from its work.
-pub(crate) const BROKEN: u8 = 2;
+/// The words, a file, the settings, the device, the reader, the writer or memory kept the program from its work.
+pub(crate) const FAILED: u8 = 2;
 
 /// Does what the words that the process was started with ask for, and gives the exit status.
 ///
@@ -41,14 +41,14 @@ where
     ensures run { (result ≡ 2) ⊎ ((texts : List (List ℕ)) × ((job : Job) × Asks texts job × Does R.File.remaining job (I.remaining reader.old) (W.contents writer.old) (W.contents writer.new) result)) }
 {
     let Ok(given) = given_words(rt) else {
-        return BROKEN;
+        return FAILED;
     };
     let Ok(texts) = given
         .iter()
         .map(|word| word.as_str())
         .collect::<Vec<&str>>(rt.alloc())
     else {
-        return BROKEN;
+        return FAILED;
     };
     ngc(rt, texts.as_slice(), reader, writer)
 }
@@ -84,7 +84,7 @@ where
         Err(error) => {
             // The status says the same whether or not the writer takes the text.
             let _ = write!(writer, "{error}");
-            BROKEN
+            FAILED
         }
     }
 }
@@ -113,11 +113,11 @@ where
             };
             let program = fs::open(rt, program);
             let chosen = chosen_settings(rt.alloc(), settings);
-            run_chosen(rt.alloc(), chosen, program, writer, block_delete).unwrap_or(BROKEN)
+            run_chosen(rt.alloc(), chosen, program, writer, block_delete).unwrap_or(FAILED)
         }
         Job::Format { device } => {
             let opened = make_device(rt, device);
-            format_opened(rt.alloc(), opened, writer).unwrap_or(BROKEN)
+            format_opened(rt.alloc(), opened, writer).unwrap_or(FAILED)
         }
         Job::Run {
             device,
@@ -126,7 +126,7 @@ where
         } => {
             let settings = Some(fs::open(rt, settings));
             let chosen = chosen_settings(rt.alloc(), settings);
-            operate_chosen(rt, chosen, device, out, reader, writer).unwrap_or(BROKEN)
+            operate_chosen(rt, chosen, device, out, reader, writer).unwrap_or(FAILED)
         }
     }
 }
@@ -157,10 +157,10 @@ pub(crate) fn refuse_settings<W: Write>(writer: &mut W, why: NoSettings) -> io::
     ensures range { IfOk result (λ status. status ≤ 2) }
 {
     match why {
-        NoSettings::Unread => Ok(BROKEN),
+        NoSettings::Unread => Ok(FAILED),
         NoSettings::Refused(fault) => {
             refuse(writer, fault)?;
-            Ok(BROKEN)
+            Ok(FAILED)
         }
     }
 }
@@ -188,7 +188,7 @@ fn run_file<R: Read + Drop, W: Write, A: Allocator + Copy + Drop>(
 {
     match opened {
         Ok(mut file) => run_dry(alloc, settings, &mut file, writer, block_delete),
-        Err(_) => BROKEN,
+        Err(_) => FAILED,
     }
 }
 
@@ -223,6 +223,6 @@ fn status(ended: &Result<Ended, DryFault>) -> u8
     match ended {
         Ok(Ended::Done) => DONE,
         Ok(Ended::Refused(_, _)) => REFUSED,
-        Err(DryFault::Reader | DryFault::Writer | DryFault::Memory) => BROKEN,
+        Err(DryFault::Reader | DryFault::Writer | DryFault::Memory) => FAILED,
     }
 }

@@ -9,7 +9,7 @@ use std::io;
 use std::io::Read;
 
 /// Why there are no settings.
-#[derive(Clone, Copy, Debug, PartialEq, Eq)]
+#[derive(Clone, Copy)]
 pub(crate) enum NoSettings {
     /// The file can't be opened or read, or memory for its bytes is wanting.
     Unread,

@@ -146,8 +146,8 @@ const SESSIONS: &[(&str, &str, &str)] = &[
     ),
     // power was lost in the midst of that block
     (
-        "status\nstart\njunk\n",
-        "status entries 3 place 0 at 0.002000 0.000000 0.000000 unknown half mdi 0 idle\nrefused K1 Busy\nrefused U1 BadCommand\n",
+        "status\nstart\njunk\nload 3\nM2\nmdi M2\ncontinue\nhold\ndelete on\noptional on\ntick 9\nstatus\n",
+        "status entries 3 place 0 at 0.002000 0.000000 0.000000 unknown half mdi 0 idle\nrefused K1 Busy\nrefused U1 BadCommand\nrefused K1 Busy\nrefused K1 Busy\nrefused K2 NoProgram\nidle\ntaken\ntaken\nidle\nticks 1\nstatus entries 3 place 0 at 0.002000 0.000000 0.000000 unknown half mdi 0 idle\n",
         "P 1 0 0 50\nP 1 0 0 50\nS 0 0.000000 0 0 0 0\nP -1 0 0 50\n",
     ),
 ];

@@ -89,6 +89,10 @@ const ANSWERED: &[(&[&str], &str)] = &[
         WRONG,
     ),
     (&["ngc", "--settings", "b", "dry", "a.ngc"], WRONG),
+    (&["ngc", "format"], WRONG),
+    (&["ngc", "format", "a.dev", "b.dev"], WRONG),
+    (&["ngc", "run", "a.dev", "b.toml"], WRONG),
+    (&["ngc", "run", "a.dev", "b.toml", "c", "d"], WRONG),
 ];
 
 /// Whether these words behind `ngc dry` ask for a job.

@@ -10,7 +10,7 @@ use Rattle.ng_session.specs.declared.reply.Reply.{Reply}
 use Rattle.ng_core.specs.Station.{Station, Rests}
 use Rattle.ng_core.specs.Acts.{Serves, reply_to, broken_answer}
 use Rattle.ng_core.specs.Causes.{outcome_of}
-use Rattle.ng_core.specs.Runs.{History, Step, Serving, Turns, program_behind}
+use Rattle.ng_core.specs.Runs.{History, Step, Serving, Stepping, program_behind}
 
 -- So many of these events were answered: whatever comes of the rest makes a history of all.
 pub record GoesOn {A R : Type 0} (life : R → Life) (events rest : List (Event A)) (done : List Reply) (program : List ℕ) (old now : Station R) : Type 0 where
@@ -63,7 +63,7 @@ goes_whole honest life failed events event rest done r old now next whole s equi
       let g = p.holds h program rests in
       let serving : Serving life s.answer event g.here now next = record { acts = s.does.holds (p.keeps h) g.here (g.rests whole); hindered = s.hindered; broken = s.broken; equipment = equipment } in
       goes_more life events event rest done r s.answer program old now next g
-      (record { told_is = s.told_is; turns = subst (λ (b : Bool). Turns life b s.answer event g.here now next) (sym whole) serving })
+      (record { told_is = s.told_is; stepping = subst (λ (b : Bool). Stepping life b s.answer event g.here now next) (sym whole) serving })
       (rests_behind life event s.answer g.here now next serving (g.rests whole));
 }
 
@@ -78,7 +78,7 @@ goes_broken {A} {R} honest life events event rest done r old now next broken sam
   holds = λ h program rests.
       let g = p.holds h program rests in
       goes_more life events event rest done r (broken_answer now.session event) program old now next g
-      (record { told_is = told; turns = subst (λ (b : Bool). Turns life b (broken_answer now.session event) event g.here now next) (sym broken) (refl, same) })
+      (record { told_is = told; stepping = subst (λ (b : Bool). Stepping life b (broken_answer now.session event) event g.here now next) (sym broken) (refl, same) })
       (λ whole. absurd (let b : true ≡ false = sym broken ∙ sym (ap (λ (c : Station R). c.journal.broken) same) ∙ whole in cc));
 }
 

@@ -18,7 +18,7 @@ use Rattle.ng_session.specs.declared.reply.Reply.{Reply}
 use Rattle.ng_session.specs.declared.reply.Reply.TheVariants as reply
 use Rattle.ng_core.specs.Station.{Station, Rests}
 use Rattle.ng_core.specs.Acts.{IsEitherLeft, reply_to, scene_of}
-use Rattle.ng_core.specs.Runs.{History, Step, Serving, Turns, IsLeftBehind, IsLeftFrom, Passes, came, came_by, told, told_by, tried, tried_by, program_behind}
+use Rattle.ng_core.specs.Runs.{History, Step, Serving, Stepping, IsLeftBehind, IsLeftFrom, Passes, came, came_by, told, told_by, tried, tried_by, program_behind}
 use Rattle.ng_core.specs.Causes.{outcome_of}
 
 -- ---- stops
@@ -94,7 +94,7 @@ pub record Idles {R : Type 0} (replies : List Reply) (old new : Station R) : Typ
 idles_more : {A R : Type 0} (life : R → Life) (event : Event A) (r : Reply) (replies : List Reply) (answer : Result Reply Fault) (program : List ℕ) (old between new : Station R)
     → old.journal.broken ≡ true → Step life event r answer program old between → Idles replies between new → Idles (r ∷ replies) old new
 idles_more life event r replies answer program old between new broken step rest =
-    let turn : Turns life true answer event program old between = subst (λ (b : Bool). Turns life b answer event program old between) broken step.turns in
+    let turn : Stepping life true answer event program old between = subst (λ (b : Bool). Stepping life b answer event program old between) broken step.stepping in
     record {
       answers = answer ∷ rest.answers;
       replies_are = λ i. step.told_is i ∷ rest.replies_are i;
@@ -109,7 +109,7 @@ idles life (event ∷ events) [] program old new h broken = absurd h
 idles life (event ∷ events) (r ∷ replies) program old new h broken =
     let answer = h.0 in
     let between = h.1.0 in
-    let turn : Turns life true answer event program old between = subst (λ (b : Bool). Turns life b answer event program old between) broken h.1.1.0.turns in
+    let turn : Stepping life true answer event program old between = subst (λ (b : Bool). Stepping life b answer event program old between) broken h.1.1.0.stepping in
     idles_more life event r replies answer program old between new broken h.1.1.0
     (idles life events replies (program_behind answer (outcome_of old program event) program) between new h.1.1.1 (ap (λ (c : Station _). c.journal.broken) turn.1 ∙ broken))
 
@@ -227,6 +227,6 @@ passes life (event ∷ events) [] program old new h whole rests = absurd h
 passes life (event ∷ events) (r ∷ replies) program old new h whole rests =
     let answer = h.0 in
     let between = h.1.0 in
-    let turn : Serving life answer event program old between = subst (λ (b : Bool). Turns life b answer event program old between) whole h.1.1.0.turns in
+    let turn : Serving life answer event program old between = subst (λ (b : Bool). Stepping life b answer event program old between) whole h.1.1.0.stepping in
     passed life event events r replies answer program old between new h.1.1.0.told_is turn whole rests h.1.1.1
     (λ p w k g. passes life events replies p between new g w k)

@@ -8,6 +8,7 @@ pub mod Storing
 pub mod Ticks
 pub mod Beginning
 pub mod Choosing
+pub mod Anyway
 pub mod Hindering
 pub mod Answering
 pub mod Powering

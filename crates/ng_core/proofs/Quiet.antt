@@ -7,7 +7,7 @@ use Rattle.ng_layout.specs.Programs.{Line}
 use Rattle.ng_layout.specs.Stored.{Saved}
 use Rattle.ng_layout.specs.declared.half.Source.TheVariants as source
 use Rattle.ng_session.specs.Entries.{Equipment, done_of}
-use Rattle.ng_session.specs.Session.{Sitting, Outcome, is_running, is_idle, is_free, is_engaged, start, hold, goes_on, mdi, mdi_by, begin, begin_by, step, IsQuiet}
+use Rattle.ng_session.specs.Session.{Sitting, Outcome, is_running, is_idle, is_free, is_engaged, start, hold, go_on, mdi, mdi_by, begin, begin_by, step, IsQuiet}
 use Rattle.ng_session.specs.declared.event.Event.{Event}
 use Rattle.ng_session.specs.declared.event.Event.TheVariants as event
 
@@ -33,7 +33,7 @@ still_start P s =
 still_hold : (P : List ℕ) (s : Sitting) → IsStill P s.stored (hold P s)
 still_hold P s = by_if P s.stored (is_running s.activity || is_some s.current) _ _ (still refl refl refl) (still refl refl refl)
 
-still_go : (P : List ℕ) (s : Sitting) → IsStill P s.stored (goes_on P s)
+still_go : (P : List ℕ) (s : Sitting) → IsStill P s.stored (go_on P s)
 still_go P s =
     by_if P s.stored s.held _ _ (still refl refl refl)
     (by_if P s.stored (is_running s.activity || is_some s.current) _ _ (still refl refl refl)

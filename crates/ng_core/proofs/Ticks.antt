@@ -29,7 +29,7 @@ does_on honest life answer out wanted old mid new same equal does =
 
 -- ---- held
 
-tick_held : (q : Equipment) (P : List ℕ) (s : Sitting) → s.held ≡ true → tick q P s ≡ answers P reply.Held s
+pub tick_held : (q : Equipment) (P : List ℕ) (s : Sitting) → s.held ≡ true → tick q P s ≡ answers P reply.Held s
 tick_held q P s held = rw held refl
 
 pub does_held : {R : Type 0} (honest : R → Type 0) (life : R → Life) (c : Station R) → c.session.held ≡ true
@@ -146,7 +146,7 @@ does_not_commit {R} {T} honest life fault e saved old new due same which unchang
 
 -- ---- nothing
 
-rests_there : (q : Equipment) (P : List ℕ) (s : Sitting) → s.current ≡ None → is_running s.activity ≡ false → end q P s s.current ≡ rest P s
+pub rests_there : (q : Equipment) (P : List ℕ) (s : Sitting) → s.current ≡ None → is_running s.activity ≡ false → end q P s s.current ≡ rest P s
 rests_there q P s none idle = ap (λ (o : Option Underway). end q P s o) none ∙ rw idle refl
 
 pub does_rest : {R : Type 0} (honest : R → Type 0) (life : R → Life) (r : Reply) (c : Station R) → c.session.current ≡ None → is_running c.session.activity ≡ false

@@ -1,5 +1,5 @@
 -- What an event does to a controller and to its device (own).
-use Rattle.std.specs.Prelude.{◌≡◌, ◌⊎◌, ℕ, List, ◌++◌, Result, Ok, Err, IfErr}
+use Rattle.std.specs.Prelude.{◌≡◌, ◌≢◌, ◌⊎◌, ℕ, false, List, ◌++◌, Result, Ok, Err, IfErr, MatchResult}
 use Rattle.ng_num.specs.declared.fault.Fault.{Fault}
 use Rattle.ng_num.specs.declared.fault.Fault.TheVariants.{DeviceFailed, Broken}
 use Rattle.ng_canon.specs.declared.item.Item.{Item}
@@ -7,7 +7,7 @@ use Rattle.ng_rig.specs.Life.{Image, Life, items}
 use Rattle.ng_rig.specs.Calls.{Promises}
 use Rattle.ng_rig.specs.Onward.{Onward}
 use Rattle.ng_journal.specs.Journal.{StandsFor, IsBrokenBy, Tells}
-use Rattle.ng_session.specs.Session.{Sitting, Outcome, shown}
+use Rattle.ng_session.specs.Session.{Sitting, Outcome, shown, IsBetweenLines}
 use Rattle.ng_session.specs.Runs.{Scene, Left, left_in, scene_after}
 use Rattle.ng_session.specs.declared.event.Event.{Event}
 use Rattle.ng_session.specs.declared.event.Event.TheVariants as event
@@ -29,6 +29,20 @@ abbrev pub Comes : {R : Type 0} → Result Reply Fault → Outcome → Station R
 Comes (Ok r) out old new = (r ≡ out.reply) × (new.session ≡ out.next)
 Comes (Err DeviceFailed) out old new = shown new.session ≡ shown old.session
 Comes (Err fault) out old new = new.session ≡ old.session
+
+-- Where an event isn't answered, what the status shows stays; where the device didn't fail, all of the session does.
+abbrev pub Stays : {R : Type 0} → Fault → Station R → Station R → Type 0
+Stays fault old new = (shown new.session ≡ shown old.session) × (fault ≢ DeviceFailed → new.session ≡ old.session)
+
+-- a line of the program is read for it
+abbrev pub ReadsLine : {A : Type 0} → Sitting → Event A → Type 0
+ReadsLine s event.Tick = (s.held ≡ false) × IsBetweenLines s
+ReadsLine s _ = ⊥
+
+-- What is told, and the session then, whatever the device is: by the session alone, unless a line is read for it.
+abbrev pub ComesAnyway : {R : Type 0} → (reads : Type 0) → Result Reply Fault → (List ℕ → Outcome) → Station R → Station R → Type 0
+ComesAnyway reads answer out old new =
+    MatchResult answer (λ r. (reads → ⊥) → (program : List ℕ) → (r ≡ (out program).reply) × (new.session ≡ (out program).next)) (λ fault. Stays fault old new)
 
 -- What stands then and was handed out: of an answer what it leads to, alone; where memory or a count is wanting, the device stays.
 abbrev pub Leaves : {R : Type 0} → Result Reply Fault → Outcome → List ℕ → Station R → Life → Life → Type 0
@@ -57,10 +71,12 @@ Does honest life answer out old new =
     Promises (honest old.journal.rig) (honest new.journal.rig) ((program : List ℕ) → Rests (life old.journal.rig) old program
     → Acts answer (out program) program old new (life old.journal.rig) (life new.journal.rig))
 
--- A reply and what became of its event, or what hindered it; the device counted a failure exactly where that did.
+-- A reply and what became of its event, or what hindered it; the device counted a failure exactly where that did. But for what is read of
+-- the program, reply and session are the session's own whatever the device is.
 pub record Serves {A R : Type 0} (honest : R → Type 0) (life : R → Life) (failed : R → ℕ) (event : Event A) (told : Reply) (old new : Station R) : Type 0 where
   pub answer : Result Reply Fault
   pub told_is : told ≡ reply_to answer
+  pub comes : ComesAnyway (ReadsLine old.session event) answer (λ program. outcome_of old program event) old new
   pub does : Does honest life answer (λ program. outcome_of old program event) old new
   pub hindered : IfErr answer (Hinders old event)
   pub broken : IsBrokenBy answer new.journal.broken

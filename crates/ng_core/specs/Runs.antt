@@ -28,14 +28,14 @@ pub record Serving {A R : Type 0} (life : R → Life) (answer : Result Reply Fau
   pub equipment : new.equipment ≡ old.equipment
 
 -- what an event does to a controller, broken or whole
-abbrev pub Turns : {A R : Type 0} → (R → Life) → Bool → Result Reply Fault → Event A → List ℕ → Station R → Station R → Type 0
-Turns life true answer event program old new = (answer ≡ broken_answer old.session event) × (new ≡ old)
-Turns life false answer event program old new = Serving life answer event program old new
+abbrev pub Stepping : {A R : Type 0} → (R → Life) → Bool → Result Reply Fault → Event A → List ℕ → Station R → Station R → Type 0
+Stepping life true answer event program old new = (answer ≡ broken_answer old.session event) × (new ≡ old)
+Stepping life false answer event program old new = Serving life answer event program old new
 
 -- an event with its reply
 pub record Step {A R : Type 0} (life : R → Life) (event : Event A) (r : Reply) (answer : Result Reply Fault) (program : List ℕ) (old new : Station R) : Type 0 where
   pub told_is : r ≡ reply_to answer
-  pub turns : Turns life old.journal.broken answer event program old new
+  pub stepping : Stepping life old.journal.broken answer event program old new
 
 -- One event after the other, each with its reply, from where the one before left controller and device.
 abbrev pub History : {A R : Type 0} → (R → Life) → List (Event A) → List Reply → List ℕ → Station R → Station R → Type 0

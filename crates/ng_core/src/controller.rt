@@ -1,5 +1,5 @@
 //! A controller, and how it answers events.
-ghost use Rattle.std.specs.Prelude.{◌≡◌, ℕ, List, true, false, None, IfErr};
+ghost use Rattle.std.specs.Prelude.{◌≡◌, ℕ, true, false, None, IfErr};
 ghost use Rattle.ng_num.specs.declared.fault.Fault.{Fault};
 ghost use Rattle.ng_num.specs.declared.fault.Fault.TheVariants.{OutOfMemory};
 ghost use Rattle.ng_journal.specs.Journal.{Tells, IsBrokenBy};
@@ -38,7 +38,7 @@ impl<R: Rig, A: Allocator + Copy + Drop> Model for Controller<R, A> {
 
 impl<R: Rig, A: Allocator + Copy + Drop> Controller<R, A> {
     ghost use Rattle.ng_session.specs.Session.{step, load, load_refusal, IsQuiet, TakesMemory};
-    ghost use Rattle.ng_core.specs.Acts.{Does, Serves, reply_to, broken_answer};
+    ghost use Rattle.ng_core.specs.Acts.{ComesAnyway, Does, ReadsLine, Serves, reply_to, broken_answer};
     ghost use Rattle.ng_core.specs.Causes.{Hinders, IsHinderedBy};
 
     /// The device as it is, with no call to it.
@@ -67,7 +67,7 @@ impl<R: Rig, A: Allocator + Copy + Drop> Controller<R, A> {
     ///
     /// Refused by the session, which stays as it is: K1, K2, K3, J5, an operator's line by its own faults. A line of the program that
     /// is refused, and a text that ends before its program does (X3, X4), leave the program stopped there. M1 where memory is wanting,
-    /// which only a Load, a line of the operator and a Tick that begins a line take; J4 where the epoch or the entry count that a Load,
+    /// which only a Load, a line of the operator and a Tick between two lines take; J4 where the epoch or the entry count that a Load,
     /// an opened segment or an entry needs would be beyond its limit: nothing is changed then. J1 where the device failed: the controller
     /// is broken then, and the device stands for what stood before the event or for what stands behind it. K5 to all but Status where
     /// it is broken already.
@@ -80,7 +80,7 @@ impl<R: Rig, A: Allocator + Copy + Drop> Controller<R, A> {
     }
 
     /// Answers an event that stays the caller's as `on` does: the same is refused, and the same is left.
-    pub fn reply(&mut self, event: &Event<A>) -> Reply
+    pub(crate) fn reply(&mut self, event: &Event<A>) -> Reply
         ensures serves { self.old.journal.broken ≡ false → Serves R.honest R.life R.failed event.now result self.old self.new }
         ensures broken { self.old.journal.broken ≡ true → (self.new ≡ self.old) × (result ≡ reply_to (broken_answer self.old.session event.now)) }
         ensures equipment { self.new.equipment ≡ self.old.equipment }
@@ -94,6 +94,7 @@ impl<R: Rig, A: Allocator + Copy + Drop> Controller<R, A> {
     /// What the session answers, or why it doesn't answer: M1, J4, J1 or K5.
     fn handle(&mut self, event: &Event<A>) -> Result<Reply, Fault>
         ensures does { self.old.journal.broken ≡ false → Does R.honest R.life result (λ program. step self.old.equipment program self.old.session event.now) self.old self.new }
+        ensures comes { self.old.journal.broken ≡ false → ComesAnyway (ReadsLine self.old.session event.now) result (λ program. step self.old.equipment program self.old.session event.now) self.old self.new }
         ensures hindered { self.old.journal.broken ≡ false → IfErr result (Hinders self.old event.now) }
         ensures fails { self.old.journal.broken ≡ false → IsBrokenBy result self.new.journal.broken }
         ensures broken { self.old.journal.broken ≡ true → (self.new ≡ self.old) × (result ≡ broken_answer self.old.session event.now) }
@@ -117,7 +118,7 @@ impl<R: Rig, A: Allocator + Copy + Drop> Controller<R, A> {
     }
 
     /// What is answered once the device failed.
-    pub(crate) fn answer_broken(&self, event: &Event<A>) -> Result<Reply, Fault>
+    fn answer_broken(&self, event: &Event<A>) -> Result<Reply, Fault>
         ensures { result ≡ broken_answer self.now.session event.now }
     {
         match event {
@@ -137,9 +138,10 @@ impl<R: Rig, A: Allocator + Copy + Drop> Controller<R, A> {
     }
 
     /// Loads a program, once that is stored.
-    pub(crate) fn load(&mut self, text: &[u8]) -> Result<Reply, Fault>
+    fn load(&mut self, text: &[u8]) -> Result<Reply, Fault>
         requires { self.old.journal.broken ≡ false }
         ensures does { Does R.honest R.life result (λ program. load program self.old.session text.now) self.old self.new }
+        ensures comes { ComesAnyway ⊥ result (λ program. load program self.old.session text.now) self.old self.new }
         ensures equipment { self.new.equipment ≡ self.old.equipment }
         ensures broken { IsBrokenBy result self.new.journal.broken }
         ensures hindered { IfErr result (IsHinderedBy (load_refusal self.old.session text.now ≡ None) (load_refusal self.old.session text.now ≡ None) self.old.journal.header.epoch (λ program. (load program self.old.session text.now).reply)) }
@@ -155,10 +157,11 @@ impl<R: Rig, A: Allocator + Copy + Drop> Controller<R, A> {
     }
 
     /// What the session answers of itself.
-    pub(crate) fn answer(&mut self, event: &Event<A>) -> Result<Reply, Fault>
+    fn answer(&mut self, event: &Event<A>) -> Result<Reply, Fault>
         requires whole { self.old.journal.broken ≡ false }
         requires quiet { IsQuiet event.now }
         ensures does { Does R.honest R.life result (λ program. step self.old.equipment program self.old.session event.now) self.old self.new }
+        ensures comes { ComesAnyway (ReadsLine self.old.session event.now) result (λ program. step self.old.equipment program self.old.session event.now) self.old self.new }
         ensures equipment { self.new.equipment ≡ self.old.equipment }
         ensures broken { IsBrokenBy result self.new.journal.broken }
         ensures hindered { IfErr result (λ fault. (fault ≡ OutOfMemory) × TakesMemory self.old.session event.now) }

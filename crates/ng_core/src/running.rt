@@ -10,13 +10,15 @@ use ng_session::{Event, Reply};
 use std::alloc::Allocator;
 
 impl<R: Rig, A: Allocator + Copy + Drop> Controller<R, A> {
+    ghost use Rattle.ng_core.specs.Turns.{Turns};
     ghost use Rattle.ng_core.specs.Runs.{Ran, FailsOnce};
 
     /// Answers events in turn, each as `on` does: the replies in their order (own).
     ///
     /// M1 where there is no room for all replies: then no event was answered, and nothing is changed. A fault of an event is its reply,
-    /// and the next one is answered all the same.
+    /// and the next one is answered all the same. Over an honest device each stop leaves what stands behind some of the events.
     pub fn run(&mut self, events: &[Event<A>]) -> Result<Vec<Reply, A>, Fault>
+        ensures turns { IfOk result (λ replies. Turns R.honest R.life R.failed events.now replies.items self.old self.new) }
         ensures ran { IfOk result (λ replies. Promises (R.honest self.old.journal.rig) (R.honest self.new.journal.rig) (Ran R.life events.now replies.items self.old self.new)) }
         ensures each { IfOk result (λ replies. length replies.items ≡ length events.now) }
         ensures failures { IfOk result (λ replies. FailsOnce self.old.journal.broken self.new.journal.broken (R.failed self.old.journal.rig) (R.failed self.new.journal.rig)) }

@@ -53,13 +53,14 @@ fn lines_behind(known: &LinesBefore, place: u64, first: Kind, text: &[u8], next:
 impl<R: Rig, A: Allocator + Copy + Drop> Controller<R, A> {
     ghost use Rattle.ng_session.specs.Session.{answers, opened, tick, open_next, end, begin, opening_of, is_busy, IsBetweenLines};
     ghost use Rattle.ng_layout.specs.Programs.{line_at};
-    ghost use Rattle.ng_core.specs.Acts.{Does};
+    ghost use Rattle.ng_core.specs.Acts.{ComesAnyway, Does, Stays};
     ghost use Rattle.ng_core.specs.Causes.{IsHinderedBy};
 
     /// Does the next thing that is to do, of those above the first that applies.
     pub(crate) fn tick(&mut self) -> Result<Reply, Fault>
         requires { self.old.journal.broken ≡ false }
         ensures does { Does R.honest R.life result (λ program. tick self.old.equipment program self.old.session) self.old self.new }
+        ensures comes { ComesAnyway ((self.old.session.held ≡ false) × IsBetweenLines self.old.session) result (λ program. tick self.old.equipment program self.old.session) self.old self.new }
         ensures equipment { self.new.equipment ≡ self.old.equipment }
         ensures broken { IsBrokenBy result self.new.journal.broken }
         ensures hindered { IfErr result (IsHinderedBy ((self.old.session.held ≡ false) × IsBetweenLines self.old.session) ((self.old.session.held ≡ false) × (is_busy self.old.session ≡ true)) self.old.journal.header.epoch (λ program. (tick self.old.equipment program self.old.session).reply)) }
@@ -78,6 +79,7 @@ impl<R: Rig, A: Allocator + Copy + Drop> Controller<R, A> {
     fn go_further(&mut self) -> Result<Reply, Fault>
         requires { self.old.journal.broken ≡ false }
         ensures does { Does R.honest R.life result (λ program. open_next self.old.equipment program self.old.session (opening_of self.old.session.current)) self.old self.new }
+        ensures comes { ComesAnyway (IsBetweenLines self.old.session) result (λ program. open_next self.old.equipment program self.old.session (opening_of self.old.session.current)) self.old self.new }
         ensures equipment { self.new.equipment ≡ self.old.equipment }
         ensures broken { IsBrokenBy result self.new.journal.broken }
         ensures hindered { IfErr result (IsHinderedBy (IsBetweenLines self.old.session) (is_busy self.old.session ≡ true) self.old.journal.header.epoch (λ program. (open_next self.old.equipment program self.old.session (opening_of self.old.session.current)).reply)) }
@@ -93,6 +95,7 @@ impl<R: Rig, A: Allocator + Copy + Drop> Controller<R, A> {
     fn end(&mut self) -> Result<Reply, Fault>
         requires { self.old.journal.broken ≡ false }
         ensures does { Does R.honest R.life result (λ program. end self.old.equipment program self.old.session self.old.session.current) self.old self.new }
+        ensures comes { ComesAnyway (IsBetweenLines self.old.session) result (λ program. end self.old.equipment program self.old.session self.old.session.current) self.old self.new }
         ensures equipment { self.new.equipment ≡ self.old.equipment }
         ensures broken { IsBrokenBy result self.new.journal.broken }
         ensures hindered { IfErr result (IsHinderedBy (IsBetweenLines self.old.session) (is_busy self.old.session ≡ true) self.old.journal.header.epoch (λ program. (end self.old.equipment program self.old.session self.old.session.current).reply)) }
@@ -108,9 +111,10 @@ impl<R: Rig, A: Allocator + Copy + Drop> Controller<R, A> {
     }
 
     /// Hands out an item of the open segment, which the session took from it.
-    pub(crate) fn hand_out(&mut self, item: Item) -> Result<Reply, Fault>
+    fn hand_out(&mut self, item: Item) -> Result<Reply, Fault>
         requires { self.old.journal.broken ≡ false }
         ensures does { Does R.honest R.life result (λ program. record { reply = Reply.Moved; items = item ∷ []; entries = []; program = program; next = self.old.session }) self.old self.new }
+        ensures comes { ComesAnyway ⊥ result (λ program. record { reply = Reply.Moved; items = item ∷ []; entries = []; program = program; next = self.old.session }) self.old self.new }
         ensures equipment { self.new.equipment ≡ self.old.equipment }
         ensures broken { IsBrokenBy result self.new.journal.broken }
         ensures errors { IfErr result (λ e. e ≡ DeviceFailed) }
@@ -121,10 +125,11 @@ impl<R: Rig, A: Allocator + Copy + Drop> Controller<R, A> {
     }
 
     /// Opens the next segment, once its half-done block is stored.
-    pub(crate) fn open(&mut self, half: Half) -> Result<Reply, Fault>
+    fn open(&mut self, half: Half) -> Result<Reply, Fault>
         requires whole { self.old.journal.broken ≡ false }
         requires half { CanWait half }
         ensures does { Does R.honest R.life result (λ program. answers program (Reply.Opened half.index) (opened self.old.equipment.geometry self.old.session half)) self.old self.new }
+        ensures comes { ComesAnyway ⊥ result (λ program. answers program (Reply.Opened half.index) (opened self.old.equipment.geometry self.old.session half)) self.old self.new }
         ensures equipment { self.new.equipment ≡ self.old.equipment }
         ensures broken { IsBrokenBy result self.new.journal.broken }
         ensures hindered { IfErr result (IsHinderedBy ⊥ (Unit {0}) self.old.journal.header.epoch (λ program. Reply.Opened half.index)) }
@@ -135,10 +140,11 @@ impl<R: Rig, A: Allocator + Copy + Drop> Controller<R, A> {
     }
 
     /// Commits the current block, once what stands behind it is stored.
-    pub(crate) fn commit(&mut self) -> Result<Reply, Fault>
+    fn commit(&mut self) -> Result<Reply, Fault>
         requires whole { self.old.journal.broken ≡ false }
         requires block { IsSome self.old.session.current }
         ensures does { Does R.honest R.life result (λ program. end self.old.equipment program self.old.session self.old.session.current) self.old self.new }
+        ensures comes { ComesAnyway (IsBetweenLines self.old.session) result (λ program. end self.old.equipment program self.old.session self.old.session.current) self.old self.new }
         ensures equipment { self.new.equipment ≡ self.old.equipment }
         ensures broken { IsBrokenBy result self.new.journal.broken }
         ensures hindered { IfErr result (IsHinderedBy ⊥ (Unit {0}) self.old.journal.header.epoch (λ program. (end self.old.equipment program self.old.session self.old.session.current).reply)) }
@@ -152,9 +158,10 @@ impl<R: Rig, A: Allocator + Copy + Drop> Controller<R, A> {
     }
 
     /// Begins the program's line at its place, or stops the program at the end of its text.
-    pub(crate) fn begin(&mut self) -> Result<Reply, Fault>
+    fn begin(&mut self) -> Result<Reply, Fault>
         requires { self.old.journal.broken ≡ false }
         ensures does { Does R.honest R.life result (λ program. begin self.old.equipment program self.old.session (line_at program self.old.session.stored.place)) self.old self.new }
+        ensures stays { IfErr result (λ fault. Stays fault self.old self.new) }
         ensures equipment { self.new.equipment ≡ self.old.equipment }
         ensures broken { IsBrokenBy result self.new.journal.broken }
         ensures hindered { IfErr result (λ fault. (fault ≡ OutOfMemory) ⊎ (fault ≡ DeviceFailed)) }

@@ -8,7 +8,7 @@ use std::alloc::Allocator;
 use std::io::Read;
 
 /// What became of the bytes that were asked for.
-#[derive(Clone, Copy, Debug, PartialEq, Eq)]
+#[derive(Clone, Copy)]
 pub enum Passed {
     /// All of them are kept.
     Whole,
@@ -25,7 +25,7 @@ fn keep_on<A: Allocator + Copy + Drop>(text: &mut Vec<u8, A>, has_room: bool, by
     has_room && text.extend_from_slice(bytes).is_ok()
 }
 
-/// Takes so many bytes, and keeps them behind no text. Memory grows with the bytes that came.
+/// Takes so many bytes, and keeps them in a text that is empty before. Memory grows with the bytes that came.
 ///
 /// `Unread` where the reader failed: some of the bytes are taken then. Source: own.
 pub fn take_bytes<R: Read, A: Allocator + Copy + Drop>(

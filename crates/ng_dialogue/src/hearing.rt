@@ -39,7 +39,7 @@ impl From<AllocError> for Deaf {
     }
 }
 
-/// Takes the program that a command of this length asks to be stored.
+/// Takes the program of this length that a command asks to be stored.
 fn load<R: Read, A: Allocator + Copy + Drop>(
     alloc: A,
     input: &mut Input,

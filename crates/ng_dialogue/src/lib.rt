@@ -12,9 +12,7 @@ mod listening;
 mod order;
 mod telling;
 
-pub use bytes::{Passed, take_bytes};
 pub use hearing::{Deaf, next_order};
-pub use input::{Input, Unread};
-pub use listening::{CUT, next_line};
+pub use input::Input;
 pub use order::Order;
 pub use telling::{Unsent, tell_refusal, tell_reply, tell_tick, tell_ticks};

@@ -1,5 +1,5 @@
 //! Lines of a reader.
-ghost use Rattle.std.specs.Prelude.{◌≡◌, ◌∷◌, ◌++◌, ◌+◌, ◌≤◌, ℕ, List, [], take, length, true, false, MatchOption, IfOk};
+ghost use Rattle.std.specs.Prelude.{◌≡◌, ◌∷◌, ◌++◌, ◌+◌, ◌≤◌, ℕ, List, [], take, true, false, MatchOption, IfOk};
 ghost use Rattle.std.specs.Io.KnownBytes.{Keeps, IsAtEnd, prepend_known};
 ghost use Rattle.ng_block.specs.Parts.{HasNoNewline};
 ghost use Rattle.ng_dialogue.specs.Reading.{TakesLine};

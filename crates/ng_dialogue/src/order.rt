@@ -1,3 +1,4 @@
+//! What the console is asked to do, as a value.
 use ng_num::Fault;
 use ng_session::Event;
 use std::alloc::Allocator;

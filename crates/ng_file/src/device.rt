@@ -17,12 +17,15 @@ pub enum NoDevice {
     Unusable,
 }
 
-/// Opens the file of a device and holds it for this process alone.
+/// Opens the file of a device and holds it for this process alone (own).
+///
+/// `Unopened` where it isn't there or may not be read and written; `Unusable` where it is a directory or can't be held, as where
+/// another process holds it. Nothing is changed then.
 pub fn open_device<R: Files>(rt: &R, path: &str) -> Result<OpenedFile<R::File>, NoDevice>
 where
     R::File: Hold,
 {
-    if is_folder(rt, path) {
+    if is_directory(rt, path) {
         return Err(NoDevice::Unusable);
     }
     let opened = OpenOptions::new().read(true).write(true).open(rt, path);
@@ -32,7 +35,10 @@ where
     held(file)
 }
 
-/// Opens the file of a device and holds it for this process alone; makes it with zeros where there is none.
+/// Opens the file of a device and holds it for this process alone; makes it with zeros where there is none (own).
+///
+/// `Unopened` where it can't be made, or is there and may not be read and written; `Unusable` as for `open_device`, or where a new file
+/// can't be made as long as a device: it stays then, too short.
 pub fn make_device<R: Files>(rt: &R, path: &str) -> Result<OpenedFile<R::File>, NoDevice>
 where
     R::File: Hold,
@@ -53,7 +59,7 @@ where
 }
 
 /// Whether a path names a directory.
-fn is_folder<R: Files>(rt: &R, path: &str) -> bool {
+fn is_directory<R: Files>(rt: &R, path: &str) -> bool {
     match rt.metadata(path) {
         Ok(metadata) => metadata.is_dir(),
         Err(_) => false,

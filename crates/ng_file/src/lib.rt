@@ -19,7 +19,6 @@ mod storage;
 
 pub use device::{NoDevice, make_device, open_device};
 pub use hold::{Hold, NotHeld};
-pub use line::push_item;
 pub use opened::OpenedFile;
 pub use rig::FileRig;
 pub use storage::Storage;

@@ -1,4 +1,4 @@
--- What writing a snapshot leaves.
+-- What writing a snapshot leaves (own).
 use Rattle.std.specs.Prelude.{◌<◌, ◌+◌, ℕ, Result, OnOk}
 use Rattle.ng_rig.specs.Life.{Life, reads}
 use Rattle.ng_rig.specs.Only.{WritesOnly}

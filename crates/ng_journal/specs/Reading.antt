@@ -1,4 +1,4 @@
--- What is read of a device.
+-- What is read of a device (own).
 use Rattle.std.specs.Prelude.{◌≡◌, ◌==◌, ℕ, Bool, List, ℤ, Some, None, Result, IfOk, MatchBool}
 use Rattle.ng_rig.specs.Life.{Life, Image, reads}
 use Rattle.ng_layout.specs.Fields.{number_at}

@@ -1,5 +1,5 @@
 //! A whole state written under the next epoch.
-ghost use Rattle.std.specs.Prelude.{◌≡◌, ◌≤◌, ◌<◌, ◌+◌, ◌%◌, true, Some};
+ghost use Rattle.std.specs.Prelude.{◌≡◌, ◌≤◌, ◌<◌, ◌+◌, ◌%◌, Some};
 ghost use Rattle.ng_rig.specs.Calls.{Promises, Counts};
 ghost use Rattle.ng_layout.specs.Storable.{IsStorable};
 ghost use Rattle.ng_layout.specs.Header.{header_in};

@@ -7,7 +7,7 @@ ghost use Rattle.ng_journal.specs.FirstLines.{kind_in, shortest, Tells};
 use ng_words::Kind;
 
 /// What the beginning of a text tells of its first line that isn't blank (own).
-#[derive(Clone, Copy, Debug, PartialEq, Eq)]
+#[derive(Clone, Copy)]
 pub(crate) enum FirstLine {
     /// All lines are blank so far.
     Unseen,

@@ -24,7 +24,7 @@ use ng_words::Kind;
 use std::alloc::{AllocError, Allocator};
 use std::marker::Model;
 
-/// What is stored of a controller, on a device. After a call of the device failed it is broken. Contracts see a
+/// What is stored of a controller, on a device (own). After a call of the device failed it is broken. Contracts see a
 /// `Logbook`.
 pub struct Journal<R: Rig, A: Allocator + Copy + Drop> {
     rig: R,
@@ -43,11 +43,11 @@ impl<R: Rig, A: Allocator + Copy + Drop> Model for Journal<R, A> {
     ghost invariant = { λ j. IsSteady (R.sectors j.rig) j.header j.stored };
 }
 
-/// Powers on: finds what the device stands for, and writes it again under the next epoch with nothing open.
+/// Powers on (own): finds what the device stands for, and writes it again under the next epoch with nothing open.
 ///
 /// J2 for fewer than 1,710 sectors, with no call of the device, and where no header is valid; J3 where what stands is
-/// damaged; J4 where the epoch would be beyond its limit: all before any write. J1 where the device failed. M1 where
-/// memory is wanted, before any call of the device. The device is handed back with each of them.
+/// damaged or its log has begun; J4 where the epoch would be beyond its limit: all before any write. J1 where the device failed. M1 where
+/// memory is wanting, before any call of the device. The device is handed back with each of them.
 pub fn recover<R: Rig, A: Allocator + Copy + Drop>(
     alloc: A,
     mut rig: R,
@@ -104,14 +104,14 @@ impl<R: Rig, A: Allocator + Copy + Drop> Journal<R, A> {
         rig
     }
 
-    /// Whether a call of the device failed.
+    /// Whether a call of the device failed (own).
     pub fn broken(&self) -> bool
         ensures { result ≡ self.now.broken }
     {
         self.broken
     }
 
-    /// Stores an entry: what is stored from now on, beside the same program.
+    /// Stores an entry (own): what is stored from now on, beside the same program.
     ///
     /// J4 where the entry count or the epoch would be beyond its limit; then nothing is changed. J1 where the device
     /// failed: the journal is broken then, and the device stands for what stood before or for the new. It takes no
@@ -136,7 +136,7 @@ impl<R: Rig, A: Allocator + Copy + Drop> Journal<R, A> {
         self.renew()
     }
 
-    /// Stores that a segment or an approach of a half-done block is open; the entry count stays.
+    /// Stores that a segment or an approach of a half-done block is open (own); the entry count stays.
     ///
     /// J4 where the epoch would be beyond its limit; then nothing is changed. J1 as for `commit`. It takes no
     /// memory.
@@ -159,7 +159,7 @@ impl<R: Rig, A: Allocator + Copy + Drop> Journal<R, A> {
         self.renew()
     }
 
-    /// Stores a program and what goes with it: the text takes the place of the program in force.
+    /// Stores a program and what goes with it (own): the text takes the place of the program in force.
     ///
     /// J5 for more than 131,072 bytes; J4 where the entry count or the epoch would be beyond its limit; then nothing
     /// is changed, and the device isn't called. J1 where the device failed: the journal is broken then, and the
@@ -202,7 +202,7 @@ impl<R: Rig, A: Allocator + Copy + Drop> Journal<R, A> {
         }
     }
 
-    /// Hands an item out. J1 where the device failed: the journal is broken then, and the item or nothing was
+    /// Hands an item out (own). J1 where the device failed: the journal is broken then, and the item or nothing was
     /// handed out. It takes no memory.
     pub fn hand_out(&mut self, item: Item) -> Result<(), Fault>
         requires whole { self.old.broken ≡ false }
@@ -230,8 +230,8 @@ impl<R: Rig, A: Allocator + Copy + Drop> Journal<R, A> {
         self.header.epoch >= GREATEST_COUNT || entries > GREATEST_COUNT
     }
 
-    /// The kind of the first line before a place of the program in force that isn't blank; blank where all are. It reads no further
-    /// than to that line's end.
+    /// The kind of the first line before a place of the program in force that isn't blank; blank where all are (own). It reads no
+    /// further than to that line's end.
     ///
     /// J1 where the device failed: the journal is broken then. Nothing is written. It takes no memory.
     pub fn first_kind(&mut self, place: u64) -> Result<Kind, Fault>
@@ -255,7 +255,7 @@ impl<R: Rig, A: Allocator + Copy + Drop> Journal<R, A> {
     }
 
     /// The line of the program in force that begins at a place, and where the next one begins; none at the program's
-    /// end. A place in the middle of a line begins a line there.
+    /// end (own). A place in the middle of a line begins a line there.
     ///
     /// J1 where the device failed: the journal is broken then. Nothing is written. It takes no memory.
     pub fn program_line(&mut self, place: u64) -> Result<Option<ProgramLine>, Fault>

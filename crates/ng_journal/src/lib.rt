@@ -1,5 +1,10 @@
 //! The journal: what is stored of a controller on a device of sectors, so that a cut of power loses nothing that
-//! was acknowledged.
+//! was acknowledged (own).
+//!
+//! `format` makes a device fresh. `recover` finds what a device stands for; `Journal::commit`, `open_segment` and `load_program` store
+//! what stands from then on. Of each of them specs/Journal.antt says what every stop stands for, over an honest device, and that the
+//! device counted a failure exactly where the call answers J1. `hand_out` and `program_line` change nothing that is stored. Where
+//! what is stored lies is said in `ng_layout`; what an entry means, and the log, are left out here.
 #![tactic(auto)]
 
 mod checkpoint;
@@ -16,5 +21,4 @@ mod sectors;
 
 pub use formatting::format;
 pub use journal::{Journal, recover};
-pub use line::{LINE, ProgramLine};
-pub use ng_layout::{Half, Opened, Source, Stored};
+pub use line::ProgramLine;

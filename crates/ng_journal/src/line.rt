@@ -1,6 +1,5 @@
 //! A line of the program in force, read where it begins.
 ghost use Rattle.std.specs.Prelude.{◌≡◌, ℕ, max, List, [], ◌≤◌, ◌<◌, ◌+◌, ◌*◌, ◌-◌, ◌++◌, take, drop, length, IfOk, IfSome};
-ghost use Rattle.std.specs.Option.{option_map};
 ghost use Rattle.std.specs.Str.Lines.{strip_carriage_return};
 ghost use Rattle.ng_rig.specs.Calls.{Promises, Counts};
 ghost use Rattle.ng_layout.specs.Sectors.{text_of};

@@ -1,5 +1,5 @@
 //! The kind of the first line before a place of the program in force that isn't blank.
-ghost use Rattle.std.specs.Prelude.{◌≡◌, ◌≤◌, ◌+◌, ℕ, List, IfOk};
+ghost use Rattle.std.specs.Prelude.{◌≡◌, ◌≤◌, ◌+◌, ℕ};
 ghost use Rattle.ng_rig.specs.Calls.{Promises, Counts};
 ghost use Rattle.ng_layout.specs.Sectors.{text_of};
 ghost use Rattle.ng_layout.specs.Stands.{program_size, stretch};

@@ -8,19 +8,16 @@ use crate::bytes::{
 };
 use crate::half::TEXT;
 
-/// How many bytes it has.
-pub const FIELD: usize = 456;
-
-/// The coordinates of a point.
-#[derive(Clone, Copy, Debug)]
+/// The coordinates of a point, in nanometres.
+#[derive(Clone, Copy)]
 pub struct Triple {
     pub x: i64,
     pub y: i64,
     pub z: i64,
 }
 
-/// The numbers of the words that a cycle keeps.
-#[derive(Clone, Copy, Debug)]
+/// The numbers of the words that a cycle keeps: R, Z and Q in nanometres, P in millionths of a second.
+#[derive(Clone, Copy)]
 pub struct KeptField {
     pub r: i64,
     pub z: i64,
@@ -29,7 +26,7 @@ pub struct KeptField {
 }
 
 /// What stands in one byte each.
-#[derive(Clone, Copy, Debug)]
+#[derive(Clone, Copy)]
 pub struct CodeField {
     pub motion: u8,
     pub plane: u8,
@@ -49,7 +46,7 @@ pub struct CodeField {
 }
 
 /// The numbers of a half-done block.
-#[derive(Clone, Copy, Debug)]
+#[derive(Clone, Copy)]
 pub struct HalfField {
     pub source: u8,
     pub opened: u8,
@@ -61,8 +58,8 @@ pub struct HalfField {
     pub text: [u8; TEXT],
 }
 
-/// All of it.
-#[derive(Clone, Copy, Debug)]
+/// All of it: lengths in nanometres, the feed in nanometres a minute, the speed in millionths of a turn a minute.
+#[derive(Clone, Copy)]
 pub struct StateField {
     pub entries: u64,
     pub place: u64,

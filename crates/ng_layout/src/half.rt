@@ -21,7 +21,7 @@ pub enum Opened {
     Approach,
 }
 
-/// The most bytes of its text.
+/// The most bytes of a half-done block's text.
 pub const TEXT: usize = 256;
 
 /// The text of these bytes.

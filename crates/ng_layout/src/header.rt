@@ -17,10 +17,11 @@ pub const LONGEST_PROGRAM: u64 = 131_072;
 /// The header of an epoch (own).
 #[derive(Clone, Copy, Debug, PartialEq, Eq)]
 pub struct Header {
+    /// 1 to 1,000,000,000,000.
     pub epoch: u64,
     /// The program area in force, 0 or 1.
     pub area: u64,
-    /// The bytes of the program.
+    /// The bytes of the program, 0 to 131,072.
     pub length: u64,
 }
 

@@ -1,4 +1,7 @@
-//! Where what the journal stores stands in the sectors of a device, and what such sectors stand for.
+//! Where what the journal stores stands in the sectors of a device, and what such sectors stand for (own; docs/DEVICE.md).
+//!
+//! What is written is read back, or refused as damaged exactly where a field is out of its range: `Header`, `StateField`,
+//! `Stored::sector`, `text_sector`. specs/Stands.antt says what an image of a device stands for. No device is called here.
 #![tactic(auto)]
 
 mod bytes;
@@ -12,7 +15,7 @@ mod sectors;
 mod stored;
 mod writing;
 
-pub use field::{CodeField, FIELD, HalfField, KeptField, StateField, Triple};
+pub use field::{CodeField, HalfField, KeptField, StateField, Triple};
 pub use half::{Half, Opened, Source, TEXT, text_of};
 pub use header::{Header, LONGEST_PROGRAM};
 pub use part::epoch_of_part;

@@ -1,5 +1,5 @@
 //! What the numbers of a state field say.
-ghost use Rattle.std.specs.Prelude.{◌≡◌, ℕ, true, false, pos, IfSome};
+ghost use Rattle.std.specs.Prelude.{◌≡◌, ℕ, pos, IfSome};
 ghost use Rattle.ng_layout.specs.Sound.{IsSound};
 ghost use Rattle.ng_layout.specs.Report.{count_of, point_of, modes_of, outputs_of, offsets_of, word_of, kept_of};
 ghost use Rattle.ng_layout.specs.Report.{machine_of, known_point, half_by, half_of, report_of, up_to};
@@ -23,7 +23,7 @@ pub const GREATEST_COUNT: u64 = 1_000_000_000_000;
 const GREATEST_SLOT: u16 = 64;
 
 /// What a state field says. Contracts see a `Report`.
-#[derive(Debug, Drop)]
+#[derive(Drop)]
 pub struct Reported {
     pub entries: u64,
     pub place: u64,

@@ -1,8 +1,8 @@
 //! The numbers of a state field that say what is stored.
-ghost use Rattle.std.specs.Prelude.{◌≡◌, ◌≤◌, ◌≤ℤ◌, ◌++◌, ◌-◌, ℕ, pos, true, false, length, replicate, unsigned_abs, unwrap_or, IfSome, Some, None};
+ghost use Rattle.std.specs.Prelude.{◌≡◌, ◌≤◌, ◌≤ℤ◌, ◌++◌, ◌-◌, ℕ, pos, length, replicate, unsigned_abs, unwrap_or, IfSome, Some, None};
 ghost use Rattle.std.specs.Option.{option_copied};
 ghost use Rattle.ng_num.specs.Range.{IsCount};
-ghost use Rattle.ng_layout.specs.Report.{count_of, point_of, modes_of, outputs_of, offsets_of, kept_of, machine_of, half_of, report_of};
+ghost use Rattle.ng_layout.specs.Report.{point_of, modes_of, kept_of, half_of, report_of};
 ghost use Rattle.ng_layout.specs.Writing.{triple_of, kept_field, kept_bits, codes_of, half_field, field_of};
 ghost use Rattle.ng_layout.specs.Storable.{CanStand, CanWait};
 

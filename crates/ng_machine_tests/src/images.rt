@@ -43,7 +43,7 @@ const J3: Answer = Answer::Refused(Fault::Damaged);
 const J4: Answer = Answer::Refused(Fault::CountersUsed);
 
 /// The text that a header begins with, as a number.
-pub const TEXT: i64 = 0x4347_4e34_3732_5352;
+pub const MARK: i64 = 0x4347_4e34_3732_5352;
 /// The greatest epoch and entry count.
 const COUNT: i64 = 1_000_000_000_000;
 /// The longest program.
@@ -58,7 +58,7 @@ const PAST: &[i64] = &[-MOST - 1, MOST + 1, i64::MIN, i64::MAX];
 const FROM_0: &[i64] = &[0, MOST];
 
 const PAST_0: &[i64] = &[MOST + 1, -1];
-/// Every number of a kept word's bits.
+/// Every number of the bits of the kept words.
 const BITS: &[i64] = &[0, 1, 2, 3, 4, 5, 6, 7, 8, 9, 10, 11, 12, 13, 14, 15];
 
 const MOTIONS: &[i64] = &[0, 1, 2, 3, 80, 81, 82, 83, 85, 86, 89];
@@ -79,14 +79,14 @@ type Case = (
 /// Each field at its limits and past them: its name, the device, its sector, byte and width, what stands there, and what
 /// power on makes of each such device. -1 is the greatest number of its width where that has no sign.
 const CASES: &[Case] = &[
-    ("text", Base::Odd, 1, 0, 8, &[TEXT], SAME),
+    ("text", Base::Odd, 1, 0, 8, &[MARK], SAME),
     (
         "text",
         Base::Odd,
         1,
         0,
         8,
-        &[0, TEXT + 1, TEXT + 0x20, TEXT - (1 << 56)],
+        &[0, MARK + 1, MARK + 0x20, MARK - (1 << 56)],
         J2,
     ),
     ("format", Base::Odd, 1, 8, 4, &[1], SAME),
@@ -202,8 +202,8 @@ const CASES: &[Case] = &[
     ("kept", Base::Odd, 88, 157, 1, &[16, 32, 128, 255], J3),
     ("selected slot", Base::Odd, 88, 158, 2, &[0, 64], SAME),
     ("selected slot", Base::Odd, 88, 158, 2, &[65, 256, -1], J3),
-    ("held slot", Base::Odd, 88, 160, 2, &[0, 64], SAME),
-    ("held slot", Base::Odd, 88, 160, 2, &[65, 256, -1], J3),
+    ("spindle slot", Base::Odd, 88, 160, 2, &[0, 64], SAME),
+    ("spindle slot", Base::Odd, 88, 160, 2, &[65, 256, -1], J3),
     ("half-done", Base::Odd, 88, 162, 1, &[0, 1, 2], SAME),
     ("half-done", Base::Odd, 88, 162, 1, &[3, 128, 255], J3),
     ("half-done", Base::Full, 88, 162, 1, &[1, 2], SAME),
@@ -341,7 +341,7 @@ fn lay<R: Rig>(rig: &mut R, base: Base, at: (usize, usize, usize), number: i64) 
     for (byte, width, number) in more {
         put(&mut state, *byte, *width, *number);
     }
-    let named = sector_with(&[(0, 8, TEXT), (8, 4, 1), (16, 8, epoch), (32, 8, LONGEST)]);
+    let named = sector_with(&[(0, 8, MARK), (8, 4, 1), (16, 8, epoch), (32, 8, LONGEST)]);
     let is_laid = store(rig, header, &named) && store(rig, area, &state);
     let mut changed = sector_of(rig, at.0);
     put(&mut changed, at.1, at.2, number);

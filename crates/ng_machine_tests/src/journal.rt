@@ -1,7 +1,7 @@
 ghost use Rattle.std.specs.Prelude.{◌≡◌, false, length};
 ghost use Rattle.ng_layout.specs.Storable.{CanWait, IsStorable};
 
-use crate::images::{FRESH, TEXT, powered, put, sector_of, sector_with, store};
+use crate::images::{FRESH, MARK, powered, put, sector_of, sector_with, store};
 use linked_list_allocator::LocalHeap;
 use ng_canon::Item;
 use ng_journal::{Journal, format, recover};
@@ -19,7 +19,7 @@ use counting::Counting;
 /// The sector of a header of this epoch, with this program area and length.
 fn header(epoch: i64, area: i64, length: i64) -> [u8; 512] {
     sector_with(&[
-        (0, 8, TEXT),
+        (0, 8, MARK),
         (8, 4, 1),
         (16, 8, epoch),
         (24, 8, area),
@@ -600,7 +600,7 @@ const LENGTHS: &[(usize, Read)] = &[
     (131_073, Err(Fault::ProgramTooLong)),
 ];
 
-/// Loads so many bytes `x` and reads the line at their begin.
+/// Loads so many bytes `x` and reads the line at its beginning.
 fn line_of_length(alloc: Global, length: usize) -> Result<Read, Fail> {
     let mut text = Vec::new(alloc);
     text.resize(length, b'x')?;

@@ -40,7 +40,7 @@ items (Perhaps m bytes life) = items life
 items (Synced life) = items life
 items (Handed item life) = items life ++ item ∷ []
 
--- the number of calls so far, which is the clock
+-- the number of writes, syncs and hand-outs so far, which is the clock
 abbrev pub moment : Life → ℕ
 moment (Began image) = 0
 moment (Wrote m bytes life) = moment life + 1

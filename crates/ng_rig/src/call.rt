@@ -1,3 +1,4 @@
+//! The calls that a device in memory keeps.
 use ng_canon::Item;
 
 /// A call that a device in memory keeps.

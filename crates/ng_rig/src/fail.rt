@@ -1,3 +1,4 @@
+//! A device of which one call fails.
 ghost use Rattle.std.specs.Prelude.{◌≡◌};
 
 use crate::rig::{Failed, Rig};

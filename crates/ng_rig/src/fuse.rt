@@ -1,3 +1,4 @@
+//! A device whose power is cut behind some calls.
 ghost use Rattle.std.specs.Prelude.{◌≡◌};
 
 use crate::rig::{Failed, Rig};

@@ -1,6 +1,6 @@
 //! Devices of sectors of 512 bytes that also hand out items, and every way that a cut of power can stop them.
 //!
-//! The trait `Rig` is what a journal is proved over. Its one ghost member `life` lists the writes, syncs and
+//! The trait `Rig` is what a journal is proved over. Its ghost member `life` lists the writes, syncs and
 //! hand-outs so far; what a read gives, what a stop may leave now or since a moment, and the items handed out all
 //! follow from it (specs/Life). `MemoryRig` meets the trait in memory and can be stopped in every way that the
 //! definition allows and in no other; `FuseRig` and `FailRig` meet it over any device and fail when asked to.

@@ -1,3 +1,4 @@
+//! A device in memory, with all that was done to it.
 ghost use Rattle.std.specs.Prelude.{◌≡◌, ◌<◌, ◌≤◌, ℕ, length};
 ghost use Rattle.ng_rig.specs.Life.{reads};
 ghost use Rattle.ng_rig.specs.Kept.{contents, life_of, AllWithin};

@@ -1,3 +1,4 @@
+//! What a device is to a journal: the trait `Rig`.
 ghost use Rattle.std.specs.Prelude.{◌≡◌, ◌<◌, ℕ, OnOk};
 ghost use Rattle.ng_rig.specs.Life.{Life, reads};
 ghost use Rattle.ng_rig.specs.Calls.{Promises, Writes, Syncs, Hands, Counts};

@@ -13,12 +13,12 @@ use Rattle.ng_core.specs.Station.{Station}
 use Rattle.ng_run.specs.Consoles.{Answers, Closes, Conversation}
 use Rattle.ng_run.specs.Endings.{ended_by}
 use Rattle.ng_run.specs.Talks.{Exchange, Hears, IsAnswered, events_in, events_of, replies_in, words_in, words_of}
-use Rattle.ng_run.specs.Turns.{Turns}
+use Rattle.ng_core.specs.Turns.{Turns}
 use Rattle.ng_run.specs.declared.ending.Ended.{Ended}
 use Rattle.ng_run.specs.declared.ending.Stop.{Stop}
 use Rattle.ng_run.specs.declared.ending.Stop.TheVariants.{Deaf, Mute}
 use Rattle.ng_run.proofs.Asking.{hears_more, hears_none, one_more}
-use Rattle.ng_run.proofs.Turning.{turns_joined, turns_pass}
+use Rattle.ng_core.proofs.InTurn.{turns_joined, turns_pass}
 
 -- so much of the text was heard, and is answered whole
 pub record Talked {R : Type 0} (A : Type 0) (honest : R → Type 0) (life : R → Life) (failed : R → ℕ) (text rest old new : Option (List ℕ)) (before after : Station R) : Type 0 where

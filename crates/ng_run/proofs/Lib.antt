@@ -1,4 +1,3 @@
-pub mod Turning
 pub mod Asking
 pub mod Ticking
 pub mod Replying

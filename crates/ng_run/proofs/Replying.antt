@@ -12,16 +12,16 @@ use Rattle.ng_dialogue.specs.declared.order.Order.TheVariants.{Give, Ticks, Refu
 use Rattle.ng_dialogue.specs.declared.telling.Unsent.{Unsent}
 use Rattle.ng_core.specs.Station.{Station}
 use Rattle.ng_run.specs.Consoles.{Answers, TicksOn, Told}
-use Rattle.ng_run.specs.Talks.{Exchange, IsAnswered, last_line, lines_before}
-use Rattle.ng_run.specs.Turns.{Turn}
-use Rattle.ng_run.proofs.Turning.{turns_one}
+use Rattle.ng_run.specs.Talks.{Exchange, IsAnswered, last_line, earlier_lines}
+use Rattle.ng_core.specs.Turns.{Turn}
+use Rattle.ng_core.proofs.InTurn.{turns_one}
 
 -- the lines before the last are written; then the answer is, or it is broken off in its last line
 told_behind : {A T : Type 0} (x : Exchange A) (result : Result T Unsent) (old mid new : Option (List ℕ))
-    → IsAnswered x → Appends old mid (lines_before x.order x.replies) → Sends mid new (last_line x.order x.replies) result → Told x result old new
-told_behind x (Ok done) old mid new answered p q = (answered, Appends-trans old mid new (lines_before x.order x.replies) (last_line x.order x.replies) p q)
+    → IsAnswered x → Appends old mid (earlier_lines x.order x.replies) → Sends mid new (last_line x.order x.replies) result → Told x result old new
+told_behind x (Ok done) old mid new answered p q = (answered, Appends-trans old mid new (earlier_lines x.order x.replies) (last_line x.order x.replies) p q)
 told_behind x (Err fault) old mid new answered p q =
-    let lines = lines_before x.order x.replies in
+    let lines = earlier_lines x.order x.replies in
     let line = take q.0 (last_line x.order x.replies) in
     (lines ++ line, inl (answered, (q.0, refl)), Appends-trans old mid new lines line p q.1)
 

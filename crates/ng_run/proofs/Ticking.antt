@@ -13,9 +13,9 @@ use Rattle.ng_session.specs.declared.reply.Reply.{Reply}
 use Rattle.ng_dialogue.specs.declared.telling.Unsent.{Unsent}
 use Rattle.ng_core.specs.Station.{Station}
 use Rattle.ng_run.specs.Consoles.{TicksOn}
-use Rattle.ng_run.specs.Turns.{Turn, Turns}
+use Rattle.ng_core.specs.Turns.{Turn, Turns}
 use Rattle.ng_run.proofs.Asking.{one_more}
-use Rattle.ng_run.proofs.Turning.{turns_joined, turns_one}
+use Rattle.ng_core.proofs.InTurn.{turns_joined, turns_one}
 
 abbrev tick_for : (A : Type 0) → Reply → Event A
 tick_for A r = event.Tick

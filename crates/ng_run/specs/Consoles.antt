@@ -21,7 +21,7 @@ use Rattle.ng_core.specs.Runs.{Passes}
 use Rattle.ng_core.specs.Station.{Station, Rests}
 use Rattle.ng_run.specs.Endings.{ended_by, status_of}
 use Rattle.ng_run.specs.Talks.{AreBrokenOff, AreTicks, Exchange, Hears, IsAnswered, IsBegun, events_in, events_of, replies_in, words_in, words_of}
-use Rattle.ng_run.specs.Turns.{Turns}
+use Rattle.ng_core.specs.Turns.{Turns}
 use Rattle.ng_run.specs.declared.ending.Ended.{Ended}
 use Rattle.ng_run.specs.declared.ending.Ended.TheVariants.{Unpowered}
 use Rattle.ng_run.specs.declared.ending.Stop.{Stop}

@@ -1,4 +1,3 @@
 pub mod Endings
 pub mod Talks
-pub mod Turns
 pub mod Consoles

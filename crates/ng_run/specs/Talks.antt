@@ -22,14 +22,14 @@ last_line (Ticks n) replies = ticks_line (length replies)
 last_line (Refuse fault) replies = refused_line fault
 
 -- the lines before it: of ticks, those of the replies
-abbrev pub lines_before : {A : Type 0} → Order A → List Reply → List ℕ
-lines_before (Give event) replies = []
-lines_before (Ticks n) replies = flat_map tick_line replies
-lines_before (Refuse fault) replies = []
+abbrev pub earlier_lines : {A : Type 0} → Order A → List Reply → List ℕ
+earlier_lines (Give event) replies = []
+earlier_lines (Ticks n) replies = flat_map tick_line replies
+earlier_lines (Refuse fault) replies = []
 
 -- the text of an answer
 abbrev pub words_of : {A : Type 0} → Order A → List Reply → List ℕ
-words_of order replies = lines_before order replies ++ last_line order replies
+words_of order replies = earlier_lines order replies ++ last_line order replies
 
 -- the replies to at most n ticks: those before the last go on
 abbrev pub GoOnTo : ℕ → List Reply → List Reply → Reply → Type 0
@@ -67,7 +67,7 @@ AreBrokenOff n replies written =
 -- An answer is broken off, and this of it is written: it came up to its last line, or its ticks are broken off.
 abbrev pub IsBegun : {A : Type 0} → Exchange A → List ℕ → Type 0
 IsBegun x written =
-    (IsAnswered x × EndsIn (lines_before x.order x.replies) (last_line x.order x.replies) written)
+    (IsAnswered x × EndsIn (earlier_lines x.order x.replies) (last_line x.order x.replies) written)
     ⊎ ((n : ℕ) × (x.order ≡ Ticks n) × AreBrokenOff n x.replies written)
 
 abbrev pub events_in : {A : Type 0} → List (Exchange A) → List (Event A)

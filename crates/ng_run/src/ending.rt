@@ -3,7 +3,7 @@ ghost use Rattle.std.specs.Prelude.{◌≡◌, ◌≤◌};
 ghost use Rattle.ng_run.specs.Endings.{ended_by, status_of};
 
 /// A console that did all that it was to do (own).
-#[derive(Clone, Copy, Debug, PartialEq, Eq)]
+#[derive(Clone, Copy)]
 pub enum Ended {
     /// All of the text is answered, up to its end or to `quit`.
     Whole,
@@ -14,7 +14,7 @@ pub enum Ended {
 }
 
 /// Why a console breaks off (own).
-#[derive(Clone, Copy, Debug, PartialEq, Eq)]
+#[derive(Clone, Copy)]
 pub enum Stop {
     /// A read failed, or one more than can be made was needed, or a line of the operator found no memory: what was asked before is
     /// answered.

@@ -315,9 +315,13 @@ fn ends_where_the_reader_fails(rt: HostRuntime) -> Result<(), Fail> {
 /// What is written of a move by hand, where there is room.
 const MOVED: &str = "begun\ndone 1\nidle\nticks 5\n";
 
-/// That move over a writer with so much room: the status, whether a beginning is written, its length, and the items handed out.
-fn moved_in_room(alloc: Global, room: usize) -> Result<(u8, bool, usize, usize), AllocError> {
-    let mut reader: &[u8] = b"mdi G0 X0.002\ntick 9\nquit\n";
+/// What is asked over a writer with so much room: the status, what is written, and the device.
+fn told_in_room(
+    alloc: Global,
+    lines: &str,
+    room: usize,
+) -> Result<(u8, Vec<u8>, MemoryRig<Global>), AllocError> {
+    let mut reader = lines.as_bytes();
     let mut writer = Full {
         taken: Vec::new(alloc),
         room,
@@ -325,11 +329,21 @@ fn moved_in_room(alloc: Global, room: usize) -> Result<(u8, bool, usize, usize),
     };
     let rig = formatted(alloc)?;
     let (status, rig) = console(alloc, &mut reader, &mut writer, rig, Settings::standard());
-    let text = writer.taken.as_slice();
+    let Full {
+        taken,
+        room: _,
+        takes_none: _,
+    } = writer;
+    Ok((status, taken, rig))
+}
+
+/// That move over a writer with so much room: the status, whether a beginning is written, its length, and the items handed out.
+fn moved_in_room(alloc: Global, room: usize) -> Result<(u8, bool, usize, usize), AllocError> {
+    let (status, text, rig) = told_in_room(alloc, "mdi G0 X0.002\ntick 9\nquit\n", room)?;
     let items = rig.handed(rig.calls())?;
     Ok((
         status,
-        MOVED.as_bytes().starts_with(text),
+        MOVED.as_bytes().starts_with(text.as_slice()),
         text.len(),
         items.len(),
     ))
@@ -368,20 +382,12 @@ fn two_moves_in_room(
     alloc: Global,
     room: usize,
 ) -> Result<(u8, bool, usize, usize, usize), AllocError> {
-    let mut reader = TWO_MOVES.as_bytes();
-    let mut writer = Full {
-        taken: Vec::new(alloc),
-        room,
-        takes_none: room % 2 == 0,
-    };
-    let rig = formatted(alloc)?;
-    let (status, rig) = console(alloc, &mut reader, &mut writer, rig, Settings::standard());
-    let text = writer.taken.as_slice();
+    let (status, text, rig) = told_in_room(alloc, TWO_MOVES, room)?;
     let items = rig.handed(rig.calls())?;
     let (_, shown, _) = answered(alloc, "status\n", rig);
     Ok((
         status,
-        BOTH_DONE.as_bytes().starts_with(text),
+        BOTH_DONE.as_bytes().starts_with(text.as_slice()),
         text.len(),
         items.len(),
         place_of(BEHIND_MOVES, shown.as_slice()),
@@ -430,10 +436,10 @@ fn answered_from_heap(
     Ok((status, text.as_slice() == wanted.as_bytes()))
 }
 
-/// A program of 100,000 empty lines, and the status behind it.
-fn long_program(alloc: Global) -> Result<Vec<u8>, AllocError> {
-    let mut lines = Vec::from_slice(alloc, b"load 100000\n")?;
-    lines.resize(100_012, b'\n')?;
+/// A program of so many empty lines behind the command that loads it, and the status behind that.
+fn long_program(alloc: Global, command: &[u8], length: usize) -> Result<Vec<u8>, AllocError> {
+    let mut lines = Vec::from_slice(alloc, command)?;
+    lines.resize(command.len().saturating_add(length), b'\n')?;
     lines.extend_from_slice(b"status\n")?;
     Ok(lines)
 }
@@ -441,10 +447,83 @@ fn long_program(alloc: Global) -> Result<Vec<u8>, AllocError> {
 /// A program that finds no memory is refused, and its bytes are passed over.
 #[test]
 fn a_program_finds_no_memory(rt: HostRuntime) -> Result<(), Fail> {
-    let lines = long_program(rt.alloc())?;
+    let lines = long_program(rt.alloc(), b"load 100000\n", 100_000)?;
     for (bytes, wanted, status) in HEAPS {
         let found = answered_from_heap(rt.alloc(), *bytes, lines.as_slice(), wanted)?;
         assert_eq!(rt; found, (*status, true), "{bytes}");
+    }
+    Ok(())
+}
+
+/// The command that loads a program, how many bytes that has, and what is written of it.
+const LENGTHS: &[(&[u8], usize, &str)] = &[
+    (
+        b"load 131072\n",
+        131_072,
+        "done 1\nstatus entries 1 place 0 at 0.000000 0.000000 0.000000 known half none idle\n",
+    ),
+    (
+        b"load 131073\n",
+        131_073,
+        "refused J5 ProgramTooLong\nstatus entries 0 place 0 at 0.000000 0.000000 0.000000 known half none idle\n",
+    ),
+];
+
+/// The longest program is stored. One that is a byte longer is refused, and its bytes are passed over.
+#[test]
+fn a_program_is_too_long(rt: HostRuntime) -> Result<(), Fail> {
+    for (command, length, wanted) in LENGTHS {
+        let lines = long_program(rt.alloc(), command, *length)?;
+        let found = answered_from_heap(rt.alloc(), 2_000_000, lines.as_slice(), wanted)?;
+        assert_eq!(rt; found, (0, true), "{length}");
+    }
+    Ok(())
+}
+
+/// A sector of a formatted device, a place in it, and what another program wrote there; lines of an operator, and what is written of them.
+const OVERWRITTEN: &[(usize, usize, &[u8], &str, &str)] = &[
+    // it isn't known where the machine stands
+    (
+        88,
+        156,
+        &[0],
+        "start\nmdi M8\nload 3\nM2\nstart\nstatus\n",
+        "refused K3 PlaceUnknown\nrefused K3 PlaceUnknown\ndone 1\nrefused K3 PlaceUnknown\nstatus entries 1 place 0 at 0.000000 0.000000 0.000000 unknown half none idle\n",
+    ),
+    // the epoch is the last but one, 999,999,999,999, and power on takes the last
+    (
+        1,
+        16,
+        &[0xff, 0x0f, 0xa5, 0xd4, 0xe8],
+        "load 3\nM2\nmdi M8\ntick 5\ntick 5\nstatus\n",
+        "refused J4 CountersUsed\nbegun\nrefused J4 CountersUsed\nticks 1\nrefused J4 CountersUsed\nticks 1\nstatus entries 0 place 0 at 0.000000 0.000000 0.000000 known half none idle\n",
+    ),
+];
+
+/// Writes these bytes from a place of a sector on. Whether that is done.
+fn is_overwritten<R: Rig>(rig: &mut R, sector: usize, place: usize, written: &[u8]) -> bool {
+    let mut bytes = [0; 512];
+    if sector >= rig.size() || rig.read(sector, &mut bytes).is_err() {
+        return false;
+    }
+    for (to, byte) in bytes.iter_mut().skip(place).zip(written) {
+        *to = *byte;
+    }
+    sector < rig.size() && rig.write(sector, &bytes).is_ok() && rig.sync().is_ok()
+}
+
+/// What another program wrote on a device is taken as it stands.
+#[test]
+fn answers_over_a_device_that_something_else_wrote(rt: HostRuntime) -> Result<(), Fail> {
+    for (sector, place, written, lines, wanted) in OVERWRITTEN {
+        let mut rig = formatted(rt.alloc())?;
+        let is_done = is_overwritten(&mut rig, *sector, *place, written);
+        let (_, text, _) = answered(rt.alloc(), lines, rig);
+        assert_eq!(rt;
+            (is_done, text.as_slice() == wanted.as_bytes()),
+            (true, true),
+            "{sector}"
+        );
     }
     Ok(())
 }

@@ -543,7 +543,9 @@ fn power_is_cut_while_a_segment_is_opened(rt: HostRuntime) -> Result<(), Fail> {
         source: Source::Mdi,
         index: 0,
     };
-    let before = device_behind(rt.alloc(), &MOVE[..1]).map(|rig| rig.calls());
+    let Ok(before) = device_behind(rt.alloc(), &MOVE[..1]) else {
+        panic!(rt; "no device before")
+    };
     let Ok(rig) = device_behind(rt.alloc(), MOVE) else {
         panic!(rt; "no device")
     };
@@ -553,7 +555,7 @@ fn power_is_cut_while_a_segment_is_opened(rt: HostRuntime) -> Result<(), Fail> {
         } else {
             (0, 0, 0, true, None, Condition::Idle)
         };
-        let calls = before.unwrap_or_default().saturating_add(*calls);
+        let calls = before.calls().saturating_add(*calls);
         assert_eq!(rt;
             shown_after(rt.alloc(), &rig, calls, keep),
             Ok(Some(wanted)),

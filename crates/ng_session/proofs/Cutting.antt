@@ -11,7 +11,7 @@ use Rattle.ng_layout.specs.declared.half.Source.TheVariants as source
 use Rattle.ng_session.specs.Entries.{Equipment, Entry, done_of}
 use Rattle.ng_session.specs.Session.{Underway, Sitting, Outcome, idleness, is_running, is_idle, is_free, is_engaged, mdi_by, load_unless, load_refusal, begin, begin_by, end, open_next, opening_of, hand_next, item_of, step}
 use Rattle.ng_session.specs.Fold.{after, items, after_all, items_all}
-use Rattle.ng_session.specs.Runs.{Scene, resting_scene, leads_to, scene_after, replies_of, items_of, entries_of, scene_behind, left_in, left_behind, is_done, dones}
+use Rattle.ng_session.specs.Runs.{Scene, resting_scene, leads_to, scene_after, replies_of, items_of, entries_of, scene_behind, left_in, left_behind, done_count, dones}
 use Rattle.ng_session.specs.Cuts.{Follows, Nothing_open, Segment_open, IsCut, CutsBehindEvents, CutsWithinEvent}
 use Rattle.ng_session.specs.declared.activity.Activity.{Activity}
 use Rattle.ng_session.specs.declared.activity.Activity.TheVariants as activity
@@ -86,13 +86,13 @@ cut_events q x before s (e ∷ events) es given h is same t =
 -- ---- an entry is committed just where Done is answered
 
 abbrev Counts : Outcome → Type 0
-Counts out = length out.entries ≡ is_done out.reply
+Counts out = length out.entries ≡ done_count out.reply
 
 counts_if : (b : Bool) (x y : Outcome) → Counts x → Counts y → Counts (if b then x else y)
 counts_if true x y m n = m
 counts_if false x y m n = n
 
-counts_idle : (a : Activity) → 0 ≡ is_done (idleness a)
+counts_idle : (a : Activity) → 0 ≡ done_count (idleness a)
 counts_idle activity.Idle = refl
 counts_idle activity.Running = refl
 counts_idle activity.Stopped = refl
@@ -148,7 +148,7 @@ cuts_behind_events A q x before events =
 
 -- ---- within an event
 
-done_once : (r : Reply) → is_done r ≤ 1
+done_once : (r : Reply) → done_count r ≤ 1
 done_once (reply.Done n) = omega arith
 done_once reply.Going = omega arith
 done_once reply.Held = omega arith

@@ -13,7 +13,7 @@ use Rattle.ng_layout.specs.Stored.{Saved, Standing}
 use Rattle.ng_layout.specs.declared.half.Source.{Source}
 use Rattle.ng_layout.specs.declared.half.Source.TheVariants as source
 use Rattle.ng_session.specs.Entries.{Equipment, Entry, Block, Loaded, done_of, after_block, after_load}
-use Rattle.ng_session.specs.Session.{Underway, Sitting, Outcome, answers, begun, is_running, is_idle, is_free, is_engaged, start, hold, goes_on, mdi, mdi_by, load, load_unless, load_refusal, begin, begin_by, end, hand_next, first_of, tick, step, shown}
+use Rattle.ng_session.specs.Session.{Underway, Sitting, Outcome, answers, begun, is_running, is_idle, is_free, is_engaged, start, hold, go_on, mdi, mdi_by, load, load_unless, load_refusal, begin, begin_by, end, hand_next, first_of, tick, step, shown}
 use Rattle.ng_session.specs.Fold.{after, items, items_done, standing_behind}
 use Rattle.ng_session.specs.declared.activity.Activity.TheVariants as activity
 use Rattle.ng_session.specs.declared.reply.Reply.{Reply}
@@ -140,7 +140,7 @@ next_hold : (q : Equipment) (p : Standing) (given : List Item) (P : List ℕ) (s
 next_hold q p given P s is t =
     by_if q p given (is_running s.activity || is_some s.current) _ _ (λ b. stays q p given P _ (record s { held = true }) is t) (λ b. stays q p given P _ s is t)
 
-next_go : (q : Equipment) (p : Standing) (given : List Item) (P : List ℕ) (s : Sitting) → P ≡ p.program → Tied q p given s.stored s.current → Next q p given (goes_on P s)
+next_go : (q : Equipment) (p : Standing) (given : List Item) (P : List ℕ) (s : Sitting) → P ≡ p.program → Tied q p given s.stored s.current → Next q p given (go_on P s)
 next_go q p given P s is t =
     by_if q p given s.held _ _ (λ b. stays q p given P _ (record s { held = false }) is t) (λ b.
     by_if q p given (is_running s.activity || is_some s.current) _ _ (λ b. stays q p given P _ s is t) (λ b.

@@ -1,4 +1,4 @@
--- What a cut of power leaves, by the fold alone; and the law that each event keeps to it.
+-- What a cut of power leaves (own), by the fold alone; and the law that each event keeps to it.
 use Rattle.std.specs.Prelude.{◌≡◌, ◌⊎◌, ◌≤◌, ℕ, min, List, [], ◌∷◌, ◌++◌, length, Bool, Some, None, Ok}
 use Rattle.ng_canon.specs.declared.item.Item.{Item}
 use Rattle.ng_canon.specs.declared.segment.Segment.{Segment}

@@ -1,4 +1,4 @@
--- The plain interpreter: one fold over what was committed. It knows no session.
+-- The plain interpreter (own): one fold over what was committed. It knows no session.
 use Rattle.std.specs.Prelude.{List, [], ◌∷◌, ◌++◌, Result, Ok, Err, length}
 use Rattle.ng_num.specs.declared.fault.Fault.{Fault}
 use Rattle.ng_canon.specs.declared.item.Item.{Item}

@@ -1,4 +1,4 @@
--- What the code keeps of a session: its lists, and what holds of each session.
+-- What is kept of a session (own): its lists, and what holds of each session.
 use Rattle.std.specs.Prelude.{◌≡◌, ◌≤◌, ◌+◌, List, [], ◌∷◌, Option, Some, None, IfSome}
 use Rattle.ng_canon.specs.declared.segment.Segment.{Segment}
 use Rattle.ng_layout.specs.Limits.{greatest_count}

@@ -1,4 +1,4 @@
--- Lives of a device: sessions one after another, each from what the one before left.
+-- Lives of a device (own): sessions one after another, each from what the one before left.
 use Rattle.std.specs.Prelude.{◌≡◌, ◌⊎◌, ◌≤◌, Option, None, Some, List, [], ◌∷◌, ◌++◌, length}
 use Rattle.ng_canon.specs.declared.item.Item.{Item}
 use Rattle.ng_layout.specs.Stands.{recovered}

@@ -1,4 +1,4 @@
--- A session over a list of events.
+-- A session over a list of events (own).
 use Rattle.std.specs.Prelude.{ℕ, ◌+◌, List, [], ◌∷◌, ◌++◌}
 use Rattle.ng_canon.specs.declared.item.Item.{Item}
 use Rattle.ng_layout.specs.Stored.{Standing}
@@ -51,11 +51,11 @@ left_in s items = record { standing = record { saved = s.session.stored; program
 abbrev pub left_behind : {A : Type 0} → Equipment → Scene → List Item → List (Event A) → Left
 left_behind equipment s before events = left_in (scene_behind equipment s events) (before ++ items_of equipment s events)
 
-abbrev pub is_done : Reply → ℕ
-is_done (reply.Done n) = 1
-is_done _ = 0
+abbrev pub done_count : Reply → ℕ
+done_count (reply.Done n) = 1
+done_count _ = 0
 
 -- how many entries were acknowledged
 abbrev pub dones : List Reply → ℕ
 dones [] = 0
-dones (r ∷ rs) = is_done r + dones rs
+dones (r ∷ rs) = done_count r + dones rs

@@ -44,6 +44,7 @@ pub record Underway : Type 0 where
   pub after : Saved
   pub stop : Stop
 
+-- a session: what a controller keeps between two events
 pub record Sitting : Type 0 where
   -- what the device stands for
   pub stored : Saved
@@ -117,8 +118,8 @@ hold program s =
     if is_running s.activity || is_some s.current then answers program reply.Held (record s { held = true })
     else answers program (idleness s.activity) s
 
-abbrev pub goes_on : List ℕ → Sitting → Outcome
-goes_on program s =
+abbrev pub go_on : List ℕ → Sitting → Outcome
+go_on program s =
     if s.held then answers program reply.Going (record s { held = false })
     else if is_running s.activity || is_some s.current then refuses program fault.Busy s
     else if is_idle s.activity then refuses program fault.NoProgram s
@@ -303,7 +304,7 @@ abbrev pub step : {A : Type 0} → Equipment → List ℕ → Sitting → Event 
 step equipment program s (event.Load text) = load program s text
 step equipment program s event.Start = start program s
 step equipment program s event.Hold = hold program s
-step equipment program s event.Continue = goes_on program s
+step equipment program s event.Continue = go_on program s
 step equipment program s (event.Mdi text) = mdi equipment program s text
 step equipment program s (event.OptionalStop wanted) = answers program reply.Taken (record s { optional_stop = wanted })
 step equipment program s (event.BlockDelete on) = answers program reply.Taken (record s { block_delete = on })
@@ -318,7 +319,7 @@ is_busy s = is_running s.activity || is_some s.current
 abbrev pub IsBetweenLines : Sitting → Type 0
 IsBetweenLines s = (s.current ≡ None) × (is_running s.activity ≡ true)
 
--- the events that take memory: a program that is loaded, a line of the operator that is tried, a Tick that begins a line
+-- the events that take memory: a program that is loaded, a line of the operator that is tried, a Tick between two lines of a program that runs
 abbrev pub TakesMemory : {A : Type 0} → Sitting → Event A → Type 0
 TakesMemory s (event.Load text) = load_refusal s text ≡ None
 TakesMemory s (event.Mdi text) = (is_engaged s ≡ false) × (s.stored.setup.machine.place_known ≡ true)

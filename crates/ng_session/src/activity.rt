@@ -7,13 +7,14 @@ use ng_block::Stop;
 use ng_layout::Source;
 
 /// Whether the program runs (own).
-#[derive(Clone, Copy, Debug, PartialEq, Eq)]
+#[derive(Clone, Copy)]
 pub enum Activity {
     /// Nothing was started, or the program has ended.
     Idle,
     /// Its lines are begun one after the other.
     Running,
-    /// It waits to go on: behind a stop, before a line that was refused, or since the operator's own line ended a hold.
+    /// It waits to go on: behind a stop, before a line that was refused, at the end of a text without a program end, or since the
+    /// operator's own line ended a hold.
     Stopped,
 }
 

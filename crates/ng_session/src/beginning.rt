@@ -1,11 +1,11 @@
 //! How a line is begun: by the operator, or by the program.
 ghost use Rattle.std.specs.Prelude.{◌≡◌, ◌≤◌, ℕ, List, Some, true, false, Ok, Err, IfOk, OnOk, OnErr, MatchResult, length};
 ghost use Rattle.ng_block.specs.Dry.{first_kind};
-ghost use Rattle.ng_block.specs.Effects.{Done, in_state};
+ghost use Rattle.ng_block.specs.Effects.{in_state};
 ghost use Rattle.ng_layout.specs.declared.half.Source.TheVariants as source;
-ghost use Rattle.ng_layout.specs.Programs.{Line, lines_before};
+ghost use Rattle.ng_layout.specs.Programs.{lines_before};
 ghost use Rattle.ng_layout.specs.Storable.{CanStand};
-ghost use Rattle.ng_session.specs.Entries.{Equipment, equipment_of, done_of};
+ghost use Rattle.ng_session.specs.Entries.{equipment_of, done_of};
 
 use crate::activity::Activity;
 use crate::current::Current;
@@ -30,7 +30,7 @@ fn execute_alone<A: Allocator + Copy + Drop>(
     ensures short { OnOk result (length text.now ≤ 256) }
     ensures stands { OnOk result (CanStand stored.now.setup.machine → CanStand places.new.effect.machine) }
 {
-    // a table has at most 64 slots, and no more are stored
+    // called for its contract: a table has at most 64 slots, and no more are stored
     let _ = terms.tools.slots();
     places.execute_unless_deleted(terms, &stored.state, text)
 }
@@ -49,7 +49,7 @@ fn execute_behind<A: Allocator + Copy + Drop>(
     ensures short { OnOk result (length text.now ≤ 256) }
     ensures stands { OnOk result (CanStand stored.now.setup.machine → CanStand places.new.effect.machine) }
 {
-    // a table has at most 64 slots, and no more are stored
+    // called for its contract: a table has at most 64 slots, and no more are stored
     let _ = terms.tools.slots();
     places.execute_behind(terms, first, &stored.state, text)
 }
@@ -61,7 +61,7 @@ impl<A: Allocator + Copy + Drop> Session<A> {
     /// current or half-done, or the program runs and isn't held, K3 where it isn't known where the machine stands, then the
     /// line's own faults; nothing is changed then. `AllocError` where the state after the line found no memory: nothing is
     /// changed then either.
-    pub fn mdi(
+    pub(crate) fn mdi(
         &mut self,
         text: &[u8],
         tools: &Tools,

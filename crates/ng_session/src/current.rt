@@ -1,5 +1,5 @@
 //! The block that is worked.
-ghost use Rattle.std.specs.Prelude.{◌≡◌, ◌≤◌, ◌<◌, ◌+◌, ◌^◌, length, IfOk, IsSome, MatchOption, Some, None, min};
+ghost use Rattle.std.specs.Prelude.{◌≡◌, ◌≤◌, ◌<◌, ◌+◌, ◌^◌, length, IfOk, Some, None};
 ghost use Rattle.ng_block.specs.Effects.{in_state};
 ghost use Rattle.ng_layout.specs.Storable.{CanStand, IsStorable};
 ghost use Rattle.ng_session.specs.Entries.{place_by, place_after, after_block};

@@ -32,14 +32,6 @@ impl<A: Allocator + Drop> Text<A> {
     {
         self.bytes.as_slice()
     }
-
-    /// Gives its bytes back. It takes no memory.
-    pub fn into_bytes(self) -> Vec<u8, A>
-        ensures { result.items ≡ self }
-    {
-        let Text { bytes } = self;
-        bytes
-    }
 }
 
 /// What happens to a session (own).

@@ -2,7 +2,7 @@
 ghost use Rattle.std.specs.Prelude.{◌≡◌, ◌≤◌, ℕ, List, Some, None, IfSome, length, if◌then◌else◌, ◌==◌};
 ghost use Rattle.ng_words.specs.Kinds.{kind_of};
 ghost use Rattle.ng_block.specs.Dry.{first_kind, kind_before};
-ghost use Rattle.ng_layout.specs.Programs.{Line, lines_before, line_at};
+ghost use Rattle.ng_layout.specs.Programs.{lines_before};
 ghost use Rattle.ng_session.specs.declared.lines_before.LinesBefore.{LinesBefore};
 
 use ng_block::first_kind;

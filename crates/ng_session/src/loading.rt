@@ -1,5 +1,5 @@
 //! How a program is loaded.
-ghost use Rattle.std.specs.Prelude.{◌≡◌, ◌≤◌, ℕ, List, Ok, Err, IfOk, OnErr, MatchResult, length};
+ghost use Rattle.std.specs.Prelude.{◌≡◌, ◌≤◌, ℕ, Ok, IfOk, length};
 ghost use Rattle.ng_layout.specs.Storable.{IsStorable};
 ghost use Rattle.ng_session.specs.Entries.{after_load};
 
@@ -49,8 +49,8 @@ impl<A: Allocator + Copy + Drop> Session<A> {
         None
     }
 
-    /// What is to be stored with a program of these bytes, which can be stored unless it is too long. The session stays as it is. `AllocError` where its table found no
-    /// memory.
+    /// What is to be stored with a program of these bytes; it can be stored unless they are too many. The session stays as it is.
+    /// `AllocError` where its table found no memory.
     #[tactic(auto, using(crate::proofs::Standing::load_storable))]
     pub fn loading(&self, text: &[u8]) -> Result<Stored<A>, AllocError>
         ensures value { IfOk result (λ x. x ≡ after_load self.now.stored (length text.now)) }

@@ -49,7 +49,7 @@ pub struct Status {
 pub enum Reply {
     /// An entry was committed, and so many are.
     Done(u64),
-    /// The program goes on.
+    /// The program runs, or what was held goes on.
     Going,
     /// It is held: a Tick does nothing until it goes on.
     Held,

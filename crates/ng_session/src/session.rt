@@ -40,7 +40,7 @@ impl<A: Allocator> Model for Session<A> {
 impl<A: Allocator + Copy + Drop> Session<A> {
     ghost use Rattle.std.specs.Prelude.{None};
     ghost use Rattle.ng_session.specs.Kept.{IsKept};
-    ghost use Rattle.ng_session.specs.Session.{resting, is_at_rest, is_free, is_engaged, start, hold, goes_on, shown, step};
+    ghost use Rattle.ng_session.specs.Session.{resting, is_at_rest, is_free, is_engaged, start, hold, go_on, shown};
 
     /// A session as power on leaves it: at rest, over what the device stands for. It takes no memory.
     pub fn new(stored: Stored<A>) -> Session<A>
@@ -67,21 +67,21 @@ impl<A: Allocator + Copy + Drop> Session<A> {
     }
 
     /// Whether no block is current, the program doesn't run, and nothing is held.
-    pub fn is_at_rest(&self) -> bool
+    fn is_at_rest(&self) -> bool
         ensures { result ≡ is_at_rest self.now }
     {
         self.current.is_none() && !self.activity.is_running() && !self.held
     }
 
     /// Whether it is at rest with no half-done block.
-    pub fn is_free(&self) -> bool
+    pub(crate) fn is_free(&self) -> bool
         ensures { result ≡ is_free self.now }
     {
         self.is_at_rest() && self.stored.half.is_none()
     }
 
     /// Whether a block is current or half-done, or the program runs and isn't held: then no line of the operator begins.
-    pub fn is_engaged(&self) -> bool
+    pub(crate) fn is_engaged(&self) -> bool
         ensures { result ≡ is_engaged self.now }
     {
         self.current.is_some()
@@ -90,7 +90,7 @@ impl<A: Allocator + Copy + Drop> Session<A> {
     }
 
     /// Whether it is known where the machine stands.
-    pub fn is_place_known(&self) -> bool
+    pub(crate) fn is_place_known(&self) -> bool
         ensures { result ≡ self.now.stored.setup.machine.place_known }
     {
         self.stored.state.machine.place_known
@@ -106,7 +106,7 @@ impl<A: Allocator + Copy + Drop> Session<A> {
 
     /// The program is to run from its place on. K1 where the session isn't at rest or a block is half-done, K3 where it isn't
     /// known where the machine stands, K2 where the program is empty; nothing is changed then.
-    pub fn start(&mut self) -> Reply
+    pub(crate) fn start(&mut self) -> Reply
         ensures reply { (program : List ℕ) → result ≡ (start program self.old).reply }
         ensures next { (program : List ℕ) → self.new ≡ (start program self.old).next }
     {
@@ -125,7 +125,7 @@ impl<A: Allocator + Copy + Drop> Session<A> {
 
     /// Nothing more is to be handed out for now. The reply is Held where the program runs or a block is current; else it is Stopped
     /// where the program waits to go on and Idle where it doesn't, and nothing is changed.
-    pub fn hold(&mut self) -> Reply
+    pub(crate) fn hold(&mut self) -> Reply
         ensures reply { (program : List ℕ) → result ≡ (hold program self.old).reply }
         ensures next { (program : List ℕ) → self.new ≡ (hold program self.old).next }
     {
@@ -138,9 +138,9 @@ impl<A: Allocator + Copy + Drop> Session<A> {
 
     /// What was held goes on, or the program that was stopped. Unless it is held, K1 where the program runs or a block is current, and
     /// else K2 where it is Idle; nothing is changed then.
-    pub fn go_on(&mut self) -> Reply
-        ensures reply { (program : List ℕ) → result ≡ (goes_on program self.old).reply }
-        ensures next { (program : List ℕ) → self.new ≡ (goes_on program self.old).next }
+    pub(crate) fn go_on(&mut self) -> Reply
+        ensures reply { (program : List ℕ) → result ≡ (go_on program self.old).reply }
+        ensures next { (program : List ℕ) → self.new ≡ (go_on program self.old).next }
     {
         if self.held {
             self.held = false;
@@ -159,7 +159,7 @@ impl<A: Allocator + Copy + Drop> Session<A> {
     }
 
     /// Whether the program stops at M1 from now on.
-    pub fn set_optional_stop(&mut self, wanted: bool) -> Reply
+    pub(crate) fn set_optional_stop(&mut self, wanted: bool) -> Reply
         ensures reply { result ≡ Reply.Taken }
         ensures next { self.new ≡ record self.old { optional_stop = wanted } }
     {
@@ -168,7 +168,7 @@ impl<A: Allocator + Copy + Drop> Session<A> {
     }
 
     /// Whether lines that begin with a slash are deleted from now on.
-    pub fn set_block_delete(&mut self, on: bool) -> Reply
+    pub(crate) fn set_block_delete(&mut self, on: bool) -> Reply
         ensures reply { result ≡ Reply.Taken }
         ensures next { self.new ≡ record self.old { block_delete = on } }
     {

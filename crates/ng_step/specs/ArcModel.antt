@@ -1,4 +1,4 @@
--- The pulses of an arc as a model.
+-- The pulses of an arc as a model (own).
 use Rattle.std.specs.Prelude.{◌≡◌, ◌-◌, ◌*◌, ◌^◌, ◌<◌, ◌≤◌, true, List}
 use Rattle.ng_step.specs.declared.steps.Steps.{Steps}
 use Rattle.ng_step.specs.declared.arc.ArcPulses.TheInside.{Inside}

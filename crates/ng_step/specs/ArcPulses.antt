@@ -1,4 +1,4 @@
--- The pulses of an arc: its steps and those of the third axis, spread over as many pulses as the larger number.
+-- The pulses of an arc (own): its steps and those of the third axis, spread over as many pulses as the larger number.
 use Rattle.std.specs.Prelude.{ℕ, zero, suc, ◌-◌, max, ℤ, pos, unsigned_abs, int_le, Bool, true, List, [], ◌∷◌, length}
 use Rattle.ng_step.specs.declared.circle.Circle.{Circle}
 use Rattle.ng_step.specs.declared.quadrant.Spot.{Spot}
@@ -33,7 +33,7 @@ interleaved frame n count forward d ms (suc left) =
 abbrev pub arc_pulses : Frame → List PlaneStep → ℤ → List Steps
 arc_pulses frame ms d = interleaved frame (max (length ms) (unsigned_abs d)) (length ms) (int_le (pos 0) d) (unsigned_abs d) ms (max (length ms) (unsigned_abs d))
 
--- the same as the body goes: the steps are not a list, but come by the rule
+-- the same, with the steps by the rule in place of a list
 abbrev pub walking : Frame → Step → Circle → Spot → Step → Steps
 walking frame Still c p third = pulse_without frame third
 walking frame Forward c p third = pulse_with frame (step_at c p) third

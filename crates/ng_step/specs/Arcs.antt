@@ -1,4 +1,4 @@
--- The points of an arc, as offsets from its centre in nanometres.
+-- The points of an arc, as offsets from its centre in nanometres (own).
 use Rattle.std.specs.Prelude.{◌≡◌, ℕ, zero, suc, ◌+◌, ◌-◌, ◌*◌, ◌%◌, ◌<◌, ◌≤◌, max, ℤ, pos, negsuc, ◌+ℤ◌, ◌-ℤ◌, ◌*ℤ◌, int_lt, int_le, unsigned_abs, Bool, true, false, ◌&&◌, ◌||◌, ◌==◌, if◌then◌else◌, IsTrue, List, [], ◌∷◌, All}
 use Rattle.ng_step.specs.declared.quadrant.Quadrant.{Quadrant}
 use Rattle.ng_step.specs.declared.quadrant.Quadrant.TheVariants.{First, Second, Third, Fourth}

@@ -1,4 +1,4 @@
--- What an axis keeps on a line.
+-- What an axis keeps on a line (own).
 use Rattle.std.specs.Prelude.{◌≡◌, ℕ, ◌+◌, ◌*◌, ◌<◌, ◌≤◌}
 use Rattle.ng_step.specs.declared.spread.Spread.{Spread}
 use Rattle.ng_canon.specs.declared.item.Step.{Step}

@@ -1,4 +1,4 @@
--- The pulses of a line as a model.
+-- The pulses of a line as a model (own).
 use Rattle.std.specs.Prelude.{◌≡◌, ℕ, zero, suc, ◌-◌, ◌*◌, ◌^◌, ◌<◌, ◌≤◌, List, [], ◌∷◌}
 use Rattle.ng_step.specs.declared.steps.Steps.{Steps}
 use Rattle.ng_canon.specs.declared.item.Step.{Step}

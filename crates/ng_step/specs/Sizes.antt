@@ -1,4 +1,4 @@
--- How large the numbers of an arc are.
+-- How large the numbers of an arc are (own).
 use Rattle.std.specs.Prelude.{ℕ, ◌≡◌, ◌+◌, ◌*◌, ◌^◌, ◌<◌, ◌≤◌, ◌-ℤ◌, unsigned_abs}
 use Rattle.ng_step.specs.declared.centred.CentredArc.{CentredArc}
 use Rattle.ng_step.specs.declared.quadrant.Spot.{Spot}

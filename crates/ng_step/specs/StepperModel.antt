@@ -1,4 +1,4 @@
--- The items that are left as a model.
+-- The items that are left as a model (own).
 use Rattle.std.specs.Prelude.{Option, Some, None, List, [], ◌∷◌, ◌++◌, map}
 use Rattle.ng_canon.specs.declared.item.Item.{Item}
 use Rattle.ng_step.specs.declared.stepper.Stepper.TheInside.{Inside}

@@ -1,4 +1,4 @@
--- The same in every quadrant: a point by the coordinate that inward steps lessen and the one that outward steps make larger.
+-- The same in every quadrant (own): a point by the coordinate that inward steps lessen and the one that outward steps make larger.
 use Rattle.std.specs.Prelude.{◌≡◌, ℕ, ◌+◌, ◌-◌, ◌*◌, ◌^◌, ◌<◌, ◌≤◌, pos, neg_ℤ, ◌+ℤ◌, ◌-ℤ◌}
 use Rattle.ng_step.specs.declared.quadrant.Quadrant.{Quadrant}
 use Rattle.ng_step.specs.declared.quadrant.Quadrant.TheVariants.{First, Second, Third, Fourth}

@@ -8,7 +8,7 @@ use ng_canon::{Arc, Geometry, Plane};
 use ng_num::Point;
 
 /// An arc in the frame of its plane, all offsets from its centre in nanometres, b negated for a clockwise one.
-#[derive(Clone, Copy, Debug, PartialEq, Eq)]
+#[derive(Clone, Copy)]
 pub struct CentredArc {
     pub frame: Frame,
     pub circle: Circle,

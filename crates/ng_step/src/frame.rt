@@ -6,7 +6,7 @@ use ng_canon::{Plane, Step, Turn};
 
 /// How an arc lies in the machine: its plane, and its way round. A clockwise arc is stepped as a counterclockwise
 /// one with b negated.
-#[derive(Clone, Copy, Debug, PartialEq, Eq)]
+#[derive(Clone, Copy)]
 pub struct Frame {
     pub plane: Plane,
     pub turn: Turn,

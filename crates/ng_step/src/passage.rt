@@ -9,7 +9,7 @@ use crate::timing::ceil_div;
 
 /// Where an arc enters a quadrant, in nanometres: `inner` is what inward steps lessen, `outer` what outward ones make
 /// larger.
-#[derive(Clone, Copy, Debug)]
+#[derive(Clone, Copy)]
 pub struct Passage {
     pub square: u128,
     pub inner: u64,
@@ -24,14 +24,14 @@ pub struct Passage {
 }
 
 /// A point of a passage: how many inward and how many outward steps lead there.
-#[derive(Clone, Copy, Debug, PartialEq, Eq)]
+#[derive(Clone, Copy)]
 pub struct Way {
     pub inward: u64,
     pub outward: u64,
 }
 
 /// An end in a quadrant, by the same two coordinates.
-#[derive(Clone, Copy, Debug, PartialEq, Eq)]
+#[derive(Clone, Copy)]
 pub struct Ahead {
     pub inner: u64,
     pub outer: u64,

@@ -4,7 +4,7 @@ use crate::wide::signed_product;
 use ng_canon::Step;
 
 /// A quadrant round an arc's centre, half open.
-#[derive(Clone, Copy, Debug, PartialEq, Eq)]
+#[derive(Clone, Copy)]
 pub enum Quadrant {
     First,
     Second,
@@ -13,7 +13,7 @@ pub enum Quadrant {
 }
 
 /// One step of one axis of the plane.
-#[derive(Clone, Copy, Debug, PartialEq, Eq)]
+#[derive(Clone, Copy)]
 pub enum PlaneStep {
     AddA,
     SubA,
@@ -22,7 +22,7 @@ pub enum PlaneStep {
 }
 
 /// An offset from an arc's centre in nanometres; for a clockwise arc b is negated.
-#[derive(Clone, Copy, Debug, PartialEq, Eq)]
+#[derive(Clone, Copy)]
 pub struct Spot {
     pub a: i64,
     pub b: i64,

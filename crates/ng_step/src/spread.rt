@@ -3,7 +3,7 @@
 use ng_canon::Step;
 
 /// An axis on a line, with the error that it has gathered.
-#[derive(Clone, Copy, Debug)]
+#[derive(Clone, Copy)]
 pub struct Spread {
     count: u64,
     forward: bool,
@@ -13,7 +13,7 @@ pub struct Spread {
 
 impl Spread {
     ghost use Rattle.std.specs.Prelude.{◌≡◌, ℕ, ◌+◌, ◌*◌, ◌^◌, ◌<◌, ◌≤◌, ℤ, unsigned_abs, int_le, pos};
-    ghost use Rattle.ng_step.specs.Lines.{axis_step, step_toward};
+    ghost use Rattle.ng_step.specs.Lines.{step_toward};
     ghost use Rattle.ng_step.specs.Axes.{IsSpread, Stepped};
 
     /// At the start of a line of `total` pulses.

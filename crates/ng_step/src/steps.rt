@@ -5,7 +5,7 @@ use ng_canon::{Geometry, Step};
 use ng_num::Point;
 
 /// One pulse: what each axis does.
-#[derive(Clone, Copy, Debug, PartialEq, Eq)]
+#[derive(Clone, Copy)]
 pub struct Steps {
     pub x: Step,
     pub y: Step,
@@ -13,7 +13,7 @@ pub struct Steps {
 }
 
 /// The steps that each axis has to make.
-#[derive(Clone, Copy, Debug, PartialEq, Eq)]
+#[derive(Clone, Copy)]
 pub struct Distances {
     pub x: i64,
     pub y: i64,

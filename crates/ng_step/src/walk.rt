@@ -14,7 +14,7 @@ use ng_canon::Step;
 /// A point on the way round a circle, seen from its quadrant: `inner` is the coordinate that an inward step
 /// lessens, `outer` the one that an outward step makes larger. The rest are differences, and what the steps of the
 /// quadrant are.
-#[derive(Clone, Copy, Debug)]
+#[derive(Clone, Copy)]
 pub struct Walk {
     circle: Circle,
     quadrant: Quadrant,
@@ -33,10 +33,9 @@ pub struct Walk {
 }
 
 impl Walk {
-    ghost use Rattle.std.specs.Prelude.{List, length, ◌^◌, int_le, unsigned_abs, ◌≡◌, ℕ, ◌+◌, ◌*◌, ◌<◌, ◌≤◌, ◌≤ℤ◌, ◌<ℤ◌, pos};
-    ghost use Rattle.ng_step.specs.Arcs.{step_at, next_spot, cross, stops, IsArc, IsLargeArc, larger, net_a, net_b};
-    ghost use Rattle.ng_step.specs.declared.quadrant.PlaneStep.{PlaneStep};
-    ghost use Rattle.ng_step.specs.Turned.{spot_of, Walks, IsStep, budget, beyond, farthest, place, in_step, out_step};
+    ghost use Rattle.std.specs.Prelude.{◌^◌, int_le, unsigned_abs, ◌≡◌, ℕ, ◌+◌, ◌*◌, ◌<◌, ◌≤◌, ◌≤ℤ◌, ◌<ℤ◌, pos};
+    ghost use Rattle.ng_step.specs.Arcs.{cross, stops, IsLargeArc, larger};
+    ghost use Rattle.ng_step.specs.Turned.{spot_of, Walks, IsStep, beyond, farthest, place, in_step, out_step};
 
     /// From a point that isn't the centre.
     pub(crate) fn new(frame: Frame, circle: Circle, from: Spot) -> Walk

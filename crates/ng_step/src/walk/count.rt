@@ -6,7 +6,7 @@ use crate::rounding::whole_steps;
 use crate::walk::Walk;
 
 /// How many steps an arc has, and how far they go along each axis, in steps.
-#[derive(Clone, Copy, Debug, PartialEq, Eq)]
+#[derive(Clone, Copy)]
 pub struct Count {
     pub steps: u64,
     pub a: i64,
@@ -14,7 +14,7 @@ pub struct Count {
 }
 
 /// A walk so many steps on.
-#[derive(Clone, Copy, Debug)]
+#[derive(Clone, Copy)]
 struct Leap {
     walk: Walk,
     steps: u64,
@@ -22,7 +22,7 @@ struct Leap {
 
 impl Walk {
     ghost use Rattle.std.specs.Prelude.{List, length, MatchOption, IfSome, false, ◌^◌, unsigned_abs, ◌≡◌, ℕ, ◌+◌, ◌-◌, ◌*◌, ◌<◌, ◌≤◌};
-    ghost use Rattle.ng_step.specs.Arcs.{quadrant_after, stops, IsArc, net_a, net_b};
+    ghost use Rattle.ng_step.specs.Arcs.{stops, IsArc, net_a, net_b};
     ghost use Rattle.ng_step.specs.declared.quadrant.PlaneStep.{PlaneStep};
     ghost use Rattle.ng_step.specs.Turned.{spot_of, Walks, beyond};
     ghost use Rattle.ng_step.specs.Passages.{inner_at, outer_at, IsLast};

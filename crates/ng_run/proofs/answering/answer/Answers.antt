@@ -1,4 +1,4 @@
-use Rattle.ng_run.specs.Turns.{Turn}
+use Rattle.ng_core.specs.Turns.{Turn}
 use Rattle.ng_run.proofs.Replying.{answers_event, answers_refusal, answers_ticks, answers_ticks_broken}
 use Rattle.ng_run.proofs.answering.answer.Goals as goal
 

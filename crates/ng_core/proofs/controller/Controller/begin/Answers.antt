@@ -7,6 +7,7 @@ use Rattle.ng_session.specs.Session.{Sitting, begin}
 use Rattle.ng_core.specs.Station.{Station}
 use Rattle.ng_core.proofs.Choosing.{does_as}
 use Rattle.ng_core.proofs.Beginning.{Reading, finding_both, does_begin, does_begin_short, does_begin_unfound, does_begin_unread, known_behind}
+use Rattle.ng_core.proofs.Anyway.{stays_same}
 use Rattle.ng_core.proofs.controller.Controller.begin.Goals as goal
 
 pub returns-in_err-first-clause-does : goal.returns-in_err-first-clause-does
@@ -79,3 +80,27 @@ returns-in-None-clause-does g c =
     (does_begin g.R.Rig.honest g.R.Rig.life c.break_off.result c.in_ok-first.first None c.place-place.result old new c.place-place.ensures.value
     (finding_both {E = Fault} {F = Fault} g.R.Rig.honest g.R.Rig.life c.in_ok-first.first None c.self.inside.lines c.place-place.result c.self.inside.journal c.first_kind_before.new.journal c.program_line.new.self
     c.in_ok-first.ensures.kind reading) (λ program true_of _ _. true_of) c.break_off.ensures.reply (λ program _. c.break_off.ensures.next program))
+
+pub returns-in_err-first-clause-stays : goal.returns-in_err-first-clause-stays
+returns-in_err-first-clause-stays g c =
+    let p = err_from_is_err_and c.from_residual.result c.from_residual.ensures.1 in
+    let equipment : Equipment = record { tools = c.self.inside.tools; geometry = c.self.inside.geometry } in
+    let old : Station g.row.R.Denot = record { journal = c.self.inside.journal; session = c.self.inside.session; lines = c.self.inside.lines; equipment = equipment } in
+    let new : Station g.row.R.Denot = record { journal = c.first_kind_before.new.journal; session = c.self.inside.session; lines = c.self.inside.lines; equipment = equipment } in
+    rw (p.1, ← c.self.view_is) (stays_same p.0 old new refl)
+
+pub returns-in_err-line-clause-stays : goal.returns-in_err-line-clause-stays
+returns-in_err-line-clause-stays g c =
+    let p = err_from_is_err_and c.from_residual-in_err-line.result c.from_residual-in_err-line.ensures.1 in
+    let equipment : Equipment = record { tools = c.self.inside.tools; geometry = c.self.inside.geometry } in
+    let old : Station g.row.R.Denot = record { journal = c.self.inside.journal; session = c.self.inside.session; lines = c.self.inside.lines; equipment = equipment } in
+    let new : Station g.row.R.Denot = record { journal = c.program_line.new.self; session = c.self.inside.session; lines = c.self.inside.lines; equipment = equipment } in
+    rw (p.1, ← c.self.view_is) (stays_same p.0 old new refl)
+
+pub returns-in_err-reply-in-Some-clause-stays : goal.returns-in_err-reply-in-Some-clause-stays
+returns-in_err-reply-in-Some-clause-stays g c =
+    let p = err_from_is_err_and c.from_residual-in_err-reply-in-Some.result c.from_residual-in_err-reply-in-Some.ensures.1 in
+    let equipment : Equipment = record { tools = c.self.inside.tools; geometry = c.self.inside.geometry } in
+    let old : Station g.row.R.Denot = record { journal = c.self.inside.journal; session = c.self.inside.session; lines = c.self.inside.lines; equipment = equipment } in
+    let new : Station g.row.R.Denot = record { journal = c.program_line.new.self; session = c.begin.new.self; lines = c.self.inside.lines; equipment = equipment } in
+    rw (p.1, ← c.self.view_is) (stays_same p.0 old new c.in_err-reply-in-Some.ensures.err)

@@ -3,10 +3,11 @@ use Rattle.std.proofs.lemmas.Result.{err_from_is_err_and}
 use Rattle.ng_num.specs.declared.fault.Fault.{Fault}
 use Rattle.ng_num.specs.declared.fault.Fault.TheVariants.{DeviceFailed, CountersUsed}
 use Rattle.ng_session.specs.Entries.{Equipment}
-use Rattle.ng_session.specs.Session.{Sitting, end}
+use Rattle.ng_session.specs.Session.{Sitting, end, IsBetweenLines}
 use Rattle.ng_core.specs.Station.{Station}
 use Rattle.ng_core.proofs.Choosing.{does_as}
 use Rattle.ng_core.proofs.Ticks.{IsDue, does_commit, does_not_commit}
+use Rattle.ng_core.proofs.Anyway.{comes_as, comes_commit, stays_same}
 use Rattle.ng_core.proofs.controller.Controller.commit.Goals as goal
 
 pub returns-in_err-commit-clause-does : goal.returns-in_err-commit-clause-does
@@ -39,3 +40,21 @@ returns-clause-does g c =
     does_as g.R.Rig.honest g.R.Rig.life (Ok c.commit-2.result) (λ (x : Station g.row.R.Denot) (program : List ℕ). end x.equipment program x.session x.session.current) c.args.self.now old new c.self.view_is
     (does_commit g.R.Rig.honest g.R.Rig.life c.in_ok-commit.field-0 c.commit-2.result c.in-Some.after.now old new due
     (c.commit-2.ensures.reply block.0 block.1) (c.commit-2.ensures.next block.0 block.1) c.in_ok-commit.ensures.stops refl)
+
+pub returns-in_err-commit-clause-comes : goal.returns-in_err-commit-clause-comes
+returns-in_err-commit-clause-comes g c =
+    let p = err_from_is_err_and c.from_residual.result c.from_residual.ensures.1 in
+    let equipment : Equipment = record { tools = c.self.inside.tools; geometry = c.self.inside.geometry } in
+    let old : Station g.row.R.Denot = record { journal = c.self.inside.journal; session = c.self.inside.session; lines = c.self.inside.lines; equipment = equipment } in
+    let new : Station g.row.R.Denot = record { journal = c.commit.new.self; session = c.self.inside.session; lines = c.self.inside.lines; equipment = equipment } in
+    rw (p.1, ← c.self.view_is) (stays_same p.0 old new refl)
+
+pub returns-clause-comes : goal.returns-clause-comes
+returns-clause-comes g c =
+    let equipment : Equipment = record { tools = c.self.inside.tools; geometry = c.self.inside.geometry } in
+    let old : Station g.row.R.Denot = record { journal = c.self.inside.journal; session = c.self.inside.session; lines = c.self.inside.lines; equipment = equipment } in
+    let new : Station g.row.R.Denot = record { journal = c.commit.new.self; session = c.commit-2.new.self; lines = c.self.inside.lines; equipment = equipment } in
+    let block = c.in-Some.ensures.after in
+    let due : IsDue c.self.inside.session c.in-Some.after.now = record { block = block.0; current = block.1; after = block.2 } in
+    comes_as (λ (x : Station g.row.R.Denot). IsBetweenLines x.session) (Ok c.commit-2.result) (λ (x : Station g.row.R.Denot) (program : List ℕ). end x.equipment program x.session x.session.current) c.args.self.now old new c.self.view_is
+    (comes_commit (IsBetweenLines old.session) c.commit-2.result c.in-Some.after.now old new due (c.commit-2.ensures.reply block.0 block.1) (c.commit-2.ensures.next block.0 block.1))

@@ -6,6 +6,7 @@ use Rattle.ng_core.specs.Causes.{IsHinderedBy}
 use Rattle.ng_core.specs.Station.{Station}
 use Rattle.ng_core.proofs.Choosing.{does_open}
 use Rattle.ng_core.proofs.Hindering.{hindered_open}
+use Rattle.ng_core.proofs.Anyway.{comes_end, comes_open}
 use Rattle.ng_core.proofs.controller.Controller.go_further.Goals as goal
 
 pub returns-in-Some-clause-does : goal.returns-in-Some-clause-does
@@ -19,3 +20,15 @@ returns-in-Some-clause-hindered g c =
     IfErr-weaker c.open.result (IsHinderedBy ⊥ (Unit {0}) old.journal.header.epoch (λ (program : List ℕ). reply.Opened c.in-Some.half.index))
     (IsHinderedBy (IsBetweenLines old.session) (is_busy old.session ≡ true) old.journal.header.epoch (λ (program : List ℕ). (open_next old.equipment program old.session (opening_of old.session.current)).reply))
     (hindered_open old.equipment old.session old.journal.header.epoch c.in-Some.half (c.in-Some.ensures.half ∙ ap (λ (x : Station g.row.R.Denot). opening_of x.session.current) c.self.view_is)) c.open.ensures.hindered
+
+pub returns-in-Some-clause-comes : goal.returns-in-Some-clause-comes
+returns-in-Some-clause-comes g c =
+    let old : Station g.row.R.Denot = c.args.self.now in
+    comes_open (IsBetweenLines old.session) c.open.result c.in-Some.half old c.open.new.self
+    (c.in-Some.ensures.half ∙ ap (λ (x : Station g.row.R.Denot). opening_of x.session.current) c.self.view_is) c.open.ensures.comes
+
+pub returns-in-None-clause-comes : goal.returns-in-None-clause-comes
+returns-in-None-clause-comes g c =
+    let old : Station g.row.R.Denot = c.args.self.now in
+    comes_end (IsBetweenLines old.session) c.end.result old c.end.new.self
+    (c.in-None.ensures.half ∙ ap (λ (x : Station g.row.R.Denot). opening_of x.session.current) c.self.view_is) c.end.ensures.comes

@@ -11,6 +11,7 @@ use Rattle.ng_core.specs.Station.{Station}
 use Rattle.ng_core.proofs.Answering.{does_load, does_not_load, not_too_long}
 use Rattle.ng_core.proofs.Hindering.{hindered_load}
 use Rattle.ng_core.proofs.Storing.{kept_failed}
+use Rattle.ng_core.proofs.Anyway.{comes_load, stays_same}
 use Rattle.ng_core.proofs.controller.Controller.load.Goals as goal
 
 pub invariant_of-self : goal.invariant_of-self
@@ -59,3 +60,18 @@ returns-clause-does g c =
     let new : Station g.row.R.Denot = record { journal = c.load_program.new.self; session = c.load.new.self; lines = c.none-self-inside.result; equipment = equipment } in
     rw (← c.self.view_is) (does_load g.R.Rig.honest g.R.Rig.life c.in_ok-load_program.field-0 c.load.result c.in_ok-stored.stored c.args.text.now old new (sym c.in_default.ensures.value) c.in_ok-stored.ensures.value
     c.load.ensures.reply c.load.ensures.next c.in_ok-load_program.ensures.stops (c.none-self-inside.ensures.holds c.args.text.now))
+
+pub returns-in_err-load_program-clause-comes : goal.returns-in_err-load_program-clause-comes
+returns-in_err-load_program-clause-comes g c =
+    let p = err_from_is_err_and c.from_residual-in_err-load_program.result c.from_residual-in_err-load_program.ensures.1 in
+    let equipment : Equipment = record { tools = c.self.inside.tools; geometry = c.self.inside.geometry } in
+    let old : Station g.row.R.Denot = record { journal = c.self.inside.journal; session = c.self.inside.session; lines = c.self.inside.lines; equipment = equipment } in
+    let new : Station g.row.R.Denot = record { journal = c.load_program.new.self; session = c.self.inside.session; lines = c.self.inside.lines; equipment = equipment } in
+    rw (p.1, ← c.self.view_is) (stays_same p.0 old new refl)
+
+pub returns-clause-comes : goal.returns-clause-comes
+returns-clause-comes g c =
+    let equipment : Equipment = record { tools = c.self.inside.tools; geometry = c.self.inside.geometry } in
+    let old : Station g.row.R.Denot = record { journal = c.self.inside.journal; session = c.self.inside.session; lines = c.self.inside.lines; equipment = equipment } in
+    let new : Station g.row.R.Denot = record { journal = c.load_program.new.self; session = c.load.new.self; lines = c.none-self-inside.result; equipment = equipment } in
+    rw (← c.self.view_is) (comes_load ⊥ c.load.result c.in_ok-stored.stored c.args.text.now old new (sym c.in_default.ensures.value) c.in_ok-stored.ensures.value c.load.ensures.reply c.load.ensures.next)

@@ -4,7 +4,8 @@ use Rattle.ng_num.specs.declared.fault.Fault.{Fault}
 use Rattle.ng_num.specs.declared.fault.Fault.TheVariants.{DeviceFailed, CountersUsed}
 use Rattle.ng_session.specs.Entries.{Equipment}
 use Rattle.ng_core.specs.Station.{Station}
-use Rattle.ng_core.proofs.Ticks.{opens, opens_none}
+use Rattle.ng_core.proofs.Ticks.{opening, opens, opens_none}
+use Rattle.ng_core.proofs.Anyway.{comes_by, stays_same}
 use Rattle.ng_core.proofs.controller.Controller.open.Goals as goal
 
 pub returns-in_err-open_segment-clause-does : goal.returns-in_err-open_segment-clause-does
@@ -26,3 +27,18 @@ returns-clause-does g c =
     let new : Station g.row.R.Denot = record { journal = c.open_segment.new.self; session = c.open.new.self; lines = c.self.inside.lines; equipment = equipment } in
     let whole = ap (λ (x : Station g.row.R.Denot). x.journal.broken) c.self.view_is ∙ c.requires.whole in
     rw (← c.self.view_is) (opens g.R.Rig.honest g.R.Rig.life c.in_ok-open_segment.field-0 c.open.result c.args.half old new c.open.ensures.reply c.open.ensures.next (c.self.invariant whole) c.in_ok-open_segment.ensures.stops refl)
+
+pub returns-in_err-open_segment-clause-comes : goal.returns-in_err-open_segment-clause-comes
+returns-in_err-open_segment-clause-comes g c =
+    let p = err_from_is_err_and c.from_residual.result c.from_residual.ensures.1 in
+    let equipment : Equipment = record { tools = c.self.inside.tools; geometry = c.self.inside.geometry } in
+    let old : Station g.row.R.Denot = record { journal = c.self.inside.journal; session = c.self.inside.session; lines = c.self.inside.lines; equipment = equipment } in
+    let new : Station g.row.R.Denot = record { journal = c.open_segment.new.self; session = c.self.inside.session; lines = c.self.inside.lines; equipment = equipment } in
+    rw (p.1, ← c.self.view_is) (stays_same p.0 old new refl)
+
+pub returns-clause-comes : goal.returns-clause-comes
+returns-clause-comes g c =
+    let equipment : Equipment = record { tools = c.self.inside.tools; geometry = c.self.inside.geometry } in
+    let old : Station g.row.R.Denot = record { journal = c.self.inside.journal; session = c.self.inside.session; lines = c.self.inside.lines; equipment = equipment } in
+    let new : Station g.row.R.Denot = record { journal = c.open_segment.new.self; session = c.open.new.self; lines = c.self.inside.lines; equipment = equipment } in
+    rw (← c.self.view_is) (comes_by ⊥ c.open.result (λ program. opening c.args.half program equipment old.session) old new (λ program. c.open.ensures.reply) (λ program. c.open.ensures.next))

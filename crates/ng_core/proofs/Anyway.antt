@@ -1,0 +1,122 @@
+-- What comes of an event whatever the device is, by what its calls promise.
+use Rattle.std.proofs.Common.{◌≡◌, ◌≢◌, ℕ, true, false, List, length, Option, Some, None, Result, Ok, Err, refl, sym, ◌∙◌, ap, subst}
+use Rattle.std.specs.Prelude.{IfErr}
+use Rattle.ng_num.specs.declared.fault.Fault.{Fault}
+use Rattle.ng_num.specs.declared.fault.Fault.TheVariants.{DeviceFailed}
+use Rattle.ng_canon.specs.declared.item.Item.{Item}
+use Rattle.ng_layout.specs.Stored.{HalfDone, Saved}
+use Rattle.ng_session.specs.Entries.{after_load}
+use Rattle.ng_session.specs.Session.{Underway, Sitting, Outcome, IsBetweenLines, answers, refuses, tick, open_next, end, item_of, handed, opening_of, is_running, rest, committed, load, load_unless, load_refusal, loaded, shown}
+use Rattle.ng_session.specs.declared.reply.Reply.{Reply}
+use Rattle.ng_session.specs.declared.reply.Reply.TheVariants as reply
+use Rattle.ng_core.specs.Station.{Station}
+use Rattle.ng_core.specs.Acts.{ComesAnyway, Stays}
+use Rattle.ng_core.proofs.Choosing.{with_session}
+use Rattle.ng_core.proofs.Ticks.{IsDue, moving, opening, tick_held, tick_item, tick_none, rests_there}
+
+pub stays_same : {R : Type 0} (fault : Fault) (old new : Station R) → new.session ≡ old.session → Stays fault old new
+stays_same fault old new same = (ap shown same, λ other. same)
+
+pub comes_by : {R : Type 0} (reads : Type 0) (r : Reply) (out : List ℕ → Outcome) (old new : Station R)
+    → ((program : List ℕ) → r ≡ (out program).reply) → ((program : List ℕ) → new.session ≡ (out program).next) → ComesAnyway reads (Ok r) out old new
+comes_by reads r out old new replied next = λ read program. (replied program, next program)
+
+-- the same of an equal controller
+pub comes_as : {R : Type 0} (reads : Station R → Type 0) (answer : Result Reply Fault) (out : Station R → List ℕ → Outcome) (old mid new : Station R)
+    → mid ≡ old → ComesAnyway (reads mid) answer (out mid) mid new → ComesAnyway (reads old) answer (out old) old new
+comes_as reads answer out old mid new same comes = subst (λ (c : Station _). ComesAnyway (reads c) answer (out c) c new) same comes
+
+-- the same of an equal outcome, and where more may be read
+comes_to : {R : Type 0} (reads wider : Type 0) (answer : Result Reply Fault) (out wanted : List ℕ → Outcome) (old new : Station R)
+    → (reads → wider) → ((program : List ℕ) → out program ≡ wanted program) → ComesAnyway reads answer out old new → ComesAnyway wider answer wanted old new
+comes_to reads wider (Ok r) out wanted old new wide equal comes = λ read program.
+    let here = comes (λ p. read (wide p)) program in
+    (here.0 ∙ ap (λ (o : Outcome). o.reply) (equal program), here.1 ∙ ap (λ (o : Outcome). o.next) (equal program))
+comes_to reads wider (Err fault) out wanted old new wide equal stays = stays
+
+-- ---- a Tick: held, an item, a segment, an entry, a line, nothing
+
+pub comes_held : {R : Type 0} (reads : Type 0) (c : Station R) → c.session.held ≡ true → ComesAnyway reads (Ok reply.Held) (λ program. tick c.equipment program c.session) c c
+comes_held reads c held =
+    comes_to reads reads (Ok reply.Held) (λ program. answers program reply.Held c.session) (λ program. tick c.equipment program c.session) c c (λ p. p)
+    (λ program. sym (tick_held c.equipment program c.session held))
+    (comes_by reads reply.Held (λ program. answers program reply.Held c.session) c c (λ program. refl) (λ program. refl))
+
+comes_before : {R : Type 0} (answer : Result Reply Fault) (out : List ℕ → Outcome) (old new : Station R)
+    → IfErr answer (λ e. e ≡ DeviceFailed) → ComesAnyway ⊥ answer out (with_session old (handed old.session)) new → ComesAnyway ⊥ answer out old new
+comes_before (Ok r) out old new errors comes = comes
+comes_before (Err fault) out old new errors comes = (comes.0, λ other. absurd (other errors))
+
+pub comes_item : {R : Type 0} (reads : Type 0) (answer : Result Reply Fault) (item : Item) (old new : Station R) (taken : Sitting)
+    → old.session.held ≡ false → Some item ≡ item_of old.session.current → taken ≡ handed old.session → IfErr answer (λ e. e ≡ DeviceFailed)
+    → ComesAnyway ⊥ answer (λ program. moving item program taken) (with_session old taken) new
+    → ComesAnyway reads answer (λ program. tick old.equipment program old.session) old new
+comes_item reads answer item old new taken held is next errors comes =
+    comes_to ⊥ reads answer (λ program. moving item program (handed old.session)) (λ program. tick old.equipment program old.session) old new (λ none. absurd none)
+    (λ program. sym (tick_item old.equipment program old.session item held (sym is)))
+    (comes_before answer (λ program. moving item program (handed old.session)) old new errors
+    (subst (λ (s : Sitting). ComesAnyway ⊥ answer (λ program. moving item program s) (with_session old s) new) next comes))
+
+pub comes_further : {R : Type 0} (answer : Result Reply Fault) (old new : Station R) (left : Sitting)
+    → old.session.held ≡ false → None ≡ item_of old.session.current → left ≡ old.session
+    → ComesAnyway (IsBetweenLines left) answer (λ program. open_next old.equipment program left (opening_of left.current)) (with_session old left) new
+    → ComesAnyway ((old.session.held ≡ false) × IsBetweenLines old.session) answer (λ program. tick old.equipment program old.session) old new
+comes_further answer old new left held none same comes =
+    comes_to (IsBetweenLines old.session) ((old.session.held ≡ false) × IsBetweenLines old.session) answer
+    (λ program. open_next old.equipment program old.session (opening_of old.session.current)) (λ program. tick old.equipment program old.session) old new (λ p. (held, p))
+    (λ program. sym (tick_none old.equipment program old.session held (sym none)))
+    (subst (λ (s : Sitting). ComesAnyway (IsBetweenLines s) answer (λ program. open_next old.equipment program s (opening_of s.current)) (with_session old s) new) same comes)
+
+pub comes_open : {R : Type 0} (reads : Type 0) (answer : Result Reply Fault) (half : HalfDone) (old new : Station R)
+    → Some half ≡ opening_of old.session.current → ComesAnyway ⊥ answer (λ program. opening half program old.equipment old.session) old new
+    → ComesAnyway reads answer (λ program. open_next old.equipment program old.session (opening_of old.session.current)) old new
+comes_open reads answer half old new is comes =
+    comes_to ⊥ reads answer (λ program. opening half program old.equipment old.session) (λ program. open_next old.equipment program old.session (opening_of old.session.current)) old new (λ none. absurd none)
+    (λ program. ap (λ (o : Option HalfDone). open_next old.equipment program old.session o) is) comes
+
+pub comes_end : {R : Type 0} (reads : Type 0) (answer : Result Reply Fault) (old new : Station R)
+    → None ≡ opening_of old.session.current → ComesAnyway reads answer (λ program. end old.equipment program old.session old.session.current) old new
+    → ComesAnyway reads answer (λ program. open_next old.equipment program old.session (opening_of old.session.current)) old new
+comes_end reads answer old new is comes =
+    comes_to reads reads answer (λ program. end old.equipment program old.session old.session.current) (λ program. open_next old.equipment program old.session (opening_of old.session.current)) old new (λ p. p)
+    (λ program. ap (λ (o : Option HalfDone). open_next old.equipment program old.session o) is) comes
+
+pub comes_commit : {R : Type 0} (reads : Type 0) (r : Reply) (saved : Saved) (old new : Station R) (due : IsDue old.session saved)
+    → r ≡ reply.Done due.block.after.entries → new.session ≡ committed old.session due.block
+    → ComesAnyway reads (Ok r) (λ program. end old.equipment program old.session old.session.current) old new
+comes_commit reads r saved old new due replied next =
+    comes_to reads reads (Ok r) (λ program. end old.equipment program old.session (Some due.block)) (λ program. end old.equipment program old.session old.session.current) old new (λ p. p)
+    (λ program. sym (ap (λ (o : Option Underway). end old.equipment program old.session o) due.current))
+    (comes_by reads r (λ program. end old.equipment program old.session (Some due.block)) old new (λ program. replied) (λ program. next))
+
+pub comes_line : {R : Type 0} (answer : Result Reply Fault) (old new : Station R)
+    → old.session.current ≡ None → is_running old.session.activity ≡ true → IfErr answer (λ fault. Stays fault old new)
+    → ComesAnyway (IsBetweenLines old.session) answer (λ program. end old.equipment program old.session old.session.current) old new
+comes_line (Ok r) old new none runs stays = λ read program. absurd (read (none, runs))
+comes_line (Err fault) old new none runs stays = stays
+
+pub comes_rest : {R : Type 0} (reads : Type 0) (r : Reply) (c : Station R) → c.session.current ≡ None → is_running c.session.activity ≡ false
+    → ((program : List ℕ) → r ≡ (rest program c.session).reply)
+    → ComesAnyway reads (Ok r) (λ program. end c.equipment program c.session c.session.current) c c
+comes_rest reads r c none idle replied =
+    comes_to reads reads (Ok r) (λ program. rest program c.session) (λ program. end c.equipment program c.session c.session.current) c c (λ p. p)
+    (λ program. sym (rests_there c.equipment program c.session none idle))
+    (comes_by reads r (λ program. rest program c.session) c c replied (λ program. refl))
+
+-- ---- a program
+
+pub comes_refuse : {R : Type 0} (reads : Type 0) (fault : Fault) (text : List ℕ) (c : Station R)
+    → load_refusal c.session text ≡ Some fault → ComesAnyway reads (Ok (reply.Refused fault)) (λ program. load program c.session text) c c
+comes_refuse reads fault text c is =
+    comes_to reads reads (Ok (reply.Refused fault)) (λ program. refuses program fault c.session) (λ program. load program c.session text) c c (λ p. p)
+    (λ program. sym (ap (λ (o : Option Fault). load_unless program c.session text o) is))
+    (comes_by reads (reply.Refused fault) (λ program. refuses program fault c.session) c c (λ program. refl) (λ program. refl))
+
+pub comes_load : {R : Type 0} (reads : Type 0) (r : Reply) (saved : Saved) (text : List ℕ) (old new : Station R)
+    → load_refusal old.session text ≡ None → saved ≡ after_load old.session.stored (length text) → r ≡ reply.Done saved.entries → new.session ≡ loaded old.session saved
+    → ComesAnyway reads (Ok r) (λ program. load program old.session text) old new
+comes_load reads r saved text old new free is replied next =
+    comes_to reads reads (Ok r) (λ program. load_unless program old.session text None) (λ program. load program old.session text) old new (λ p. p)
+    (λ program. sym (ap (λ (o : Option Fault). load_unless program old.session text o) free))
+    (comes_by reads r (λ program. load_unless program old.session text None) old new
+    (λ program. replied ∙ ap (λ (x : Saved). reply.Done x.entries) is) (λ program. next ∙ ap (λ (x : Saved). loaded old.session x) is))
