@@ -7,7 +7,7 @@ use ng_canon::{Arc, Pace, Plane, Turn};
 use ng_num::{Fault, Len, Point, Unit};
 
 /// The axes of which a line has a word.
-#[derive(Clone, Copy, Debug, PartialEq, Eq)]
+#[derive(Clone, Copy)]
 pub struct NamedAxes {
     pub x: bool,
     pub y: bool,
@@ -15,7 +15,7 @@ pub struct NamedAxes {
 }
 
 /// The words I, J and K of a line: how far along X, Y and Z the centre lies from the start (NISTIR 6556, 3.5.3.2).
-#[derive(Clone, Copy, Debug, PartialEq, Eq)]
+#[derive(Clone, Copy)]
 pub struct CentreOffsets {
     pub i: Option<Len>,
     pub j: Option<Len>,
@@ -23,7 +23,7 @@ pub struct CentreOffsets {
 }
 
 /// An arc that a line asks for, by G2 or G3.
-#[derive(Clone, Copy, Debug, PartialEq, Eq)]
+#[derive(Clone, Copy)]
 pub struct AskedArc {
     pub plane: Plane,
     pub turn: Turn,

@@ -10,7 +10,7 @@ use ng_canon::Turn;
 
 /// Where an arc begins, and how often it comes into the next quadrant. A clockwise arc is seen as a counterclockwise one with
 /// b negated.
-#[derive(Clone, Copy, Debug, PartialEq, Eq)]
+#[derive(Clone, Copy)]
 pub(crate) struct Passage {
     turn: Turn,
     from: Quadrant,

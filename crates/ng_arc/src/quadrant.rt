@@ -6,7 +6,7 @@ use crate::spot::Spot;
 use ng_canon::Turn;
 
 /// A quadrant round an arc's centre, half open: it begins at an axis, counterclockwise.
-#[derive(Clone, Copy, Debug, PartialEq, Eq)]
+#[derive(Clone, Copy)]
 pub(crate) enum Quadrant {
     First,
     Second,

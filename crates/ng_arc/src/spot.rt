@@ -9,7 +9,7 @@ use ng_canon::{Arc, Turn};
 use ng_num::{Len, Point};
 
 /// An offset from an arc's centre in nanometres, on the axes of its plane.
-#[derive(Clone, Copy, Debug, PartialEq, Eq)]
+#[derive(Clone, Copy)]
 pub(crate) struct Spot {
     pub(crate) a: i64,
     pub(crate) b: i64,

@@ -11,7 +11,7 @@ use ng_params::{Change, Params, System};
 use std::alloc::Allocator;
 
 /// What axis data do.
-#[derive(Clone, Copy, Debug, PartialEq, Eq)]
+#[derive(Clone, Copy)]
 pub struct AxisData {
     /// The offsets, where those in force change.
     pub new: Option<NewOffsets>,

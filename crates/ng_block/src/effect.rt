@@ -42,7 +42,7 @@ pub enum Stop {
 }
 
 /// What a line does: all that it changes, and, by `commands` and `segments`, what it prints and moves, in order.
-#[derive(Debug, Drop)]
+#[derive(Drop)]
 pub struct Effect {
     pub machine: Machine,
     /// The parameters that it sets, taken in order.

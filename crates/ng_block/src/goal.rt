@@ -22,7 +22,7 @@ use ng_params::Change;
 use std::alloc::Allocator;
 
 /// What a line's axis words are read by.
-#[derive(Clone, Copy, Debug, PartialEq, Eq)]
+#[derive(Clone, Copy)]
 struct Reading {
     unit: Unit,
     distance: Distance,

@@ -13,7 +13,7 @@ use ng_num::Point;
 use std::marker::Model;
 
 /// The way home: to a point between, and on from there, both at the traverse rate.
-#[derive(Clone, Copy, Debug, PartialEq, Eq)]
+#[derive(Clone, Copy)]
 pub struct WayHome {
     pub start: Point,
     pub between: Point,
@@ -21,7 +21,7 @@ pub struct WayHome {
 }
 
 /// The path of a block's motion.
-#[derive(Clone, Copy, Debug, PartialEq, Eq)]
+#[derive(Clone, Copy)]
 pub enum Path {
     /// The machine stays where it is.
     Still,

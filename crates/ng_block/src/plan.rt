@@ -7,7 +7,7 @@ use ng_canon::Outputs;
 use ng_num::Len;
 
 /// A block that was found lawful.
-#[derive(Debug, Drop)]
+#[derive(Drop)]
 pub struct Plan {
     pub remark: Remark,
     /// The feed that its F sets.

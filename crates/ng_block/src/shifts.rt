@@ -17,7 +17,7 @@ use ng_params::{Change, Params, System};
 use std::alloc::Allocator;
 
 /// What the steps of a line print of the offsets; none where a step leaves them as they are.
-#[derive(Clone, Copy, Debug, PartialEq, Eq)]
+#[derive(Clone, Copy)]
 pub struct Shown {
     /// The tool length behind G43 or G49.
     pub tool_length: Option<Len>,
@@ -28,7 +28,7 @@ pub struct Shown {
 }
 
 /// The offsets behind a line's words.
-#[derive(Clone, Copy, Debug, PartialEq, Eq)]
+#[derive(Clone, Copy)]
 pub struct Shifted {
     pub offsets: Offsets,
     pub shown: Shown,

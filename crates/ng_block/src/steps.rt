@@ -2,7 +2,7 @@
 //! segments walk it. `laws::order` says that it is the order of the definition.
 
 /// The steps of a block.
-#[derive(Clone, Copy, Debug, PartialEq, Eq)]
+#[derive(Clone, Copy)]
 pub enum Step {
     /// The last comment of the line, or the message that it is.
     Remark,

@@ -9,7 +9,7 @@ use ng_modal::{Block, Coolant, FeedMode, NonModal, Stop as StopWord};
 use ng_num::{Len, Num, Unit};
 
 /// What words give the steps of a block to do.
-#[derive(Clone, Copy, Debug, PartialEq, Eq)]
+#[derive(Clone, Copy)]
 pub struct Tasks {
     /// S: revolutions a minute.
     pub speed: Option<Num>,

@@ -17,7 +17,7 @@ use ng_num::{Fault, Len, Num};
 use std::marker::Model;
 
 /// A canned cycle that nothing forbids.
-#[derive(Clone, Copy, Debug, PartialEq, Eq)]
+#[derive(Clone, Copy)]
 pub struct Canned {
     drill: Drill,
 }

@@ -4,7 +4,7 @@ use ng_canon::{Outputs, Rate};
 use ng_num::{Len, Num, Point};
 
 /// What a cycle does at each of its places (NISTIR 6556, 3.5.16.2 to 3.5.16.9). Dwells are in seconds.
-#[derive(Clone, Copy, Debug, PartialEq, Eq)]
+#[derive(Clone, Copy)]
 pub enum Work {
     /// G81.
     Drilling,
@@ -22,14 +22,14 @@ pub enum Work {
 
 /// An axis's coordinates at the places of a cycle: where they count from, and what is added for each repeat (NISTIR 6556,
 /// 3.5.16).
-#[derive(Clone, Copy, Debug, PartialEq, Eq)]
+#[derive(Clone, Copy)]
 pub struct Course {
     pub from: Len,
     pub step: Len,
 }
 
 /// What a canned cycle does, in machine coordinates.
-#[derive(Clone, Copy, Debug, PartialEq, Eq)]
+#[derive(Clone, Copy)]
 pub struct Drill {
     pub work: Work,
     /// Where the machine stands before it.

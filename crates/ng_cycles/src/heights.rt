@@ -13,14 +13,14 @@ use ng_num::{Fault, Len};
 use ng_offsets::Shift;
 
 /// R and Z in machine coordinates, where their words are there. Under G91 Z is none where R is missing.
-#[derive(Clone, Copy, Debug, PartialEq, Eq)]
+#[derive(Clone, Copy)]
 pub struct Heights {
     pub r: Option<Len>,
     pub z: Option<Len>,
 }
 
 /// What a cycle's words name in machine coordinates, where R and Z may be missing.
-#[derive(Clone, Copy, Debug, PartialEq, Eq)]
+#[derive(Clone, Copy)]
 pub struct Found {
     pub x: Course,
     pub y: Course,
@@ -28,7 +28,7 @@ pub struct Found {
 }
 
 /// What a cycle's words name in machine coordinates.
-#[derive(Clone, Copy, Debug, PartialEq, Eq)]
+#[derive(Clone, Copy)]
 pub struct Lengths {
     pub x: Course,
     pub y: Course,

@@ -2,7 +2,7 @@ use ng_num::Len;
 use std::marker::Model;
 
 /// How deep a peck of G83 goes: 1 to 9,999,999,999,999 nm (NISTIR 6556, 3.5.16.4).
-#[derive(Clone, Copy, Debug, PartialEq, Eq)]
+#[derive(Clone, Copy)]
 pub struct Peck {
     nm: u64,
 }

@@ -6,7 +6,7 @@ use ng_canon::{Outputs, Pace, Segment, Spindle, StraightMove};
 use ng_num::{Len, Point};
 
 /// Where the machine stands, and its outputs.
-#[derive(Clone, Copy, Debug, PartialEq, Eq)]
+#[derive(Clone, Copy)]
 pub struct Standing {
     pub point: Point,
     pub outputs: Outputs,

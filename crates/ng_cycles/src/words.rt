@@ -5,7 +5,7 @@ use ng_num::{Len, Num, Point};
 use ng_offsets::Offsets;
 
 /// The canned cycles that this controller has (NISTIR 6556, 3.5.16).
-#[derive(Clone, Copy, Debug, PartialEq, Eq)]
+#[derive(Clone, Copy)]
 pub enum Kind {
     /// G81.
     Drilling,
@@ -62,7 +62,7 @@ impl KeptWords {
 }
 
 /// What a line asks of a canned cycle. Lengths are as its words wrote them.
-#[derive(Clone, Copy, Debug)]
+#[derive(Clone, Copy)]
 pub struct CycleWords {
     pub kind: Kind,
     pub x: Option<Len>,
@@ -74,7 +74,7 @@ pub struct CycleWords {
 }
 
 /// What a cycle's line meets: the modes, offsets and outputs after its other words.
-#[derive(Clone, Copy, Debug)]
+#[derive(Clone, Copy)]
 pub struct Setting {
     /// The machine point.
     pub point: Point,

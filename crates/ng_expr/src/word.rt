@@ -2,7 +2,7 @@ use ng_num::Num;
 use ng_words::Letter;
 
 /// A word of a line: its letter and its value. The default is `Z0`: it fills places.
-#[derive(Clone, Copy, Debug, PartialEq, Eq)]
+#[derive(Clone, Copy)]
 pub struct Word {
     pub letter: Letter,
     pub value: Num,

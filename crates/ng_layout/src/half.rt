@@ -13,7 +13,7 @@ pub enum Source {
 }
 
 /// What of a half-done block is open: it may have been handed out in part (own).
-#[derive(Clone, Copy, Debug, PartialEq, Eq)]
+#[derive(Clone, Copy)]
 pub enum Opened {
     /// The segment of its index.
     Segment,
@@ -37,7 +37,7 @@ pub fn text_of(bytes: &[u8]) -> ArrayVec<u8, TEXT>
 }
 
 /// A block that was begun and isn't done (own). Contracts see a `HalfDone`.
-#[derive(Debug, Drop)]
+#[derive(Drop)]
 pub struct Half {
     /// Its line, without the line's end.
     pub text: ArrayVec<u8, TEXT>,

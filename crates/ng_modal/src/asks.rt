@@ -1,7 +1,7 @@
 //! What words ask for that is no mode.
 
 /// What a word of group 0 asks for, on its line alone (NISTIR 6556, table 4).
-#[derive(Clone, Copy, Debug, PartialEq, Eq)]
+#[derive(Clone, Copy)]
 pub enum NonModal {
     /// G4 (NISTIR 6556, 3.5.4).
     Dwell,
@@ -24,7 +24,7 @@ pub enum NonModal {
 }
 
 /// What a word of group 8 asks for (NISTIR 6556, 3.5.11).
-#[derive(Clone, Copy, Debug, PartialEq, Eq)]
+#[derive(Clone, Copy)]
 pub enum ToolLength {
     /// G43.
     OfSlot,
@@ -33,7 +33,7 @@ pub enum ToolLength {
 }
 
 /// What an M word of group 4 asks for (NISTIR 6556, 3.6.1).
-#[derive(Clone, Copy, Debug, PartialEq, Eq)]
+#[derive(Clone, Copy)]
 pub enum Stop {
     /// M0.
     Program,
@@ -48,7 +48,7 @@ pub enum Stop {
 }
 
 /// What an M word of group 8 asks for (NISTIR 6556, 3.6.4).
-#[derive(Clone, Copy, Debug, PartialEq, Eq)]
+#[derive(Clone, Copy)]
 pub enum Coolant {
     /// M7.
     Mist,

@@ -9,7 +9,7 @@ use crate::modes::{Modes, Motion};
 use ng_canon::Plane;
 
 /// What a line asks for.
-#[derive(Clone, Copy, Debug, PartialEq, Eq)]
+#[derive(Clone, Copy)]
 pub struct Block {
     /// The values by letter.
     pub values: ByLetter,

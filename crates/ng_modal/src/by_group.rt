@@ -19,7 +19,7 @@ use ng_num::Unit;
 use ng_params::System;
 
 /// What the G words of a line ask for, by modal group; none where no word asks.
-#[derive(Clone, Copy, Debug, PartialEq, Eq)]
+#[derive(Clone, Copy)]
 pub struct GWords {
     /// Group 0.
     pub non_modal: Option<NonModal>,
@@ -48,7 +48,7 @@ pub struct GWords {
 }
 
 /// What the M words of a line ask for, by modal group; none where no word asks.
-#[derive(Clone, Copy, Debug, PartialEq, Eq)]
+#[derive(Clone, Copy)]
 pub struct MWords {
     /// Group 4.
     pub stop: Option<Stop>,

@@ -11,7 +11,7 @@ use ng_words::Letter;
 
 /// The values of a line's words other than G and M, by letter (NISTIR 6556, table 3). Of an accepted block A, B, C and D
 /// are none.
-#[derive(Clone, Copy, Debug, PartialEq, Eq)]
+#[derive(Clone, Copy)]
 pub struct ByLetter {
     pub a: Option<Num>,
     pub b: Option<Num>,

@@ -1,7 +1,7 @@
 //! The codes of the language.
 
 /// A G code of the language (NISTIR 6556, table 5), those that this controller leaves out among them.
-#[derive(Clone, Copy, Debug, PartialEq, Eq)]
+#[derive(Clone, Copy)]
 pub(crate) enum GCode {
     /// Straight traverse.
     G0,
@@ -110,7 +110,7 @@ pub(crate) enum GCode {
 }
 
 /// An M code of the language (NISTIR 6556, table 7).
-#[derive(Clone, Copy, Debug, PartialEq, Eq)]
+#[derive(Clone, Copy)]
 pub(crate) enum MCode {
     /// Program stop.
     M0,

@@ -5,7 +5,7 @@ ghost use Rattle.ng_modal.specs.Groups.{group_of, m_group_of};
 use crate::codes::{GCode, MCode};
 
 /// A modal group of G codes (NISTIR 6556, table 4).
-#[derive(Clone, Copy, Debug, PartialEq, Eq)]
+#[derive(Clone, Copy)]
 pub(crate) enum Group {
     /// Group 0. Words that hold for their line alone.
     NonModal,
@@ -32,7 +32,7 @@ pub(crate) enum Group {
 }
 
 /// A modal group of M codes (NISTIR 6556, table 4).
-#[derive(Clone, Copy, Debug, PartialEq, Eq)]
+#[derive(Clone, Copy)]
 pub(crate) enum MGroup {
     /// Group 4. Stopping.
     Stop,

@@ -5,7 +5,7 @@ ghost use Rattle.ng_offsets.specs.Named.{length_by, named_by, put};
 use ng_num::{Fault, Len, Num, Point, Unit, nm_of};
 
 /// The axes that a line names, each with the length that its word writes.
-#[derive(Clone, Copy, Debug, PartialEq, Eq)]
+#[derive(Clone, Copy)]
 pub struct Named {
     pub x: Option<Len>,
     pub y: Option<Len>,

@@ -6,7 +6,7 @@ use std::marker::Model;
 
 /// What stands between the program and the machine coordinate of an axis: a sum of two or three lengths, in nanometres. The
 /// sum itself may be beyond the range of lengths (own).
-#[derive(Clone, Copy, Debug, PartialEq, Eq)]
+#[derive(Clone, Copy)]
 pub struct Shift {
     nm: i64,
 }

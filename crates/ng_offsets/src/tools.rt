@@ -10,7 +10,7 @@ pub const SLOTS: usize = 64;
 
 /// The tool table: the tool lengths of slots 1, 2 and so on (NISTIR 6556, 3.2.3, in this project's profile).
 /// Contracts see the list of their nanometres.
-#[derive(Drop, Debug)]
+#[derive(Drop)]
 pub struct Tools {
     lengths: ArrayVec<Len, SLOTS>,
 }

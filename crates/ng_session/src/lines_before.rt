@@ -10,7 +10,7 @@ use ng_words::Kind;
 
 /// What is known of a program's lines before a place: that a line begins there, and perhaps the kind of the first of them that
 /// isn't blank. So this isn't looked up for each line (own).
-#[derive(Clone, Copy, Debug, PartialEq, Eq)]
+#[derive(Clone, Copy)]
 pub struct LinesBefore {
     /// A byte of the program.
     pub place: u64,

@@ -3,7 +3,7 @@ use ng_num::Len;
 use ng_offsets::Tools;
 
 /// The settings of a machine (own).
-#[derive(Debug, Drop)]
+#[derive(Drop)]
 pub struct Settings {
     pub geometry: Geometry,
     pub tools: Tools,

@@ -2,7 +2,7 @@
 use crate::letter::Letter;
 
 /// What stands for a piece of a line; its nodes or bytes stand behind those of the pieces before it.
-#[derive(Clone, Copy, Debug, PartialEq, Eq)]
+#[derive(Clone, Copy)]
 pub(crate) enum Item {
     /// A word: its letter, and how many nodes its value has.
     Word(Letter, u16),

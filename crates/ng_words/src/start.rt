@@ -9,7 +9,7 @@ use crate::number::with_digit;
 const DIGITS: u32 = 5;
 
 /// What a line begins with: whether a slash, and its block number, where it has one.
-#[derive(Clone, Copy, Debug, PartialEq, Eq)]
+#[derive(Clone, Copy)]
 pub(crate) struct Head {
     pub(crate) deletable: bool,
     pub(crate) number: Option<u32>,

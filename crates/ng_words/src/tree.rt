@@ -6,7 +6,7 @@ use ng_num::Num;
 use std::marker::Model;
 
 /// What joins two values (NISTIR 6556, 3.3.2.3), the tightest first.
-#[derive(Clone, Copy, Debug, PartialEq, Eq)]
+#[derive(Clone, Copy)]
 pub enum Operation {
     Power,
     Times,
@@ -20,7 +20,7 @@ pub enum Operation {
 }
 
 /// What is done to a value in brackets (NISTIR 6556, 3.3.2.4); the report's other functions are left out (own).
-#[derive(Clone, Copy, Debug, PartialEq, Eq)]
+#[derive(Clone, Copy)]
 pub enum Function {
     Abs,
     Fix,
@@ -30,7 +30,7 @@ pub enum Function {
 }
 
 /// A node of a tree. A tree is kept as the list of its nodes, each behind its parts.
-#[derive(Clone, Copy, Debug, PartialEq, Eq)]
+#[derive(Clone, Copy)]
 pub enum Node {
     /// A number; none where the number written is out of the range of numbers.
     Number(Option<Num>),

@@ -10,7 +10,7 @@ use crate::tree::{Function, NODES, Node, Operation};
 use arrayvec::ArrayVec;
 
 /// What waits for the value to its right.
-#[derive(Clone, Copy, Debug, PartialEq, Eq)]
+#[derive(Clone, Copy)]
 pub(crate) enum Waiting {
     /// A parameter, for its index.
     Index,
