@@ -1,17 +1,18 @@
 #!/bin/sh
-# Makes a device file of the sectors in examples/device.hex, which the program of crates/ngc_examples writes through the
-# journal and compares, and reads it by examples/read_device.py: whether that finds the state in examples/device.txt.
+# Makes a device file of the rows in examples/device.hex, over which a case of crates/ngc_cases powers on, and reads it by
+# examples/read_device.py: whether that finds the state in examples/device.txt.
 set -e
-examples=$(cd "$(dirname "$0")/../crates/ngc_examples/data" && pwd)
+examples=$(cd "$(dirname "$0")/../crates/ngc_cases/data/examples" && pwd)
 work=$(mktemp -d)
 trap 'rm -rf "$work"' EXIT
 python3 - "$examples/device.hex" "$work/device" <<'END'
 import sys
 device = bytearray(512 * 1710)
 for line in open(sys.argv[1]):
-    sector, digits = line.split()
+    sector, place, digits = line.split()
     content = bytes.fromhex(digits)
-    device[512 * int(sector):512 * int(sector) + len(content)] = content
+    start = 512 * int(sector) + int(place)
+    device[start:start + len(content)] = content
 open(sys.argv[2], "wb").write(device)
 END
 python3 "$examples/read_device.py" "$work/device" > "$work/state"

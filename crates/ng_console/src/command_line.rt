@@ -24,7 +24,7 @@ const DEVICE_ENDINGS: &str =
 
 /// What stands below that of `run`: the commands of its console, and how it ends.
 const RUN_COMMANDS_AND_ENDINGS: &str =
-    "Commands, read from the input, a line each:\n  load N           store the program in the N bytes behind the line\n  start            run the program from its place on\n  hold             hand out nothing more until `continue` or an `mdi` line\n  continue         go on with what was held, or stopped at M0, M1 or M60\n  mdi LINE         do a line of the operator's own\n  optional on|off  stop the program at M1, or don't\n  delete on|off    leave out the lines that begin with a slash, or don't\n  tick N           do up to N steps of the work, 1 to 1000000\n  status           tell where the machine stands and what it does\n  quit             end, as the end of the input does\n\nExit status:\n  0  all commands are answered, up to `quit` or to the end of the input\n  2  the words are wrong, or ask for help; or a file can't be opened or read, the\n     settings or the device are refused, the device is held by another process or\n     failed, the input or the output failed, or memory is wanting\n\nA refused command or program line prints why, and the next one is read. Refused\nsettings and devices print why. A file that can't be read prints nothing.";
+    "Commands, read from the input, a line each:\n  load N           store the program in the N bytes after this line\n  start            run the program from its place on\n  hold             hand out nothing more until `continue` or an `mdi` line\n  continue         go on with what was held, or stopped at M0, M1 or M60\n  mdi LINE         do a line of the operator's own\n  optional on|off  stop the program at M1, or don't\n  delete on|off    leave out the lines that begin with a slash, or don't\n  tick N           do up to N steps of the work, 1 to 1000000\n  status           tell where the machine stands and what it does\n  quit             end, as the end of the input does\n\nExit status:\n  0  all commands are answered, up to `quit` or to the end of the input\n  2  the words are wrong, or ask for help; or a file can't be opened or read, the\n     settings or the device are refused, the device is held by another process or\n     failed, the input or the output failed, or memory is wanting\n\nA refused command or program line prints why, and the next one is read. Refused\nsettings and devices print why. A file that can't be read prints nothing.";
 
 /// What a command line asks for.
 #[derive(Clone, Copy, Debug, PartialEq, Eq)]
@@ -178,11 +178,13 @@ fn format_command<'a>(alloc: Global) -> Result<Command<'a>, AllocError>
     ensures { IfOk result (λ command. app_of command ≡ format_app) }
 {
     let device = Arg::new(alloc, "DEVICE")
-        .help("The file of the device; it is made where there is none")
+        .help(
+            "The file of the device; it is made where there is none, and overwritten without asking where there is one",
+        )
         .required(true)
         .action(ArgAction::Set);
     Command::new(alloc, "format")
-        .about("Make a device fresh; whatever it held is gone")
+        .about("Make a device fresh: OVERWRITES the file that it is given, whatever it holds")
         .after_help(DEVICE_ENDINGS)
         .arg(device)
 }

@@ -3,7 +3,7 @@ use crate::peck::Peck;
 use ng_canon::{Outputs, Rate};
 use ng_num::{Len, Num, Point};
 
-/// What a cycle does at each of its places (NISTIR 6556, 3.5.16.2 to 3.5.16.9). Dwells are in seconds.
+/// What a cycle does at each of its places (NISTIR 6556, 3.5.16.2 to 3.5.16.10). Dwells are in seconds.
 #[derive(Clone, Copy)]
 pub enum Work {
     /// G81.

@@ -1,4 +1,4 @@
--- The causes of B1 to B5: what no line may have, whatever the modes (NISTIR 6556, 3.3.2 and 3.4; numbers own).
+-- The causes of B1 to B5: what no line may have, whatever the modes (NISTIR 6556, 3.3.5 and 3.4; numbers own).
 use Rattle.std.specs.Prelude.{ℕ, ℤ, Bool, true, false, ◌||◌, List, length, min, nat_lt, Option, Some}
 use Rattle.std.specs.Option.{is_none}
 use Rattle.std.specs.List.{list_any}

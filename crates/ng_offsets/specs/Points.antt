@@ -1,4 +1,4 @@
--- Program and machine coordinates: machine = program + origin + G92 offset + tool length on Z (NISTIR 6556, 3.2.2, 3.5.10,
+-- Program and machine coordinates: machine = program + origin + G92 offset + tool length on Z (NISTIR 6556, 3.2.2, 3.5.11,
 -- 3.5.18).
 use Rattle.std.specs.Prelude.{ℤ, ◌+ℤ◌, ◌-ℤ◌, pos, Result, Ok}
 use Rattle.ng_num.specs.Points.{zero_point}

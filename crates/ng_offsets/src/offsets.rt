@@ -5,7 +5,7 @@ use crate::shift::Shift;
 use ng_num::{Fault, Len, Point};
 
 /// What stands between program and machine coordinates:
-/// machine = program + origin + G92 offset + tool length on Z (NISTIR 6556, 3.2.2, 3.5.10, 3.5.18).
+/// machine = program + origin + G92 offset + tool length on Z (NISTIR 6556, 3.2.2, 3.5.11, 3.5.18).
 #[derive(Clone, Copy, Debug, PartialEq, Eq)]
 pub struct Offsets {
     /// The origin in force.

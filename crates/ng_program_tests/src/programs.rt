@@ -1,11 +1,12 @@
-//! Whole programs, from bytes to text. What they write is worked out by hand from the language, in millimetres.
+//! Whole programs, from bytes to text, where a reader, a writer, memory or a number of lines is the point. What programs write is for the
+//! rest said by the cases of `ngc_cases`.
 mod bad_input;
 mod blocks;
+mod cuts;
 mod memory;
 mod modal;
 mod offsets;
 mod resuming;
-mod rows;
 mod streams;
 
 use ng_block::{DryFault, Ended, Tools, dry};
@@ -13,7 +14,6 @@ use ng_canon::Geometry;
 use ng_num::Len;
 use std::alloc::{Allocator, Global};
 use std::io::{Read, Write};
-use std::test::Fail;
 
 /// A dry run with the standard geometry and one tool of 50 mm.
 fn dry_run<R: Read, W: Write, A: Allocator + Copy + Drop>(
@@ -44,47 +44,4 @@ fn dry_text(
     let mut text = Vec::new(alloc);
     let ended = dry_run(alloc, &mut reader, &mut text, block_delete);
     (text, ended)
-}
-
-/// Whether a run ended as a text's end says: refused in that line and by that name, or else at the program's end.
-fn is_said(alloc: Global, end: &str, ended: Result<Ended, DryFault>) -> Result<bool, Fail> {
-    match ended {
-        Ok(Ended::Done) => Ok(!end.starts_with("REFUSED")),
-        Ok(Ended::Refused(number, fault)) => {
-            let front = format!(in alloc; "REFUSED line {number}: ")?;
-            let refusal = joined(alloc, front.as_bytes(), fault.text())?;
-            Ok(joined(alloc, refusal.as_slice(), b"\n")?.as_slice() == end.as_bytes())
-        }
-        Err(_) => Ok(false),
-    }
-}
-
-/// Whether a program writes a text and then this end, and ends as that says.
-fn writes(
-    alloc: Global,
-    program: &str,
-    block_delete: bool,
-    text: &str,
-    end: &str,
-) -> Result<bool, Fail> {
-    let wanted = joined(alloc, text.as_bytes(), end.as_bytes())?;
-    let (written, ended) = dry_text(alloc, program.as_bytes(), block_delete);
-    Ok(written == wanted && is_said(alloc, end, ended)?)
-}
-
-/// Two texts, one behind the other.
-fn joined(alloc: Global, first: &[u8], second: &[u8]) -> Result<Vec<u8>, Fail> {
-    let mut text = Vec::new(alloc);
-    text.extend_from_slice(first)?;
-    text.extend_from_slice(second)?;
-    Ok(text)
-}
-
-/// As many blanks.
-fn blanks(alloc: Global, count: usize) -> Result<String<Global>, Fail> {
-    let mut text = String::new(alloc);
-    for _ in 0..count {
-        text.push(' ')?;
-    }
-    Ok(text)
 }

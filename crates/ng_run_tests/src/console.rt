@@ -1,80 +1,14 @@
-//! A console over devices in memory: what it writes of an operator's lines, its status, and what is handed out.
+//! A console over readers, writers, devices and heaps that fail at each place. What it answers where none fails is said by the cases of
+//! `ngc_cases`.
 use linked_list_allocator::LocalHeap;
-use ng_canon::{Item, Outputs, Pulse, Step};
 use ng_journal::format;
 use ng_rig::{FailRig, MemoryRig, Rig};
 use ng_run::console;
 use ng_settings::Settings;
-use ng_test_programs::sector_after_first_session;
 use std::alloc::{AllocError, Global};
 use std::io;
 use std::io::{ErrorKind, Read, Write};
 use std::test::Fail;
-
-/// Lines of an operator; what is written, the status, how many pulses along X are handed out, and how many switches behind them.
-struct Row {
-    lines: &'static str,
-    text: &'static str,
-    status: u8,
-    pulses: usize,
-    switches: usize,
-}
-
-const ROWS: &[Row] = &[
-    Row {
-        lines: "load 13\nG0 X0.002\nM2\nstart\ntick 100\nstatus\n",
-        text: "done 1\ngoing\ndone 2\ndone 3\nidle\nticks 10\nstatus entries 3 place 0 at 0.002000 0.000000 0.000000 known half none idle\n",
-        status: 0,
-        pulses: 2,
-        switches: 1,
-    },
-    // block delete is turned on once the first line's segment is open
-    Row {
-        lines: "load 24\nG0 X0.001\n/G0 X0.002\nM2\nstart\ntick 3\ndelete on\ntick 100\n",
-        text: "done 1\ngoing\nticks 3\ntaken\ndone 2\ndone 3\ndone 4\nidle\nticks 8\n",
-        status: 0,
-        pulses: 1,
-        switches: 1,
-    },
-    // what is no command, and what the controller refuses, leaves the console going
-    Row {
-        lines: "fly\ntick 0\n\nstart\r\nstart\nmdi G0\nmdi G0 X0.001\nhold\ntick 5\ncontinue\ntick 2\ntick 5",
-        text: "refused U1 BadCommand\nrefused U1 BadCommand\nrefused U1 BadCommand\nrefused U1 BadCommand\nrefused K2 NoProgram\nrefused B8 NoAxis\nbegun\nheld\nheld\nticks 1\ngoing\nticks 2\ndone 1\nidle\nticks 2\n",
-        status: 0,
-        pulses: 1,
-        switches: 0,
-    },
-    // ticks end behind a refusal
-    Row {
-        lines: "load 3\nG0\nstart\ntick 9\ntick 9\n",
-        text: "done 1\ngoing\nrefused B8 NoAxis\nticks 1\nstopped\nticks 1\n",
-        status: 0,
-        pulses: 0,
-        switches: 0,
-    },
-    // nothing is heard behind `quit`, and a program that the end cuts off is refused
-    Row {
-        lines: "status\nquit\nstatus\n",
-        text: "status entries 0 place 0 at 0.000000 0.000000 0.000000 known half none idle\n",
-        status: 0,
-        pulses: 0,
-        switches: 0,
-    },
-    Row {
-        lines: "load 13\nG0 X0",
-        text: "refused U1 BadCommand\n",
-        status: 0,
-        pulses: 0,
-        switches: 0,
-    },
-    Row {
-        lines: "",
-        text: "",
-        status: 0,
-        pulses: 0,
-        switches: 0,
-    },
-];
 
 /// A formatted device.
 fn formatted(alloc: Global) -> Result<MemoryRig<Global>, AllocError> {
@@ -85,74 +19,12 @@ fn formatted(alloc: Global) -> Result<MemoryRig<Global>, AllocError> {
     }
 }
 
-/// Whether this was handed out: so many pulses along X, and so many switches of outputs that are all off.
-fn is_handed_out(items: &[Item], row: &Row) -> bool {
-    let pulse = Item::Pulse(Pulse {
-        x: Step::Forward,
-        y: Step::Still,
-        z: Step::Still,
-        period_us: 50,
-    });
-    let switch = Item::Switch(Outputs::fresh());
-    items.len() == row.pulses.saturating_add(row.switches)
-        && items.iter().take(row.pulses).all(|item| *item == pulse)
-        && items.iter().skip(row.pulses).all(|item| *item == switch)
-}
-
 /// What a console answers to these lines over a device: its status, what it writes, and the device then.
 fn answered<R: Rig>(alloc: Global, lines: &str, rig: R) -> (u8, Vec<u8>, R) {
     let mut reader = lines.as_bytes();
     let mut text = Vec::new(alloc);
     let (status, rig) = console(alloc, &mut reader, &mut text, rig, Settings::standard());
     (status, text, rig)
-}
-
-/// How a row's lines are answered: the status, whether its text is written, and whether its items are handed out.
-fn row_answered(alloc: Global, row: &Row) -> Result<(u8, bool, bool), AllocError> {
-    let (status, text, rig) = answered(alloc, row.lines, formatted(alloc)?);
-    let items = rig.handed(rig.calls())?;
-    Ok((
-        status,
-        text.as_slice() == row.text.as_bytes(),
-        is_handed_out(items.as_slice(), row),
-    ))
-}
-
-#[test]
-fn answers_an_operator(rt: HostRuntime) -> Result<(), Fail> {
-    for row in ROWS {
-        let found = row_answered(rt.alloc(), row)?;
-        assert_eq!(rt; found, (row.status, true, true), "{}", row.lines);
-    }
-    Ok(())
-}
-
-/// Whether a sector can be read and holds what it does after the first session.
-fn is_after_first_session<R: Rig>(rig: &mut R, sector: usize) -> bool {
-    let mut bytes = [0; 512];
-    sector < rig.size()
-        && rig.read(sector, &mut bytes).is_ok()
-        && bytes == sector_after_first_session(sector)
-}
-
-/// The first of a device's sectors that isn't as after the first session.
-fn first_other_sector<R: Rig>(rig: &mut R) -> Option<usize> {
-    for sector in 0..1_710 {
-        if !is_after_first_session(rig, sector) {
-            return Some(sector);
-        }
-    }
-    None
-}
-
-/// The sectors of the device, byte by byte, after an operator stored a program and ran it to its end.
-#[test]
-fn a_first_session_leaves_these_bytes(rt: HostRuntime) -> Result<(), Fail> {
-    let lines = "load 13\nG0 X0.002\nM2\nstart\ntick 100\nstatus\n";
-    let (status, _, mut rig) = answered(rt.alloc(), lines, formatted(rt.alloc())?);
-    let other = first_other_sector(&mut rig);
-    assert_eq!(rt; (status, rig.size(), other), (0, 1_710, None));
-    Ok(())
 }
 
 /// A device that isn't formatted, and one that fails: power on is refused, and that is told.
@@ -451,79 +323,6 @@ fn a_program_finds_no_memory(rt: HostRuntime) -> Result<(), Fail> {
     for (bytes, wanted, status) in HEAPS {
         let found = answered_from_heap(rt.alloc(), *bytes, lines.as_slice(), wanted)?;
         assert_eq!(rt; found, (*status, true), "{bytes}");
-    }
-    Ok(())
-}
-
-/// The command that loads a program, how many bytes that has, and what is written of it.
-const LENGTHS: &[(&[u8], usize, &str)] = &[
-    (
-        b"load 131072\n",
-        131_072,
-        "done 1\nstatus entries 1 place 0 at 0.000000 0.000000 0.000000 known half none idle\n",
-    ),
-    (
-        b"load 131073\n",
-        131_073,
-        "refused J5 ProgramTooLong\nstatus entries 0 place 0 at 0.000000 0.000000 0.000000 known half none idle\n",
-    ),
-];
-
-/// The longest program is stored. One that is a byte longer is refused, and its bytes are passed over.
-#[test]
-fn a_program_is_too_long(rt: HostRuntime) -> Result<(), Fail> {
-    for (command, length, wanted) in LENGTHS {
-        let lines = long_program(rt.alloc(), command, *length)?;
-        let found = answered_from_heap(rt.alloc(), 2_000_000, lines.as_slice(), wanted)?;
-        assert_eq!(rt; found, (0, true), "{length}");
-    }
-    Ok(())
-}
-
-/// A sector of a formatted device, a place in it, and what another program wrote there; lines of an operator, and what is written of them.
-const OVERWRITTEN: &[(usize, usize, &[u8], &str, &str)] = &[
-    // it isn't known where the machine stands
-    (
-        88,
-        156,
-        &[0],
-        "start\nmdi M8\nload 3\nM2\nstart\nstatus\n",
-        "refused K3 PlaceUnknown\nrefused K3 PlaceUnknown\ndone 1\nrefused K3 PlaceUnknown\nstatus entries 1 place 0 at 0.000000 0.000000 0.000000 unknown half none idle\n",
-    ),
-    // the epoch is the last but one, 999,999,999,999, and power on takes the last
-    (
-        1,
-        16,
-        &[0xff, 0x0f, 0xa5, 0xd4, 0xe8],
-        "load 3\nM2\nmdi M8\ntick 5\ntick 5\nstatus\n",
-        "refused J4 CountersUsed\nbegun\nrefused J4 CountersUsed\nticks 1\nrefused J4 CountersUsed\nticks 1\nstatus entries 0 place 0 at 0.000000 0.000000 0.000000 known half none idle\n",
-    ),
-];
-
-/// Writes these bytes from a place of a sector on. Whether that is done.
-fn is_overwritten<R: Rig>(rig: &mut R, sector: usize, place: usize, written: &[u8]) -> bool {
-    let mut bytes = [0; 512];
-    if sector >= rig.size() || rig.read(sector, &mut bytes).is_err() {
-        return false;
-    }
-    for (to, byte) in bytes.iter_mut().skip(place).zip(written) {
-        *to = *byte;
-    }
-    sector < rig.size() && rig.write(sector, &bytes).is_ok() && rig.sync().is_ok()
-}
-
-/// What another program wrote on a device is taken as it stands.
-#[test]
-fn answers_over_a_device_that_something_else_wrote(rt: HostRuntime) -> Result<(), Fail> {
-    for (sector, place, written, lines, wanted) in OVERWRITTEN {
-        let mut rig = formatted(rt.alloc())?;
-        let is_done = is_overwritten(&mut rig, *sector, *place, written);
-        let (_, text, _) = answered(rt.alloc(), lines, rig);
-        assert_eq!(rt;
-            (is_done, text.as_slice() == wanted.as_bytes()),
-            (true, true),
-            "{sector}"
-        );
     }
     Ok(())
 }

@@ -1,9 +1,8 @@
 //! Lines that nobody would write: each is answered by a fault, or read, at once.
-use super::{blanks, dry_text, writes};
+use super::dry_text;
 use ng_block::{Ended, State, Tools, execute};
 use ng_canon::Geometry;
 use ng_num::Fault;
-use ng_test_programs::LONG;
 use std::alloc::Global;
 use std::test::Fail;
 
@@ -83,19 +82,4 @@ fn cut_lines_are_refused_by_name(rt: HostRuntime) {
             assert!(rt; is_refused(rt.alloc(), &line[..n]), "{row:?} cut at {n}");
         }
     }
-}
-
-#[test]
-fn the_length_of_a_line_comes_first(rt: HostRuntime) -> Result<(), Fail> {
-    for (front, count, behind, end) in LONG {
-        let blanks = blanks(rt.alloc(), *count)?;
-        let program = format!(in rt.alloc(); "{front}{blanks}{behind}")?;
-        for block_delete in [false, true] {
-            assert!(rt;
-                writes(rt.alloc(), program.as_str(), block_delete, "", end)?,
-                "{front:?} {count} {behind:?}"
-            );
-        }
-    }
-    Ok(())
 }

@@ -1,10 +1,10 @@
 //! Dry runs over heaps of rising size, and of one size.
+use super::cuts::{CUTS, CUTS_TEXT};
 use super::dry_run;
 use linked_list_allocator::LocalHeap;
 use ng_block::{DryFault, Ended, put_canon};
 use ng_canon::{Canon, Command};
 use ng_num::Point;
-use ng_test_programs::{CUTS, CUTS_TEXT};
 use std::alloc::Global;
 use std::io;
 use std::io::{ErrorKind, Write};

@@ -1,31 +1,10 @@
-//! Modal groups: which fault refuses a line alone, a line's segments in the order of the steps. All of it is worked out by hand
+//! Modal groups: a line's segments in the order of the steps. All of it is worked out by hand
 //! from the language.
-use super::{dry_text, writes};
+use super::dry_text;
 use ng_block::{State, Stop, Tools, execute};
 use ng_canon::{Geometry, Outputs, Segment, Spindle};
 use ng_num::{Len, Num};
-use ng_test_programs::{FAULTS_OF_VALUES, FAULTS_OF_WORDS, Refusals, UNREADABLE};
-use std::alloc::Global;
 use std::test::Fail;
-
-/// The first of these lines that isn't refused alone by its fault's name, if there is one.
-fn first_wrong(alloc: Global, rows: Refusals) -> Result<Option<&'static str>, Fail> {
-    for (line, name) in rows {
-        let end = format!(in alloc; "REFUSED line 1: {name}\n")?;
-        if !writes(alloc, line, false, "", end.as_str())? {
-            return Ok(Some(line));
-        }
-    }
-    Ok(None)
-}
-
-#[test]
-fn each_fault_refuses_a_line_alone(rt: HostRuntime) -> Result<(), Fail> {
-    assert_eq!(rt; first_wrong(rt.alloc(), FAULTS_OF_WORDS)?, None);
-    assert_eq!(rt; first_wrong(rt.alloc(), FAULTS_OF_VALUES)?, None);
-    assert_eq!(rt; first_wrong(rt.alloc(), UNREADABLE)?, None);
-    Ok(())
-}
 
 #[test]
 fn a_whole_line_has_its_segments_in_the_order_of_the_steps(rt: HostRuntime) -> Result<(), Fail> {

@@ -1,0 +1,128 @@
+#!/usr/bin/env python3
+"""Tries that a wrong case fails: each change is made alone in a copy of crates/ngc_cases/data, over which the program that runs the cases then
+has to end with status 1.
+
+    bench/wrong_cases.py [PROGRAM]     PROGRAM is crates/ngc_cases/out/ngc_cases, which `rt run` or the gate makes, if none is named
+
+It prints a line for each change, and ends with status 1 where one of them isn't seen."""
+import os
+import shutil
+import subprocess
+import sys
+import tempfile
+from pathlib import Path
+
+crate = Path(__file__).resolve().parent.parent / "crates/ngc_cases"
+program = Path(sys.argv[1] if len(sys.argv) > 1 else crate / "out/ngc_cases").resolve()
+NOBODY = 65534
+
+
+def edit(name, old, new):
+    """Exchanges the first place of a text for another."""
+    def change(room):
+        file = room / name
+        text = file.read_bytes()
+        old_bytes, new_bytes = (it if isinstance(it, bytes) else it.encode() for it in (old, new))
+        if old_bytes not in text:
+            sys.exit(f"{name} hasn't the text {old!r}")
+        file.write_bytes(text.replace(old_bytes, new_bytes, 1))
+    return change
+
+
+def put(name, text):
+    return lambda room: (room / name).write_bytes(text)
+
+
+def lock(name):
+    return lambda room: (room / name).chmod(0)
+
+
+def clear(room):
+    for file in room.iterdir():
+        if file.is_file():
+            file.unlink()
+
+
+FIRST_HANDED = "-- hands out\nP 1 0 0 50\nP 1 0 0 50\nS 0 0.000000 0 0 0 0\n"
+CHANGES = [
+    ("a byte of an expected text", edit("cycles.dry", "STRAIGHT_FEED(5.000000, 7.000000, 4.200000)", "STRAIGHT_FEED(5.000000, 7.000000, 4.200001)")),
+    ("a line of an expected text left out", edit("cycles.dry", "SET_FEED_RATE(100.000000)\n", "")),
+    ("a line more in an expected text", edit("modes.dry", "INVERSE_TIME(3.000000)\n", "INVERSE_TIME(3.000000)\nINVERSE_TIME(3.000000)\n")),
+    ("an empty line at the end of a text", edit("modes.dry", "REFUSED line 5: X1 NoFeed\n", "REFUSED line 5: X1 NoFeed\n\n\\n\\\n")),
+    ("a program", edit("offsets.dry", "G92 X9\n-- ", "G92 X8\n-- ")),
+    ("a program in a file of its own", edit("examples/face.ngc", "X92. F1200.", "X91. F1200.")),
+    ("an expected text in a file of its own", edit("examples/first.txt", "0.123400", "0.123401")),
+    ("the fault of a line", edit("words.refused", "F1 F1 | B1 RepeatedLetter", "F1 F1 | B2 UnknownCode")),
+    ("a line that is refused", edit("words.refused", "F1 F1 |", "F1 S1 |")),
+    ("a status of a dry run", edit("plain.dry", "-- writes", "-- status 2\n-- writes")),
+    ("block delete left out", edit("slashes.dry", "-- block delete\n", "")),
+    ("settings of a dry run", edit("settings.dry", "high_nm = [1000000, 1000000, 1000000]\ntraverse_nm_per_min = 1\nperiod_us = 1\ntools_nm = []\n-- writes\nSTRAIGHT", "high_nm = [2000000, 1000000, 1000000]\ntraverse_nm_per_min = 1\nperiod_us = 1\ntools_nm = []\n-- writes\nSTRAIGHT")),
+    ("a reply", edit("console.run", "done 2\n", "done 3\n")),
+    ("a reply left out", edit("jobs.run", "taken\n", "")),
+    ("a request", edit("console.run", "> tick 100", "> tick 9")),
+    ("what is handed out", edit("console.run", "P 1 0 0 50\n", "P -1 0 0 50\n")),
+    ("what is handed out isn't said", edit("console.run", FIRST_HANDED, "")),
+    ("a status of a session", edit("sessions.run", "-- power on", "-- status 2\n-- power on")),
+    ("a second session over a fresh device", edit("sessions.run", "-- power on\n", "== fresh\n")),
+    ("the settings of a machine", edit("default.toml", "step_nm = [1000,", "step_nm = [2000,")),
+    ("a byte that a device holds", edit("devices.run", "2 16 d007", "2 16 d107")),
+    ("a byte that a device doesn't hold", edit("devices.run", "2 16 d007\n", "2 16 d007\n3 511 01\n")),
+    ("a byte that another program wrote", edit("devices.run", "88 156 00", "88 156 01")),
+    ("a word of a command line", edit("command_lines.words", "$ ngc help wet", "$ ngc help dry")),
+    ("the end of a text that isn't said whole", edit("command_lines.words", "...A file that can't be read prints nothing.", "...A file that can't be read prints more.")),
+    ("the beginning of a text that isn't said whole", edit("command_lines.words", "error: ...", "errors: ...")),
+    ("a status of a command line", edit("command_lines.words", "REFUSED line 3: X3 NoProgramEnd\n-- status 1", "REFUSED line 3: X3 NoProgramEnd\n-- status 0")),
+    ("what a file holds afterwards", edit("files.words", "-- leaves mill.dev\nno device\\", "-- leaves mill.dev\na device\\")),
+    ("a file that isn't made", edit("files.words", "-- absent out", "-- absent mill.toml\n-- leaves out")),
+    ("nobody else holds a device", edit("files.words", "-- held mill.dev\n", "")),
+    ("a note that isn't one", edit("modes.dry", "# ", "")),
+    ("a title that stands twice", edit("modes.dry", "== ", "== twice\nM2\n-- writes\n\n== twice\nM2\n-- writes\n\n== ")),
+    ("a part that isn't known", edit("plain.dry", "-- writes", "-- writs")),
+    ("a part that stands twice", edit("plain.dry", "-- writes", "-- writes\n-- writes")),
+    ("what is written isn't said", edit("modes.dry", "-- writes\n", "")),
+    ("an operator in a dry run", edit("modes.dry", "-- writes", "> status\n-- writes")),
+    ("an escape that isn't known", edit("plain.dry", "\\r\n--", "\\q\n--")),
+    ("a repeat without a count", edit("long_lines.dry", "\\{256 s}", "\\{s}")),
+    ("a blank at a line's end", edit("modes.dry", "G80\n", "G80 \n")),
+    ("a tab as it is", edit("modes.dry", "G91 G0 X1", "G91\tG0 X1")),
+    ("a row without a bar", edit("words.refused", "F1 F1 |", "F1 F1")),
+    ("bytes that aren't text", edit("modes.dry", "G91 G0 X1", b"G91 G0 X1\xff")),
+    ("a file that a part names and that isn't there", edit("examples.dry", "examples/face.txt", "examples/faces.txt")),
+    ("an empty file", put("empty.dry", b"")),
+    ("a file of notes alone", put("empty.run", b"# nothing\n")),
+    ("a title alone", put("empty.refused", b"== nothing\n")),
+    ("a file of another name", put("cycles.dyr", b"== a\n")),
+    ("a file that may not be read", lock("modes.dry")),
+    ("no file of cases at all", clear),
+]
+
+
+def run(change):
+    """Runs the cases over a copy that is changed: the status and the last line that is told."""
+    with tempfile.TemporaryDirectory() as top:
+        room = Path(top) / "data"
+        shutil.copytree(crate / "data", room)
+        change(room)
+        words = [program]
+        if os.geteuid() == 0:
+            # a user who may not read what is locked
+            os.chmod(top, 0o711)
+            for at, _, files in os.walk(room):
+                for file in [at, *(os.path.join(at, name) for name in files)]:
+                    os.chown(file, NOBODY, NOBODY)
+            words = ["setpriv", f"--reuid={NOBODY}", f"--regid={NOBODY}", "--clear-groups", program]
+        ran = subprocess.run(words, cwd=room, env={"TMPDIR": str(room)}, capture_output=True, text=True, errors="replace", timeout=300)
+        told = ran.stderr.strip().splitlines()
+        return ran.returncode, told[-1][:120] if told else ""
+
+
+status, told = run(lambda room: None)
+if status:
+    sys.exit(f"the cases as they are: status {status}; {told}")
+unseen = 0
+for name, change in CHANGES:
+    status, told = run(change)
+    print(f"{name}: {'seen' if status == 1 else f'NOT SEEN, status {status}'}; {told}")
+    unseen += status != 1
+print(f"{len(CHANGES) - unseen} of {len(CHANGES)} changes seen")
+sys.exit(1 if unseen else 0)

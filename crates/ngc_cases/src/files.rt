@@ -1,0 +1,48 @@
+//! Which files hold cases.
+use anyhow::{Result, bail};
+use std::fs;
+use std::rt::Files;
+
+/// What the cases of a file are.
+#[derive(Clone, Copy)]
+pub enum Kind {
+    /// Programs for a dry run.
+    Dry,
+    /// Lines that are refused.
+    Refused,
+    /// Sessions of an operator.
+    Run,
+    /// Command lines.
+    Words,
+}
+
+/// What the name of a file of cases says.
+pub fn kind_of(name: &str) -> Option<Kind> {
+    match name.rsplit_once('.') {
+        Some((_, "dry")) => Some(Kind::Dry),
+        Some((_, "refused")) => Some(Kind::Refused),
+        Some((_, "run")) => Some(Kind::Run),
+        Some((_, "words")) => Some(Kind::Words),
+        _ => None,
+    }
+}
+
+/// The names of the files of a folder that hold cases, in their order. Settings and folders may lie beside them; any other file is a
+/// mistake.
+pub fn case_files<R: Files + AllocGlobal + Clone + Drop>(
+    rt: &R,
+    folder: &str,
+) -> Result<Vec<String>> {
+    let mut names = Vec::new(rt.alloc());
+    for entry in fs::read_dir(rt, folder)? {
+        let entry = entry?;
+        let name = entry.file_name();
+        if kind_of(name).is_some() {
+            names.push(String::from_str(rt.alloc(), name)?)?;
+        } else if !name.ends_with(".toml") && !entry.file_type()?.is_dir() {
+            bail!("{name}: neither cases nor settings");
+        }
+    }
+    names.sort()?;
+    Ok(names)
+}

@@ -1,0 +1,123 @@
+//! Runs the cases of data/ as `ngc` does, and compares what is written, answered, handed out and stored with what each case says.
+//! docs/CASES.md has the format. A file's name says what its cases are: `.dry` programs for a dry run, `.refused` lines that are refused
+//! alone, `.run` sessions of an operator, `.words` command lines.
+#![tactic(auto)]
+
+mod cases;
+mod compare;
+mod dry_runs;
+mod escapes;
+mod files;
+mod refusals;
+mod room;
+mod sectors;
+mod steps;
+mod tally;
+
+use anyhow::{Context, Result, ensure};
+use cases::{Case, read_cases};
+use files::{Kind, case_files, kind_of};
+use ng_file::Hold;
+use room::Room;
+use std::process::ExitCode;
+use std::rt::{Env, Files};
+use std::{env, fs};
+use tally::Tally;
+
+/// What is wrong of a case that is no row of refused lines, if something is.
+fn wrong_of<R: Files + AllocGlobal>(
+    rt: &R,
+    room: &Room,
+    kind: Kind,
+    case: &Case<'_>,
+) -> Result<Option<String>>
+where
+    R::File: Hold,
+{
+    match kind {
+        Kind::Dry => return dry_runs::wrong_of(rt, room, case),
+        Kind::Run => {
+            let wrong = steps::wrong_of_mill(rt, room)?;
+            if wrong.is_some() {
+                return Ok(wrong);
+            }
+        }
+        Kind::Refused | Kind::Words => {}
+    }
+    steps::wrong_of(rt, room, case)
+}
+
+/// Runs a case in a folder of its own, and counts it.
+fn count_case<R: Files + AllocGlobal + Eprint>(
+    rt: &R,
+    room: &Room,
+    kind: Kind,
+    case: &Case<'_>,
+    tally: &mut Tally,
+) -> Result<()>
+where
+    R::File: Hold,
+{
+    room.open(rt)?;
+    match kind {
+        Kind::Refused => refusals::count_rows(rt, room, case, tally)?,
+        _ => tally.count(rt, case.title, wrong_of(rt, room, kind, case)?)?,
+    }
+    room.clear(rt)
+}
+
+/// Runs the cases of a file, whose name says what they are.
+fn run_file<R: Files + AllocGlobal + Eprint>(rt: &R, room: &Room, name: &str) -> Result<Tally>
+where
+    R::File: Hold,
+{
+    let folder = room.cases.as_str();
+    let kind = kind_of(name).context("no file of cases by its name")?;
+    let path = format!(in rt.alloc(); "{folder}/{name}")?;
+    let text = fs::read_to_string(rt, path.as_str())?;
+    let mut tally = Tally::default();
+    for case in &read_cases(rt, folder, text.as_str())? {
+        count_case(rt, room, kind, case, &mut tally).context(format_args!("{}", case.title))?;
+    }
+    Ok(tally)
+}
+
+/// Runs the cases of each file, and prints how many are right. Whether all are.
+fn run_files<R: Files + AllocGlobal + Print + Eprint>(
+    rt: &R,
+    room: &Room,
+    names: &[String],
+) -> Result<bool>
+where
+    R::File: Hold,
+{
+    let mut all_right = true;
+    for name in names {
+        let tally = run_file(rt, room, name.as_str()).context(format_args!("{name}"))?;
+        println!(rt; "{name}: {} of {}", tally.right, tally.all)?;
+        all_right = all_right && tally.right == tally.all;
+    }
+    Ok(all_right)
+}
+
+/// The folder of the cases: the word that the program was started with, or else the one that it runs in.
+fn given_folder<R: Env + AllocGlobal>(rt: &R) -> Result<String> {
+    match env::args(rt)?.nth(1) {
+        Some(folder) => Ok(folder),
+        None => Ok(String::from_str(rt.alloc(), ".")?),
+    }
+}
+
+fn main(rt: HostRuntime) -> Result<ExitCode> {
+    let number = std::process::id(rt.process());
+    let room = Room::new(&rt, given_folder(&rt)?, number)?;
+    let names = case_files(&rt, room.cases.as_str())?;
+    ensure!(!names.is_empty(), "no file of cases");
+    let all_right = run_files(&rt, &room, names.as_slice());
+    room.clear(&rt)?;
+    Ok(if all_right? {
+        ExitCode::SUCCESS
+    } else {
+        ExitCode::FAILURE
+    })
+}

@@ -1,0 +1,229 @@
+//! What a case does and looks at, one step after the other: sessions of an operator, command lines, files.
+use crate::cases::{Case, Head, Part};
+use crate::compare::first_difference;
+use crate::room::{Room, Wanted};
+use crate::sectors;
+use anyhow::{Result, bail, ensure};
+use ng_file::Hold;
+use std::alloc::Global;
+use std::fs;
+use std::rt::Files;
+
+/// The words that make the device of a session fresh, and those that begin one.
+const FORMAT: &str = "ngc format @mill.dev";
+
+const RUN: &str = "ngc run @mill.dev @mill.toml @out";
+
+/// A step, and what the parts below it say of it.
+#[derive(Clone, Copy)]
+struct Step<'a> {
+    head: Head<'a>,
+    asked: &'a [u8],
+    text: &'a [u8],
+    /// The exit status, if it isn't 0.
+    status: Option<u8>,
+    /// What is handed out meanwhile, if something is.
+    handed: Option<&'a [u8]>,
+    /// The file that another program holds meanwhile, if one is.
+    held: Option<&'a str>,
+}
+
+impl<'a> Step<'a> {
+    fn of(part: &'a Part<'_>) -> Step<'a> {
+        Step {
+            head: part.head,
+            asked: part.asked.as_slice(),
+            text: part.text.as_slice(),
+            status: None,
+            handed: None,
+            held: None,
+        }
+    }
+
+    /// What is wanted of the program.
+    fn wanted(&self) -> Wanted<'a> {
+        Wanted {
+            writes: self.text,
+            status: self.status.unwrap_or(0),
+        }
+    }
+
+    /// Whether no part says more of it, and nobody asks.
+    fn is_plain(&self) -> bool {
+        self.asked.is_empty()
+            && self.status.is_none()
+            && self.handed.is_none()
+            && self.held.is_none()
+    }
+}
+
+/// Takes a part up, which is a step or says more of the last.
+fn put_part<'b>(steps: &mut Vec<Step<'b>>, part: &'b Part<'_>) -> Result<()> {
+    let is_new = match (part.head, steps.last_mut()) {
+        (Head::Says("status", number), Some(step)) if part.is_empty() => {
+            step.status.replace(number.parse()?).is_none()
+        }
+        (Head::Says("held", name), Some(step)) if part.is_empty() => {
+            step.held.replace(name).is_none()
+        }
+        (Head::Says("hands", "out"), Some(step)) if part.asked.is_empty() => {
+            step.handed.replace(part.text.as_slice()).is_none()
+        }
+        (Head::Title, _) if part.is_empty() => true,
+        _ => {
+            steps.push(Step::of(part))?;
+            true
+        }
+    };
+    ensure!(is_new, "a part stands twice");
+    Ok(())
+}
+
+/// The steps of a case.
+fn steps_of<'b>(alloc: Global, case: &'b Case<'_>) -> Result<Vec<Step<'b>>> {
+    let mut steps = Vec::new(alloc);
+    for part in &case.parts {
+        put_part(&mut steps, part)?;
+    }
+    ensure!(!steps.is_empty(), "nothing is done");
+    Ok(steps)
+}
+
+/// Holds a file, where a step names one.
+fn hold<R: Files + AllocGlobal>(rt: &R, room: &Room, name: Option<&str>) -> Result<Option<R::File>>
+where
+    R::File: Hold,
+{
+    let Some(name) = name else {
+        return Ok(None);
+    };
+    let path = room.path(rt.alloc(), name)?;
+    let file = fs::open(rt, path.as_str())?;
+    ensure!(file.hold().is_ok(), "it can't be held: {name}");
+    Ok(Some(file))
+}
+
+/// What is wrong of a command line's answer, if something is.
+fn wrong_of_call<R: Files + AllocGlobal>(
+    rt: &R,
+    room: &Room,
+    line: &str,
+    step: &Step<'_>,
+) -> Result<Option<String>>
+where
+    R::File: Hold,
+{
+    let other = hold(rt, room, step.held)?;
+    let wrong = room.wrong_of_call(rt, line, step.asked, step.wanted())?;
+    drop(other);
+    Ok(wrong)
+}
+
+/// What is wrong of a session, if something is, where this was handed out before it.
+fn wrong_of_session<R: Files + AllocGlobal>(
+    rt: &R,
+    room: &Room,
+    step: &Step<'_>,
+    handed: &mut Vec<u8>,
+) -> Result<Option<String>>
+where
+    R::File: Hold,
+{
+    let wrong = wrong_of_call(rt, room, RUN, step)?;
+    if wrong.is_some() {
+        return Ok(wrong);
+    }
+    handed.extend_from_slice(step.handed.unwrap_or_default())?;
+    let out = room.held(rt, "out")?;
+    first_difference(rt.alloc(), handed.as_slice(), out.as_slice())
+}
+
+/// Does what a step says of a file. What is wrong of it, if something is.
+fn wrong_of_file<R: Files + AllocGlobal>(
+    rt: &R,
+    room: &Room,
+    verb: &str,
+    name: &str,
+    text: &[u8],
+) -> Result<Option<String>> {
+    match verb {
+        "file" => room.put(rt, name, text)?,
+        "folder" => fs::create_dir(rt, room.path(rt.alloc(), name)?.as_str())?,
+        "overwritten" => {
+            let mut bytes = room.held(rt, name)?;
+            sectors::put_rows(&mut bytes, text)?;
+            room.put(rt, name, bytes.as_slice())?;
+        }
+        "sectors" => {
+            let bytes = room.held(rt, name)?;
+            return sectors::first_difference(rt.alloc(), text, bytes.as_slice());
+        }
+        "leaves" => {
+            let bytes = room.held(rt, name)?;
+            return first_difference(rt.alloc(), text, bytes.as_slice());
+        }
+        "absent" if fs::exists(rt, room.path(rt.alloc(), name)?.as_str())? => {
+            return Ok(Some(format!(in rt.alloc(); "{name} is there")?));
+        }
+        "absent" => {}
+        _ => bail!("no part of a case: {verb}"),
+    }
+    Ok(None)
+}
+
+/// Makes a step. What is wrong of it, if something is.
+fn wrong_of_step<R: Files + AllocGlobal>(
+    rt: &R,
+    room: &Room,
+    step: &Step<'_>,
+    handed: &mut Vec<u8>,
+) -> Result<Option<String>>
+where
+    R::File: Hold,
+{
+    match step.head {
+        Head::Title | Head::Says("power", "on") => wrong_of_session(rt, room, step, handed),
+        Head::Call(line) => {
+            ensure!(step.handed.is_none(), "no session hands out");
+            wrong_of_call(rt, room, line, step)
+        }
+        Head::Says(verb, name) => {
+            ensure!(step.is_plain(), "no program runs: {verb}");
+            wrong_of_file(rt, room, verb, name, step.text)
+        }
+    }
+}
+
+/// Makes the steps of a case. What is wrong of the first that is wrong, if one is.
+pub fn wrong_of<R: Files + AllocGlobal>(
+    rt: &R,
+    room: &Room,
+    case: &Case<'_>,
+) -> Result<Option<String>>
+where
+    R::File: Hold,
+{
+    let mut handed = Vec::new(rt.alloc());
+    for step in steps_of(rt.alloc(), case)? {
+        let wrong = wrong_of_step(rt, room, &step, &mut handed)?;
+        if wrong.is_some() {
+            return Ok(wrong);
+        }
+    }
+    Ok(None)
+}
+
+/// Makes the files of a mill that an operator commands: its device, fresh, and its settings. What is wrong of that, if something is.
+pub fn wrong_of_mill<R: Files + AllocGlobal>(rt: &R, room: &Room) -> Result<Option<String>>
+where
+    R::File: Hold,
+{
+    let settings = format!(in rt.alloc(); "{}/default.toml", room.cases.as_str())?;
+    let settings = fs::read(rt, settings.as_str())?;
+    room.put(rt, "mill.toml", settings.as_slice())?;
+    let wanted = Wanted {
+        writes: b"",
+        status: 0,
+    };
+    room.wrong_of_call(rt, FORMAT, b"", wanted)
+}
