@@ -16,7 +16,7 @@ use Rattle.ng_session.specs.Runs.{left_in, scene_after}
 use Rattle.ng_session.specs.declared.lines_before.LinesBefore.{LinesBefore}
 use Rattle.ng_session.specs.declared.reply.Reply.{Reply}
 use Rattle.ng_core.specs.Station.{Station, Rests, standing_of}
-use Rattle.ng_core.specs.Acts.{IsEitherLeft, Acts, scene_of}
+use Rattle.ng_core.specs.Acts.{IsEitherLeft, Acts, TouchesNothing, scene_of}
 
 -- what is left behind an outcome that hands nothing out
 left_same : (out : Outcome) (given : List Item) → out.items ≡ [] → given ++ out.items ≡ given
@@ -50,6 +50,7 @@ acts_quiet r out program old new lived living alive rests journal lines replied 
         ),
         sym (left_same out (items lived) none),
       );
+      untouched = λ nothing. refl;
     })
 
 -- lines were read, and what is stored stays
@@ -69,6 +70,7 @@ acts_read r out program old new lived living alive rests known replied next none
     ),
     ap items alive ∙ sym (left_same out (items lived) none),
   );
+  untouched = λ nothing. alive;
 }
 
 -- memory or a count was wanting, and nothing was written
@@ -83,8 +85,8 @@ acts_aside {R} fault out program old new lived living which alive same rests kno
     let stops : Onward lived living (IsEitherLeft (left_in (scene_of program old) (items lived)) (left_in (scene_after out) (items lived ++ out.items))) =
     subst (λ (l : Life). Onward lived l (IsEitherLeft (left_in (scene_of program old) (items lived)) (left_in (scene_after out) (items lived ++ out.items)))) (sym alive)
     (stays lived (IsEitherLeft (left_in (scene_of program old) (items lived)) (left_in (scene_after out) (items lived ++ out.items)))) in
-    let short : Goal OutOfMemory = record { comes = same; stops = stops; leaves = (here, alive) } in
-    let used : Goal CountersUsed = record { comes = same; stops = stops; leaves = (here, alive) } in
+    let short : Goal OutOfMemory = record { comes = same; stops = stops; leaves = (here, alive); untouched = tt } in
+    let used : Goal CountersUsed = record { comes = same; stops = stops; leaves = (here, alive); untouched = tt } in
     ⊎_elim (λ e. subst Goal (sym e) short) (λ e. subst Goal (sym e) used) which
 
 -- the device failed in a call that wrote nothing
@@ -96,6 +98,7 @@ acts_unread fault out program old new lived living is alive same =
       stops = subst (λ (l : Life). Onward lived l (IsEitherLeft (left_in (scene_of program old) (items lived)) (left_in (scene_after out) (items lived ++ out.items)))) (sym alive)
           (stays lived (IsEitherLeft (left_in (scene_of program old) (items lived)) (left_in (scene_after out) (items lived ++ out.items))));
       leaves = tt;
+      untouched = tt;
     })
 
 -- each stop stands for the one or for the other
@@ -112,9 +115,9 @@ moved_stops lived living before after given more is same stops =
 -- an entry or a segment was stored, or the device failed in that
 pub acts_moved : {R T : Type 0} (r : Reply) (v : T) (out : Outcome) (program : List ℕ) (old new : Station R) (lived living : Life)
     → Moves {E = Fault} (Ok v) new.journal (standing_of program old.session) (standing_of out.program out.next) lived living
-    → IsTrueOf out.program new.lines → r ≡ out.reply → new.session ≡ out.next → out.items ≡ []
+    → IsTrueOf out.program new.lines → r ≡ out.reply → new.session ≡ out.next → out.items ≡ [] → (TouchesNothing r → ⊥)
     → Acts (Ok r) out program old new lived living
-acts_moved r v out program old new lived living moves known replied next none =
+acts_moved r v out program old new lived living moves known replied next none touched =
     let same = left_same out (items lived) none in
     record {
       comes = (replied, next);
@@ -127,6 +130,7 @@ acts_moved r v out program old new lived living moves known replied next none =
         ),
         moves.items_are ∙ sym same,
       );
+      untouched = λ nothing. absurd (touched nothing);
     }
 
 pub acts_unmoved : {R T : Type 0} (fault e : Fault) (out : Outcome) (program : List ℕ) (old new : Station R) (journal : Logbook R) (lived living : Life)
@@ -138,6 +142,7 @@ acts_unmoved fault e out program old new journal lived living moves is same none
       comes = same;
       stops = moved_stops lived living (standing_of program old.session) (standing_of out.program out.next) (items lived) (items lived ++ out.items) refl (left_same out (items lived) none) moves.stops;
       leaves = tt;
+      untouched = tt;
     })
 
 -- each stop has the item besides
@@ -151,9 +156,9 @@ handed_stops lived living before after given more same stops =
 -- an item was handed out, or the device failed in that
 pub acts_handed : {R T : Type 0} (r : Reply) (v : T) (item : Item) (out : Outcome) (program : List ℕ) (old new : Station R) (lived living : Life)
     → HandsOut {E = Fault} (Ok v) new.journal (standing_of program old.session) item lived living
-    → IsTrueOf out.program new.lines → r ≡ out.reply → new.session ≡ out.next → out.items ≡ item ∷ [] → out.program ≡ program → out.next.stored ≡ old.session.stored
+    → IsTrueOf out.program new.lines → r ≡ out.reply → new.session ≡ out.next → out.items ≡ item ∷ [] → out.program ≡ program → out.next.stored ≡ old.session.stored → (TouchesNothing r → ⊥)
     → Acts (Ok r) out program old new lived living
-acts_handed r v item out program old new lived living hands known replied next one same stored =
+acts_handed r v item out program old new lived living hands known replied next one same stored touched =
     let more : items lived ++ out.items ≡ items lived ++ item ∷ [] = ap (λ (l : List Item). items lived ++ l) one in
     let standing : standing_of program old.session ≡ standing_of out.program out.next = standing_same program out.program old.session out.next (sym same) (sym stored) in
     record {
@@ -168,6 +173,7 @@ acts_handed r v item out program old new lived living hands known replied next o
         ),
         hands.given ∙ sym more,
       );
+      untouched = λ nothing. absurd (touched nothing);
     }
 
 pub acts_unhanded : {R T : Type 0} (fault e : Fault) (item : Item) (out : Outcome) (program : List ℕ) (old new : Station R) (journal : Logbook R) (lived living : Life)
@@ -182,4 +188,5 @@ acts_unhanded fault e item out program old new journal lived living hands is tol
       stops = handed_stops lived living (standing_of program old.session) (standing_of out.program out.next) (items lived) (items lived ++ out.items) standing
           (subst (λ (l : List Item). Onward lived living (StandsFor (standing_of program old.session) l)) (sym more) hands.stops);
       leaves = tt;
+      untouched = tt;
     })

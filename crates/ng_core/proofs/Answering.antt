@@ -15,7 +15,7 @@ use Rattle.ng_session.specs.declared.event.Event.{Event}
 use Rattle.ng_session.specs.declared.reply.Reply.{Reply}
 use Rattle.ng_session.specs.declared.reply.Reply.TheVariants as reply
 use Rattle.ng_core.specs.Station.{Station, standing_of}
-use Rattle.ng_core.specs.Acts.{Does}
+use Rattle.ng_core.specs.Acts.{Does, TouchesNothing}
 use Rattle.ng_core.proofs.Quiet.{still, still_step}
 use Rattle.ng_core.proofs.Doing.{does_still, does_moved, does_unmoved, Storing}
 use Rattle.ng_core.proofs.Ticks.{does_on}
@@ -56,7 +56,8 @@ pub does_load : {R T : Type 0} (honest : R → Type 0) (life : R → Life) (v : 
 does_load honest life v r saved text old new free is replied next p known =
     does_on honest life (Ok r) (λ program. load_unless program old.session text None) _ old old new refl (λ program. sym (ap (λ (o : Option Fault). load_unless program old.session text o) free))
     (does_moved honest life r v (λ program. load_unless program old.session text None) old new (storing_program honest life (Ok v) saved text old new.journal is p) (λ program before. known)
-    (λ program. replied ∙ ap (λ (x : Saved). reply.Done x.entries) is) (λ program. next ∙ ap (λ (x : Saved). loaded old.session x) is) (λ program. refl))
+    (λ program. replied ∙ ap (λ (x : Saved). reply.Done x.entries) is) (λ program. next ∙ ap (λ (x : Saved). loaded old.session x) is) (λ program. refl)
+    (subst (λ (x : Reply). TouchesNothing x → ⊥) (sym replied) (λ z. z)))
 
 pub does_not_load : {R T : Type 0} (honest : R → Type 0) (life : R → Life) (fault e : Fault) (saved : Saved) (text : List ℕ) (old new : Station R)
     → load_refusal old.session text ≡ None → saved ≡ after_load old.session.stored (length text) → new.session ≡ old.session

@@ -30,10 +30,10 @@ does_as honest life answer out old mid new same does = subst (λ (c : Station _)
 -- what became of the item counts as what became of the Tick: the session took it before, and shows the same
 acts_before : {R : Type 0} (answer : Result Reply Fault) (out : Outcome) (program : List ℕ) (old new : Station R) (lived living : Life)
     → IfErr answer (λ e. e ≡ DeviceFailed) → Acts answer out program (with_session old (handed old.session)) new lived living → Acts answer out program old new lived living
-acts_before (Ok r) out program old new lived living errors acts = record { comes = acts.comes; stops = acts.stops; leaves = acts.leaves }
+acts_before (Ok r) out program old new lived living errors acts = record { comes = acts.comes; stops = acts.stops; leaves = acts.leaves; untouched = acts.untouched }
 acts_before {R} (Err fault) out program old new lived living errors acts =
     let Goal : Fault → Type 0 = λ f. Acts (Err f) out program (with_session old (handed old.session)) new lived living → Acts (Err f) out program old new lived living in
-    let lost : Goal DeviceFailed = λ z. record { comes = z.comes; stops = z.stops; leaves = z.leaves } in
+    let lost : Goal DeviceFailed = λ z. record { comes = z.comes; stops = z.stops; leaves = z.leaves; untouched = tt } in
     let goal : Goal fault = subst Goal (sym errors) lost in
     goal acts
 

@@ -11,7 +11,7 @@ use Rattle.ng_session.specs.LinesBefore.{IsTrueOf}
 use Rattle.ng_session.specs.Session.{Outcome, shown}
 use Rattle.ng_session.specs.declared.reply.Reply.{Reply}
 use Rattle.ng_core.specs.Station.{Station, Rests, standing_of}
-use Rattle.ng_core.specs.Acts.{Does}
+use Rattle.ng_core.specs.Acts.{Does, TouchesNothing}
 use Rattle.ng_core.proofs.Acting.{known_as, acts_quiet, acts_aside, acts_moved, acts_unmoved, acts_handed, acts_unhanded}
 use Rattle.ng_core.proofs.Quiet.{IsStill}
 
@@ -46,12 +46,12 @@ Storing honest life result out old journal =
 
 pub does_moved : {R T : Type 0} (honest : R → Type 0) (life : R → Life) (r : Reply) (v : T) (out : List ℕ → Outcome) (old new : Station R)
     → Storing honest life (Ok v) out old new.journal → ((program : List ℕ) → IsTrueOf program old.lines → IsTrueOf (out program).program new.lines)
-    → ((program : List ℕ) → r ≡ (out program).reply) → ((program : List ℕ) → new.session ≡ (out program).next) → ((program : List ℕ) → (out program).items ≡ [])
+    → ((program : List ℕ) → r ≡ (out program).reply) → ((program : List ℕ) → new.session ≡ (out program).next) → ((program : List ℕ) → (out program).items ≡ []) → (TouchesNothing r → ⊥)
     → Does honest life (Ok r) out old new
-does_moved honest life r v out old new p known replied next none = record {
+does_moved honest life r v out old new p known replied next none touched = record {
   keeps = p.keeps;
   back = p.back;
-  holds = λ h program rests. acts_moved r v (out program) program old new (life old.journal.rig) (life new.journal.rig) (p.holds h program rests) (known program rests.1) (replied program) (next program) (none program);
+  holds = λ h program rests. acts_moved r v (out program) program old new (life old.journal.rig) (life new.journal.rig) (p.holds h program rests) (known program rests.1) (replied program) (next program) (none program) touched;
 }
 
 pub does_unmoved : {R T : Type 0} (honest : R → Type 0) (life : R → Life) (fault e : Fault) (out : List ℕ → Outcome) (old new : Station R)
@@ -80,14 +80,14 @@ pub record Gives (item : Item) (old : Standing) (program : List ℕ) (out : Outc
 
 pub does_handed : {R T : Type 0} (honest : R → Type 0) (life : R → Life) (r : Reply) (v : T) (item : Item) (out : List ℕ → Outcome) (old new : Station R)
     → Handing honest life (Ok v) item old new.journal → new.lines ≡ old.lines
-    → ((program : List ℕ) → r ≡ (out program).reply) → ((program : List ℕ) → new.session ≡ (out program).next) → ((program : List ℕ) → Gives item (standing_of program old.session) program (out program))
+    → ((program : List ℕ) → r ≡ (out program).reply) → ((program : List ℕ) → new.session ≡ (out program).next) → ((program : List ℕ) → Gives item (standing_of program old.session) program (out program)) → (TouchesNothing r → ⊥)
     → Does honest life (Ok r) out old new
-does_handed honest life r v item out old new p lines replied next gives = record {
+does_handed honest life r v item out old new p lines replied next gives touched = record {
   keeps = p.keeps;
   back = p.back;
   holds = λ h program rests. acts_handed r v item (out program) program old new (life old.journal.rig) (life new.journal.rig) (p.holds h program rests)
       (known_as program (out program).program old.lines new.lines (gives program).program_is lines rests.1) (replied program) (next program)
-      (gives program).items (gives program).program_is (gives program).stored_is;
+      (gives program).items (gives program).program_is (gives program).stored_is touched;
 }
 
 pub does_unhanded : {R T : Type 0} (honest : R → Type 0) (life : R → Life) (fault e : Fault) (item : Item) (out : List ℕ → Outcome) (old new : Station R)

@@ -25,8 +25,10 @@ recovered journal session lines equipment old new stored known r =
 pub powered : {R : Type 0} (journal : Logbook R) (saved : Saved) (session : Sitting) (lines : LinesBefore) (equipment : Equipment) (old new : Life) → session.stored ≡ saved → journal.saved ≡ saved → ((program : List ℕ) → IsTrueOf program lines)
     → Recovers (Ok (journal, saved)) old new → Powers {R = R} (Ok (record { journal = journal; session = session; lines = lines; equipment = equipment })) old new
 powered journal saved session lines equipment old new stored held known r = record {
-  finds = subst (λ (x : Saved). IsFound x (reads old)) (sym stored) r.finds;
+  finds = (subst (λ (x : Saved). IsFound x (reads old)) (sym stored) r.finds.0, r.finds.1);
+  refused = tt;
+  renews = r.renews;
   kept = λ written.
       let k = r.kept written in
-      record { stops = k.stops; items_are = k.items_are; ready = recovered journal session lines equipment old new (stored ∙ sym held) known k.ready };
+      record { stops = k.stops; ready = recovered journal session lines equipment old new (stored ∙ sym held) known k.ready };
 }

@@ -15,7 +15,7 @@ use Rattle.ng_session.specs.declared.lines_before.LinesBefore.{LinesBefore}
 use Rattle.ng_session.specs.declared.reply.Reply.{Reply}
 use Rattle.ng_session.specs.declared.reply.Reply.TheVariants as reply
 use Rattle.ng_core.specs.Station.{Station, standing_of}
-use Rattle.ng_core.specs.Acts.{Does}
+use Rattle.ng_core.specs.Acts.{Does, TouchesNothing}
 use Rattle.ng_core.proofs.Acting.{known_as}
 use Rattle.ng_core.proofs.Quiet.{still}
 use Rattle.ng_core.proofs.Doing.{does_still, does_moved, does_unmoved, does_handed, does_unhanded, Storing}
@@ -57,7 +57,7 @@ pub hands_item : {R T : Type 0} (honest : R → Type 0) (life : R → Life) (v :
     → Does honest life (Ok reply.Moved) (λ program. moving item program old.session) old new
 hands_item honest life v item old new next p lines =
     does_handed honest life reply.Moved v item (λ program. moving item program old.session) old new (meaning p (λ f program rests. f (standing_of program old.session) rests.0)) lines
-    (λ program. refl) (λ program. next) (λ program. record { items = refl; program_is = refl; stored_is = refl })
+    (λ program. refl) (λ program. next) (λ program. record { items = refl; program_is = refl; stored_is = refl }) (λ z. z)
 
 pub hands_none : {R T : Type 0} (honest : R → Type 0) (life : R → Life) (fault e : Fault) (item : Item) (old new : Station R)
     → new.session ≡ old.session → fault ≡ DeviceFailed → HandsIt {T = T} honest life (Err e) item old.journal new.journal
@@ -97,6 +97,7 @@ pub opens : {R T : Type 0} (honest : R → Type 0) (life : R → Life) (v : T) (
     → Does honest life (Ok r) (λ program. opening half program old.equipment old.session) old new
 opens honest life v r half old new replied next held p lines =
     does_moved honest life r v (λ program. opening half program old.equipment old.session) old new (storing_half honest life (Ok v) half old new.journal held p) (kept old.lines new.lines lines) (λ program. replied) (λ program. next) (λ program. refl)
+    (subst (λ (x : Reply). TouchesNothing x → ⊥) (sym replied) (λ z. z))
 
 pub opens_none : {R T : Type 0} (honest : R → Type 0) (life : R → Life) (fault e : Fault) (half : HalfDone) (old new : Station R)
     → new.session ≡ old.session → old.session.stored ≡ old.journal.saved
@@ -134,7 +135,8 @@ pub does_commit : {R T : Type 0} (honest : R → Type 0) (life : R → Life) (v 
     → Does honest life (Ok r) (λ program. end old.equipment program old.session old.session.current) old new
 does_commit honest life v r saved old new due replied next p lines =
     does_on honest life (Ok r) (λ program. end old.equipment program old.session (Some due.block)) _ old old new refl (λ program. sym (ap (λ (o : Option Underway). end old.equipment program old.session o) due.current))
-    (does_moved honest life r v (λ program. end old.equipment program old.session (Some due.block)) old new (storing_entry honest life (Ok v) saved old new.journal due p) (kept old.lines new.lines lines) (λ program. replied) (λ program. next) (λ program. refl))
+    (does_moved honest life r v (λ program. end old.equipment program old.session (Some due.block)) old new (storing_entry honest life (Ok v) saved old new.journal due p) (kept old.lines new.lines lines) (λ program. replied) (λ program. next) (λ program. refl)
+    (subst (λ (x : Reply). TouchesNothing x → ⊥) (sym replied) (λ z. z)))
 
 pub does_not_commit : {R T : Type 0} (honest : R → Type 0) (life : R → Life) (fault e : Fault) (saved : Saved) (old new : Station R) (due : IsDue old.session saved)
     → new.session ≡ old.session → (fault ≡ CountersUsed) ⊎ (fault ≡ DeviceFailed) → (fault ≡ CountersUsed → new.journal ≡ old.journal)

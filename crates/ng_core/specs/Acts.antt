@@ -1,5 +1,5 @@
 -- What an event does to a controller and to its device (own).
-use Rattle.std.specs.Prelude.{◌≡◌, ◌≢◌, ◌⊎◌, ℕ, false, List, ◌++◌, Result, Ok, Err, IfErr, MatchResult}
+use Rattle.std.specs.Prelude.{◌≡◌, ◌≢◌, ◌⊎◌, ℕ, false, List, ◌++◌, Result, Ok, Err, IfOk, IfErr, MatchResult}
 use Rattle.ng_num.specs.declared.fault.Fault.{Fault}
 use Rattle.ng_num.specs.declared.fault.Fault.TheVariants.{DeviceFailed, Broken}
 use Rattle.ng_canon.specs.declared.item.Item.{Item}
@@ -50,6 +50,20 @@ Leaves (Ok r) out program new lived living = Rests living new out.program × (it
 Leaves (Err DeviceFailed) out program new lived living = Unit {0}
 Leaves (Err fault) out program new lived living = Rests living new program × (living ≡ lived)
 
+-- an answer for which nothing is stored and nothing handed out
+abbrev pub TouchesNothing : Reply → Type 0
+TouchesNothing (reply.Done n) = ⊥
+TouchesNothing (reply.Opened index) = ⊥
+TouchesNothing reply.Moved = ⊥
+TouchesNothing reply.Begun = Unit {0}
+TouchesNothing reply.Going = Unit {0}
+TouchesNothing reply.Held = Unit {0}
+TouchesNothing reply.Idle = Unit {0}
+TouchesNothing reply.Stopped = Unit {0}
+TouchesNothing reply.Taken = Unit {0}
+TouchesNothing (reply.Status status) = Unit {0}
+TouchesNothing (reply.Refused fault) = Unit {0}
+
 -- A stop leaves the one or the other.
 pub record IsEitherLeft (before after : Left) (image : Image) (handed : List Item) : Type 0 where
   pub left : Left
@@ -59,11 +73,13 @@ pub record IsEitherLeft (before after : Left) (image : Image) (handed : List Ite
 abbrev pub scene_of : {R : Type 0} → List ℕ → Station R → Scene
 scene_of program c = record { program = program; session = c.session }
 
--- An event came to its outcome: each stop since leaves what was there before it or what is there behind it.
+-- An event came to its outcome: each stop since leaves what was there before it or what is there after it. Where nothing is stored and
+-- nothing handed out, the device's life is as it was.
 pub record Acts {R : Type 0} (answer : Result Reply Fault) (out : Outcome) (program : List ℕ) (old new : Station R) (lived living : Life) : Type 0 where
   pub comes : Comes answer out old new
   pub stops : Onward lived living (IsEitherLeft (left_in (scene_of program old) (items lived)) (left_in (scene_after out) (items lived ++ out.items)))
   pub leaves : Leaves answer out program new lived living
+  pub untouched : IfOk answer (λ r. TouchesNothing r → living ≡ lived)
 
 -- The same over an honest device that rests with what the session stored: what it leads to is by the program of what stands.
 abbrev pub Does : {R : Type 0} → (R → Type 0) → (R → Life) → Result Reply Fault → (List ℕ → Outcome) → Station R → Station R → Type 0

@@ -31,6 +31,7 @@ pub fn power_on<R: Rig, A: Allocator + Copy + Drop>(
     ensures equipment { IfOk result (λ c. c.equipment ≡ record { tools = settings.tools; geometry = settings.geometry }) }
     ensures small { R.sectors rig < 1710 → IsErrAnd result (λ e. (e.0 ≡ NotFormatted) × (e.1 ≡ rig)) }
     ensures memory { IfErr result (λ e. e.0 ≡ OutOfMemory → e.1 ≡ rig) }
+    ensures size { let after = rig_of result in R.sectors after ≡ R.sectors rig }
     ensures failures { let after = rig_of result in Tells (fault_of result) (R.failed rig) (R.failed after) }
 {
     let Settings { geometry, tools } = settings;

@@ -2,6 +2,7 @@ pub mod Beginning
 pub mod Finding
 pub mod FirstLineLemmas
 pub mod FirstLinesRead
+pub mod Framing
 pub mod Moving
 pub mod LinesRead
 pub mod Overwriting

@@ -1,12 +1,12 @@
 -- What `recover` hands back.
 use Rattle.std.proofs.Common.{◌≡◌, Ok, sym, ◌∙◌, subst}
-use Rattle.ng_rig.specs.Life.{Life}
+use Rattle.ng_rig.specs.Life.{Life, reads}
 use Rattle.ng_layout.specs.declared.header.Header.{Header}
 use Rattle.ng_layout.specs.Stored.{Saved}
 use Rattle.ng_journal.specs.AtRest.{IsAt}
 use Rattle.ng_journal.specs.Journal.{Logbook}
 use Rattle.ng_journal.specs.Recover.{Recovers, IsRecovered}
-use Rattle.ng_journal.specs.Recovery.{IsReady, Restores}
+use Rattle.ng_journal.specs.Recovery.{IsNextEpoch, IsReady, Restores}
 
 ready-rests : {R : Type 0} (journal : Logbook R) (header : Header) (saved : Saved) (old new : Life) → journal.header ≡ header → journal.saved ≡ saved → IsReady header saved old new → IsRecovered journal old new
 ready-rests journal header saved old new same held r = record {
@@ -17,8 +17,10 @@ ready-rests journal header saved old new same held r = record {
 
 pub recovered_all : {R E : Type 0} (journal : Logbook R) (header : Header) (saved : Saved) (old new : Life) → journal.header ≡ header → journal.saved ≡ saved → Restores {E = E} (Ok (Ok header)) saved old new → Recovers (Ok (journal, saved)) old new
 recovered_all journal header saved old new same held r = record {
-  finds = r.outcome;
+  finds = (r.outcome.0, subst (λ (h : Header). IsNextEpoch h (reads old)) (sym same) r.outcome.1);
+  refused = tt;
+  renews = r.renews;
   kept = λ written.
       let k = r.kept written in
-      record { stops = k.stops; items_are = k.items_are; ready = ready-rests journal header saved old new same held k.ready };
+      record { stops = k.stops; ready = ready-rests journal header saved old new same held k.ready };
 }

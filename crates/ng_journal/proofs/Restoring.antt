@@ -1,5 +1,5 @@
 -- The exits of power on: a sync, what is found, a checkpoint of its recovered.
-use Rattle.std.proofs.Common.{◌≡◌, inl, inr, ⊎_elim, ℕ, ◌≤◌, List, Result, Ok, Err, refl, sym, ◌∙◌, ap, subst}
+use Rattle.std.proofs.Common.{◌≡◌, inl, inr, ⊎_elim, ℕ, ◌+◌, ◌≤◌, List, Some, Result, Ok, Err, refl, sym, ◌∙◌, ap, subst}
 use Rattle.std.specs.Option.{option_map}
 use Rattle.ng_num.specs.declared.fault.Fault.{Fault}
 use Rattle.ng_num.specs.declared.fault.Fault.TheVariants.{CountersUsed}
@@ -7,12 +7,13 @@ use Rattle.ng_canon.specs.declared.item.Item.{Item}
 use Rattle.ng_rig.specs.Life.{Image, Life, Synced, reads, items}
 use Rattle.ng_rig.specs.Onward.{Onward, IsSynced}
 use Rattle.ng_rig.proofs.Running.{joined, weaker, on_sync, is_synced}
+use Rattle.ng_rig.proofs.Writes_only.{only_more, only_none, only_synced, only_wider}
 use Rattle.ng_layout.specs.declared.header.Header.{Header}
 use Rattle.ng_layout.specs.Limits.{greatest_count}
-use Rattle.ng_layout.specs.Stands.{stands, closed, IsWritten}
+use Rattle.ng_layout.specs.Stands.{in_force, stands, closed, IsWritten}
 use Rattle.ng_layout.specs.Stored.{Saved}
-use Rattle.ng_journal.specs.AtRest.{IsOwn, IsAt, IsEither, beside, next_header, Checkpoints}
-use Rattle.ng_journal.specs.Recovery.{recovered_of, HasCause, StandsUnder, IsRead, Restores}
+use Rattle.ng_journal.specs.AtRest.{IsOwn, IsAt, IsEither, IsOfEpoch, WritesEpoch, beside, next_header, Checkpoints}
+use Rattle.ng_journal.specs.Recovery.{recovered_of, HasCause, IsOfNext, Renews, StandsUnder, IsRead, Restores}
 
 abbrev Same : Life → Image → List Item → Type 0
 Same old = IsEither (stands (reads old)) (recovered_of (stands (reads old))) (items old)
@@ -22,18 +23,28 @@ synced_stops old written = on_sync old (Same old) (λ image handed s.
     let same : image ≡ reads old = λ i n. s.0 n i in
     record { state = inl (ap stands same); written = subst IsWritten (sym same) written; handed_is = s.1 })
 
+-- a sync writes nothing
+sync_renews : (old new : Life) → new ≡ Synced old → Renews old new
+sync_renews old new is =
+    let May = λ (n : ℕ) (c : List ℕ). IsOfNext (reads old) n in
+    subst (λ (l : Life). Renews old l) (sym is) (only_synced May old old (only_none May old))
+
 -- nothing but the sync was done, and a read failed
 pub exit_failed : {E : Type 0} (e : E) (saved : Saved) (old new : Life) → new ≡ Synced old → Restores (Err e) saved old new
 exit_failed e saved old new is = record {
   outcome = tt;
-  kept = λ written. record { stops = subst (λ (l : Life). Onward old l (Same old)) (sym is) (synced_stops old written); items_are = ap items is; ready = tt };
+  refused = tt;
+  renews = sync_renews old new is;
+  kept = λ written. record { stops = subst (λ (l : Life). Onward old l (Same old)) (sym is) (synced_stops old written); ready = tt };
 }
 
 -- or there is a reason to recover nothing
 pub exit_refused : {E : Type 0} (fault : Fault) (saved : Saved) (old new : Life) → new ≡ Synced old → HasCause fault (reads old) → Restores {E = E} (Ok (Err fault)) saved old new
 exit_refused fault saved old new is cause = record {
   outcome = cause;
-  kept = λ written. record { stops = subst (λ (l : Life). Onward old l (Same old)) (sym is) (synced_stops old written); items_are = ap items is; ready = tt };
+  refused = is;
+  renews = sync_renews old new is;
+  kept = λ written. record { stops = subst (λ (l : Life). Onward old l (Same old)) (sym is) (synced_stops old written); ready = tt };
 }
 
 pub exit_found : {E : Type 0} (answer : Result Header Fault) (fault : Fault) (saved : Saved) (old mid new : Life) → answer ≡ Err fault → mid ≡ Synced old → new ≡ mid → IsRead saved (reads mid) answer → Restores {E = E} (Ok (Err fault)) saved old new
@@ -72,29 +83,40 @@ through result header found saved old mid new is u closed_is written c =
 own_on : (header : Header) (found : Saved) (old mid : Life) → mid ≡ Synced old → StandsUnder header found (reads mid) → IsWritten (reads old) → IsOwn mid header
 own_on header found old mid is u written = record { synced = subst IsSynced (sym is) (is_synced old); force = u.force; written = subst (λ (l : Life). IsWritten (reads l)) (sym is) written }
 
-pub exit_within : {T E F : Type 0} (e : E) (result : Result T F) (answer : Result Header Fault) (header : Header) (found saved : Saved) (old mid now new : Life) → answer ≡ Ok header → mid ≡ Synced old → now ≡ mid → IsRead found (reads mid) answer → saved ≡ closed_of found → (IsOwn now header → Checkpoints result header header.area saved now new) → Restores (Err e) saved old new
-exit_within e result answer header found saved old mid now new sound is same read closed_is c =
+-- the sectors of the epoch after the one in force are those of the epoch after this header's
+renewed : (header : Header) (old now new : Life) → now ≡ Synced old → in_force (reads now) ≡ Some header → WritesEpoch (header.epoch + 1) now new → Renews old new
+renewed header old now new is force w =
+    let May = λ (n : ℕ) (c : List ℕ). IsOfNext (reads old) n in
+    let was : in_force (reads old) ≡ Some header = subst (λ (l : Life). in_force (reads l) ≡ Some header) is force in
+    only_more May old now new (sync_renews old now is)
+    (only_wider (λ (n : ℕ) (c : List ℕ). IsOfEpoch (header.epoch + 1) n) May now new (λ n c own. record { header = header; force = was; own = own }) w)
+
+pub exit_within : {T E F : Type 0} (e : E) (result : Result T F) (answer : Result Header Fault) (header : Header) (found saved : Saved) (old mid now new : Life) → answer ≡ Ok header → mid ≡ Synced old → now ≡ mid → IsRead found (reads mid) answer → saved ≡ closed_of found → WritesEpoch (header.epoch + 1) now new → (IsOwn now header → Checkpoints result header header.area saved now new) → Restores (Err e) saved old new
+exit_within e result answer header found saved old mid now new sound is same read closed_is frame c =
     let u = under answer header found (reads now) sound (subst (λ (l : Life). IsRead found (reads l) answer) (sym same) read) in
     record {
       outcome = tt;
+      refused = tt;
+      renews = renewed header old now new (same ∙ is) u.force frame;
       kept = λ written.
           let d = c (own_on header found old now (same ∙ is) u written) in
-          record { stops = through result header found saved old now new (same ∙ is) u closed_is written d; items_are = d.items_are ∙ ap items (same ∙ is); ready = tt };
+          record { stops = through result header found saved old now new (same ∙ is) u closed_is written d; ready = tt };
     }
 
-pub exit_restored : {T F : Type 0} (v : T) (answer : Result Header Fault) (header : Header) (found saved : Saved) (old mid now new : Life) → answer ≡ Ok header → mid ≡ Synced old → now ≡ mid → IsRead found (reads mid) answer → saved ≡ closed_of found → (IsOwn now header → Checkpoints {E = F} (Ok v) header header.area saved now new) → Restores {E = F} (Ok (Ok (next_header header header.area header.length))) saved old new
-exit_restored {F = F} v answer header found saved old mid now new sound is same read closed_is c =
+pub exit_restored : {T F : Type 0} (v : T) (answer : Result Header Fault) (header : Header) (found saved : Saved) (old mid now new : Life) → answer ≡ Ok header → mid ≡ Synced old → now ≡ mid → IsRead found (reads mid) answer → saved ≡ closed_of found → WritesEpoch (header.epoch + 1) now new → (IsOwn now header → Checkpoints {E = F} (Ok v) header header.area saved now new) → Restores {E = F} (Ok (Ok (next_header header header.area header.length))) saved old new
+exit_restored {F = F} v answer header found saved old mid now new sound is same read closed_is frame c =
     let ok : Result _ F = Ok v in
     let u = under answer header found (reads now) sound (subst (λ (l : Life). IsRead found (reads l) answer) (sym same) read) in
     let after = recovered_is header found saved old now (same ∙ is) u closed_is in
     let long : saved.length ≡ header.length = ap (λ (s : Saved). s.length) closed_is ∙ u.long in
     record {
-      outcome = record { program = (beside saved header.area (reads now)).program; is = after };
+      outcome = (record { program = (beside saved header.area (reads now)).program; is = after }, record { before = header; force = subst (λ (l : Life). in_force (reads l) ≡ Some header) (same ∙ is) u.force; next = refl });
+      refused = tt;
+      renews = renewed header old now new (same ∙ is) u.force frame;
       kept = λ written.
           let d = c (own_on header found old now (same ∙ is) u written) in
           record {
             stops = through ok header found saved old now new (same ∙ is) u closed_is written d;
-            items_are = d.items_are ∙ ap items (same ∙ is);
             ready = record {
               standing = beside saved header.area (reads now);
               at = subst (λ (n : ℕ). IsAt new (next_header header header.area n) (beside saved header.area (reads now))) long d.at;

@@ -1,12 +1,14 @@
 -- A device at rest, and what a stop of it stands for (own).
-use Rattle.std.specs.Prelude.{◌≡◌, ◌⊎◌, ◌+◌, ℕ, List, Some, Result, Ok, OnOk}
+use Rattle.std.specs.Prelude.{◌≡◌, ◌⊎◌, ◌+◌, ◌%◌, ℕ, List, Some, Result, Ok, OnOk}
 use Rattle.ng_num.specs.declared.fault.Fault.{Fault}
 use Rattle.ng_canon.specs.declared.item.Item.{Item}
 use Rattle.ng_rig.specs.Life.{Image, Life, reads, items}
+use Rattle.ng_rig.specs.Only.{WritesOnly}
 use Rattle.ng_rig.specs.Onward.{Onward, IsSynced}
 use Rattle.ng_layout.specs.declared.header.Header.{Header}
 use Rattle.ng_layout.specs.Sectors.{text_of}
-use Rattle.ng_layout.specs.Stands.{program_first, program_size, stretch, in_force, stands, IsWritten}
+use Rattle.ng_layout.specs.Spare.{IsAmong}
+use Rattle.ng_layout.specs.Stands.{snapshot_first, snapshot_size, program_first, program_size, stretch, in_force, stands, IsWritten}
 use Rattle.ng_layout.specs.Stored.{Saved, Standing}
 
 -- one image, under this header, with no record of an epoch to come
@@ -40,3 +42,11 @@ pub record Checkpoints {T E : Type 0} (result : Result T E) (header : Header) (a
   pub stops : Onward old new (IsEither (stands (reads old)) (Ok (beside saved area (reads old))) (items old))
   pub items_are : items new ≡ items old
   pub at : OnOk result (IsAt new (next_header header area saved.length) (beside saved area (reads old)))
+
+-- a sector of an epoch: its header's, or one of its snapshot's
+abbrev pub IsOfEpoch : ℕ → ℕ → Type 0
+IsOfEpoch epoch n = IsAmong (snapshot_first epoch) snapshot_size n ⊎ (n ≡ epoch % 2)
+
+-- Only sectors of that epoch are written, and nothing is handed out.
+abbrev pub WritesEpoch : ℕ → Life → Life → Type 0
+WritesEpoch epoch = WritesOnly (λ n c. IsOfEpoch epoch n)

@@ -1,15 +1,16 @@
 -- What power on finds and leaves (own).
-use Rattle.std.specs.Prelude.{◌≡◌, ◌⊎◌, ◌≤◌, ℕ, List, Some, Result, Ok, Err, IfOk}
+use Rattle.std.specs.Prelude.{◌≡◌, ◌⊎◌, ◌+◌, ◌≤◌, ℕ, List, Some, Result, Ok, Err, IfOk, IfErr}
 use Rattle.ng_num.specs.declared.fault.Fault.{Fault}
 use Rattle.ng_num.specs.declared.fault.Fault.TheVariants.{NotFormatted, Damaged, CountersUsed}
-use Rattle.ng_rig.specs.Life.{Image, Life, reads, items}
+use Rattle.ng_rig.specs.Life.{Image, Life, Synced, reads, items}
+use Rattle.ng_rig.specs.Only.{WritesOnly}
 use Rattle.ng_rig.specs.Onward.{Onward}
 use Rattle.ng_layout.specs.declared.header.Header.{Header}
 use Rattle.ng_layout.specs.Fields.{number_at}
 use Rattle.ng_layout.specs.Limits.{greatest_count}
 use Rattle.ng_layout.specs.Stands.{in_force, stands, recovered, log_first, IsWritten}
 use Rattle.ng_layout.specs.Stored.{Saved, Standing}
-use Rattle.ng_journal.specs.AtRest.{IsAt, IsEither, beside}
+use Rattle.ng_journal.specs.AtRest.{IsAt, IsEither, IsOfEpoch, beside}
 
 -- the faults of what a device holds
 abbrev pub IsRefusal : Fault → Type 0
@@ -57,8 +58,24 @@ pub record IsFound (saved : Saved) (image : Image) : Type 0 where
   pub program : List ℕ
   pub is : recovered_of (stands image) ≡ Ok (record { saved = saved; program = program })
 
+-- the header is of the epoch after the one in force
+pub record IsNextEpoch (header : Header) (image : Image) : Type 0 where
+  pub before : Header
+  pub force : in_force image ≡ Some before
+  pub next : header.epoch ≡ before.epoch + 1
+
+-- a sector of the epoch after the one in force
+pub record IsOfNext (image : Image) (n : ℕ) : Type 0 where
+  pub header : Header
+  pub force : in_force image ≡ Some header
+  pub own : IsOfEpoch (header.epoch + 1) n
+
+-- Only sectors of the epoch after the one in force are written, and nothing is handed out.
+abbrev pub Renews : Life → Life → Type 0
+Renews old new = WritesOnly (λ n c. IsOfNext (reads old) n) old new
+
 abbrev pub Outcome : Result Header Fault → Saved → Image → Type 0
-Outcome (Ok header) saved image = IsFound saved image
+Outcome (Ok header) saved image = IsFound saved image × IsNextEpoch header image
 Outcome (Err fault) saved image = HasCause fault image
 
 -- at rest, under this header, with the recovered of what stood
@@ -71,10 +88,12 @@ pub record IsReady (header : Header) (saved : Saved) (old new : Life) : Type 0 w
 -- Each stop since stands for what stood before or for its recovered.
 pub record KeepsStanding {E : Type 0} (result : Result (Result Header Fault) E) (saved : Saved) (old new : Life) : Type 0 where
   pub stops : Onward old new (IsEither (stands (reads old)) (recovered_of (stands (reads old))) (items old))
-  pub items_are : items new ≡ items old
   pub ready : IfOk result (λ answer. IfOk answer (λ header. IsReady header saved old new))
 
--- What is found, or why nothing is, over any image; what stops leave over one that only this journal wrote.
+-- What is found, or why nothing is, and what is written, over any image: nothing where there is a reason to recover nothing. What stops
+-- leave over an image that only this journal wrote.
 pub record Restores {E : Type 0} (result : Result (Result Header Fault) E) (saved : Saved) (old new : Life) : Type 0 where
   pub outcome : IfOk result (λ answer. Outcome answer saved (reads old))
+  pub refused : IfOk result (λ answer. IfErr answer (λ fault. new ≡ Synced old))
+  pub renews : Renews old new
   pub kept : IsWritten (reads old) → KeepsStanding result saved old new

@@ -5,7 +5,7 @@ ghost use Rattle.ng_layout.specs.Storable.{IsStorable};
 ghost use Rattle.ng_layout.specs.Header.{header_in};
 ghost use Rattle.ng_layout.specs.declared.header.Header.{Header};
 ghost use Rattle.ng_journal.specs.Area.{WritesArea};
-ghost use Rattle.ng_journal.specs.AtRest.{IsOwn, Checkpoints};
+ghost use Rattle.ng_journal.specs.AtRest.{IsOwn, Checkpoints, WritesEpoch};
 
 use crate::sectors::{SNAPSHOT, snapshot_first};
 use ng_layout::{Header, Stored};
@@ -57,6 +57,7 @@ pub(crate) fn checkpoint<R: Rig, A: Allocator + Copy + Drop>(
     requires count { stored.now.entries ≤ 1_000_000_000_000 }
     requires storable { IsStorable stored.now }
     ensures stops { Promises (R.honest rig.old) (R.honest rig.new) (IsOwn (R.life rig.old) header → Checkpoints result header area stored.now (R.life rig.old) (R.life rig.new)) }
+    ensures frame { Promises (R.honest rig.old) (R.honest rig.new) (WritesEpoch (header.epoch + 1) (R.life rig.old) (R.life rig.new)) }
     ensures size { R.sectors rig.new ≡ R.sectors rig.old }
     ensures failures { Counts result (R.failed rig.old) (R.failed rig.new) }
 {

@@ -56,6 +56,7 @@ pub fn recover<R: Rig, A: Allocator + Copy + Drop>(
     ensures journal { IfOk result (λ x. (x.0.broken ≡ false) × (x.0.saved ≡ x.1) × IsStorable x.1) }
     ensures small { R.sectors rig < 1710 → IsErrAnd result (λ e. (e.0 ≡ NotFormatted) × (e.1 ≡ rig)) }
     ensures memory { IfErr result (λ e. e.0 ≡ OutOfMemory → e.1 ≡ rig) }
+    ensures size { let after = rig_of result in R.sectors after ≡ R.sectors rig }
     ensures failures { let after = rig_of result in Tells (fault_of result) (R.failed rig) (R.failed after) }
 {
     if rig.size() < LEAST {
@@ -127,6 +128,7 @@ impl<R: Rig, A: Allocator + Copy + Drop> Journal<R, A> {
         ensures errors { IfErr result (λ e. (e ≡ CountersUsed) ⊎ (e ≡ DeviceFailed)) }
         ensures used_up { IsErrOf result CountersUsed ↔ (greatest_count ≤ self.old.header.epoch ⊎ greatest_count < stored.now.entries) }
         ensures unchanged { IsErrOf result CountersUsed → self.new ≡ self.old }
+        ensures size { R.sectors self.new.rig ≡ R.sectors self.old.rig }
         ensures failures { Tells result (R.failed self.old.rig) (R.failed self.new.rig) }
     {
         if self.is_used_up(stored.entries) {
@@ -150,6 +152,7 @@ impl<R: Rig, A: Allocator + Copy + Drop> Journal<R, A> {
         ensures errors { IfErr result (λ e. (e ≡ CountersUsed) ⊎ (e ≡ DeviceFailed)) }
         ensures used_up { IsErrOf result CountersUsed ↔ (greatest_count ≤ self.old.header.epoch) }
         ensures unchanged { IsErrOf result CountersUsed → self.new ≡ self.old }
+        ensures size { R.sectors self.new.rig ≡ R.sectors self.old.rig }
         ensures failures { Tells result (R.failed self.old.rig) (R.failed self.new.rig) }
     {
         if self.header.epoch >= GREATEST_COUNT {
@@ -176,6 +179,7 @@ impl<R: Rig, A: Allocator + Copy + Drop> Journal<R, A> {
         ensures too_long { IsErrOf result ProgramTooLong ↔ (131_072 < length text.now) }
         ensures used_up { IsErrOf result CountersUsed ↔ ((length text.now ≤ 131_072) × (greatest_count ≤ self.old.header.epoch ⊎ greatest_count < stored.now.entries)) }
         ensures unchanged { (IsErrOf result CountersUsed ⊎ IsErrOf result ProgramTooLong) → self.new ≡ self.old }
+        ensures size { R.sectors self.new.rig ≡ R.sectors self.old.rig }
         ensures failures { Tells result (R.failed self.old.rig) (R.failed self.new.rig) }
     {
         if text.len() > LONGEST_PROGRAM as usize {
@@ -212,6 +216,7 @@ impl<R: Rig, A: Allocator + Copy + Drop> Journal<R, A> {
         ensures saved { self.new.saved ≡ self.old.saved }
         ensures broken { IsBrokenBy result self.new.broken }
         ensures errors { IfErr result (λ e. e ≡ DeviceFailed) }
+        ensures size { R.sectors self.new.rig ≡ R.sectors self.old.rig }
         ensures failures { Tells result (R.failed self.old.rig) (R.failed self.new.rig) }
     {
         match self.rig.hand_out(item) {
@@ -242,6 +247,7 @@ impl<R: Rig, A: Allocator + Copy + Drop> Journal<R, A> {
         ensures saved { self.new.saved ≡ self.old.saved }
         ensures broken { IsBrokenBy result self.new.broken }
         ensures errors { IfErr result (λ e. e ≡ DeviceFailed) }
+        ensures size { R.sectors self.new.rig ≡ R.sectors self.old.rig }
         ensures failures { Tells result (R.failed self.old.rig) (R.failed self.new.rig) }
     {
         let start = program_first(self.header.area);
@@ -267,6 +273,7 @@ impl<R: Rig, A: Allocator + Copy + Drop> Journal<R, A> {
         ensures saved { self.new.saved ≡ self.old.saved }
         ensures broken { IsBrokenBy result self.new.broken }
         ensures errors { IfErr result (λ e. e ≡ DeviceFailed) }
+        ensures size { R.sectors self.new.rig ≡ R.sectors self.old.rig }
         ensures failures { Tells result (R.failed self.old.rig) (R.failed self.new.rig) }
     {
         let first = program_first(self.header.area);
@@ -288,6 +295,7 @@ impl<R: Rig, A: Allocator + Copy + Drop> Journal<R, A> {
         ensures saved { self.new.saved ≡ self.old.saved }
         ensures ok { OnOk result (self.new.header ≡ next_header self.old.header self.old.header.area self.old.saved.length) }
         ensures broken { MatchResult result (λ _. self.new.broken ≡ self.old.broken) (λ e. (e ≡ DeviceFailed) × (self.new.broken ≡ true)) }
+        ensures size { R.sectors self.new.rig ≡ R.sectors self.old.rig }
         ensures failures { Counts result (R.failed self.old.rig) (R.failed self.new.rig) }
     {
         let area = self.header.area;

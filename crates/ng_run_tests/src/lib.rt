@@ -8,3 +8,5 @@
 mod console;
 #[cfg(test)]
 mod controller;
+#[cfg(test)]
+mod flushing;
