@@ -55,6 +55,13 @@ read_none text fault e line h = let found = read_found text line h in cc
 pub reads_iff : (text : List ℕ) (line : Written) → (read text ≡ Ok line) ↔ IsLine text line
 reads_iff text line = (read_sound text line, read_found text line)
 
+-- a text has one reading
+pub one_line : (text : List ℕ) (line other : Written) → IsLine text line → IsLine text other → line ≡ other
+one_line text line other a b =
+    let first = read_found text line a in
+    let second = read_found text other b in
+    cc
+
 -- a test that came out, on lengths
 pub length_over : (text : List ℕ) (t : Bool) → t ≡ is_too_long text → t ≡ true → 256 < length text
 length_over text t e f = let long : nat_lt 256 (length text) ≡ true = sym e ∙ f in grind (arith, nat_tests)

@@ -4,10 +4,11 @@ ghost use Rattle.ng_num.specs.declared.fault.Fault.TheVariants.{LineTooLong, Unr
 ghost use Rattle.ng_words.specs.Grammar.{Written, IsLine, longest};
 ghost use Rattle.ng_words.specs.Reading.{read};
 
-/// Reading is the grammar: what is read of a text is the line that it is; a text is refused where it is too long, and
-/// as unreadable where it is no line at all (NISTIR 6556, 3.3; the faults own).
+/// Reading is the grammar: what is read of a text is the line that it is; no text is two lines; a text is refused where it
+/// is too long, and as unreadable where it is no line at all (NISTIR 6556, 3.3; the faults own).
 pub fn lines()
     ensures reads { (text : List ℕ) (line : Written) → (read text ≡ Ok line) ↔ IsLine text line }
+    ensures one { (text : List ℕ) (line other : Written) → IsLine text line → IsLine text other → line ≡ other }
     ensures too_long { (text : List ℕ) → (read text ≡ Err LineTooLong) ↔ (longest < length text) }
     ensures unreadable { (text : List ℕ) → (read text ≡ Err Unreadable) ↔ ((length text ≤ longest) × ((line : Written) → IsLine text line → ⊥)) }
 {}
