@@ -9,3 +9,8 @@ pub mod TaskLemmas
 pub mod ModeLemmas
 pub mod WayLemmas
 pub mod LaterLemmas
+pub mod RangeLemmas
+pub mod CauseLemmas
+pub mod AcceptedLemmas
+pub mod TravelLemmas
+pub mod EndLemmas

@@ -16,8 +16,13 @@ pub mod Steps
 pub mod Order
 pub mod Cycles
 pub mod Goals
+pub mod Asked
+pub mod Causes
 pub mod After
 pub mod Effects
+pub mod Travel
+pub mod OffsetsAlone
+pub mod ProgramEnd
 pub mod Commands
 pub mod Segments
 pub mod Course

@@ -3,6 +3,8 @@ ghost use Rattle.std.specs.Prelude.{◌≡◌, ◌≤◌, length, MatchResult, O
 ghost use Rattle.std.specs.Option.{option_map};
 ghost use Rattle.ng_words.specs.Kept.{pieces_by};
 ghost use Rattle.ng_expr.specs.Settle.{settled_of};
+ghost use Rattle.ng_modal.specs.Check.{NoneHolds, IsLeast};
+ghost use Rattle.ng_block.specs.Causes.{causes};
 ghost use Rattle.ng_block.specs.Effects.{executed, executed_pieces, executed_values, in_state};
 ghost use Rattle.ng_block.specs.Remarks.{remark_of};
 ghost use Rattle.ng_block.specs.Dry.{deleted, executed_unless_deleted};
@@ -29,8 +31,8 @@ pub struct Places {
     line: Line,
     values: Values,
     sorted: Sorted,
-    /// What the last line did that was lawful; after a fault it may hold anything.
-    pub effect: Effect,
+    /// What the last line did that was lawful; after a fault it may hold anything, so it is handed out with an answer alone.
+    effect: Effect,
 }
 
 /// What the values of a line do in a state, put into an effect; or the first fault that refuses them.
@@ -117,17 +119,18 @@ impl Places {
         }
     }
 
-    /// What a line does in a state, put into `effect`, or the first fault that refuses it, in the order of
-    /// docs/LANGUAGE.md; the state stays as it is. `dry` runs this for each line. Source: NISTIR 6556, 3.8, and own.
-    #[tactic(auto, unfolding(crate::specs::Effects::executed))]
-    pub fn execute<A: Allocator + Copy + Drop>(
+    /// Puts what a line does in a state into the effect, or finds the first fault that refuses it.
+    #[inline]
+    #[tactic(auto, unfolding(crate::specs::Effects::executed), using(crate::proofs::CauseLemmas::first_of))]
+    fn take_line<A: Allocator + Copy + Drop>(
         &mut self,
         state: &State<A>,
         text: &[u8],
         tools: &Tools,
         geometry: &Geometry,
     ) -> Result<(), Fault>
-        ensures { MatchResult result (λ _. executed state.now tools.now geometry.now text.now ≡ Ok (in_state state.now self.new.effect)) (λ f. executed state.now tools.now geometry.now text.now ≡ Err f) }
+        ensures does { MatchResult result (λ _. executed state.now tools.now geometry.now text.now ≡ Ok (in_state state.now self.new.effect)) (λ f. executed state.now tools.now geometry.now text.now ≡ Err f) }
+        ensures first { MatchResult result (λ _. NoneHolds (causes state.now tools.now geometry.now text.now)) (λ f. IsLeast (causes state.now tools.now geometry.now text.now) f) }
     {
         match self.line.read(text) {
             Ok(()) => execute_pieces(
@@ -143,17 +146,35 @@ impl Places {
         }
     }
 
+    /// What a line does in a state, or the first fault that refuses it, in the order of docs/LANGUAGE.md; the state stays
+    /// as it is. What it does lies in these places until the next line comes; after a fault there is nothing to be had.
+    /// `dry` runs this for each line. Source: NISTIR 6556, 3.8, and own.
+    pub fn execute<A: Allocator + Copy + Drop>(
+        &mut self,
+        state: &State<A>,
+        text: &[u8],
+        tools: &Tools,
+        geometry: &Geometry,
+    ) -> Result<&Effect, Fault>
+        ensures does { MatchResult result (λ e. executed state.now tools.now geometry.now text.now ≡ Ok (in_state state.now e.now)) (λ f. executed state.now tools.now geometry.now text.now ≡ Err f) }
+        ensures first { MatchResult result (λ _. NoneHolds (causes state.now tools.now geometry.now text.now)) (λ f. IsLeast (causes state.now tools.now geometry.now text.now) f) }
+    {
+        self.take_line(state, text, tools, geometry)?;
+        Ok(&self.effect)
+    }
+
     /// The same, unless the line is deleted.
     pub fn execute_unless_deleted<A: Allocator + Copy + Drop>(
         &mut self,
         terms: &Terms<'_>,
         state: &State<A>,
         text: &[u8],
-    ) -> Result<(), Fault>
-        ensures { MatchResult result (λ _. executed_unless_deleted terms.now state.now text.now ≡ Ok (in_state state.now self.new.effect)) (λ f. executed_unless_deleted terms.now state.now text.now ≡ Err f) }
+    ) -> Result<&Effect, Fault>
+        ensures { MatchResult result (λ e. executed_unless_deleted terms.now state.now text.now ≡ Ok (in_state state.now e.now)) (λ f. executed_unless_deleted terms.now state.now text.now ≡ Err f) }
     {
         if terms.block_delete && is_deletable(text) {
-            return delete(state, text, &mut self.effect);
+            delete(state, text, &mut self.effect)?;
+            return Ok(&self.effect);
         }
         self.execute(state, text, terms.tools, terms.geometry)
     }
@@ -165,13 +186,13 @@ impl Places {
         first: Kind,
         state: &State<A>,
         text: &[u8],
-    ) -> Result<(), Fault>
-        ensures { MatchResult result (λ _. executed_behind terms.now first state.now text.now ≡ Ok (in_state state.now self.new.effect)) (λ f. executed_behind terms.now first state.now text.now ≡ Err f) }
+    ) -> Result<&Effect, Fault>
+        ensures { MatchResult result (λ e. executed_behind terms.now first state.now text.now ≡ Ok (in_state state.now e.now)) (λ f. executed_behind terms.now first state.now text.now ≡ Err f) }
     {
         match percent_at(first, text) {
             Some(stop) => {
                 self.effect.leave(state, stop);
-                Ok(())
+                Ok(&self.effect)
             }
             None => self.execute_unless_deleted(terms, state, text),
         }
@@ -185,10 +206,11 @@ pub fn execute<A: Allocator + Copy + Drop>(
     tools: &Tools,
     geometry: &Geometry,
 ) -> Result<Effect, Fault>
-    ensures { MatchResult result (λ e. executed state.now tools.now geometry.now text.now ≡ Ok (in_state state.now e)) (λ f. executed state.now tools.now geometry.now text.now ≡ Err f) }
+    ensures does { MatchResult result (λ e. executed state.now tools.now geometry.now text.now ≡ Ok (in_state state.now e)) (λ f. executed state.now tools.now geometry.now text.now ≡ Err f) }
+    ensures first { MatchResult result (λ _. NoneHolds (causes state.now tools.now geometry.now text.now)) (λ f. IsLeast (causes state.now tools.now geometry.now text.now) f) }
 {
     let mut places = Places::new(state.machine);
-    match places.execute(state, text, tools, geometry) {
+    match places.take_line(state, text, tools, geometry) {
         Ok(()) => Ok(places.effect),
         Err(fault) => Err(fault),
     }

@@ -104,21 +104,22 @@ impl<'a, A: Allocator + Copy + Drop> Run<'a, A> {
         ensures step { Stepped (W.contents writer.old) (W.contents writer.new) (λ more. due self.old (line.now ∷ more)) (λ more. due self.new more) result }
         ensures number { self.new.number ≤ self.old.number + 1 }
     {
-        if let Err(fault) = self
+        let effect = match self
             .places
             .execute_behind(&self.terms, self.first, &self.state, line)
         {
-            return match self.refuse(writer, fault) {
+            Ok(effect) => effect,
+            Err(fault) => return match self.refuse(writer, fault) {
                 Ok(end) => Ok(Some(end)),
                 Err(broken) => Err(broken),
-            };
-        }
-        if let Err(broken) = put_effect(&mut self.text, writer, &self.places.effect) {
+            },
+        };
+        if let Err(broken) = put_effect(&mut self.text, writer, effect) {
             return Err(broken);
         }
-        self.state.apply(&self.places.effect);
+        self.state.apply(effect);
         self.first = first_kind(self.first, line);
-        if is_end(self.places.effect.stop) {
+        if is_end(effect.stop) {
             return match self.end(writer, Ended::Done) {
                 Ok(end) => Ok(Some(end)),
                 Err(broken) => Err(broken),

@@ -144,3 +144,22 @@ fn reads_as_often_as_a_program_needs(rt: HostRuntime) -> Result<(), Fail> {
     }
     Ok(())
 }
+
+/// A reader that gives a line at each read, and then fails: what the lines before gave is written.
+#[test]
+fn writes_what_was_executed_before_its_reader_fails(rt: HostRuntime) -> Result<(), Fail> {
+    let mut expected = Vec::new(rt.alloc());
+    for lines in 0..4 {
+        let mut reader = Drip {
+            bytes: b"G0 X1\nG0 X1\nG0 X1\nG0 X1\nM2\n",
+            at_most: 6,
+            reads_left: lines,
+        };
+        let mut text = Vec::new(rt.alloc());
+        let ended = dry_run(rt.alloc(), &mut reader, &mut text, false);
+        assert!(rt; is_broken(&ended, true), "{lines}");
+        assert!(rt; text.as_slice() == expected.as_slice(), "{lines}");
+        expected.extend_from_slice(b"STRAIGHT_TRAVERSE(1.000000, 0.000000, 0.000000)\n")?;
+    }
+    Ok(())
+}

@@ -1,0 +1,106 @@
+-- What a line asks for, whatever forbids it: its pieces, their values, and the move that these call for (NISTIR 6556, 3.3, 3.5).
+use Rattle.std.specs.Prelude.{ℕ, ℤ, List, [], ◌∷◌, Option, Some, None, false, if◌then◌else◌, Result, Ok, Err}
+use Rattle.std.specs.Option.{is_some}
+use Rattle.std.specs.Result.{result_unwrap_or}
+use Rattle.ng_num.specs.Results.{and_then}
+use Rattle.ng_num.specs.declared.fault.Fault.{Fault}
+use Rattle.ng_num.specs.declared.point.Point.{Point}
+use Rattle.ng_canon.specs.declared.pace.Pace.{Pace}
+use Rattle.ng_canon.specs.declared.pace.Pace.TheVariants.{Traverse}
+use Rattle.ng_canon.specs.declared.plane.Turn.{Turn}
+use Rattle.ng_words.specs.Plain.{plain}
+use Rattle.ng_words.specs.Reading.{line_at}
+use Rattle.ng_words.specs.Grammar.{Written, Piece}
+use Rattle.ng_expr.specs.Settle.{Settled, nothing, followed, given}
+use Rattle.ng_arc.specs.declared.asked.AskedArc.{AskedArc}
+use Rattle.ng_modal.specs.ByLetter.{has_axis}
+use Rattle.ng_modal.specs.Lines.{is_straight, is_arc}
+use Rattle.ng_modal.specs.declared.block.Block.{Block}
+use Rattle.ng_offsets.specs.declared.offsets.Offsets.{Offsets}
+use Rattle.ng_cycles.specs.declared.words.CycleWords.{CycleWords}
+use Rattle.ng_cycles.specs.declared.words.Kind.{Kind}
+use Rattle.ng_cycles.specs.declared.words.Setting.{Setting}
+use Rattle.ng_block.specs.declared.machine.Machine.{Machine}
+use Rattle.ng_block.specs.declared.shifts.Shifted.{Shifted}
+use Rattle.ng_block.specs.Arcs.{turn_of, centre_offsets_on, asked_by}
+use Rattle.ng_block.specs.Blocks.{feed_of, feed_mode_after, pace_by, end_of, straight_end_of}
+use Rattle.ng_block.specs.Cycles.{kind_of, kept_for, own_words, cycle_words, setting_of}
+use Rattle.ng_block.specs.Homes.{home_on}
+use Rattle.ng_block.specs.Shifts.{shift_of}
+
+-- ---- its values
+
+-- what is written on a text, however long it is; nothing where it is no line
+abbrev pub written_on : List ℕ → Option Written
+written_on text = line_at (plain false text)
+
+abbrev pub pieces_in : Option Written → List Piece
+pieces_in None = []
+pieces_in (Some line) = line.pieces
+
+-- what its pieces give, each from the table as it was before the line; a piece without a value gives nothing
+abbrev pub values_of : List Piece → List ℤ → Settled
+values_of [] table = nothing
+values_of (p ∷ pieces) table = followed (result_unwrap_or (given table p) nothing) (values_of pieces table)
+
+-- ---- its feed and its offsets
+
+-- the feed that its motion meets; where that is beyond the range, the one before the line
+abbrev pub feed_at_motion : Block → Machine → ℤ
+feed_at_motion b m = result_unwrap_or (feed_of b m) m.feed_per_min
+
+-- the offsets that its motion meets; where one of them is beyond the range, those before the line
+abbrev pub offsets_found : Result Shifted Fault → Offsets → Offsets
+offsets_found (Ok found) before = found.offsets
+offsets_found (Err fault) before = before
+
+abbrev pub offsets_at_motion : Block → Machine → List ℤ → List ℤ → Offsets
+offsets_at_motion b m table lengths = offsets_found (shift_of b m table lengths) m.offsets
+
+-- ---- its move
+
+pub data Move : Type 0 where
+  Stays : Move  -- nothing moves
+  Goes : Option Pace → Point → Move  -- straight to an end, at a pace where there is one
+  Turns : Option Pace → AskedArc → Move  -- round an arc
+  GoesHome : Point → Point → Move  -- to a point between, and on from there to the home
+  Drills : CycleWords → Setting → Move  -- in a canned cycle
+
+abbrev pub pace_of : Block → Machine → ℤ → Option Pace
+pace_of b m feed = pace_by b.motion (feed_mode_after b m.modes) feed b.values.f
+
+abbrev pub straight : Block → Machine → Offsets → ℤ → Result Move Fault
+straight b m o feed = and_then (straight_end_of b m o) (λ end. Ok (Goes (pace_of b m feed) end))
+
+abbrev pub round : Option Turn → Block → Machine → Offsets → ℤ → Result Move Fault
+round None b m o feed = Ok Stays
+round (Some turn) b m o feed =
+    and_then (end_of b m o) (λ end.
+    and_then (centre_offsets_on b m.modes) (λ offsets.
+    Ok (Turns (pace_of b m feed) (asked_by b m turn end offsets (pace_of b m feed)))))
+
+abbrev pub in_cycle : Option Kind → Block → Machine → Offsets → ℤ → Result Move Fault
+in_cycle None b m o feed = Ok Stays
+in_cycle (Some kind) b m o feed =
+    and_then (own_words b m.modes) (λ own.
+    and_then (cycle_words b m.modes kind own) (λ words.
+    Ok (Drills words (setting_of b m o feed (kept_for kind m)))))
+
+abbrev pub homeward : Option Point → Block → Machine → Offsets → Result Move Fault
+homeward None b m o = Ok Stays
+homeward (Some home) b m o =
+    if has_axis b.values
+    then and_then (end_of b m o) (λ between. Ok (GoesHome between home))
+    else Ok (Goes (Some Traverse) home)
+
+-- the move from where the machine stands, under these offsets and at this feed; or that a length that its words name is beyond the
+-- range
+abbrev pub move_by : Block → Machine → Offsets → List ℤ → ℤ → Result Move Fault
+move_by b m o table feed =
+    if is_straight b.motion then straight b m o feed
+    else if is_arc b.motion then round (turn_of b.motion) b m o feed
+    else if is_some (kind_of b.motion) then in_cycle (kind_of b.motion) b m o feed
+    else homeward (home_on b.g.non_modal table) b m o
+
+abbrev pub move_on : Block → Machine → List ℤ → List ℤ → Result Move Fault
+move_on b m table lengths = move_by b m (offsets_at_motion b m table lengths) table (feed_at_motion b m)

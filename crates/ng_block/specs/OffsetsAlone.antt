@@ -1,0 +1,36 @@
+-- Lines that set offsets alone (NISTIR 6556, 3.5.5, 3.5.11, 3.5.13, 3.5.18).
+use Rattle.std.specs.Prelude.{◌≡◌, ℕ, List, Bool, true, false, not, ◌&&◌, Option, Some, None, Ok}
+use Rattle.ng_words.specs.Grammar.{Written, IsLine}
+use Rattle.ng_expr.specs.Settle.{Settled, settled}
+use Rattle.ng_modal.specs.Blocks.{block_of}
+use Rattle.ng_modal.specs.ByLetter.{has_axis}
+use Rattle.ng_modal.specs.Lines.{takes_axes}
+use Rattle.ng_modal.specs.declared.asks.NonModal.{NonModal}
+use Rattle.ng_modal.specs.declared.asks.NonModal.TheVariants.{SetOrigin, SetOffset, ClearOffset, DropOffset, RestoreOffset}
+use Rattle.ng_modal.specs.declared.block.Block.{Block}
+use Rattle.ng_block.specs.Setup.{Setup}
+
+-- a text is a line whose words have values, and in a state these ask for a block
+pub record AsksFor (s : Setup) (text : List ℕ) (b : Block) : Type 0 where
+  pub line : Written
+  pub is_line : IsLine text line
+  pub values : Settled
+  pub have_values : settled line.pieces s.params ≡ Ok values
+  pub block_is : b ≡ block_of values.words s.machine.modes
+
+-- of group 0 no word but G10, G92 and its three others
+abbrev pub sets_at_most : Option NonModal → Bool
+sets_at_most None = true
+sets_at_most (Some SetOrigin) = true
+sets_at_most (Some SetOffset) = true
+sets_at_most (Some ClearOffset) = true
+sets_at_most (Some DropOffset) = true
+sets_at_most (Some RestoreOffset) = true
+sets_at_most _ = false
+
+-- G54 to G59.3, G10, G92 and its three others, G43, G49, and nothing that moves: no word of group 1, and no X, Y or Z but those that
+-- G10 and G92 take
+pub record SetsOffsetsAlone (b : Block) : Type 0 where
+  pub no_motion : b.g.motion ≡ None
+  pub no_way_home : sets_at_most b.g.non_modal ≡ true
+  pub no_axis : (has_axis b.values && not (takes_axes b.g.non_modal)) ≡ false
