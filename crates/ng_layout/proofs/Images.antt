@@ -1,19 +1,16 @@
 -- What images stand for, where they agree on the sectors that matter, and under a new header.
-use Rattle.std.proofs.Common.{◌≡◌, ◌≢◌, ◌⊎◌, inl, inr, ⊎_elim, ℕ, zero, suc, ◌+◌, ◌-◌, ◌*◌, ◌%◌, ◌<◌, ◌≤◌, ◌==◌, ◌&&◌, nat_lt, nat_le, Bool, true, false, if◌then◌else◌, List, [], Option, Some, None, Result, Ok, Err, refl, sym, ◌∙◌, ap, subst, arith}
+use Rattle.std.proofs.Common.{◌≡◌, ◌≢◌, ◌⊎◌, inl, inr, ⊎_elim, ℕ, zero, suc, ◌+◌, ◌%◌, ◌<◌, ◌≤◌, ◌==◌, ◌&&◌, nat_lt, nat_le, Bool, true, false, if◌then◌else◌, List, [], Option, Some, None, refl, sym, ◌∙◌, ap, subst, arith}
 use Rattle.std.proofs.lemmas.Bool.{cases_eq}
 use Rattle.std.proofs.lemmas.Bool.Decides.{nat_tests}
-use Rattle.ng_num.specs.declared.fault.Fault.{Fault}
-use Rattle.ng_num.specs.declared.fault.Fault.TheVariants.{NotFormatted, Damaged}
 use Rattle.ng_layout.specs.Fields.{number_at}
 use Rattle.ng_layout.specs.Limits.{greatest_count, longest_program}
 use Rattle.ng_layout.specs.declared.header.Header.{Header}
-use Rattle.ng_layout.specs.Header.{header_at, is_marked, is_within, header_in}
-use Rattle.ng_layout.specs.Log.{Label, Found, Place, is_part, parts_stand, parts_for, with_record, next, after_step, run, log_size}
-use Rattle.ng_layout.specs.Spare.{IsAmong, IsSpare, SameButSpare}
-use Rattle.ng_layout.specs.Report.{and_then, report_of}
-use Rattle.ng_layout.specs.Sectors.{values, text_of}
+use Rattle.ng_layout.specs.Header.{header_at, is_marked, header_in}
+use Rattle.ng_layout.specs.Log.{Label, Place, is_part, parts_stand, parts_for, with_record, next, after_step, run, log_size}
+use Rattle.ng_layout.specs.Spare.{IsSpare, SameButSpare}
+use Rattle.ng_layout.specs.Report.{and_then}
+use Rattle.ng_layout.specs.Sectors.{text_of}
 use Rattle.ng_layout.specs.Stands.{snapshot_first, snapshot_size, program_first, program_size, log_first, stretch, newer, in_force, snapshot, standing, standing_of, by_header, stands, epoch_in_force, IsWritten}
-use Rattle.ng_layout.specs.Stored.{Standing, Saved, Report}
 
 abbrev Image : Type 0
 Image = ℕ → List ℕ

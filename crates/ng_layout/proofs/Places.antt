@@ -86,6 +86,10 @@ pub signed-from : (m o : ℕ) (old new : List ℕ) → SameFrom m old new → m 
 unfolding signed_at
 signed-from m o old new s le = ap (cast_signed w64) (number-from 8 m o old new s le)
 
+pub bytes-from : (n m o : ℕ) (old new : List ℕ) → SameFrom m old new → m ≤ o → bytes_at n o new ≡ bytes_at n o old
+unfolding bytes_at
+bytes-from n m o old new s le = ap (λ (l : List ℕ). take n l) (from-further m o old new s le).same
+
 pub bytes-below : (n o at : ℕ) (old new : List ℕ) → SameBelow at old new → o + n ≤ at → bytes_at n o new ≡ bytes_at n o old
 unfolding bytes_at
 bytes-below n o at old new s le =

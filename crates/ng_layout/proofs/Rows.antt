@@ -1,13 +1,13 @@
 -- Sectors of values and of a text.
 use Rattle.std.proofs.Common.{◌≡◌, ◌≢◌, ◌⊎◌, inl, inr, ⊎_elim, ℕ, zero, suc, ◌+◌, ◌-◌, ◌*◌, ◌<◌, ◌≤◌, min, List, ◌++◌, ℤ, pos, get_or, slice_index, length, take, drop, replicate, set, lit≤, refl, sym, ◌∙◌, ap, subst, arith}
 use Rattle.std.proofs.lemmas.Bool.{cases_eq}
-use Rattle.std.proofs.lemmas.List.{drop-replicate, length-replicate, get_or-set_same, get_or-set_other, get_or-take, get_or-drop, get_or_append_left, get_or-append_right, get_or_past, length-take-le}
+use Rattle.std.proofs.lemmas.List.{drop-replicate, take-replicate, length-replicate, get_or-set_same, get_or-set_other, get_or-take, get_or-drop, get_or_append_left, get_or-append_right, get_or_past, length-take-le}
 use Rattle.std.proofs.Common.{length-drop}
 use Rattle.byteorder.specs.Endian.{little_number, little_from}
 use Rattle.ng_num.specs.Range.{IsCount}
-use Rattle.ng_layout.specs.Fields.{number_at, signed_at, SameFrom, Puts}
+use Rattle.ng_layout.specs.Fields.{number_at, signed_at, bytes_at, AreZero, SameFrom, Puts}
 use Rattle.ng_layout.specs.Sectors.{HoldsValues, HoldsText}
-use Rattle.ng_layout.proofs.Places.{signed-below, signed-from, from-more, from-further}
+use Rattle.ng_layout.proofs.Places.{signed-below, signed-from, bytes-from, from-more, from-further}
 
 pub zero_at : (n i : ℕ) → ◌≡◌ {A = ℕ} (get_or (replicate n 0) i 0) 0
 zero_at zero i = refl
@@ -26,10 +26,18 @@ pub signed-zeros : (at n : ℕ) → signed_at at (replicate n 0) ≡ pos 0
 unfolding signed_at
 signed-zeros at n = rw (number-zeros 8 at n) refl
 
+pub bytes-zeros : (n at size : ℕ) → at + n ≤ size → AreZero n at (replicate size 0)
+unfolding bytes_at
+bytes-zeros n at size room = ap (λ (l : List ℕ). take n l) (drop-replicate at size 0) ∙ take-replicate n (size - at) 0 (omega arith)
+
+-- what stands behind a place is as in a sector of zeros
+pub zeros-from : (m at : ℕ) (sector : List ℕ) → SameFrom m (replicate 512 0) sector → m ≤ at → at ≤ 512 → AreZero (512 - at) at sector
+zeros-from m at sector same le within = bytes-from (512 - at) m at (replicate 512 0) sector same le ∙ bytes-zeros (512 - at) at 512 (omega arith)
+
 -- the first k values stand, and zeros behind them
 pub record ValuesTo (table : List ℤ) (first k : ℕ) (sector : List ℕ) : Type 0 where
   pub each : (j : ℕ) → j < k → first + j < 5399 → signed_at (8 * j) sector ≡ get_or table (first + j) (pos 0)
-  pub past : (j : ℕ) → j < k → 5399 ≤ first + j → signed_at (8 * j) sector ≡ pos 0
+  pub past : (j : ℕ) → j < k → j < 64 → 5399 ≤ first + j → AreZero (512 - 8 * j) (8 * j) sector
   pub counts : (j : ℕ) → j < k → first + j < 5399 → IsCount (signed_at (8 * j) sector)
   pub rest : SameFrom (8 * k) (replicate 512 0) sector
 
@@ -39,7 +47,7 @@ values-more table first k old new value so_far here put is small = record {
     | inl same ↦ subst (λ (x : ℕ). signed_at (8 * x) new ≡ get_or table (first + x) (pos 0)) (sym same) (put.written ∙ is)
     | inr other ↦ signed-below (8 * j) (8 * k) old new put.below (omega arith) ∙ so_far.each j (omega arith) within
   ];
-  past = λ j lt beyond. signed-below (8 * j) (8 * k) old new put.below (omega arith) ∙ so_far.past j (omega arith) beyond;
+  past = λ j lt within beyond. absurd (omega arith);
   counts = λ j lt within. elim (cases_eq j k) [
     | inl same ↦ subst (λ (x : ℕ). IsCount (signed_at (8 * x) new)) (sym same) (subst IsCount (sym put.written) small)
     | inr other ↦ subst IsCount (sym (signed-below (8 * j) (8 * k) old new put.below (omega arith))) (so_far.counts j (omega arith) within)
@@ -50,9 +58,9 @@ values-more table first k old new value so_far here put is small = record {
 pub values-past : (table : List ℤ) (first k : ℕ) (sector : List ℕ) → ValuesTo table first k sector → 5399 ≤ first + k → ValuesTo table first (k + 1) sector
 values-past table first k sector so_far beyond = record {
   each = λ j lt within. so_far.each j (omega arith) within;
-  past = λ j lt later. elim (cases_eq j k) [
-    | inl same ↦ signed-from (8 * k) (8 * j) (replicate 512 0) sector so_far.rest (omega arith) ∙ signed-zeros (8 * j) 512
-    | inr other ↦ so_far.past j (omega arith) later
+  past = λ j lt within later. elim (cases_eq j k) [
+    | inl same ↦ zeros-from (8 * k) (8 * j) sector so_far.rest (omega arith) (omega arith)
+    | inr other ↦ so_far.past j (omega arith) within later
   ];
   counts = λ j lt within. so_far.counts j (omega arith) within;
   rest = from-further (8 * k) (8 * (k + 1)) (replicate 512 0) sector so_far.rest (omega arith);
@@ -99,7 +107,7 @@ zero_count = lit≤ tt
 pub zeros_hold : (n p first : ℕ) (v : ℤ) → (p < first) ⊎ (first + 64 ≤ p) → HoldsValues (set (replicate n (pos 0)) p v) first (replicate 512 0)
 zeros_hold n p first v outside = record {
   each = λ k lt within. signed-zeros (8 * k) 512 ∙ sym (other_value n p (first + k) v (λ e. ⊎_elim (λ before. omega arith) (λ after. omega arith) outside));
-  past = λ k lt beyond. signed-zeros (8 * k) 512;
+  past = λ k lt beyond. bytes-zeros (512 - 8 * k) (8 * k) 512 (omega arith);
   counts = λ k lt within. subst IsCount (sym (signed-zeros (8 * k) 512)) zero_count;
 }
 
@@ -110,7 +118,7 @@ one_holds n p first v sector there within from to small put = record {
     | inl same ↦ ap (λ (x : ℕ). signed_at (8 * x) sector) same ∙ put.written ∙ sym (ap (λ (x : ℕ). get_or (set (replicate n (pos 0)) p v) x (pos 0)) (whole k same) ∙ that_value n p v there)
     | inr other ↦ zero_here k other ∙ sym (other_value n p (first + k) v (λ e. other (omega arith)))
   ];
-  past = λ k lt beyond. zero_here k (λ e. omega arith);
+  past = λ k lt beyond. zeros-from (8 * (p - first) + 8) (8 * k) sector put.beyond (omega arith) (omega arith);
   counts = λ k lt here. elim (cases_eq k place) [
     | inl same ↦ subst IsCount (sym (ap (λ (x : ℕ). signed_at (8 * x) sector) same ∙ put.written)) small
     | inr other ↦ subst IsCount (sym (zero_here k other)) zero_count

@@ -1,8 +1,8 @@
 -- What is written as numbers says the same again.
-use Rattle.std.proofs.Common.{◌≡◌, ℕ, ◌≤◌, ◌==◌, nat_le, Bool, true, false, ℤ, pos, negsuc, ◌≤ℤ◌, unsigned_abs, Option, Some, None, is_some, unwrap_or, refl, sym, ◌∙◌, ap, arith, if◌then◌else◌, ◌%◌, ◌/◌}
+use Rattle.std.proofs.Common.{◌≡◌, ℕ, ◌≤◌, ◌==◌, Bool, true, false, ℤ, pos, negsuc, ◌≤ℤ◌, unsigned_abs, Option, Some, None, is_some, unwrap_or, refl, arith, if◌then◌else◌, ◌%◌, ◌/◌}
 use Rattle.std.proofs.lemmas.Bool.Decides.{nat_tests}
 use Rattle.std.proofs.lemmas.Int.{ints}
-use Rattle.ng_num.specs.Range.{IsCount, greatest, in_range}
+use Rattle.ng_num.specs.Range.{IsCount}
 use Rattle.ng_canon.specs.declared.outputs.Spindle.{Spindle}
 use Rattle.ng_canon.specs.declared.outputs.Spindle.TheVariants.{Stopped, Clockwise, Counterclockwise}
 use Rattle.ng_params.specs.Numbers.{system_of}

@@ -1,13 +1,11 @@
 -- Rows of sectors that hold a table or a text, read as a whole.
-use Rattle.std.proofs.Common.{◌≡◌, ◌⊎◌, inl, inr, ℕ, zero, suc, ◌+◌, ◌*◌, ◌/◌, ◌%◌, ◌<◌, ◌≤◌, ◌&&◌, nat_le, Bool, true, false, List, [], ◌∷◌, map, length, get_or, slice_index, ℤ, pos, unsigned_abs, Option, Some, None, if◌then◌else◌, refl, sym, ◌∙◌, ap, subst, arith}
+use Rattle.std.proofs.Common.{◌≡◌, ◌⊎◌, inl, inr, ℕ, zero, suc, ◌+◌, ◌*◌, ◌/◌, ◌%◌, ◌<◌, ◌≤◌, ◌&&◌, nat_le, Bool, true, false, List, map, length, get_or, ℤ, pos, unsigned_abs, Some, None, if◌then◌else◌, refl, sym, ◌∙◌, ap, subst, arith}
 use Rattle.std.specs.List.{range_with_len, list_all}
 use Rattle.std.proofs.lemmas.Bool.Decides.{nat_tests}
 use Rattle.std.proofs.lemmas.List.FromFn.{fill_by_all}
 use Rattle.ng_num.specs.Range.{IsCount, greatest}
 use Rattle.ng_layout.specs.Fields.{signed_at}
-use Rattle.ng_layout.specs.Log.{Found}
-use Rattle.ng_layout.specs.Report.{and_then, report_of}
-use Rattle.ng_layout.specs.StateField.{field_at}
+use Rattle.ng_layout.specs.Report.{and_then}
 use Rattle.ng_layout.specs.Sectors.{values, text_of, HoldsValues, TakesValues, IsBeyond, HoldsText}
 use Rattle.ng_layout.specs.Snapshot.{report_in, HoldsPart, TableTo}
 use Rattle.ng_layout.specs.Stands.{all_counts, snapshot}

@@ -1,9 +1,9 @@
 -- What is read can be stored again.
-use Rattle.std.proofs.Common.{◌≡◌, ℕ, ◌≤◌, ◌==◌, ◌&&◌, ◌||◌, not, nat_le, length, take, Bool, true, false, List, ℤ, pos, ◌≤ℤ◌, unsigned_abs, Option, Some, None, is_none, IfSome, IsSome, IsNone, if◌then◌else◌, refl, sym, ◌∙◌, ap, subst, arith, rules}
+use Rattle.std.proofs.Common.{◌≡◌, ℕ, ◌≤◌, ◌&&◌, ◌||◌, not, nat_le, length, take, Bool, true, false, ℤ, pos, ◌≤ℤ◌, Option, Some, None, is_none, IfSome, IsSome, IsNone, if◌then◌else◌, refl, sym, ◌∙◌, subst, arith, rules}
 use Rattle.std.proofs.lemmas.Bool.Decides.{nat_tests}
 use Rattle.std.proofs.lemmas.Int.{ints}
 use Rattle.std.proofs.Common.{length-take}
-use Rattle.ng_num.specs.Range.{greatest, in_range}
+use Rattle.ng_num.specs.Range.{greatest}
 use Rattle.ng_num.specs.declared.point.Point.{Point}
 use Rattle.ng_canon.specs.declared.outputs.Outputs.{Outputs}
 use Rattle.ng_block.specs.declared.machine.Machine.{Machine}
@@ -14,7 +14,7 @@ use Rattle.ng_layout.specs.declared.field.HalfField.{HalfField}
 use Rattle.ng_layout.specs.declared.field.StateField.{StateField}
 use Rattle.ng_layout.specs.Limits.{greatest_count, greatest_slot, longest_text}
 use Rattle.ng_layout.specs.Report.{and_then, up_to, count_of, modes_of, outputs_of, offsets_of, kept_of, machine_of, point_of, known_point, half_by, half_of, report_of}
-use Rattle.ng_layout.specs.Codes.{motion_of, truth_of, spindle_of, source_of, opened_of}
+use Rattle.ng_layout.specs.Codes.{truth_of, spindle_of, source_of, opened_of}
 use Rattle.ng_layout.specs.Sound.{IsSound}
 use Rattle.ng_layout.specs.Storable.{CanStand, CanWait}
 use Rattle.ng_layout.specs.Stored.{HalfDone, Report}

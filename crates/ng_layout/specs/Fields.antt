@@ -1,5 +1,5 @@
 -- Numbers at places of a row of bytes, the lowest byte first (own).
-use Rattle.std.specs.Prelude.{◌≡◌, ℕ, ℤ, List, take, drop}
+use Rattle.std.specs.Prelude.{◌≡◌, ℕ, ℤ, List, take, drop, replicate}
 use Rattle.byteorder.specs.Endian.{little_number}
 use Rattle.std.specs.Int.{w64, cast_signed}
 
@@ -14,6 +14,10 @@ signed_at at bytes = cast_signed w64 (number_at 8 at bytes)
 -- the n bytes from this place on
 unfoldable pub bytes_at : ℕ → ℕ → List ℕ → List ℕ
 bytes_at n at bytes = take n (drop at bytes)
+
+-- the n bytes from this place on are 0
+abbrev pub AreZero : ℕ → ℕ → List ℕ → Type 0
+AreZero n at bytes = bytes_at n at bytes ≡ replicate n 0
 
 -- the bytes before this place are the same
 pub record SameBelow (at : ℕ) (old new : List ℕ) : Type 0 where

@@ -1,6 +1,6 @@
 -- The header of an epoch, where a sector holds a valid one (own).
-use Rattle.std.specs.Prelude.{ℕ, ◌≤◌, ◌%◌, ◌==◌, ◌&&◌, Bool, nat_le, List, Option, Some, None, if◌then◌else◌, codes}
-use Rattle.ng_layout.specs.Fields.{number_at}
+use Rattle.std.specs.Prelude.{◌≡◌, ℕ, ◌≤◌, ◌%◌, ◌==◌, ◌&&◌, Bool, true, nat_le, List, Option, Some, None, if◌then◌else◌, codes}
+use Rattle.ng_layout.specs.Fields.{number_at, AreZero}
 use Rattle.ng_layout.specs.declared.header.Header.{Header}
 use Rattle.ng_layout.specs.Limits.{greatest_count, longest_program}
 
@@ -25,3 +25,10 @@ pub record IsLawful (h : Header) : Type 0 where
   pub few : h.epoch ≤ greatest_count
   pub area : h.area ≤ 1
   pub length : h.length ≤ longest_program
+
+-- The sector is written with this header: its text, its format, its fields, and 0 in each byte that none of these names.
+pub record HoldsHeader (h : Header) (sector : List ℕ) : Type 0 where
+  pub marked : is_marked sector ≡ true
+  pub header : header_at sector ≡ h
+  pub gap : AreZero 4 12 sector
+  pub rest : AreZero 472 40 sector

@@ -1,18 +1,26 @@
 -- What the sectors of a snapshot hold (own).
 use Rattle.std.specs.Prelude.{◌≡◌, ◌+◌, ◌*◌, ◌/◌, ◌%◌, ◌<◌, ℕ, List, length, get_or, ℤ, pos, Some}
 use Rattle.ng_num.specs.Range.{IsCount}
-use Rattle.ng_layout.specs.Fields.{signed_at}
+use Rattle.ng_layout.specs.Fields.{signed_at, AreZero}
 use Rattle.ng_layout.specs.StateField.{field_at}
 use Rattle.ng_layout.specs.Report.{report_of}
 use Rattle.ng_layout.specs.Sectors.{HoldsValues}
 use Rattle.ng_layout.specs.Stored.{Report, Saved}
+use Rattle.ng_layout.specs.Writing.{field_of}
 
 -- what its state field says
 abbrev pub report_in : Saved → Report
 report_in s = record { entries = s.entries; place = s.place; machine = s.setup.machine; half = s.half }
 
--- The sector holds this part of the snapshot: the state field first, then the parameters.
+-- The sector is written with the state field of this report: its numbers, and 0 in each byte that none of them names.
+pub record HoldsReport (report : Report) (sector : List ℕ) : Type 0 where
+  pub numbers : field_at sector ≡ field_of report
+  pub gap : AreZero 1 165 sector
+  pub rest : AreZero 56 456 sector
+
+-- The sector is written with this part of the snapshot: the state field first, then the parameters.
 pub record HoldsPart (saved : Saved) (part : ℕ) (sector : List ℕ) : Type 0 where
+  pub field : part ≡ 0 → HoldsReport (report_in saved) sector
   pub report : part ≡ 0 → report_of saved.length (field_at sector) ≡ Some (report_in saved)
   pub values : (i : ℕ) → part ≡ 1 + i → HoldsValues saved.setup.params (64 * i) sector
 

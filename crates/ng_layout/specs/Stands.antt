@@ -1,5 +1,5 @@
 -- What an image of a device stands for (own).
-use Rattle.std.specs.Prelude.{◌≡◌, ◌⊎◌, ℕ, ◌+◌, ◌-◌, ◌*◌, ◌%◌, ◌<◌, ◌≤◌, nat_lt, nat_le, List, [], ℤ, unsigned_abs, Option, Some, None, is_some, Result, Ok, Err, if◌then◌else◌}
+use Rattle.std.specs.Prelude.{ℕ, ◌+◌, ◌*◌, ◌%◌, ◌<◌, ◌≤◌, nat_lt, nat_le, List, [], ℤ, unsigned_abs, Option, Some, None, is_some, Result, Ok, Err, if◌then◌else◌}
 use Rattle.std.specs.Option.{option_map}
 use Rattle.std.specs.List.{list_all}
 use Rattle.ng_num.specs.Range.{greatest}
@@ -11,8 +11,8 @@ use Rattle.ng_layout.specs.declared.header.Header.{Header}
 use Rattle.ng_layout.specs.Header.{header_in}
 use Rattle.ng_layout.specs.Report.{and_then, report_of}
 use Rattle.ng_layout.specs.Sectors.{values, text_of}
-use Rattle.ng_layout.specs.Log.{Found, Place, run, log_size}
-use Rattle.ng_layout.specs.Stored.{HalfDone, Report, Saved, Standing}
+use Rattle.ng_layout.specs.Log.{Found, run, log_size}
+use Rattle.ng_layout.specs.Stored.{HalfDone, Standing}
 
 -- The sectors: 0 and 1 headers, then two snapshot areas, two program areas, the log.
 abbrev pub snapshot_size : ℕ

@@ -1,5 +1,5 @@
 -- What can be stored: the states that an interpreter reaches (own).
-use Rattle.std.specs.Prelude.{◌≡◌, ◌≤◌, ℕ, ◌≤ℤ◌, pos, length, IsSome, IsNone, IfSome}
+use Rattle.std.specs.Prelude.{◌≡◌, ◌≤◌, ◌≤ℤ◌, pos, length, IsSome, IsNone, IfSome}
 use Rattle.ng_block.specs.declared.machine.Machine.{Machine}
 use Rattle.ng_layout.specs.Limits.{greatest_slot, longest_text, longest_program}
 use Rattle.ng_layout.specs.Stored.{HalfDone, Saved}

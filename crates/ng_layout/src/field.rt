@@ -1,6 +1,6 @@
 //! The state field: the numbers of a state by their places, whatever they mean.
 ghost use Rattle.std.specs.Prelude.{◌≡◌, ◌+◌, ◌≤◌, length};
-ghost use Rattle.ng_layout.specs.Fields.{number_at, Puts};
+ghost use Rattle.ng_layout.specs.Fields.{bytes_at, Puts};
 ghost use Rattle.ng_layout.specs.StateField.{triple_at, kept_at, codes_at, half_at, field_at};
 
 use crate::bytes::{
@@ -182,7 +182,7 @@ fn get_half(bytes: &[u8]) -> HalfField
 fn put_half(bytes: &mut [u8], half: &HalfField)
     requires { 456 ≤ length bytes.old }
     ensures put { Puts half_at 162 456 half.now bytes.old bytes.new }
-    ensures gap { number_at 1 165 bytes.new ≡ number_at 1 165 bytes.old }
+    ensures gap { bytes_at 1 165 bytes.new ≡ bytes_at 1 165 bytes.old }
 {
     put_u8(bytes, 162, half.source);
     put_u8(bytes, 163, half.opened);
@@ -221,7 +221,7 @@ impl StateField {
     pub fn write(&self, bytes: &mut [u8])
         requires { 456 ≤ length bytes.old }
         ensures put { Puts field_at 0 456 self.now bytes.old bytes.new }
-        ensures gap { number_at 1 165 bytes.new ≡ number_at 1 165 bytes.old }
+        ensures gap { bytes_at 1 165 bytes.new ≡ bytes_at 1 165 bytes.old }
     {
         put_u64(bytes, 0, self.entries);
         put_u64(bytes, 8, self.place);

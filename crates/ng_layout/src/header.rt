@@ -1,6 +1,5 @@
 //! The header of an epoch: what names the snapshot and the program in force.
-ghost use Rattle.std.specs.Prelude.{◌≡◌, ◌≤◌, ◌<◌, ◌+◌, ◌%◌, true, Some, drop, replicate, IfSome};
-ghost use Rattle.ng_layout.specs.Fields.{number_at};
+ghost use Rattle.std.specs.Prelude.{◌≡◌, IfSome};
 
 use crate::bytes::{get_u32, get_u64, put_u32, put_u64};
 use crate::report::GREATEST_COUNT;
@@ -26,7 +25,7 @@ pub struct Header {
 }
 
 impl Header {
-    ghost use Rattle.ng_layout.specs.Header.{header_at, is_marked, is_within, header_in, IsLawful};
+    ghost use Rattle.ng_layout.specs.Header.{is_within, header_in, IsLawful, HoldsHeader};
 
     /// The header that sector `k` holds; none where it isn't valid.
     #[tactic(auto, unfolding(crate::specs::Header::header_in, crate::specs::Header::header_at, crate::specs::Header::is_marked))]
@@ -58,10 +57,7 @@ impl Header {
 
     /// The sector that holds it, in which what it doesn't name is 0.
     pub fn write(self) -> [u8; 512]
-        ensures marked { is_marked result ≡ true }
-        ensures header { header_at result ≡ self }
-        ensures gap { number_at 4 12 result ≡ 0 }
-        ensures rest { drop 40 result ≡ replicate 472 0 }
+        ensures { HoldsHeader self result }
     {
         let mut sector = [0; 512];
         put_u64(&mut sector, 0, get_u64(MARK, 0));

@@ -1,7 +1,7 @@
 //! What is stored of a controller.
-ghost use Rattle.std.specs.Prelude.{◌≡◌, ◌≤◌, ◌<◌, drop, replicate, length, Some, IfOk};
+ghost use Rattle.std.specs.Prelude.{◌≡◌, ◌≤◌, ◌<◌, length, Some, IfOk};
 ghost use Rattle.std.specs.Option.{option_map};
-ghost use Rattle.ng_layout.specs.Fields.{number_at};
+ghost use Rattle.ng_layout.specs.Fields.{AreZero};
 ghost use Rattle.ng_layout.specs.StateField.{field_at};
 ghost use Rattle.ng_layout.specs.Storable.{IsStorable};
 ghost use Rattle.ng_layout.specs.Snapshot.{HoldsPart};
@@ -102,7 +102,7 @@ impl<A: Allocator + Copy + Drop> Stored<A> {
         };
     }
 
-    /// The sector of a snapshot that holds this part of it: the state field first, then the parameters.
+    /// The sector of a snapshot that holds this part of it: the state field first, then the parameters. What no field names is 0.
     pub fn sector(&self, part: usize) -> [u8; BYTES]
         requires part { part < 86 }
         requires count { self.now.entries ≤ 1_000_000_000_000 }
@@ -134,8 +134,8 @@ pub fn fresh_sector(part: usize) -> [u8; BYTES]
 /// The sector that holds a state field, in which all else is 0.
 fn state_sector(field: &StateField) -> [u8; BYTES]
     ensures field { field_at result ≡ field.now }
-    ensures gap { number_at 1 165 result ≡ 0 }
-    ensures rest { drop 456 result ≡ replicate 56 0 }
+    ensures gap { AreZero 1 165 result }
+    ensures rest { AreZero 56 456 result }
 {
     let mut sector = [0; BYTES];
     field.write(&mut sector);

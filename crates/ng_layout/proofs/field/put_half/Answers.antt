@@ -1,6 +1,6 @@
 use Rattle.std.proofs.Common.{◌∙◌, lit≤}
 use Rattle.ng_layout.specs.StateField.{half_at}
-use Rattle.ng_layout.proofs.Places.{number-below, triple-below, bytes-below, number-from, below-more, below-none, from-more}
+use Rattle.ng_layout.proofs.Places.{number-below, triple-below, bytes-below, bytes-from, below-more, below-none, from-more}
 use Rattle.ng_layout.proofs.field.put_half.Goals as goal
 
 pub returns-clause-put : goal.returns-clause-put
@@ -59,4 +59,4 @@ returns-clause-gap c =
     let b1 = p1.beyond in
     let b2 = from-more 163 164 s0 s1 s2 b1 p2.beyond (lit≤ tt) in
     let b3 = from-more 164 165 s0 s2 s3 b2 p3.beyond (lit≤ tt) in
-    number-below 1 165 166 s3 s7 t3 (lit≤ tt) ∙ number-from 1 165 165 s0 s3 b3 (lit≤ tt)
+    bytes-below 1 165 166 s3 s7 t3 (lit≤ tt) ∙ bytes-from 1 165 165 s0 s3 b3 (lit≤ tt)

@@ -1,4 +1,4 @@
-use Rattle.std.proofs.Common.{◌≡◌, ◌-◌, ℕ, List, ◌++◌, length, replicate, drop, refl, ◌∙◌, ap}
+use Rattle.std.proofs.Common.{ℕ, List, ◌++◌, length, ap}
 use Rattle.std.proofs.lemmas.List.{drop-replicate}
 use Rattle.ng_layout.proofs.sectors.padded.Goals as goal
 

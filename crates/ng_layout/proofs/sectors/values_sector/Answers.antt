@@ -1,8 +1,8 @@
-use Rattle.std.proofs.Common.{◌≡◌, ◌+◌, ◌-◌, ◌∙◌, ℕ, ℤ, pos, get_or, refl, ap, subst, sym, arith}
+use Rattle.std.proofs.Common.{◌≡◌, ◌+◌, ◌-◌, ◌∙◌, ℕ, pos, get_or, ap, subst, sym, arith}
 use Rattle.std.specs.Int.{w64, cast_signed, cast_unsigned}
 use Rattle.std.proofs.lemmas.Int.{to_z-of_z}
 use Rattle.ng_num.specs.Range.{IsCount}
-use Rattle.ng_layout.proofs.Rows.{ValuesTo, values-more, values-past}
+use Rattle.ng_layout.proofs.Rows.{values-more, values-past}
 use Rattle.ng_layout.proofs.sectors.values_sector.Goals as goal
 use Rattle.ng_layout.proofs.sectors.values_sector.Goals.{then-first-k-lt-PARAMETERS, else-first-k-lt-PARAMETERS}
 

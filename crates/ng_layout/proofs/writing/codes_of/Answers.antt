@@ -1,4 +1,4 @@
-use Rattle.std.proofs.Common.{◌≡◌, ◌∙◌, ap, sym}
+use Rattle.std.proofs.Common.{◌∙◌}
 use Rattle.ng_layout.specs.Report.{modes_of}
 use Rattle.ng_layout.proofs.SaysAgain.{codes-back}
 use Rattle.ng_layout.proofs.writing.codes_of.Goals as goal

@@ -1,11 +1,10 @@
-use Rattle.std.proofs.Common.{◌≡◌, ℤ, pos, Option, unwrap_or, sym, ◌∙◌, ap, subst, arith}
+use Rattle.std.proofs.Common.{◌≡◌, pos, unwrap_or, ◌∙◌, subst, arith}
 use Rattle.std.specs.Int.{w64, cast_signed, cast_unsigned}
 use Rattle.std.proofs.lemmas.Int.{to_z-of_z}
 use Rattle.ng_num.specs.Range.{IsCount}
 use Rattle.ng_layout.specs.Report.{kept_of}
-use Rattle.ng_layout.specs.Writing.{kept_bits, kept_field}
+use Rattle.ng_layout.specs.Writing.{kept_bits}
 use Rattle.ng_layout.proofs.SaysAgain.{kept-back}
-use Rattle.ng_layout.specs.declared.field.KeptField.{KeptField}
 use Rattle.ng_layout.proofs.writing.kept_field.Goals as goal
 
 pub returns-clause-is : goal.returns-clause-is

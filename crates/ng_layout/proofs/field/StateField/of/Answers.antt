@@ -1,11 +1,10 @@
-use Rattle.std.proofs.Common.{◌≡◌, ℤ, pos, unsigned_abs, sym, ◌∙◌, ap, subst, arith}
+use Rattle.std.proofs.Common.{◌≡◌, unsigned_abs, sym, ◌∙◌, ap, arith}
 use Rattle.std.specs.Int.{w64, cast_signed, cast_unsigned}
 use Rattle.std.proofs.lemmas.Int.{to_z-of_z}
 use Rattle.std.specs.Option.{option_copied}
-use Rattle.ng_num.specs.Range.{IsCount}
 use Rattle.ng_layout.specs.Stored.{Report}
 use Rattle.ng_layout.specs.Report.{report_of, modes_of, point_of, kept_of, half_of}
-use Rattle.ng_layout.specs.Writing.{triple_of, kept_bits, codes_of, half_field, field_of}
+use Rattle.ng_layout.specs.Writing.{kept_bits, field_of}
 use Rattle.ng_layout.proofs.SaysAgain.{IsCounted, report-back}
 use Rattle.ng_layout.proofs.field.StateField.of.Goals as goal
 

@@ -2,7 +2,7 @@ use Rattle.std.proofs.Common.{◌≡◌, arith, ◌∙◌, lit≤}
 use Rattle.std.specs.Int.{w64, cast_signed, cast_unsigned}
 use Rattle.std.proofs.lemmas.Int.{to_z-of_z}
 use Rattle.ng_layout.specs.StateField.{field_at}
-use Rattle.ng_layout.proofs.Places.{number-below, number-from, signed-below, triple-below, kept-below, codes-below, half-below, below-more, below-none, from-more}
+use Rattle.ng_layout.proofs.Places.{number-below, bytes-from, signed-below, triple-below, kept-below, codes-below, half-below, below-more, below-none, from-more}
 use Rattle.ng_layout.proofs.field.StateField.write.Goals as goal
 
 pub returns-clause-put : goal.returns-clause-put
@@ -96,4 +96,4 @@ returns-clause-gap c =
     let b10 = from-more 144 158 s0 s9 s10 b9 p10.beyond (lit≤ tt) in
     let b11 = from-more 158 160 s0 s10 s11 b10 p11.beyond (lit≤ tt) in
     let b12 = from-more 160 162 s0 s11 s12 b11 p12.beyond (lit≤ tt) in
-    c.put_half.ensures.gap ∙ number-from 1 162 165 s0 s12 b12 (lit≤ tt)
+    c.put_half.ensures.gap ∙ bytes-from 1 162 165 s0 s12 b12 (lit≤ tt)
