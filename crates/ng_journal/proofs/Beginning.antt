@@ -1,32 +1,74 @@
 -- A format: sectors written one after the other, and what stands when the header of the first epoch is synced.
-use Rattle.std.proofs.Common.{◌≡◌, ◌≢◌, ℕ, ◌+◌, ◌%◌, ◌<◌, ◌==◌, ◌&&◌, false, if◌then◌else◌, List, [], ℤ, pos, set, replicate, Some, None, Result, Ok, Err, length, refl, sym, ◌∙◌, ap, subst, arith}
-use Rattle.std.proofs.lemmas.Bool.Decides.{nat_tests}
+use Rattle.std.proofs.Common.{◌≡◌, ◌≢◌, ◌⊎◌, inl, inr, ℕ, ◌+◌, ◌-◌, ◌%◌, ◌<◌, ◌==◌, ◌&&◌, false, if◌then◌else◌, List, [], ℤ, pos, set, replicate, Some, None, Result, Ok, Err, length, refl, sym, ◌∙◌, ap, subst, arith}
+use Rattle.std.proofs.lemmas.Bool.{cases_eq}
 use Rattle.std.proofs.lemmas.List.{length-replicate}
 use Rattle.std.proofs.Math.ListN.{length-set}
 use Rattle.std.specs.Prelude.{OnOk}
 use Rattle.ng_rig.specs.Life.{Image, Life, Wrote, Synced, reads}
-use Rattle.ng_rig.specs.Calls.{Syncs}
-use Rattle.ng_rig.specs.Only.{WritesOnly}
+use Rattle.ng_rig.specs.Calls.{Writes, Syncs}
 use Rattle.ng_rig.proofs.Running.{is_synced}
 use Rattle.ng_rig.proofs.Writes_only.{only_more, only_write, only_synced}
 use Rattle.ng_layout.specs.Fields.{number_at}
-use Rattle.ng_layout.specs.Header.{header_at, is_marked, is_within, header_in}
+use Rattle.ng_layout.specs.Header.{HoldsHeader, header_at, is_marked, is_within, header_in}
 use Rattle.ng_layout.specs.Log.{log_size}
 use Rattle.ng_layout.specs.Sectors.{text_of}
 use Rattle.ng_layout.specs.Snapshot.{HoldsPart}
+use Rattle.ng_layout.specs.Spare.{IsAmong}
 use Rattle.ng_layout.specs.Stands.{snapshot_first, snapshot_size, program_first, program_size, log_first, stretch, newer, in_force, snapshot, standing, stands, IsWritten}
 use Rattle.ng_layout.specs.Stored.{Saved}
+use Rattle.ng_layout.proofs.Rows.{number-zeros}
 use Rattle.ng_layout.proofs.Images.{stretch-at, stands-snapshot}
 use Rattle.ng_layout.proofs.Snapshots.{snapshot-new}
-use Rattle.ng_journal.specs.AtRest.{IsAt}
-use Rattle.ng_journal.specs.Formats.{Anything, IsEmpty, Overwrites, first_header}
+use Rattle.ng_journal.specs.Area.{BelongsIn}
+use Rattle.ng_journal.specs.AtRest.{IsAt, IsLaidOut}
+use Rattle.ng_journal.specs.Formats.{IsEmpty, OverwritesTo, Overwrites, first_header}
+use Rattle.ng_journal.proofs.Framing.{there, elsewhere, WritesFirst, first_headers, first_log, first_area, first_sync, first_write, laid_out}
 
--- what a read gives after a write
-there : (n : ℕ) (bytes : List ℕ) (life : Life) → reads (Wrote n bytes life) n ≡ bytes
-there n bytes life = grind (arith, nat_tests)
+-- what a read of another sector gives after a write that may have failed
+untouched : {T E : Type 0} (result : Result T E) (m n : ℕ) (bytes : List ℕ) (old new : Life) → m ≢ n → Writes result n bytes old new → reads new m ≡ reads old m
+untouched (Ok _) m n bytes old new other is = ap (λ (l : Life). reads l m) is ∙ elsewhere m n bytes old other
+untouched (Err _) m n bytes old new other (inl is) = ap (λ (l : Life). reads l m) is
+untouched (Err _) m n bytes old new other (inr (inl is)) = ap (λ (l : Life). reads l m) is ∙ elsewhere m n bytes old other
+untouched (Err _) m n bytes old new other (inr (inr is)) = ap (λ (l : Life). reads l m) is
 
-elsewhere : (m n : ℕ) (bytes : List ℕ) (life : Life) → m ≢ n → reads (Wrote n bytes life) m ≡ reads life m
-elsewhere m n bytes life other = grind (arith, nat_tests)
+-- One sector more of a stretch, and right.
+module _ (n at first size : ℕ) (IsRight : ℕ → List ℕ → Type 0) (bytes : List ℕ) (old mid : Life) (lt : n < size) (at_is : at ≡ first + n) (right : IsRight n bytes) (w : OverwritesTo n first size IsRight old mid) where
+  abbrev May : ℕ → List ℕ → Type 0
+  May m c = BelongsIn first size IsRight m c
+
+  may : BelongsIn first size IsRight at bytes
+  may = record { place = n; within = lt; is = at_is; right = right }
+
+  beside_it : (m : ℕ) → ¬ IsAmong first size m → m ≢ at
+  beside_it m out e = out (record { from = omega arith; to = omega arith })
+
+  pub written : (new : Life) → new ≡ Wrote at bytes mid → OverwritesTo (n + 1) first size IsRight old new
+  written new is =
+      let ok : Result ℕ ℕ = Ok 0 in
+      let there_is : reads (Wrote at bytes mid) (first + n) ≡ bytes = ap (λ (m : ℕ). reads (Wrote at bytes mid) m) (sym at_is) ∙ there at bytes mid in
+      subst (λ (l : Life). OverwritesTo (n + 1) first size IsRight old l) (sym is) (record {
+        writes = only_more May old mid (Wrote at bytes mid) w.writes (only_write May ok at bytes mid (Wrote at bytes mid) may refl);
+        outside = λ m out. elsewhere m at bytes mid (beside_it m out) ∙ w.outside m out;
+        parts = λ j below. elim (cases_eq j n) [
+          | inl same ↦ subst (λ (x : ℕ). IsRight x (reads (Wrote at bytes mid) (first + x))) (sym same) (subst (IsRight n) (sym there_is) right)
+          | inr other ↦ subst (IsRight j) (sym (elsewhere (first + j) at bytes mid (λ e. other (omega arith)))) (w.parts j (omega arith))
+        ];
+      })
+
+  -- or its write failed
+  pub not_written : {T E F : Type 0} (e : E) (result : Result T F) (new : Life) → Writes result at bytes mid new → Overwrites {T = T} (Err e) first size IsRight old new
+  not_written e result new is = record {
+    writes = only_more May old mid new w.writes (only_write May result at bytes mid new may is);
+    outside = λ m out. untouched result m at bytes mid new (beside_it m out) is ∙ w.outside m out;
+    parts = tt;
+  }
+
+-- A sync changes nothing of that.
+pub written_on : (n first size : ℕ) (IsRight : ℕ → List ℕ → Type 0) (old mid new : Life) → OverwritesTo n first size IsRight old mid → new ≡ Synced mid → OverwritesTo n first size IsRight old new
+written_on n first size IsRight old mid new w is = subst (λ (l : Life). OverwritesTo n first size IsRight old l) (sym is) (record { writes = only_synced (λ m c. BelongsIn first size IsRight m c) old mid w.writes; outside = w.outside; parts = w.parts })
+
+pub not_synced : {T E : Type 0} (e : E) (n first size : ℕ) (IsRight : ℕ → List ℕ → Type 0) (old mid new : Life) → OverwritesTo n first size IsRight old mid → new ≡ mid → Overwrites {T = T} (Err e) first size IsRight old new
+not_synced {T = T} {E = E} e n first size IsRight old mid new w same = subst (λ (l : Life). Overwrites {T = T} {E = E} (Err e) first size IsRight old l) (sym same) (record { writes = w.writes; outside = w.outside; parts = tt })
 
 -- No header and no part in a sector that begins with zeros.
 no_mark : (bytes : List ℕ) → number_at 8 0 bytes ≡ 0 → is_marked bytes ≡ false
@@ -68,29 +110,41 @@ made_written image saved m = record { past = λ n lt. let e = m.log n lt in omeg
 
 -- The three stretches, written one after the other.
 pub record Steps (saved : Saved) (old a b c : Life) : Type 0 where
-  pub writes : WritesOnly Anything old c
-  pub other : number_at 8 0 (reads c 0) ≡ 0
+  pub writes : WritesFirst saved old c
+  pub other : IsEmpty 0 (reads c 0)
   pub parts : (j : ℕ) → j < snapshot_size → HoldsPart saved j (reads c (snapshot_first 1 + j))
-  pub log : (m : ℕ) → m < log_size → number_at 8 0 (reads c (log_first + m)) ≡ 0
+  pub log : (m : ℕ) → m < log_size → IsEmpty m (reads c (log_first + m))
 
 pub steps : {T U V E F G : Type 0} (t : T) (u : U) (v : V) (saved : Saved) (old a b c : Life) (first : ℕ) → first ≡ snapshot_first 1
     → Overwrites {E = E} (Ok t) 0 2 IsEmpty old a → Overwrites {E = F} (Ok u) log_first log_size IsEmpty a b → Overwrites {E = G} (Ok v) first snapshot_size (HoldsPart saved) b c → Steps saved old a b c
-steps {G = G} t u v saved old a b c first is headers log area =
+steps {E = E} {F = F} {G = G} t u v saved old a b c first is headers log area =
+    let t_is : Result _ E = Ok t in
+    let u_is : Result _ F = Ok u in
+    let v_is : Result _ G = Ok v in
     let here : Overwrites {E = G} (Ok v) (snapshot_first 1) snapshot_size (HoldsPart saved) b c = subst (λ (n : ℕ). Overwrites {E = G} (Ok v) n snapshot_size (HoldsPart saved) b c) is area in
     record {
-      writes = only_more Anything old b c (only_more Anything old a b headers.writes log.writes) area.writes;
-      other = ap (number_at 8 0) (here.outside 0 (λ m. omega (arith, m.from)) ∙ log.outside 0 (λ m. omega (arith, m.from))) ∙ headers.parts 0 (omega arith);
+      writes = first_area v_is first saved old b c is (first_log u_is saved old a b (first_headers t_is saved old a headers) log) area;
+      other = here.outside 0 (λ m. omega (arith, m.from)) ∙ log.outside 0 (λ m. omega (arith, m.from)) ∙ headers.parts 0 (omega arith);
       parts = here.parts;
-      log = λ m lt. ap (number_at 8 0) (here.outside (log_first + m) (λ x. omega (arith, x.to))) ∙ log.parts m lt;
+      log = λ m lt. here.outside (log_first + m) (λ x. omega (arith, x.to)) ∙ log.parts m lt;
     }
 
 made : (saved : Saved) (old a b c : Life) (bytes : List ℕ) → Steps saved old a b c → header_in 1 bytes ≡ Some first_header → IsMade (reads (Wrote 1 bytes (Synced c))) saved
 made saved old a b c bytes s is = record {
-  other = ap (number_at 8 0) (elsewhere 0 1 bytes (Synced c) (λ e. omega (arith, e))) ∙ s.other;
+  other = ap (number_at 8 0) (elsewhere 0 1 bytes (Synced c) (λ e. omega (arith, e)) ∙ s.other) ∙ number-zeros 8 0 512;
   header = ap (header_in 1) (there 1 bytes (Synced c)) ∙ is;
   parts = λ j lt. subst (HoldsPart saved j) (sym (elsewhere (snapshot_first 1 + j) 1 bytes (Synced c) (λ e. omega (arith, e)))) (s.parts j lt);
-  log = λ m lt. ap (number_at 8 0) (elsewhere (log_first + m) 1 bytes (Synced c) (λ e. omega (arith, e))) ∙ s.log m lt;
+  log = λ m lt. ap (number_at 8 0) (elsewhere (log_first + m) 1 bytes (Synced c) (λ e. omega (arith, e)) ∙ s.log m lt) ∙ number-zeros 8 0 512;
 }
+
+-- the zeros that are left
+made_zeros : (saved : Saved) (old a b c : Life) (bytes : List ℕ) → Steps saved old a b c → (n : ℕ) → (n ≡ 0) ⊎ IsAmong log_first log_size n → IsEmpty n (reads (Wrote 1 bytes (Synced c)) n)
+made_zeros saved old a b c bytes s n (inl first) = elsewhere n 1 bytes (Synced c) (λ e. omega arith) ∙ ap (reads c) first ∙ s.other
+made_zeros saved old a b c bytes s n (inr log) =
+    let from = log.from in
+    let to = log.to in
+    let at : n ≡ log_first + (n - log_first) = omega arith in
+    elsewhere n 1 bytes (Synced c) (λ e. omega arith) ∙ ap (reads c) at ∙ s.log (n - log_first) (omega arith)
 
 -- a table in which all values but one are 0
 pub table_long : (n p : ℕ) (v : ℤ) → length (set (replicate n (pos 0)) p v) ≡ n
@@ -98,31 +152,38 @@ table_long n p v = length-set (replicate n (pos 0)) p v ∙ length-replicate n (
 
 -- What is made, whatever is stored.
 pub record Begins {T E : Type 0} (result : Result T E) (saved : Saved) (old new : Life) : Type 0 where
-  pub writes : WritesOnly Anything old new
+  pub writes : WritesFirst saved old new
   pub at : OnOk result (IsAt new first_header (record { saved = saved; program = [] }))
+  pub laid : OnOk result (IsLaidOut first_header saved (reads new))
+  pub zeros : OnOk result ((n : ℕ) → (n ≡ 0) ⊎ IsAmong log_first log_size n → IsEmpty n (reads new n))
 
 -- and after the last sync
-pub finished : {T E : Type 0} (result : Result T E) (saved : Saved) (old a b c synced wrote last : Life) (bytes : List ℕ) → Steps saved old a b c → saved.length ≡ 0 → length saved.setup.params ≡ 5399 → header_in 1 bytes ≡ Some first_header → synced ≡ Synced c → wrote ≡ Wrote 1 bytes synced → Syncs result wrote last
+pub finished : {T E : Type 0} (result : Result T E) (saved : Saved) (old a b c synced wrote last : Life) (bytes : List ℕ) → Steps saved old a b c → saved.length ≡ 0 → length saved.setup.params ≡ 5399 → header_in 1 bytes ≡ Some first_header → HoldsHeader first_header bytes → synced ≡ Synced c → wrote ≡ Wrote 1 bytes synced → Syncs result wrote last
     → Begins result saved old last
-finished {T = T} {E = E} result saved old a b c synced wrote last bytes s long table header is is_written done = go result (subst (λ (l : Life). Syncs result l last) whole done)
+finished {T = T} {E = E} result saved old a b c synced wrote last bytes s long table header holds is is_written done = go result (subst (λ (l : Life). Syncs result l last) whole done)
   where
     whole : wrote ≡ Wrote 1 bytes (Synced c)
     whole = is_written ∙ ap (λ (l : Life). Wrote 1 bytes l) is
 
-    upto : WritesOnly Anything old (Wrote 1 bytes (Synced c))
-    upto = let ok : Result ℕ ℕ = Ok 0 in only_more Anything old (Synced c) (Wrote 1 bytes (Synced c)) (only_synced Anything old c s.writes) (only_write Anything ok 1 bytes (Synced c) (Wrote 1 bytes (Synced c)) tt refl)
+    ok : Result ℕ ℕ
+    ok = Ok 0
+
+    upto : WritesFirst saved old (Wrote 1 bytes (Synced c))
+    upto = first_write ok saved bytes old (Synced c) (Wrote 1 bytes (Synced c)) holds (first_sync ok saved old c (Synced c) s.writes refl) refl
 
     go : (result : Result T E) → Syncs result (Wrote 1 bytes (Synced c)) last → Begins result saved old last
-    go (Err e) same = record { writes = subst (λ (l : Life). WritesOnly Anything old l) (sym same) upto; at = tt }
+    go (Err e) same = record { writes = subst (λ (l : Life). WritesFirst saved old l) (sym same) upto; at = tt; laid = tt; zeros = tt }
     go (Ok v) same =
         let m = made saved old a b c bytes s header in
         let image = reads (Wrote 1 bytes (Synced c)) in
         record {
-          writes = subst (λ (l : Life). WritesOnly Anything old l) (sym same) (only_synced Anything old (Wrote 1 bytes (Synced c)) upto);
+          writes = first_sync ok saved old (Wrote 1 bytes (Synced c)) last upto same;
           at = subst (λ (l : Life). IsAt l first_header (record { saved = saved; program = [] })) (sym same) (record {
             synced = is_synced (Wrote 1 bytes (Synced c));
             force = made_force image saved m;
             stands_for = made_stands image saved m long table;
             written = made_written image saved m;
           });
+          laid = subst (λ (l : Life). IsLaidOut first_header saved (reads l)) (sym same) (laid_out first_header saved bytes c s.parts holds);
+          zeros = subst (λ (l : Life). (n : ℕ) → (n ≡ 0) ⊎ IsAmong log_first log_size n → IsEmpty n (reads l n)) (sym same) (made_zeros saved old a b c bytes s);
         }

@@ -1,23 +1,140 @@
--- The sectors that a checkpoint writes: those of the next epoch.
-use Rattle.std.proofs.Common.{◌≡◌, inl, inr, ℕ, ◌%◌, List, Result, refl, subst}
-use Rattle.ng_rig.specs.Life.{Life}
+-- What each call writes, and where: a checkpoint what is stored under the next epoch, a load the text besides, a format a fresh controller
+-- among zeros.
+use Rattle.std.proofs.Common.{◌≡◌, ◌≢◌, ◌⊎◌, inl, inr, ⊎_elim, ℕ, ◌+◌, ◌-◌, ◌*◌, ◌%◌, ◌<◌, ◌≤◌, List, Result, Ok, Err, refl, sym, ◌∙◌, ap, subst, arith}
+use Rattle.std.proofs.lemmas.Bool.Decides.{nat_tests}
+use Rattle.std.specs.Prelude.{OnOk}
+use Rattle.ng_rig.specs.Life.{Life, Wrote, Synced, reads}
 use Rattle.ng_rig.specs.Calls.{Writes, Syncs}
-use Rattle.ng_rig.proofs.Writes_only.{only_more, only_write, only_syncs, only_wider}
+use Rattle.ng_rig.specs.Only.{WritesOnly}
+use Rattle.ng_rig.proofs.Writes_only.{only_more, only_write, only_syncs, only_wider, reads_blend}
+use Rattle.ng_layout.specs.declared.header.Header.{Header}
+use Rattle.ng_layout.specs.Header.{HoldsHeader}
+use Rattle.ng_layout.specs.Log.{log_size}
+use Rattle.ng_layout.specs.Sectors.{HoldsText}
+use Rattle.ng_layout.specs.Snapshot.{HoldsPart}
 use Rattle.ng_layout.specs.Spare.{IsAmong}
-use Rattle.ng_layout.specs.Stands.{snapshot_first, snapshot_size}
-use Rattle.ng_layout.specs.Stored.{Saved}
-use Rattle.ng_journal.specs.Area.{WritesArea}
-use Rattle.ng_journal.specs.AtRest.{IsOfEpoch, WritesEpoch}
+use Rattle.ng_layout.specs.Stands.{snapshot_first, snapshot_size, program_first, program_size, log_first}
+use Rattle.ng_layout.specs.Stored.{Saved, Standing}
+use Rattle.ng_journal.specs.Area.{BelongsIn, AreaTo, WritesArea}
+use Rattle.ng_journal.specs.AtRest.{IsOfEpoch, BelongsTo, WritesState, IsLaidOut, next_header}
+use Rattle.ng_journal.specs.Formats.{IsEmpty, Overwrites, first_header}
+use Rattle.ng_journal.specs.Loads.{BelongsToText, BelongsToLoad, IsTextAt, WritesLoad, WritesText, other_area}
 
-abbrev May : ℕ → ℕ → List ℕ → Type 0
-May epoch n c = IsOfEpoch epoch n
+-- what a read gives after a write
+pub there : (n : ℕ) (bytes : List ℕ) (life : Life) → reads (Wrote n bytes life) n ≡ bytes
+there n bytes life = grind (arith, nat_tests)
 
-pub frame_area : {T E : Type 0} (result : Result T E) (first epoch : ℕ) (saved : Saved) (old new : Life) → first ≡ snapshot_first epoch → WritesArea result first saved old new → WritesEpoch epoch old new
-frame_area result first epoch saved old new is area =
-    only_wider (λ n c. IsAmong first snapshot_size n) (May epoch) old new (λ n c among. inl (subst (λ (k : ℕ). IsAmong k snapshot_size n) is among)) area.writes
+pub elsewhere : (m n : ℕ) (bytes : List ℕ) (life : Life) → m ≢ n → reads (Wrote n bytes life) m ≡ reads life m
+elsewhere m n bytes life other = grind (arith, nat_tests)
 
-pub frame_sync : {T E : Type 0} (result : Result T E) (epoch : ℕ) (old mid new : Life) → WritesEpoch epoch old mid → Syncs result mid new → WritesEpoch epoch old new
-frame_sync result epoch old mid new w is = only_syncs (May epoch) result old mid new w is
+-- which sectors these are
+pub among : (first size : ℕ) (IsRight : ℕ → List ℕ → Type 0) (old new : Life) → WritesOnly (BelongsIn first size IsRight) old new → WritesOnly (λ n c. IsAmong first size n) old new
+among first size IsRight old new w = only_wider (BelongsIn first size IsRight) (λ n c. IsAmong first size n) old new (λ n c b. in_stretch n c b) w
+  where
+    in_stretch : (n : ℕ) (c : List ℕ) → BelongsIn first size IsRight n c → IsAmong first size n
+    in_stretch n c b = let is = b.is in let within = b.within in record { from = omega arith; to = omega arith }
 
-pub frame_write : {T E : Type 0} (result : Result T E) (epoch : ℕ) (bytes : List ℕ) (old mid new : Life) → WritesEpoch epoch old mid → Writes result (epoch % 2) bytes mid new → WritesEpoch epoch old new
-frame_write result epoch bytes old mid new w is = only_more (May epoch) old mid new w (only_write (May epoch) result (epoch % 2) bytes mid new (inr refl) is)
+pub among_text : (first : ℕ) (text : List ℕ) (old new : Life) → WritesOnly (λ n c. BelongsToText text first n c) old new → WritesOnly (λ n c. IsAmong first program_size n) old new
+among_text first text old new w = among first program_size (λ j part. HoldsText text (512 * j) part) old new w
+
+-- A checkpoint: the snapshot, a sync, the header, a sync.
+abbrev May : Header → Saved → ℕ → List ℕ → Type 0
+May header saved n bytes = BelongsTo header saved n bytes
+
+pub state_area : {T E : Type 0} (result : Result T E) (first : ℕ) (header : Header) (saved : Saved) (old new : Life) → first ≡ snapshot_first header.epoch → WritesArea result first saved old new → WritesState header saved old new
+state_area result first header saved old new is area =
+    only_wider (BelongsIn first snapshot_size (HoldsPart saved)) (May header saved) old new (λ n c b. inl (subst (λ (k : ℕ). BelongsIn k snapshot_size (HoldsPart saved) n c) is b)) area.writes
+
+pub state_sync : {T E : Type 0} (result : Result T E) (header : Header) (saved : Saved) (old mid new : Life) → WritesState header saved old mid → Syncs result mid new → WritesState header saved old new
+state_sync result header saved old mid new w is = only_syncs (May header saved) result old mid new w is
+
+pub state_header : {T E : Type 0} (result : Result T E) (header : Header) (saved : Saved) (bytes : List ℕ) (old mid new : Life) → HoldsHeader header bytes → WritesState header saved old mid → Writes result (header.epoch % 2) bytes mid new → WritesState header saved old new
+state_header result header saved bytes old mid new holds w is = only_more (May header saved) old mid new w (only_write (May header saved) result (header.epoch % 2) bytes mid new (inr (refl, holds)) is)
+
+-- and then it stands there
+pub laid_out : (header : Header) (saved : Saved) (bytes : List ℕ) (mid : Life) → ((j : ℕ) → j < snapshot_size → HoldsPart saved j (reads mid (snapshot_first header.epoch + j))) → HoldsHeader header bytes → IsLaidOut header saved (reads (Wrote (header.epoch % 2) bytes (Synced mid)))
+laid_out header saved bytes mid parts holds n (inl among) =
+    let first = snapshot_first header.epoch in
+    let from = among.from in
+    let to = among.to in
+    let at : n ≡ snapshot_first header.epoch + (n - snapshot_first header.epoch) = omega arith in
+    let same : reads (Wrote (header.epoch % 2) bytes (Synced mid)) n ≡ reads mid n = elsewhere n (header.epoch % 2) bytes (Synced mid) (λ e. omega arith) in
+    inl (record { place = n - first; within = omega arith; is = at; right = subst (HoldsPart saved (n - first)) (sym (same ∙ ap (reads mid) at)) (parts (n - first) (omega arith)) })
+laid_out header saved bytes mid parts holds n (inr is) = inr (is, subst (HoldsHeader header) (sym (ap (reads (Wrote (header.epoch % 2) bytes (Synced mid))) is ∙ there (header.epoch % 2) bytes (Synced mid))) holds)
+
+pub state_laid : {T E U F : Type 0} (result : Result T E) (u : U) (first : ℕ) (header : Header) (saved : Saved) (bytes : List ℕ) (old mid synced wrote new : Life) → first ≡ snapshot_first header.epoch → WritesArea {E = F} (Ok u) first saved old mid → HoldsHeader header bytes → synced ≡ Synced mid → wrote ≡ Wrote (header.epoch % 2) bytes synced → Syncs result wrote new → OnOk result (IsLaidOut header saved (reads new))
+state_laid (Err _) u first header saved bytes old mid synced wrote new is area holds is_synced is_wrote done = tt
+state_laid (Ok _) u first header saved bytes old mid synced wrote new is area holds is_synced is_wrote done =
+    let whole : new ≡ Synced (Wrote (header.epoch % 2) bytes (Synced mid)) = done ∙ ap (λ (l : Life). Synced l) (is_wrote ∙ ap (λ (l : Life). Wrote (header.epoch % 2) bytes l) is_synced) in
+    let parts : (j : ℕ) → j < snapshot_size → HoldsPart saved j (reads mid (snapshot_first header.epoch + j)) = λ j lt. subst (λ (k : ℕ). HoldsPart saved j (reads mid (k + j))) is (area.parts j lt) in
+    subst (λ (l : Life). IsLaidOut header saved (reads l)) (sym whole) (laid_out header saved bytes mid parts holds)
+
+-- the write of a part that failed
+pub area_failed : {T E F : Type 0} (e : E) (result : Result T F) (n first : ℕ) (saved : Saved) (bytes : List ℕ) (old mid new : Life) → n < snapshot_size → HoldsPart saved n bytes → AreaTo n first saved old mid → Writes result (first + n) bytes mid new → WritesArea {T = T} (Err e) first saved old new
+area_failed e result n first saved bytes old mid new lt right w is = record {
+  writes = only_more Part old mid new w.writes (only_write Part result (first + n) bytes mid new (record { place = n; within = lt; is = refl; right = right }) is);
+  parts = tt;
+}
+  where
+    Part : ℕ → List ℕ → Type 0
+    Part m c = BelongsIn first snapshot_size (HoldsPart saved) m c
+
+-- all of that is in sectors of the epoch
+of_epoch : (header : Header) (saved : Saved) (n : ℕ) (bytes : List ℕ) → BelongsTo header saved n bytes → IsOfEpoch header.epoch n
+of_epoch header saved n bytes (inl b) = let is = b.is in let within = b.within in inl (record { from = omega arith; to = omega arith })
+of_epoch header saved n bytes (inr h) = inr h.0
+
+-- A load: the text, a sync, a checkpoint.
+abbrev MayLoad : Header → Standing → ℕ → List ℕ → Type 0
+MayLoad header loaded n bytes = BelongsToLoad header loaded n bytes
+
+pub load_text : {T E : Type 0} (result : Result T E) (first : ℕ) (header : Header) (loaded : Standing) (old new : Life) → first ≡ program_first (other_area header) → WritesText result first loaded.program old new → WritesLoad header loaded old new
+load_text result first header loaded old new is w =
+    only_wider (λ n c. BelongsToText loaded.program first n c) (MayLoad header loaded) old new (λ n c b. inl (subst (λ (k : ℕ). BelongsToText loaded.program k n c) is b)) w.writes
+
+pub load_sync : {T E : Type 0} (result : Result T E) (header : Header) (loaded : Standing) (old mid new : Life) → WritesLoad header loaded old mid → Syncs result mid new → WritesLoad header loaded old new
+load_sync result header loaded old mid new w is = only_syncs (MayLoad header loaded) result old mid new w is
+
+pub load_state : (header : Header) (loaded : Standing) (old mid new : Life) → WritesLoad header loaded old mid → WritesState (next_header header (other_area header) loaded.saved.length) loaded.saved mid new → WritesLoad header loaded old new
+load_state header loaded old mid new w last =
+    only_more (MayLoad header loaded) old mid new w (only_wider (May (next_header header (other_area header) loaded.saved.length) loaded.saved) (MayLoad header loaded) mid new (λ n c own. inr own) last)
+
+-- the text stays where it stands
+pub text_stays : {T E U F : Type 0} (result : Result T E) (u : U) (first : ℕ) (header : Header) (loaded : Standing) (old mid synced new : Life) → first ≡ program_first (other_area header) → WritesText {E = F} (Ok u) first loaded.program old mid → synced ≡ Synced mid → WritesState (next_header header (other_area header) loaded.saved.length) loaded.saved synced new
+    → OnOk result (IsTextAt (program_first (other_area header)) loaded.program (reads new))
+text_stays (Err _) u first header loaded old mid synced new is w is_synced last = tt
+text_stays (Ok _) u first header loaded old mid synced new is w is_synced last = λ j lt.
+    subst (HoldsText loaded.program (512 * j)) (sym (same (program_first (other_area header) + j) (omega arith))) (subst (λ (k : ℕ). HoldsText loaded.program (512 * j) (reads mid (k + j))) is (w.parts j lt))
+  where
+    on : WritesOnly (May (next_header header (other_area header) loaded.saved.length) loaded.saved) (Synced mid) new
+    on = subst (λ (l : Life). WritesOnly (May (next_header header (other_area header) loaded.saved.length) loaded.saved) l new) is_synced last
+
+    apart : (n : ℕ) → 174 ≤ n → IsOfEpoch (header.epoch + 1) n → ⊥
+    apart n le (inl among) = let to = among.to in omega arith
+    apart n le (inr is) = omega arith
+
+    same : (n : ℕ) → 174 ≤ n → reads new n ≡ reads mid n
+    same n le = ⊎_elim (λ was. was) (λ own. absurd (apart n le (of_epoch (next_header header (other_area header) loaded.saved.length) loaded.saved n (reads new n) own))) ((reads_blend (May (next_header header (other_area header) loaded.saved.length) loaded.saved) (Synced mid) new on).each n)
+
+-- A format of whatever is stored: each of the three stretches, a sync, the header, a sync.
+abbrev pub MayFormat : Saved → ℕ → List ℕ → Type 0
+MayFormat saved n bytes = BelongsIn 0 2 IsEmpty n bytes ⊎ (BelongsIn log_first log_size IsEmpty n bytes ⊎ BelongsTo first_header saved n bytes)
+
+abbrev pub WritesFirst : Saved → Life → Life → Type 0
+WritesFirst saved = WritesOnly (λ n bytes. MayFormat saved n bytes)
+
+pub first_headers : {T E : Type 0} (result : Result T E) (saved : Saved) (old new : Life) → Overwrites result 0 2 IsEmpty old new → WritesFirst saved old new
+first_headers result saved old new w = only_wider (BelongsIn 0 2 IsEmpty) (MayFormat saved) old new (λ n c b. inl b) w.writes
+
+pub first_log : {T E : Type 0} (result : Result T E) (saved : Saved) (old mid new : Life) → WritesFirst saved old mid → Overwrites result log_first log_size IsEmpty mid new → WritesFirst saved old new
+first_log result saved old mid new w log = only_more (MayFormat saved) old mid new w (only_wider (BelongsIn log_first log_size IsEmpty) (MayFormat saved) mid new (λ n c b. inr (inl b)) log.writes)
+
+pub first_area : {T E : Type 0} (result : Result T E) (first : ℕ) (saved : Saved) (old mid new : Life) → first ≡ snapshot_first 1 → WritesFirst saved old mid → Overwrites result first snapshot_size (HoldsPart saved) mid new → WritesFirst saved old new
+first_area result first saved old mid new is w area =
+    only_more (MayFormat saved) old mid new w (only_wider (BelongsIn first snapshot_size (HoldsPart saved)) (MayFormat saved) mid new (λ n c b. inr (inr (inl (subst (λ (k : ℕ). BelongsIn k snapshot_size (HoldsPart saved) n c) is b)))) area.writes)
+
+pub first_sync : {T E : Type 0} (result : Result T E) (saved : Saved) (old mid new : Life) → WritesFirst saved old mid → Syncs result mid new → WritesFirst saved old new
+first_sync result saved old mid new w is = only_syncs (MayFormat saved) result old mid new w is
+
+pub first_write : {T E : Type 0} (result : Result T E) (saved : Saved) (bytes : List ℕ) (old mid new : Life) → HoldsHeader first_header bytes → WritesFirst saved old mid → Writes result 1 bytes mid new → WritesFirst saved old new
+first_write result saved bytes old mid new holds w is = only_more (MayFormat saved) old mid new w (only_write (MayFormat saved) result 1 bytes mid new (inr (inr (inr (refl, holds)))) is)

@@ -16,6 +16,7 @@ use Rattle.ng_layout.proofs.Images.{stretch-at, force-frame, stands-frame, writt
 use Rattle.ng_layout.proofs.Snapshots.{text-whole}
 use Rattle.ng_journal.specs.AtRest.{IsOwn, IsAt, IsEither, beside, next_header, Checkpoints}
 use Rattle.ng_journal.specs.Loads.{WritesText, Loads, other_area}
+use Rattle.ng_journal.proofs.Framing.{among_text}
 
 abbrev In : ℕ → ℕ → List ℕ → Type 0
 In first n c = IsAmong first program_size n
@@ -69,7 +70,7 @@ beside_is saved area text image long short parts = λ i. record { saved = saved;
 -- The exits.
 pub exit_text : {T E F : Type 0} (e : E) (result : Result T F) (old mid : Life) (first : ℕ) (header : Header) (loaded : Standing) (text : List ℕ) → IsOwn old header → first ≡ first_of_other header → WritesText result first text old mid → Loads {T = T} (Err e) header loaded old mid
 exit_text e result old mid first header loaded text at place w =
-    let writes = subst (λ (n : ℕ). WritesOnly (In n) old mid) place w.writes in
+    let writes = subst (λ (n : ℕ). WritesOnly (In n) old mid) place (among_text first text old mid w.writes) in
     record { stops = after_text old mid header loaded at writes; items_are = w.writes.items_are; at = tt }
 
 pub exit_sync : {T E F : Type 0} (e : E) (result : Result T F) (old mid last : Life) (first : ℕ) (header : Header) (loaded : Standing) (text : List ℕ) → IsOwn old header → first ≡ first_of_other header → WritesText result first text old mid → last ≡ mid → Loads {T = T} (Err e) header loaded old last
@@ -79,7 +80,7 @@ pub loaded_all : {T E U F : Type 0} (result : Result T E) (u : U) (old mid synce
     → WritesText {E = F} (Ok u) first text old mid → synced ≡ Synced mid → Checkpoints result header (1 - header.area) saved synced last → Loads result header (record { saved = saved; program = text }) old last
 loaded_all {T = T} {E = E} {F = F} result u old mid synced last first header saved text at place long short w is c =
     record {
-      stops = joined old synced last (P old loaded) (subst (λ (l : Life). Onward old l (P old loaded)) (sym is) (at_sync old mid header loaded at writes.writes))
+      stops = joined old synced last (P old loaded) (subst (λ (l : Life). Onward old l (P old loaded)) (sym is) (at_sync old mid header loaded at only))
           (weaker synced last (IsEither (stands (reads synced)) (Ok (beside saved (1 - header.area) (reads synced))) (items synced)) (P old loaded) c.stops (λ image handed p. record {
             state = ⊎_elim (λ b. inl (b ∙ before)) (λ a. inr (a ∙ ap (λ (s : Standing). Ok s) made)) p.state;
             written = p.written;
@@ -95,11 +96,14 @@ loaded_all {T = T} {E = E} {F = F} result u old mid synced last first header sav
     writes : WritesText {E = F} (Ok u) (first_of_other header) text old mid
     writes = subst (λ (n : ℕ). WritesText {E = F} (Ok u) n text old mid) place w
 
+    only : WritesOnly (In (first_of_other header)) old mid
+    only = among_text (first_of_other header) text old mid writes.writes
+
     same_items : items synced ≡ items old
     same_items = ap items is ∙ writes.writes.items_are
 
     before : stands (reads synced) ≡ stands (reads old)
-    before = ap (λ (l : Life). stands (reads l)) is ∙ stands-frame header (reads mid) (reads old) at.force (same_reads old mid header at writes.writes)
+    before = ap (λ (l : Life). stands (reads l)) is ∙ stands-frame header (reads mid) (reads old) at.force (same_reads old mid header at only)
 
     made : beside saved (1 - header.area) (reads synced) ≡ loaded
     made = ap (λ (l : Life). beside saved (1 - header.area) (reads l)) is ∙ beside_is saved (1 - header.area) text (reads mid) long short writes.parts

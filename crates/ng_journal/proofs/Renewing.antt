@@ -22,6 +22,7 @@ use Rattle.ng_layout.proofs.Images.{force-same, force-next, stretch-same, stretc
 use Rattle.ng_layout.proofs.Snapshots.{snapshot-new}
 use Rattle.ng_journal.specs.Area.{WritesArea}
 use Rattle.ng_journal.specs.AtRest.{IsOwn, IsEither, beside, next_header, Checkpoints}
+use Rattle.ng_journal.proofs.Framing.{among}
 
 abbrev In : ℕ → ℕ → List ℕ → Type 0
 In first n c = IsAmong first snapshot_size n
@@ -138,7 +139,7 @@ gave_up e old last header area saved stops given = record { stops = stops; items
 
 pub exit_area : {T E F : Type 0} (e : E) (result : Result T F) (old mid : Life) (first : ℕ) (header : Header) (area : ℕ) (saved : Saved) → IsOwn old header → first ≡ area_of header → WritesArea result first saved old mid → Checkpoints {T = T} (Err e) header area saved old mid
 exit_area e result old mid first header area saved at is w =
-    let writes = subst (λ (x : ℕ). WritesOnly (In x) old mid) is w.writes in
+    let writes = subst (λ (x : ℕ). WritesOnly (In x) old mid) is (among first snapshot_size (HoldsPart saved) old mid w.writes) in
     gave_up e old mid header area saved (after_area old mid header (beside saved area (reads old)) at writes) w.writes.items_are
 
 pub exit_sync : {T E F : Type 0} (e : E) (result : Result T F) (old mid last : Life) (first : ℕ) (header : Header) (area : ℕ) (saved : Saved) → IsOwn old header → first ≡ area_of header → WritesArea result first saved old mid → last ≡ mid → Checkpoints {T = T} (Err e) header area saved old last
@@ -147,7 +148,7 @@ exit_sync {T = T} e result old mid last first header area saved at is w same = s
 pub ready : {T E : Type 0} (v : T) (old mid : Life) (first : ℕ) (header new : Header) (saved : Saved) (bytes : List ℕ) → IsOwn old header → first ≡ area_of header → WritesArea {E = E} (Ok v) first saved old mid → length saved.setup.params ≡ 5399 → header_in (new.epoch % 2) bytes ≡ Some new → new.epoch ≡ header.epoch + 1 → new.length ≡ saved.length → Ready old mid header new saved bytes
 ready v old mid first header new saved bytes at is w table bytes_are epoch long = record {
   at = at;
-  writes = subst (λ (x : ℕ). WritesOnly (In x) old mid) is w.writes;
+  writes = subst (λ (x : ℕ). WritesOnly (In x) old mid) is (among first snapshot_size (HoldsPart saved) old mid w.writes);
   parts = λ j lt. subst (λ (x : ℕ). HoldsPart saved j (reads mid (x + j))) is (w.parts j lt);
   table = table;
   bytes_are = bytes_are;

@@ -12,8 +12,8 @@ use Rattle.ng_layout.specs.declared.header.Header.{Header}
 use Rattle.ng_layout.specs.Limits.{greatest_count}
 use Rattle.ng_layout.specs.Stands.{in_force, stands, closed, IsWritten}
 use Rattle.ng_layout.specs.Stored.{Saved}
-use Rattle.ng_journal.specs.AtRest.{IsOwn, IsAt, IsEither, IsOfEpoch, WritesEpoch, beside, next_header, Checkpoints}
-use Rattle.ng_journal.specs.Recovery.{recovered_of, HasCause, IsOfNext, Renews, StandsUnder, IsRead, Restores}
+use Rattle.ng_journal.specs.AtRest.{IsOwn, IsAt, IsEither, BelongsTo, WritesState, beside, next_header, Checkpoints}
+use Rattle.ng_journal.specs.Recovery.{recovered_of, HasCause, BelongsToNext, Renews, StandsUnder, IsRead, Restores}
 
 abbrev Same : Life → Image → List Item → Type 0
 Same old = IsEither (stands (reads old)) (recovered_of (stands (reads old))) (items old)
@@ -26,7 +26,7 @@ synced_stops old written = on_sync old (Same old) (λ image handed s.
 -- a sync writes nothing
 sync_renews : (old new : Life) → new ≡ Synced old → Renews old new
 sync_renews old new is =
-    let May = λ (n : ℕ) (c : List ℕ). IsOfNext (reads old) n in
+    let May = λ (n : ℕ) (bytes : List ℕ). BelongsToNext (reads old) n bytes in
     subst (λ (l : Life). Renews old l) (sym is) (only_synced May old old (only_none May old))
 
 -- nothing but the sync was done, and a read failed
@@ -83,28 +83,34 @@ through result header found saved old mid new is u closed_is written c =
 own_on : (header : Header) (found : Saved) (old mid : Life) → mid ≡ Synced old → StandsUnder header found (reads mid) → IsWritten (reads old) → IsOwn mid header
 own_on header found old mid is u written = record { synced = subst IsSynced (sym is) (is_synced old); force = u.force; written = subst (λ (l : Life). IsWritten (reads l)) (sym is) written }
 
--- the sectors of the epoch after the one in force are those of the epoch after this header's
-renewed : (header : Header) (old now new : Life) → now ≡ Synced old → in_force (reads now) ≡ Some header → WritesEpoch (header.epoch + 1) now new → Renews old new
-renewed header old now new is force w =
-    let May = λ (n : ℕ) (c : List ℕ). IsOfNext (reads old) n in
-    let was : in_force (reads old) ≡ Some header = subst (λ (l : Life). in_force (reads l) ≡ Some header) is force in
-    only_more May old now new (sync_renews old now is)
-    (only_wider (λ (n : ℕ) (c : List ℕ). IsOfEpoch (header.epoch + 1) n) May now new (λ n c own. record { header = header; force = was; own = own }) w)
+-- the header of the epoch after this one's, in the same area
+abbrev Next : Header → Saved → Header
+Next header saved = next_header header header.area saved.length
 
-pub exit_within : {T E F : Type 0} (e : E) (result : Result T F) (answer : Result Header Fault) (header : Header) (found saved : Saved) (old mid now new : Life) → answer ≡ Ok header → mid ≡ Synced old → now ≡ mid → IsRead found (reads mid) answer → saved ≡ closed_of found → WritesEpoch (header.epoch + 1) now new → (IsOwn now header → Checkpoints result header header.area saved now new) → Restores (Err e) saved old new
-exit_within e result answer header found saved old mid now new sound is same read closed_is frame c =
+-- what a checkpoint writes of what was found is the recovered of what stood
+renewed : (header : Header) (found saved : Saved) (old now new : Life) → now ≡ Synced old → StandsUnder header found (reads now) → saved ≡ closed_of found → WritesState (Next header saved) saved now new → Renews old new
+renewed header found saved old now new is u closed_is w =
+    let May = λ (n : ℕ) (bytes : List ℕ). BelongsToNext (reads old) n bytes in
+    let was : in_force (reads old) ≡ Some header = subst (λ (l : Life). in_force (reads l) ≡ Some header) is u.force in
+    let after = recovered_is header found saved old now is u closed_is in
+    only_more May old now new (sync_renews old now is)
+    (only_wider (λ n bytes. BelongsTo (Next header saved) saved n bytes) May now new
+    (λ n bytes own. record { header = header; force = was; standing = beside saved header.area (reads now); is = after; own = own }) w)
+
+pub exit_within : {T E F : Type 0} (e : E) (result : Result T F) (answer : Result Header Fault) (header : Header) (found saved : Saved) (old mid now new : Life) → answer ≡ Ok header → mid ≡ Synced old → now ≡ mid → IsRead found (reads mid) answer → saved ≡ closed_of found → WritesState (Next header saved) saved now new → (IsOwn now header → Checkpoints result header header.area saved now new) → Restores (Err e) saved old new
+exit_within e result answer header found saved old mid now new sound is same read closed_is writes c =
     let u = under answer header found (reads now) sound (subst (λ (l : Life). IsRead found (reads l) answer) (sym same) read) in
     record {
       outcome = tt;
       refused = tt;
-      renews = renewed header old now new (same ∙ is) u.force frame;
+      renews = renewed header found saved old now new (same ∙ is) u closed_is writes;
       kept = λ written.
           let d = c (own_on header found old now (same ∙ is) u written) in
           record { stops = through result header found saved old now new (same ∙ is) u closed_is written d; ready = tt };
     }
 
-pub exit_restored : {T F : Type 0} (v : T) (answer : Result Header Fault) (header : Header) (found saved : Saved) (old mid now new : Life) → answer ≡ Ok header → mid ≡ Synced old → now ≡ mid → IsRead found (reads mid) answer → saved ≡ closed_of found → WritesEpoch (header.epoch + 1) now new → (IsOwn now header → Checkpoints {E = F} (Ok v) header header.area saved now new) → Restores {E = F} (Ok (Ok (next_header header header.area header.length))) saved old new
-exit_restored {F = F} v answer header found saved old mid now new sound is same read closed_is frame c =
+pub exit_restored : {T F : Type 0} (v : T) (answer : Result Header Fault) (header : Header) (found saved : Saved) (old mid now new : Life) → answer ≡ Ok header → mid ≡ Synced old → now ≡ mid → IsRead found (reads mid) answer → saved ≡ closed_of found → WritesState (Next header saved) saved now new → (IsOwn now header → Checkpoints {E = F} (Ok v) header header.area saved now new) → Restores {E = F} (Ok (Ok (next_header header header.area header.length))) saved old new
+exit_restored {F = F} v answer header found saved old mid now new sound is same read closed_is writes c =
     let ok : Result _ F = Ok v in
     let u = under answer header found (reads now) sound (subst (λ (l : Life). IsRead found (reads l) answer) (sym same) read) in
     let after = recovered_is header found saved old now (same ∙ is) u closed_is in
@@ -112,7 +118,7 @@ exit_restored {F = F} v answer header found saved old mid now new sound is same 
     record {
       outcome = (record { program = (beside saved header.area (reads now)).program; is = after }, record { before = header; force = subst (λ (l : Life). in_force (reads l) ≡ Some header) (same ∙ is) u.force; next = refl });
       refused = tt;
-      renews = renewed header old now new (same ∙ is) u.force frame;
+      renews = renewed header found saved old now new (same ∙ is) u closed_is writes;
       kept = λ written.
           let d = c (own_on header found old now (same ∙ is) u written) in
           record {

@@ -6,10 +6,13 @@ use Rattle.ng_rig.specs.Life.{Image, Life, reads, items}
 use Rattle.ng_rig.specs.Only.{WritesOnly}
 use Rattle.ng_rig.specs.Onward.{Onward, IsSynced}
 use Rattle.ng_layout.specs.declared.header.Header.{Header}
+use Rattle.ng_layout.specs.Header.{HoldsHeader}
 use Rattle.ng_layout.specs.Sectors.{text_of}
+use Rattle.ng_layout.specs.Snapshot.{HoldsPart}
 use Rattle.ng_layout.specs.Spare.{IsAmong}
 use Rattle.ng_layout.specs.Stands.{snapshot_first, snapshot_size, program_first, program_size, stretch, in_force, stands, IsWritten}
 use Rattle.ng_layout.specs.Stored.{Saved, Standing}
+use Rattle.ng_journal.specs.Area.{BelongsIn}
 
 -- one image, under this header, with no record of an epoch to come
 pub record IsOwn (life : Life) (header : Header) : Type 0 where
@@ -47,6 +50,19 @@ pub record Checkpoints {T E : Type 0} (result : Result T E) (header : Header) (a
 abbrev pub IsOfEpoch : ℕ → ℕ → Type 0
 IsOfEpoch epoch n = IsAmong (snapshot_first epoch) snapshot_size n ⊎ (n ≡ epoch % 2)
 
--- Only sectors of that epoch are written, and nothing is handed out.
-abbrev pub WritesEpoch : ℕ → Life → Life → Type 0
-WritesEpoch epoch = WritesOnly (λ n c. IsOfEpoch epoch n)
+-- These bytes belong in sector n where this is stored under a header: a part of the snapshot in its area, the header in its sector.
+abbrev pub BelongsTo : Header → Saved → ℕ → List ℕ → Type 0
+BelongsTo header saved n bytes = BelongsIn (snapshot_first header.epoch) snapshot_size (HoldsPart saved) n bytes ⊎ ((n ≡ header.epoch % 2) × HoldsHeader header bytes)
+
+-- Only what belongs there is written, and nothing is handed out.
+abbrev pub WritesState : Header → Saved → Life → Life → Type 0
+WritesState header saved = WritesOnly (λ n bytes. BelongsTo header saved n bytes)
+
+-- all of it stands there
+abbrev pub IsLaidOut : Header → Saved → Image → Type 0
+IsLaidOut header saved image = (n : ℕ) → IsOfEpoch header.epoch n → BelongsTo header saved n (image n)
+
+-- Only what belongs there is written, nothing is handed out, and after Ok all of it stands there.
+pub record StoresState {T E : Type 0} (result : Result T E) (header : Header) (saved : Saved) (old new : Life) : Type 0 where
+  pub writes : WritesState header saved old new
+  pub laid : OnOk result (IsLaidOut header saved (reads new))

@@ -1,30 +1,28 @@
 -- What `format` leaves (own).
-use Rattle.std.specs.Prelude.{◌≡◌, ◌<◌, ◌+◌, ℕ, List, [], Result, OnOk}
+use Rattle.std.specs.Prelude.{◌≡◌, ◌⊎◌, ◌<◌, ◌+◌, ℕ, List, [], replicate, Result, OnOk}
 use Rattle.ng_rig.specs.Life.{Life, reads}
 use Rattle.ng_rig.specs.Only.{WritesOnly}
 use Rattle.ng_layout.specs.declared.header.Header.{Header}
-use Rattle.ng_layout.specs.Fields.{number_at}
+use Rattle.ng_layout.specs.Log.{log_size}
 use Rattle.ng_layout.specs.Spare.{IsAmong}
+use Rattle.ng_layout.specs.Stands.{log_first}
 use Rattle.ng_layout.specs.Stored.{Standing, fresh}
-use Rattle.ng_journal.specs.AtRest.{IsAt}
+use Rattle.ng_journal.specs.Area.{BelongsIn}
+use Rattle.ng_journal.specs.AtRest.{IsAt, BelongsTo, IsLaidOut}
 
--- any sector may be written, with anything
-abbrev pub Anything : ℕ → List ℕ → Type 0
-Anything n bytes = Unit {0}
-
--- it begins with eight zeros, so it holds neither a header nor a part
+-- all its bytes are 0, so it holds neither a header nor a part
 abbrev pub IsEmpty : ℕ → List ℕ → Type 0
-IsEmpty n bytes = number_at 8 0 bytes ≡ 0
+IsEmpty n bytes = bytes ≡ replicate 512 0
 
--- The first n sectors of a stretch are right, each in its place, and a read of any other sector gives what it gave.
+-- Only what is right in its place is written to a stretch; the first n of its sectors are right, and a read of any other gives what it gave.
 pub record OverwritesTo (n first size : ℕ) (IsRight : ℕ → List ℕ → Type 0) (old new : Life) : Type 0 where
-  pub writes : WritesOnly Anything old new
+  pub writes : WritesOnly (BelongsIn first size IsRight) old new
   pub outside : (m : ℕ) → ¬ IsAmong first size m → reads new m ≡ reads old m
   pub parts : (j : ℕ) → j < n → IsRight j (reads new (first + j))
 
 -- after Ok all of the stretch is right
 pub record Overwrites {T E : Type 0} (result : Result T E) (first size : ℕ) (IsRight : ℕ → List ℕ → Type 0) (old new : Life) : Type 0 where
-  pub writes : WritesOnly Anything old new
+  pub writes : WritesOnly (BelongsIn first size IsRight) old new
   pub outside : (m : ℕ) → ¬ IsAmong first size m → reads new m ≡ reads old m
   pub parts : OnOk result ((j : ℕ) → j < size → IsRight j (reads new (first + j)))
 
@@ -35,7 +33,18 @@ first_header = record { epoch = 1; area = 0; length = 0 }
 abbrev pub fresh_standing : Standing
 fresh_standing = record { saved = fresh; program = [] }
 
--- Nothing is handed out; after Ok the device has one image, which stands for a fresh controller under the first epoch.
+-- These bytes belong in sector n of a device that is formatted: zeros in those of headers and log, a fresh controller under the first header.
+abbrev pub BelongsToFormat : ℕ → List ℕ → Type 0
+BelongsToFormat n bytes = BelongsIn 0 2 IsEmpty n bytes ⊎ (BelongsIn log_first log_size IsEmpty n bytes ⊎ BelongsTo first_header fresh n bytes)
+
+-- Only what belongs there is written, and nothing is handed out.
+abbrev pub WritesFormat : Life → Life → Type 0
+WritesFormat = WritesOnly (λ n bytes. BelongsToFormat n bytes)
+
+-- Only that is written, and nothing is handed out. After Ok it stands there, with zeros in sector 0 and the log, and the device has one image,
+-- which stands for a fresh controller under the first epoch.
 pub record Formats {T E : Type 0} (result : Result T E) (old new : Life) : Type 0 where
-  pub writes : WritesOnly Anything old new
+  pub writes : WritesFormat old new
   pub at : OnOk result (IsAt new first_header fresh_standing)
+  pub laid : OnOk result (IsLaidOut first_header fresh (reads new))
+  pub zeros : OnOk result ((n : ℕ) → (n ≡ 0) ⊎ IsAmong log_first log_size n → IsEmpty n (reads new n))

@@ -8,3 +8,4 @@ pub mod ProgramLines
 pub mod Reading
 pub mod Recover
 pub mod Recovery
+pub mod Storing

@@ -10,7 +10,7 @@ use Rattle.ng_layout.specs.Fields.{number_at}
 use Rattle.ng_layout.specs.Limits.{greatest_count}
 use Rattle.ng_layout.specs.Stands.{in_force, stands, recovered, log_first, IsWritten}
 use Rattle.ng_layout.specs.Stored.{Saved, Standing}
-use Rattle.ng_journal.specs.AtRest.{IsAt, IsEither, IsOfEpoch, beside}
+use Rattle.ng_journal.specs.AtRest.{IsAt, IsEither, BelongsTo, beside, next_header}
 
 -- the faults of what a device holds
 abbrev pub IsRefusal : Fault → Type 0
@@ -64,15 +64,17 @@ pub record IsNextEpoch (header : Header) (image : Image) : Type 0 where
   pub force : in_force image ≡ Some before
   pub next : header.epoch ≡ before.epoch + 1
 
--- a sector of the epoch after the one in force
-pub record IsOfNext (image : Image) (n : ℕ) : Type 0 where
+-- These bytes belong in sector n where the recovered of what stands is stored under the epoch after the one in force.
+pub record BelongsToNext (image : Image) (n : ℕ) (bytes : List ℕ) : Type 0 where
   pub header : Header
   pub force : in_force image ≡ Some header
-  pub own : IsOfEpoch (header.epoch + 1) n
+  pub standing : Standing
+  pub is : recovered_of (stands image) ≡ Ok standing
+  pub own : BelongsTo (next_header header header.area standing.saved.length) standing.saved n bytes
 
--- Only sectors of the epoch after the one in force are written, and nothing is handed out.
+-- Only what belongs there is written, and nothing is handed out.
 abbrev pub Renews : Life → Life → Type 0
-Renews old new = WritesOnly (λ n c. IsOfNext (reads old) n) old new
+Renews old new = WritesOnly (BelongsToNext (reads old)) old new
 
 abbrev pub Outcome : Result Header Fault → Saved → Image → Type 0
 Outcome (Ok header) saved image = IsFound saved image × IsNextEpoch header image

@@ -2,10 +2,10 @@
 ghost use Rattle.std.specs.Prelude.{◌≡◌, ◌≤◌, ◌<◌, ◌+◌, ◌%◌, Some};
 ghost use Rattle.ng_rig.specs.Calls.{Promises, Counts};
 ghost use Rattle.ng_layout.specs.Storable.{IsStorable};
-ghost use Rattle.ng_layout.specs.Header.{header_in};
+ghost use Rattle.ng_layout.specs.Header.{header_in, HoldsHeader};
 ghost use Rattle.ng_layout.specs.declared.header.Header.{Header};
 ghost use Rattle.ng_journal.specs.Area.{WritesArea};
-ghost use Rattle.ng_journal.specs.AtRest.{IsOwn, Checkpoints, WritesEpoch};
+ghost use Rattle.ng_journal.specs.AtRest.{IsOwn, Checkpoints, StoresState, next_header};
 
 use crate::sectors::{SNAPSHOT, snapshot_first};
 use ng_layout::{Header, Stored};
@@ -39,7 +39,8 @@ pub(crate) fn header_sector(header: Header) -> [u8; 512]
     requires few { header.epoch ≤ 1_000_000_000_000 }
     requires area { header.area ≤ 1 }
     requires length { header.length ≤ 131_072 }
-    ensures { header_in (header.epoch % 2) result ≡ Some header }
+    ensures read { header_in (header.epoch % 2) result ≡ Some header }
+    ensures holds { HoldsHeader header result }
 {
     header.write()
 }
@@ -57,7 +58,7 @@ pub(crate) fn checkpoint<R: Rig, A: Allocator + Copy + Drop>(
     requires count { stored.now.entries ≤ 1_000_000_000_000 }
     requires storable { IsStorable stored.now }
     ensures stops { Promises (R.honest rig.old) (R.honest rig.new) (IsOwn (R.life rig.old) header → Checkpoints result header area stored.now (R.life rig.old) (R.life rig.new)) }
-    ensures frame { Promises (R.honest rig.old) (R.honest rig.new) (WritesEpoch (header.epoch + 1) (R.life rig.old) (R.life rig.new)) }
+    ensures stores { Promises (R.honest rig.old) (R.honest rig.new) (StoresState result (next_header header area stored.now.length) stored.now (R.life rig.old) (R.life rig.new)) }
     ensures size { R.sectors rig.new ≡ R.sectors rig.old }
     ensures failures { Counts result (R.failed rig.old) (R.failed rig.new) }
 {

@@ -1,8 +1,7 @@
 //! A device made fresh: no header is left on it, then it stands for a fresh controller.
-ghost use Rattle.std.specs.Prelude.{◌≡◌, ◌≤◌, ◌<◌, ◌+◌, ◌⊎◌, ◌↔◌, IsErrOf, IfErr};
+ghost use Rattle.std.specs.Prelude.{◌≡◌, ◌≤◌, ◌<◌, ◌+◌, ◌⊎◌, ◌↔◌, replicate, IsErrOf, IfErr};
 ghost use Rattle.ng_num.specs.declared.fault.Fault.TheVariants.{DeviceFailed, NotFormatted};
 ghost use Rattle.ng_rig.specs.Calls.{Promises, Counts};
-ghost use Rattle.ng_layout.specs.Fields.{number_at};
 ghost use Rattle.ng_layout.specs.Log.{log_size};
 ghost use Rattle.ng_layout.specs.Snapshot.{HoldsPart};
 ghost use Rattle.ng_layout.specs.Stands.{log_first, snapshot_first, snapshot_size};
@@ -18,7 +17,7 @@ use ng_rig::{Failed, Rig};
 
 /// A sector of zeros.
 fn empty_sector() -> [u8; BYTES]
-    ensures { number_at 8 0 result ≡ 0 }
+    ensures { result ≡ replicate 512 0 }
 {
     [0; BYTES]
 }
@@ -87,7 +86,8 @@ fn make_fresh<R: Rig>(rig: &mut R) -> Result<(), Failed>
 /// Formats a device (own): after Ok it has one image, which stands for a fresh controller with no program, under epoch 1.
 ///
 /// J2 for fewer than 1,710 sectors, with no call of the device. J1 where the device failed; nothing is said of what
-/// it stands for then, nor of a stop before Ok: it is formatted again. Nothing is handed out. It takes no memory.
+/// it stands for then, nor of a stop before Ok: it is formatted again. Only the headers' sectors, the log's and the first
+/// epoch's snapshot's are written. Nothing is handed out. It takes no memory.
 pub fn format<R: Rig>(rig: &mut R) -> Result<(), Fault>
     ensures formats { 1710 ≤ R.sectors rig.old → Promises (R.honest rig.old) (R.honest rig.new) (Formats result (R.life rig.old) (R.life rig.new)) }
     ensures small { IsErrOf result NotFormatted ↔ (R.sectors rig.old < 1710) }

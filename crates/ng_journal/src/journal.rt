@@ -1,5 +1,5 @@
 //! The journal of a device.
-ghost use Rattle.std.specs.Prelude.{◌≡◌, ◌≤◌, ◌<◌, ◌⊎◌, ◌↔◌, false, true, Some, length, MatchResult, OnOk, IfOk, IfErr, IfSome, IsErrOf, IsErrAnd};
+ghost use Rattle.std.specs.Prelude.{◌≡◌, ◌≤◌, ◌<◌, ◌⊎◌, ◌↔◌, false, true, Some, length, MatchResult, OnOk, IfOk, IfErr, IfSome, IsSome, IsErrOf, IsErrAnd};
 ghost use Rattle.ng_num.specs.declared.fault.Fault.TheVariants.{DeviceFailed, NotFormatted, CountersUsed, ProgramTooLong, OutOfMemory};
 ghost use Rattle.ng_rig.specs.Calls.{Promises, Counts, Hands};
 ghost use Rattle.ng_layout.specs.Limits.{greatest_count};
@@ -8,7 +8,9 @@ ghost use Rattle.ng_layout.specs.Stored.{Standing};
 ghost use Rattle.ng_journal.specs.Recover.{Recovers, rig_of, fault_of};
 ghost use Rattle.ng_journal.specs.Journal.{Tells};
 ghost use Rattle.ng_journal.specs.ProgramLines.{FindsFirst, ReadsLine};
-ghost use Rattle.ng_journal.specs.AtRest.{IsOwn, Checkpoints, next_header};
+ghost use Rattle.ng_journal.specs.AtRest.{IsOwn, Checkpoints, StoresState, next_header};
+ghost use Rattle.ng_journal.specs.Loads.{StoresLoad};
+ghost use Rattle.ng_journal.specs.Storing.{Commit, Open, Load, UsesUp, ledger_of};
 
 use crate::checkpoint::checkpoint;
 use crate::line::{ProgramLine, read_line};
@@ -117,16 +119,19 @@ impl<R: Rig, A: Allocator + Copy + Drop> Journal<R, A> {
     /// J4 where the entry count or the epoch would be beyond its limit; then nothing is changed. J1 where the device
     /// failed: the journal is broken then, and the device stands for what stood before or for the new. It takes no
     /// memory.
+    #[tactic(auto, unfolding(crate::specs::Storing::UsesUp))]
     pub fn commit(&mut self, stored: &Stored<A>) -> Result<(), Fault>
         requires whole { self.old.broken ≡ false }
         requires storable { IsStorable stored.now }
         requires program { stored.now.length ≡ self.old.saved.length }
         ensures stops { Promises (R.honest self.old.rig) (R.honest self.new.rig) ((before : Standing) → RestsAt (R.life self.old.rig) self.old before
             → Moves result self.new before (record before { saved = stored.now }) (R.life self.old.rig) (R.life self.new.rig)) }
+        ensures stores { Promises (R.honest self.old.rig) (R.honest self.new.rig) (StoresState result (next_header self.old.header self.old.header.area stored.now.length) stored.now (R.life self.old.rig) (R.life self.new.rig)) }
         ensures saved { OnOk result (self.new.saved ≡ stored.now) }
         ensures broken { IsBrokenBy result self.new.broken }
         ensures errors { IfErr result (λ e. (e ≡ CountersUsed) ⊎ (e ≡ DeviceFailed)) }
-        ensures used_up { IsErrOf result CountersUsed ↔ (greatest_count ≤ self.old.header.epoch ⊎ greatest_count < stored.now.entries) }
+        ensures used_up { IsErrOf result CountersUsed ↔ UsesUp (ledger_of self.old) (Commit stored.now) }
+        ensures count { OnOk result (stored.now.entries ≤ greatest_count) }
         ensures unchanged { IsErrOf result CountersUsed → self.new ≡ self.old }
         ensures size { R.sectors self.new.rig ≡ R.sectors self.old.rig }
         ensures failures { Tells result (R.failed self.old.rig) (R.failed self.new.rig) }
@@ -142,15 +147,18 @@ impl<R: Rig, A: Allocator + Copy + Drop> Journal<R, A> {
     ///
     /// J4 where the epoch would be beyond its limit; then nothing is changed. J1 as for `commit`. It takes no
     /// memory.
+    #[tactic(auto, unfolding(crate::specs::Storing::UsesUp))]
     pub fn open_segment(&mut self, half: &Half) -> Result<(), Fault>
         requires whole { self.old.broken ≡ false }
         requires half { CanWait half.now }
+        requires is_open { IsSome half.now.opened }
         ensures stops { Promises (R.honest self.old.rig) (R.honest self.new.rig) ((before : Standing) → RestsAt (R.life self.old.rig) self.old before
             → Moves result self.new before (record before { saved = record self.old.saved { half = Some half.now } }) (R.life self.old.rig) (R.life self.new.rig)) }
+        ensures stores { Promises (R.honest self.old.rig) (R.honest self.new.rig) (StoresState result (next_header self.old.header self.old.header.area self.old.saved.length) (record self.old.saved { half = Some half.now }) (R.life self.old.rig) (R.life self.new.rig)) }
         ensures saved { OnOk result (self.new.saved ≡ record self.old.saved { half = Some half.now }) }
         ensures broken { IsBrokenBy result self.new.broken }
         ensures errors { IfErr result (λ e. (e ≡ CountersUsed) ⊎ (e ≡ DeviceFailed)) }
-        ensures used_up { IsErrOf result CountersUsed ↔ (greatest_count ≤ self.old.header.epoch) }
+        ensures used_up { IsErrOf result CountersUsed ↔ UsesUp (ledger_of self.old) (Open half.now) }
         ensures unchanged { IsErrOf result CountersUsed → self.new ≡ self.old }
         ensures size { R.sectors self.new.rig ≡ R.sectors self.old.rig }
         ensures failures { Tells result (R.failed self.old.rig) (R.failed self.new.rig) }
@@ -167,17 +175,20 @@ impl<R: Rig, A: Allocator + Copy + Drop> Journal<R, A> {
     /// J5 for more than 131,072 bytes; J4 where the entry count or the epoch would be beyond its limit; then nothing
     /// is changed, and the device isn't called. J1 where the device failed: the journal is broken then, and the
     /// device stands for what stood before or for the new. It takes no memory.
+    #[tactic(auto, unfolding(crate::specs::Storing::UsesUp))]
     pub fn load_program(&mut self, text: &[u8], stored: &Stored<A>) -> Result<(), Fault>
         requires whole { self.old.broken ≡ false }
         requires storable { length text.now ≤ 131_072 → IsStorable stored.now }
         requires long { stored.now.length ≡ length text.now }
         ensures stops { Promises (R.honest self.old.rig) (R.honest self.new.rig) ((before : Standing) → RestsAt (R.life self.old.rig) self.old before
             → Moves result self.new before (record { saved = stored.now; program = text.now }) (R.life self.old.rig) (R.life self.new.rig)) }
+        ensures stores { Promises (R.honest self.old.rig) (R.honest self.new.rig) (StoresLoad result self.old.header (record { saved = stored.now; program = text.now }) (R.life self.old.rig) (R.life self.new.rig)) }
         ensures saved { OnOk result (self.new.saved ≡ stored.now) }
         ensures broken { IsBrokenBy result self.new.broken }
         ensures errors { IfErr result (λ e. (e ≡ ProgramTooLong) ⊎ ((e ≡ CountersUsed) ⊎ (e ≡ DeviceFailed))) }
         ensures too_long { IsErrOf result ProgramTooLong ↔ (131_072 < length text.now) }
-        ensures used_up { IsErrOf result CountersUsed ↔ ((length text.now ≤ 131_072) × (greatest_count ≤ self.old.header.epoch ⊎ greatest_count < stored.now.entries)) }
+        ensures used_up { IsErrOf result CountersUsed ↔ ((length text.now ≤ 131_072) × UsesUp (ledger_of self.old) (Load stored.now)) }
+        ensures count { OnOk result (stored.now.entries ≤ greatest_count) }
         ensures unchanged { (IsErrOf result CountersUsed ⊎ IsErrOf result ProgramTooLong) → self.new ≡ self.old }
         ensures size { R.sectors self.new.rig ≡ R.sectors self.old.rig }
         ensures failures { Tells result (R.failed self.old.rig) (R.failed self.new.rig) }
@@ -213,7 +224,7 @@ impl<R: Rig, A: Allocator + Copy + Drop> Journal<R, A> {
         ensures hands { Promises (R.honest self.old.rig) (R.honest self.new.rig) (Hands result item (R.life self.old.rig) (R.life self.new.rig)) }
         ensures stops { Promises (R.honest self.old.rig) (R.honest self.new.rig) ((standing : Standing) → RestsAt (R.life self.old.rig) self.old standing
             → HandsOut result self.new standing item (R.life self.old.rig) (R.life self.new.rig)) }
-        ensures saved { self.new.saved ≡ self.old.saved }
+        ensures ledger { ledger_of self.new ≡ ledger_of self.old }
         ensures broken { IsBrokenBy result self.new.broken }
         ensures errors { IfErr result (λ e. e ≡ DeviceFailed) }
         ensures size { R.sectors self.new.rig ≡ R.sectors self.old.rig }
@@ -228,11 +239,11 @@ impl<R: Rig, A: Allocator + Copy + Drop> Journal<R, A> {
         }
     }
 
-    /// Whether the next epoch or so many entries are beyond their limit.
+    /// Whether so many entries, or the next epoch, are beyond their limit.
     fn is_used_up(&self, entries: u64) -> bool
-        ensures { (result ≡ true) ↔ (greatest_count ≤ self.now.header.epoch ⊎ greatest_count < entries) }
+        ensures { (result ≡ true) ↔ (greatest_count < entries ⊎ greatest_count ≤ self.now.header.epoch) }
     {
-        self.header.epoch >= GREATEST_COUNT || entries > GREATEST_COUNT
+        entries > GREATEST_COUNT || self.header.epoch >= GREATEST_COUNT
     }
 
     /// The kind of the first line before a place of the program in force that isn't blank; blank where all are (own). It reads no
@@ -244,7 +255,7 @@ impl<R: Rig, A: Allocator + Copy + Drop> Journal<R, A> {
         requires place { place ≤ self.old.saved.length }
         ensures kind { Promises (R.honest self.old.rig) (R.honest self.new.rig) ((standing : Standing) → RestsAt (R.life self.old.rig) self.old standing
             → FindsFirst result self.new standing place (R.life self.old.rig) (R.life self.new.rig)) }
-        ensures saved { self.new.saved ≡ self.old.saved }
+        ensures ledger { ledger_of self.new ≡ ledger_of self.old }
         ensures broken { IsBrokenBy result self.new.broken }
         ensures errors { IfErr result (λ e. e ≡ DeviceFailed) }
         ensures size { R.sectors self.new.rig ≡ R.sectors self.old.rig }
@@ -270,7 +281,7 @@ impl<R: Rig, A: Allocator + Copy + Drop> Journal<R, A> {
         ensures line { Promises (R.honest self.old.rig) (R.honest self.new.rig) ((standing : Standing) → RestsAt (R.life self.old.rig) self.old standing
             → ReadsLine result self.new standing place (R.life self.old.rig) (R.life self.new.rig)) }
         ensures next { IfOk result (λ line. IfSome line (λ l. (place < l.next) × (l.next ≤ self.old.saved.length))) }
-        ensures saved { self.new.saved ≡ self.old.saved }
+        ensures ledger { ledger_of self.new ≡ ledger_of self.old }
         ensures broken { IsBrokenBy result self.new.broken }
         ensures errors { IfErr result (λ e. e ≡ DeviceFailed) }
         ensures size { R.sectors self.new.rig ≡ R.sectors self.old.rig }
@@ -292,6 +303,7 @@ impl<R: Rig, A: Allocator + Copy + Drop> Journal<R, A> {
         requires { self.old.header.epoch < 1_000_000_000_000 }
         ensures stops { Promises (R.honest self.old.rig) (R.honest self.new.rig) (IsOwn (R.life self.old.rig) self.old.header
             → Checkpoints result self.old.header self.old.header.area self.old.saved (R.life self.old.rig) (R.life self.new.rig)) }
+        ensures stores { Promises (R.honest self.old.rig) (R.honest self.new.rig) (StoresState result (next_header self.old.header self.old.header.area self.old.saved.length) self.old.saved (R.life self.old.rig) (R.life self.new.rig)) }
         ensures saved { self.new.saved ≡ self.old.saved }
         ensures ok { OnOk result (self.new.header ≡ next_header self.old.header self.old.header.area self.old.saved.length) }
         ensures broken { MatchResult result (λ _. self.new.broken ≡ self.old.broken) (λ e. (e ≡ DeviceFailed) × (self.new.broken ≡ true)) }

@@ -4,7 +4,7 @@ ghost use Rattle.ng_rig.specs.Calls.{Promises, Counts};
 ghost use Rattle.ng_layout.specs.Stands.{program_first};
 ghost use Rattle.ng_layout.specs.Storable.{IsStorable};
 ghost use Rattle.ng_journal.specs.AtRest.{IsOwn};
-ghost use Rattle.ng_journal.specs.Loads.{WritesText, Loads};
+ghost use Rattle.ng_journal.specs.Loads.{WritesText, Loads, StoresLoad};
 
 use crate::checkpoint::checkpoint;
 use crate::sectors::program_first;
@@ -41,6 +41,7 @@ pub(crate) fn load<R: Rig, A: Allocator + Copy + Drop>(
     requires storable { IsStorable stored.now }
     requires long { stored.now.length ≡ length text.now }
     ensures stops { Promises (R.honest rig.old) (R.honest rig.new) (IsOwn (R.life rig.old) header → Loads result header (record { saved = stored.now; program = text.now }) (R.life rig.old) (R.life rig.new)) }
+    ensures stores { Promises (R.honest rig.old) (R.honest rig.new) (StoresLoad result header (record { saved = stored.now; program = text.now }) (R.life rig.old) (R.life rig.new)) }
     ensures size { R.sectors rig.new ≡ R.sectors rig.old }
     ensures failures { Counts result (R.failed rig.old) (R.failed rig.new) }
 {

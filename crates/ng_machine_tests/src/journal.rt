@@ -1,4 +1,4 @@
-ghost use Rattle.std.specs.Prelude.{◌≡◌, false, length};
+ghost use Rattle.std.specs.Prelude.{◌≡◌, false, length, IsSome};
 ghost use Rattle.ng_layout.specs.Storable.{CanWait, IsStorable};
 
 use crate::images::{FRESH, MARK, powered, put, sector_of, sector_with, store};
@@ -193,7 +193,8 @@ const PROGRAM: &[u8; 13] = b"G0 X0.002\nM2\n";
 
 /// The Mdi block `G0X5` with its first segment open.
 fn open_half() -> Half
-    ensures { CanWait result }
+    ensures waits { CanWait result }
+    ensures is_open { IsSome result.opened }
 {
     Half {
         text: text_of(b"G0X5"),

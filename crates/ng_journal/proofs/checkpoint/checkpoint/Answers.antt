@@ -1,8 +1,10 @@
-use Rattle.std.proofs.Common.{◌+◌, Some, refl, ◌∙◌, ap}
+use Rattle.std.proofs.Common.{◌+◌, Some, refl, ◌∙◌, ap, subst}
 use Rattle.std.proofs.lemmas.Result.{err_from_is_err_and}
 use Rattle.ng_layout.specs.declared.header.Header.{Header}
+use Rattle.ng_layout.specs.Header.{HoldsHeader}
 use Rattle.ng_layout.specs.Stored.{Saved}
-use Rattle.ng_journal.proofs.Framing.{frame_area, frame_sync, frame_write}
+use Rattle.ng_journal.specs.AtRest.{next_header}
+use Rattle.ng_journal.proofs.Framing.{state_area, state_sync, state_header, state_laid}
 use Rattle.ng_journal.proofs.Renewing.{exit_area, exit_sync, exit_header, ready, finished}
 use Rattle.ng_journal.proofs.checkpoint.checkpoint.Goals as goal
 
@@ -35,7 +37,7 @@ returns-in_err-write-clause-stops g c =
     let write = c.write.ensures.life in
     let stored = c.args.stored.now in
     let new : Header = record { epoch = c.args.header.epoch + 1; area = c.args.area; length = stored.length } in
-    let written = c.header_sector.ensures ∙ ap (λ (s : Saved). Some (record { epoch = c.args.header.epoch + 1; area = c.args.area; length = s.length })) c.stored.view_is in
+    let written = c.header_sector.ensures.read ∙ ap (λ (s : Saved). Some (record { epoch = c.args.header.epoch + 1; area = c.args.area; length = s.length })) c.stored.view_is in
     rw p.1 (record {
       keeps = λ h. write.keeps (sync.keeps (area.keeps h));
       back = λ h. area.back (sync.back (write.back h));
@@ -52,7 +54,7 @@ returns-clause-stops g c =
     let last = c.sync-2.ensures.life in
     let stored = c.args.stored.now in
     let new : Header = record { epoch = c.args.header.epoch + 1; area = c.args.area; length = stored.length } in
-    let written = c.header_sector.ensures ∙ ap (λ (s : Saved). Some (record { epoch = c.args.header.epoch + 1; area = c.args.area; length = s.length })) c.stored.view_is in
+    let written = c.header_sector.ensures.read ∙ ap (λ (s : Saved). Some (record { epoch = c.args.header.epoch + 1; area = c.args.area; length = s.length })) c.stored.view_is in
     record {
       keeps = λ h. last.keeps (write.keeps (sync.keeps (area.keeps h)));
       back = λ h. area.back (sync.back (write.back (last.back h)));
@@ -61,43 +63,52 @@ returns-clause-stops g c =
           finished c.sync-2.result _ _ _ _ _ c.args.header new stored c.header_sector.result r refl (sync.holds (area.keeps h)) (write.holds (sync.keeps (area.keeps h))) (last.holds (write.keeps (sync.keeps (area.keeps h))));
     }
 
-pub returns-in_err-write_snapshot-clause-frame : goal.returns-in_err-write_snapshot-clause-frame
-returns-in_err-write_snapshot-clause-frame g c =
+pub returns-in_err-write_snapshot-clause-stores : goal.returns-in_err-write_snapshot-clause-stores
+returns-in_err-write_snapshot-clause-stores g c =
+    let p = err_from_is_err_and c.from_residual.result c.from_residual.ensures.1 in
+    let new = next_header c.args.header c.args.area c.args.stored.now.length in
     let area = c.write_snapshot.ensures.area in
-    record {
+    rw p.1 (record {
       keeps = area.keeps;
       back = area.back;
-      holds = λ h. frame_area c.write_snapshot.result c.snapshot_first.result (c.args.header.epoch + 1) c.args.stored.now _ _ c.snapshot_first.ensures.is (area.holds h);
-    }
+      holds = λ h. record { writes = state_area c.write_snapshot.result c.snapshot_first.result new c.args.stored.now _ _ c.snapshot_first.ensures.is (area.holds h); laid = tt };
+    })
 
-pub returns-in_err-sync-clause-frame : goal.returns-in_err-sync-clause-frame
-returns-in_err-sync-clause-frame g c =
+pub returns-in_err-sync-clause-stores : goal.returns-in_err-sync-clause-stores
+returns-in_err-sync-clause-stores g c =
+    let p = err_from_is_err_and c.from_residual-in_err-sync.result c.from_residual-in_err-sync.ensures.1 in
+    let new = next_header c.args.header c.args.area c.args.stored.now.length in
     let area = c.write_snapshot.ensures.area in
     let sync = c.sync.ensures.life in
-    record {
+    rw p.1 (record {
       keeps = λ h. sync.keeps (area.keeps h);
       back = λ h. area.back (sync.back h);
       holds = λ h.
-          let one = frame_area c.write_snapshot.result c.snapshot_first.result (c.args.header.epoch + 1) c.args.stored.now _ _ c.snapshot_first.ensures.is (area.holds h) in
-          frame_sync c.sync.result (c.args.header.epoch + 1) _ _ _ one (sync.holds (area.keeps h));
-    }
+          let one = state_area c.write_snapshot.result c.snapshot_first.result new c.args.stored.now _ _ c.snapshot_first.ensures.is (area.holds h) in
+          record { writes = state_sync c.sync.result new c.args.stored.now _ _ _ one (sync.holds (area.keeps h)); laid = tt };
+    })
 
-pub returns-in_err-write-clause-frame : goal.returns-in_err-write-clause-frame
-returns-in_err-write-clause-frame g c =
+pub returns-in_err-write-clause-stores : goal.returns-in_err-write-clause-stores
+returns-in_err-write-clause-stores g c =
+    let p = err_from_is_err_and c.from_residual-in_err-write.result c.from_residual-in_err-write.ensures.1 in
+    let new = next_header c.args.header c.args.area c.args.stored.now.length in
+    let held = subst (λ (s : Saved). HoldsHeader (next_header c.args.header c.args.area s.length) c.header_sector.result) c.stored.view_is c.header_sector.ensures.holds in
     let area = c.write_snapshot.ensures.area in
     let sync = c.sync.ensures.life in
     let write = c.write.ensures.life in
-    record {
+    rw p.1 (record {
       keeps = λ h. write.keeps (sync.keeps (area.keeps h));
       back = λ h. area.back (sync.back (write.back h));
       holds = λ h.
-          let one = frame_area c.write_snapshot.result c.snapshot_first.result (c.args.header.epoch + 1) c.args.stored.now _ _ c.snapshot_first.ensures.is (area.holds h) in
-          let two = frame_sync c.sync.result (c.args.header.epoch + 1) _ _ _ one (sync.holds (area.keeps h)) in
-          frame_write c.write.result (c.args.header.epoch + 1) c.header_sector.result _ _ _ two (write.holds (sync.keeps (area.keeps h)));
-    }
+          let one = state_area c.write_snapshot.result c.snapshot_first.result new c.args.stored.now _ _ c.snapshot_first.ensures.is (area.holds h) in
+          let two = state_sync c.sync.result new c.args.stored.now _ _ _ one (sync.holds (area.keeps h)) in
+          record { writes = state_header c.write.result new c.args.stored.now c.header_sector.result _ _ _ held two (write.holds (sync.keeps (area.keeps h))); laid = tt };
+    })
 
-pub returns-clause-frame : goal.returns-clause-frame
-returns-clause-frame g c =
+pub returns-clause-stores : goal.returns-clause-stores
+returns-clause-stores g c =
+    let new = next_header c.args.header c.args.area c.args.stored.now.length in
+    let held = subst (λ (s : Saved). HoldsHeader (next_header c.args.header c.args.area s.length) c.header_sector.result) c.stored.view_is c.header_sector.ensures.holds in
     let area = c.write_snapshot.ensures.area in
     let sync = c.sync.ensures.life in
     let write = c.write.ensures.life in
@@ -106,8 +117,14 @@ returns-clause-frame g c =
       keeps = λ h. last.keeps (write.keeps (sync.keeps (area.keeps h)));
       back = λ h. area.back (sync.back (write.back (last.back h)));
       holds = λ h.
-          let one = frame_area c.write_snapshot.result c.snapshot_first.result (c.args.header.epoch + 1) c.args.stored.now _ _ c.snapshot_first.ensures.is (area.holds h) in
-          let two = frame_sync c.sync.result (c.args.header.epoch + 1) _ _ _ one (sync.holds (area.keeps h)) in
-          let three = frame_write c.write.result (c.args.header.epoch + 1) c.header_sector.result _ _ _ two (write.holds (sync.keeps (area.keeps h))) in
-          frame_sync c.sync-2.result (c.args.header.epoch + 1) _ _ _ three (last.holds (write.keeps (sync.keeps (area.keeps h))));
+          let one = state_area c.write_snapshot.result c.snapshot_first.result new c.args.stored.now _ _ c.snapshot_first.ensures.is (area.holds h) in
+          let two = state_sync c.sync.result new c.args.stored.now _ _ _ one (sync.holds (area.keeps h)) in
+          let three = state_header c.write.result new c.args.stored.now c.header_sector.result _ _ _ held two (write.holds (sync.keeps (area.keeps h))) in
+          let done = c.in_ok-write_snapshot.ensures.area in
+          let on = c.in_ok-sync.ensures.life in
+          let put = c.in_ok-write.ensures.life in
+          record {
+            writes = state_sync c.sync-2.result new c.args.stored.now _ _ _ three (last.holds (write.keeps (sync.keeps (area.keeps h))));
+            laid = state_laid c.sync-2.result _ c.snapshot_first.result new c.args.stored.now c.header_sector.result _ _ _ _ _ c.snapshot_first.ensures.is (done.holds h) held (on.holds (area.keeps h)) (put.holds (sync.keeps (area.keeps h))) (last.holds (write.keeps (sync.keeps (area.keeps h))));
+          };
     }

@@ -1,7 +1,93 @@
 use Rattle.std.proofs.Common.{pos, refl}
+use Rattle.std.proofs.lemmas.Result.{err_from_is_err_and}
 use Rattle.ng_layout.specs.Stored.{fresh}
 use Rattle.ng_journal.proofs.Beginning.{steps, finished, table_long}
+use Rattle.ng_journal.proofs.Framing.{first_headers, first_log, first_area, first_sync, first_write}
 use Rattle.ng_journal.proofs.formatting.make_fresh.Goals as goal
+
+pub returns-in_err-clear_headers-clause-formats : goal.returns-in_err-clear_headers-clause-formats
+returns-in_err-clear_headers-clause-formats g c =
+    let p = err_from_is_err_and c.from_residual.result c.from_residual.ensures.1 in
+    let headers = c.clear_headers.ensures.clears in
+    rw p.1 (record {
+      keeps = headers.keeps;
+      back = headers.back;
+      holds = λ h0. record { writes = first_headers c.clear_headers.result fresh _ _ (headers.holds h0); at = tt; laid = tt; zeros = tt };
+    })
+
+pub returns-in_err-clear_log-clause-formats : goal.returns-in_err-clear_log-clause-formats
+returns-in_err-clear_log-clause-formats g c =
+    let p = err_from_is_err_and c.from_residual-in_err-clear_log.result c.from_residual-in_err-clear_log.ensures.1 in
+    let headers = c.clear_headers.ensures.clears in
+    let log = c.clear_log.ensures.clears in
+    rw p.1 (record {
+      keeps = λ h. log.keeps (headers.keeps h);
+      back = λ h. headers.back (log.back h);
+      holds = λ h0.
+          let h1 = headers.keeps h0 in
+          let one = first_headers c.clear_headers.result fresh _ _ (headers.holds h0) in
+          record { writes = first_log c.clear_log.result fresh _ _ _ one (log.holds h1); at = tt; laid = tt; zeros = tt };
+    })
+
+pub returns-in_err-write_fresh_snapshot-clause-formats : goal.returns-in_err-write_fresh_snapshot-clause-formats
+returns-in_err-write_fresh_snapshot-clause-formats g c =
+    let p = err_from_is_err_and c.from_residual-in_err-write_fresh_snapshot.result c.from_residual-in_err-write_fresh_snapshot.ensures.1 in
+    let headers = c.clear_headers.ensures.clears in
+    let log = c.clear_log.ensures.clears in
+    let area = c.write_fresh_snapshot.ensures.writes in
+    rw p.1 (record {
+      keeps = λ h. area.keeps (log.keeps (headers.keeps h));
+      back = λ h. headers.back (log.back (area.back h));
+      holds = λ h0.
+          let h1 = headers.keeps h0 in
+          let h2 = log.keeps h1 in
+          let one = first_headers c.clear_headers.result fresh _ _ (headers.holds h0) in
+          let two = first_log c.clear_log.result fresh _ _ _ one (log.holds h1) in
+          record { writes = first_area c.write_fresh_snapshot.result c.snapshot_first.result fresh _ _ _ c.snapshot_first.ensures.is two (area.holds h2); at = tt; laid = tt; zeros = tt };
+    })
+
+pub returns-in_err-sync-clause-formats : goal.returns-in_err-sync-clause-formats
+returns-in_err-sync-clause-formats g c =
+    let p = err_from_is_err_and c.from_residual-in_err-sync.result c.from_residual-in_err-sync.ensures.1 in
+    let headers = c.clear_headers.ensures.clears in
+    let log = c.clear_log.ensures.clears in
+    let area = c.write_fresh_snapshot.ensures.writes in
+    let sync = c.sync.ensures.life in
+    rw p.1 (record {
+      keeps = λ h. sync.keeps (area.keeps (log.keeps (headers.keeps h)));
+      back = λ h. headers.back (log.back (area.back (sync.back h)));
+      holds = λ h0.
+          let h1 = headers.keeps h0 in
+          let h2 = log.keeps h1 in
+          let h3 = area.keeps h2 in
+          let one = first_headers c.clear_headers.result fresh _ _ (headers.holds h0) in
+          let two = first_log c.clear_log.result fresh _ _ _ one (log.holds h1) in
+          let three = first_area c.write_fresh_snapshot.result c.snapshot_first.result fresh _ _ _ c.snapshot_first.ensures.is two (area.holds h2) in
+          record { writes = first_sync c.sync.result fresh _ _ _ three (sync.holds h3); at = tt; laid = tt; zeros = tt };
+    })
+
+pub returns-in_err-write-clause-formats : goal.returns-in_err-write-clause-formats
+returns-in_err-write-clause-formats g c =
+    let p = err_from_is_err_and c.from_residual-in_err-write.result c.from_residual-in_err-write.ensures.1 in
+    let headers = c.clear_headers.ensures.clears in
+    let log = c.clear_log.ensures.clears in
+    let area = c.write_fresh_snapshot.ensures.writes in
+    let sync = c.sync.ensures.life in
+    let write = c.write.ensures.life in
+    rw p.1 (record {
+      keeps = λ h. write.keeps (sync.keeps (area.keeps (log.keeps (headers.keeps h))));
+      back = λ h. headers.back (log.back (area.back (sync.back (write.back h))));
+      holds = λ h0.
+          let h1 = headers.keeps h0 in
+          let h2 = log.keeps h1 in
+          let h3 = area.keeps h2 in
+          let h4 = sync.keeps h3 in
+          let one = first_headers c.clear_headers.result fresh _ _ (headers.holds h0) in
+          let two = first_log c.clear_log.result fresh _ _ _ one (log.holds h1) in
+          let three = first_area c.write_fresh_snapshot.result c.snapshot_first.result fresh _ _ _ c.snapshot_first.ensures.is two (area.holds h2) in
+          let four = first_sync c.sync.result fresh _ _ _ three (sync.holds h3) in
+          record { writes = first_write c.write.result fresh c.header_sector.result _ _ _ c.header_sector.ensures.holds four (write.holds h4); at = tt; laid = tt; zeros = tt };
+    })
 
 pub returns-clause-formats : goal.returns-clause-formats
 returns-clause-formats g c =
@@ -20,6 +106,6 @@ returns-clause-formats g c =
           let h3 = area.keeps h2 in
           let h4 = sync.keeps h3 in
           let s = steps _ _ _ fresh _ _ _ _ c.snapshot_first.result c.snapshot_first.ensures.is (headers.holds h0) (log.holds h1) (area.holds h2) in
-          let f = finished c.sync-2.result fresh _ _ _ _ _ _ _ c.header_sector.result s refl (table_long 5399 5219 (pos 1_000_000)) c.header_sector.ensures (sync.holds h3) (write.holds h4) (last.holds (write.keeps h4)) in
-          record { writes = f.writes; at = f.at };
+          let f = finished c.sync-2.result fresh _ _ _ _ _ _ _ c.header_sector.result s refl (table_long 5399 5219 (pos 1_000_000)) c.header_sector.ensures.read c.header_sector.ensures.holds (sync.holds h3) (write.holds h4) (last.holds (write.keeps h4)) in
+          record { writes = f.writes; at = f.at; laid = f.laid; zeros = f.zeros };
     }

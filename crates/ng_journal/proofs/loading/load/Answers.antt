@@ -1,5 +1,7 @@
 use Rattle.std.proofs.Common.{◌≤◌, length, arith}
 use Rattle.std.proofs.lemmas.Result.{err_from_is_err_and}
+use Rattle.ng_journal.proofs.Framing.{among_text, load_text, load_sync, load_state, text_stays}
+use Rattle.ng_layout.specs.Stored.{Standing}
 use Rattle.ng_journal.proofs.Overwriting.{own_again, exit_text, exit_sync, loaded_all}
 use Rattle.ng_journal.proofs.loading.load.Goals as goal
 
@@ -37,5 +39,52 @@ returns-clause-stops g c =
           let t = text.holds h in
           let s = sync.holds (text.keeps h) in
           loaded_all c.checkpoint.result _ _ _ _ _ c.program_first.result c.args.header c.args.stored.now c.args.text.now at c.program_first.ensures.is c.requires.long short t s
-          (last.holds (sync.keeps (text.keeps h)) (own_again _ _ _ c.program_first.result c.args.header at c.program_first.ensures.is t.writes s));
+          (last.holds (sync.keeps (text.keeps h)) (own_again _ _ _ c.program_first.result c.args.header at c.program_first.ensures.is (among_text c.program_first.result c.args.text.now _ _ t.writes) s));
+    }
+
+pub returns-in_err-write_program-clause-stores : goal.returns-in_err-write_program-clause-stores
+returns-in_err-write_program-clause-stores g c =
+    let p = err_from_is_err_and c.from_residual.result c.from_residual.ensures.1 in
+    let text = c.write_program.ensures.text in
+    let loaded : Standing = record { saved = c.args.stored.now; program = c.args.text.now } in
+    rw p.1 (record {
+      keeps = text.keeps;
+      back = text.back;
+      holds = λ h. record { writes = load_text c.write_program.result c.program_first.result c.args.header loaded _ _ c.program_first.ensures.is (text.holds h); text = tt; laid = tt };
+    })
+
+pub returns-in_err-sync-clause-stores : goal.returns-in_err-sync-clause-stores
+returns-in_err-sync-clause-stores g c =
+    let p = err_from_is_err_and c.from_residual-in_err-sync.result c.from_residual-in_err-sync.ensures.1 in
+    let text = c.write_program.ensures.text in
+    let loaded : Standing = record { saved = c.args.stored.now; program = c.args.text.now } in
+    let sync = c.sync.ensures.life in
+    rw p.1 (record {
+      keeps = λ h. sync.keeps (text.keeps h);
+      back = λ h. text.back (sync.back h);
+      holds = λ h.
+          let one = load_text c.write_program.result c.program_first.result c.args.header loaded _ _ c.program_first.ensures.is (text.holds h) in
+          record { writes = load_sync c.sync.result c.args.header loaded _ _ _ one (sync.holds (text.keeps h)); text = tt; laid = tt };
+    })
+
+pub returns-clause-stores : goal.returns-clause-stores
+returns-clause-stores g c =
+    let text = c.write_program.ensures.text in
+    let loaded : Standing = record { saved = c.args.stored.now; program = c.args.text.now } in
+    let sync = c.sync.ensures.life in
+    let last = c.checkpoint.ensures.stores in
+    record {
+      keeps = λ h. last.keeps (sync.keeps (text.keeps h));
+      back = λ h. text.back (sync.back (last.back h));
+      holds = λ h.
+          let one = load_text c.write_program.result c.program_first.result c.args.header loaded _ _ c.program_first.ensures.is (text.holds h) in
+          let two = load_sync c.sync.result c.args.header loaded _ _ _ one (sync.holds (text.keeps h)) in
+          let done = c.in_ok-write_program.ensures.text in
+          let on = c.in_ok-sync.ensures.life in
+          let stored = last.holds (sync.keeps (text.keeps h)) in
+          record {
+            writes = load_state c.args.header loaded _ _ _ two stored.writes;
+            text = text_stays c.checkpoint.result _ c.program_first.result c.args.header loaded _ _ _ _ c.program_first.ensures.is (done.holds h) (on.holds (text.keeps h)) stored.writes;
+            laid = stored.laid;
+          };
     }

@@ -40,11 +40,11 @@ returns-in_err-checkpoint-in-Ok-clause-restores g c =
     let sync = c.in_ok-sync.ensures.life in
     let found = c.in_ok-fault.ensures.read in
     let last = c.checkpoint.ensures.stops in
-    let frame = c.checkpoint.ensures.frame in
+    let stores = c.checkpoint.ensures.stores in
     rw p.1 (record {
       keeps = λ h. last.keeps (found.keeps (sync.keeps h));
       back = λ h. sync.back (found.back (last.back h));
-      holds = λ h. let f = found.holds (sync.keeps h) in exit_within _ c.checkpoint.result c.in_ok-fault.field-0 c.in-Ok.header c.found.new.stored _ _ _ _ _ c.in-Ok.is (sync.holds h) f.same f.right c.close.ensures.value (frame.holds (found.keeps (sync.keeps h))) (last.holds (found.keeps (sync.keeps h)));
+      holds = λ h. let f = found.holds (sync.keeps h) in exit_within _ c.checkpoint.result c.in_ok-fault.field-0 c.in-Ok.header c.found.new.stored _ _ _ _ _ c.in-Ok.is (sync.holds h) f.same f.right c.close.ensures.value (stores.holds (found.keeps (sync.keeps h))).writes (last.holds (found.keeps (sync.keeps h)));
     })
 
 pub returns-in_ok-checkpoint-in-Ok-clause-restores : goal.returns-in_ok-checkpoint-in-Ok-clause-restores
@@ -52,9 +52,9 @@ returns-in_ok-checkpoint-in-Ok-clause-restores g c =
     let sync = c.in_ok-sync.ensures.life in
     let found = c.in_ok-fault.ensures.read in
     let last = c.in_ok-checkpoint-in-Ok.ensures.stops in
-    let frame = c.in_ok-checkpoint-in-Ok.ensures.frame in
+    let stores = c.in_ok-checkpoint-in-Ok.ensures.stores in
     record {
       keeps = λ h. last.keeps (found.keeps (sync.keeps h));
       back = λ h. sync.back (found.back (last.back h));
-      holds = λ h. let f = found.holds (sync.keeps h) in exit_restored _ c.in_ok-fault.field-0 c.in-Ok.header c.found.new.stored _ _ _ _ _ c.in-Ok.is (sync.holds h) f.same f.right c.close.ensures.value (frame.holds (found.keeps (sync.keeps h))) (last.holds (found.keeps (sync.keeps h)));
+      holds = λ h. let f = found.holds (sync.keeps h) in exit_restored _ c.in_ok-fault.field-0 c.in-Ok.header c.found.new.stored _ _ _ _ _ c.in-Ok.is (sync.holds h) f.same f.right c.close.ensures.value (stores.holds (found.keeps (sync.keeps h))).writes (last.holds (found.keeps (sync.keeps h)));
     }

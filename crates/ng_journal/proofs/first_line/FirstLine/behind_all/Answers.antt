@@ -1,7 +1,5 @@
-use Rattle.std.proofs.Common.{◌≡◌, ◌<◌, List, [], ◌∷◌, ◌++◌, length, take, get_or, ◌∙◌, sym, ap, subst, arith, append_assoc, append-nil}
-use Rattle.std.proofs.Math.Seq.{take-suc}
-use Rattle.std.proofs.lemmas.List.{take_all}
-use Rattle.ng_journal.specs.FirstLines.{kind_in, shortest, Tells}
+use Rattle.std.proofs.Common.{List, ◌++◌, ap, arith, append-nil}
+use Rattle.ng_journal.specs.FirstLines.{kind_in, shortest}
 use Rattle.ng_journal.proofs.FirstLineLemmas.{tells_all, tells_one}
 use Rattle.ng_journal.proofs.first_line.FirstLine.behind_all.Goals as goal
 
