@@ -11,47 +11,53 @@ use crate::activity::Activity;
 use crate::current::Current;
 use crate::reply::Reply;
 use crate::session::Session;
-use ng_block::{Places, Terms, Tools, missing_end};
+use ng_block::{Effect, Places, Terms, Tools, missing_end};
 use ng_canon::Geometry;
 use ng_layout::{Source, Stored};
 use ng_num::Fault;
 use ng_words::Kind;
 use std::alloc::{AllocError, Allocator};
 
-/// What a line of the operator does, put into places, or the first fault that refuses it.
+/// What a line of the operator does, in places, or the first fault that refuses it.
 #[tactic(auto, unfolding(crate::specs::Entries::done_of))]
-fn execute_alone<A: Allocator + Copy + Drop>(
-    places: &mut Places,
+fn execute_alone<'p, A: Allocator + Copy + Drop>(
+    places: &'p mut Places,
     stored: &Stored<A>,
     text: &[u8],
     terms: &Terms<'_>,
-) -> Result<(), Fault>
-    ensures done { (program : List ℕ) → MatchResult result (λ _. done_of (equipment_of terms.now) program stored.now source.Mdi text.now terms.now.block_delete ≡ Ok (in_state stored.now.setup places.new.effect)) (λ fault. done_of (equipment_of terms.now) program stored.now source.Mdi text.now terms.now.block_delete ≡ Err fault) }
+) -> Result<&'p Effect, Fault>
+    ensures done { (program : List ℕ) → MatchResult result (λ e. done_of (equipment_of terms.now) program stored.now source.Mdi text.now terms.now.block_delete ≡ Ok (in_state stored.now.setup e.now)) (λ fault. done_of (equipment_of terms.now) program stored.now source.Mdi text.now terms.now.block_delete ≡ Err fault) }
     ensures short { OnOk result (length text.now ≤ 256) }
-    ensures stands { OnOk result (CanStand stored.now.setup.machine → CanStand places.new.effect.machine) }
+    ensures stands { IfOk result (λ e. CanStand stored.now.setup.machine → CanStand e.now.machine) }
 {
     // called for its contract: a table has at most 64 slots, and no more are stored
     let _ = terms.tools.slots();
-    places.execute_unless_deleted(terms, &stored.state, text)
+    match places.execute_unless_deleted(terms, &stored.state, text) {
+        Ok(effect) => Ok(effect),
+        Err(fault) => Err(fault),
+    }
 }
 
-/// What a line of the program does, put into places, or the first fault that refuses it; `first` is the kind of the first line
+/// What a line of the program does, in places, or the first fault that refuses it; `first` is the kind of the first line
 /// before it that isn't blank.
 #[tactic(auto, unfolding(crate::specs::Entries::done_of))]
-fn execute_behind<A: Allocator + Copy + Drop>(
-    places: &mut Places,
+fn execute_behind<'p, A: Allocator + Copy + Drop>(
+    places: &'p mut Places,
     stored: &Stored<A>,
     first: Kind,
     text: &[u8],
     terms: &Terms<'_>,
-) -> Result<(), Fault>
-    ensures done { (program : List ℕ) → first ≡ first_kind (lines_before program stored.now.place) → MatchResult result (λ _. done_of (equipment_of terms.now) program stored.now source.Program text.now terms.now.block_delete ≡ Ok (in_state stored.now.setup places.new.effect)) (λ fault. done_of (equipment_of terms.now) program stored.now source.Program text.now terms.now.block_delete ≡ Err fault) }
+) -> Result<&'p Effect, Fault>
+    ensures done { (program : List ℕ) → first ≡ first_kind (lines_before program stored.now.place) → MatchResult result (λ e. done_of (equipment_of terms.now) program stored.now source.Program text.now terms.now.block_delete ≡ Ok (in_state stored.now.setup e.now)) (λ fault. done_of (equipment_of terms.now) program stored.now source.Program text.now terms.now.block_delete ≡ Err fault) }
     ensures short { OnOk result (length text.now ≤ 256) }
-    ensures stands { OnOk result (CanStand stored.now.setup.machine → CanStand places.new.effect.machine) }
+    ensures stands { IfOk result (λ e. CanStand stored.now.setup.machine → CanStand e.now.machine) }
 {
     // called for its contract: a table has at most 64 slots, and no more are stored
     let _ = terms.tools.slots();
-    places.execute_behind(terms, first, &stored.state, text)
+    match places.execute_behind(terms, first, &stored.state, text) {
+        Ok(effect) => Ok(effect),
+        Err(fault) => Err(fault),
+    }
 }
 
 impl<A: Allocator + Copy + Drop> Session<A> {
@@ -85,17 +91,11 @@ impl<A: Allocator + Copy + Drop> Session<A> {
             tools,
             geometry,
         };
-        if let Err(fault) = execute_alone(&mut self.places, &self.stored, text, &terms) {
-            return Ok(Reply::Refused(fault));
-        }
-        let current = Current::begun(
-            &self.stored,
-            Source::Mdi,
-            text,
-            block_delete,
-            place,
-            &self.places.effect,
-        )?;
+        let effect = match execute_alone(&mut self.places, &self.stored, text, &terms) {
+            Ok(effect) => effect,
+            Err(fault) => return Ok(Reply::Refused(fault)),
+        };
+        let current = Current::begun(&self.stored, Source::Mdi, text, block_delete, place, effect)?;
         self.current = Some(current);
         if self.held && self.activity.is_running() {
             self.activity = Activity::Stopped;
@@ -127,19 +127,22 @@ impl<A: Allocator + Copy + Drop> Session<A> {
             tools,
             geometry,
         };
-        if let Err(fault) = execute_behind(&mut self.places, &self.stored, first, text, &terms) {
-            self.activity = Activity::Stopped;
-            return Ok(Reply::Refused(fault));
-        }
-        let current = Current::begun(
+        let effect = match execute_behind(&mut self.places, &self.stored, first, text, &terms) {
+            Ok(effect) => effect,
+            Err(fault) => {
+                self.activity = Activity::Stopped;
+                return Ok(Reply::Refused(fault));
+            }
+        };
+        let begun = Current::begun(
             &self.stored,
             Source::Program,
             text,
             block_delete,
             next,
-            &self.places.effect,
+            effect,
         )?;
-        self.current = Some(current);
+        self.current = Some(begun);
         Ok(Reply::Begun)
     }
 

@@ -80,11 +80,14 @@ impl<A: Allocator + Copy + Drop> Session<A> {
         }
     }
 
-    /// Goes on behind the current block, once that is stored.
+    /// Goes on behind the current block, once that is stored. Where no block is current the reply is that of a session that has nothing
+    /// to do, and the session stays as it is.
     pub fn commit(&mut self) -> Reply
         requires { IfSome self.old.current (λ c. c.after.entries ≤ 1_000_000_000_000) }
         ensures reply { (c : Underway) → self.old.current ≡ Some c → result ≡ Reply.Done c.after.entries }
         ensures next { (c : Underway) → self.old.current ≡ Some c → self.new ≡ committed self.old c }
+        ensures rest_reply { (program : List ℕ) → self.old.current ≡ None → result ≡ (rest program self.old).reply }
+        ensures rest_next { self.old.current ≡ None → self.new ≡ self.old }
     {
         let Some(current) = self.current.take() else {
             return self.rest();

@@ -1,12 +1,15 @@
-use Rattle.std.proofs.Common.{◌≤◌, length, arith}
+use Rattle.std.proofs.Common.{◌≤◌, length, arith, Ok}
+use Rattle.ng_session.specs.Entries.{done_of}
 use Rattle.ng_session.proofs.ShortLines.{alone_short}
 use Rattle.ng_session.proofs.Standing.{alone-stands}
 use Rattle.ng_session.proofs.beginning.execute_alone.Goals as goal
 
-pub returns-clause-short : goal.returns-clause-short
-returns-clause-short g c = alone_short c.execute_unless_deleted.result _ _ c.args.text.now _ c.execute_unless_deleted.ensures
-
-pub returns-clause-stands : goal.returns-clause-stands
-returns-clause-stands g c =
+pub returns-in-Ok : goal.returns-in-Ok
+unfolding done_of
+returns-in-Ok g c =
     let few : length c.args.terms.now.tools ≤ 64 = rw (← c.terms.view_is) (omega (arith, c.slots.ensures.range, c.slots.ensures.value)) in
-    rw (← c.stored.view_is) (alone-stands c.execute_unless_deleted.result _ _ c.args.text.now _ few c.execute_unless_deleted.ensures)
+    record {
+      done = λ program. rw (← c.stored.view_is) c.in-Ok.ensures;
+      short = alone_short (Ok c.in-Ok.effect) _ _ c.args.text.now _ c.in-Ok.ensures;
+      stands = rw (← c.stored.view_is) (alone-stands (Ok c.in-Ok.effect) _ _ c.args.text.now _ few c.in-Ok.ensures);
+    }

@@ -1,12 +1,15 @@
-use Rattle.std.proofs.Common.{◌≤◌, length, arith}
+use Rattle.std.proofs.Common.{◌≤◌, length, arith, Ok}
+use Rattle.ng_session.specs.Entries.{done_of}
 use Rattle.ng_session.proofs.ShortLines.{behind_short}
 use Rattle.ng_session.proofs.Standing.{behind-stands}
 use Rattle.ng_session.proofs.beginning.execute_behind.Goals as goal
 
-pub returns-clause-short : goal.returns-clause-short
-returns-clause-short g c = behind_short c.execute_behind.result _ _ _ c.args.text.now _ c.execute_behind.ensures
-
-pub returns-clause-stands : goal.returns-clause-stands
-returns-clause-stands g c =
+pub returns-in-Ok : goal.returns-in-Ok
+unfolding done_of
+returns-in-Ok g c =
     let few : length c.args.terms.now.tools ≤ 64 = rw (← c.terms.view_is) (omega (arith, c.slots.ensures.range, c.slots.ensures.value)) in
-    rw (← c.stored.view_is) (behind-stands c.execute_behind.result _ _ _ c.args.text.now _ few c.execute_behind.ensures)
+    record {
+      done = λ program e. rw (← e, ← c.stored.view_is) c.in-Ok.ensures;
+      short = behind_short (Ok c.in-Ok.effect) _ _ _ c.args.text.now _ c.in-Ok.ensures;
+      stands = rw (← c.stored.view_is) (behind-stands (Ok c.in-Ok.effect) _ _ _ c.args.text.now _ few c.in-Ok.ensures);
+    }
