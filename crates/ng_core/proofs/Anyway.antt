@@ -1,10 +1,12 @@
 -- What comes of an event whatever the device is, by what its calls promise.
-use Rattle.std.proofs.Common.{◌≡◌, ◌≢◌, ℕ, true, false, List, length, Option, Some, None, Result, Ok, Err, refl, sym, ◌∙◌, ap, subst}
+use Rattle.std.proofs.Common.{◌≡◌, ◌≢◌, ◌⊎◌, inl, inr, ℕ, true, false, List, length, Option, Some, None, Result, Ok, Err, refl, sym, ◌∙◌, ap, subst}
 use Rattle.std.specs.Prelude.{IfErr}
 use Rattle.ng_num.specs.declared.fault.Fault.{Fault}
-use Rattle.ng_num.specs.declared.fault.Fault.TheVariants.{DeviceFailed}
+use Rattle.ng_num.specs.declared.fault.Fault.TheVariants.{DeviceFailed, CountersUsed}
 use Rattle.ng_canon.specs.declared.item.Item.{Item}
 use Rattle.ng_layout.specs.Stored.{HalfDone, Saved}
+use Rattle.ng_journal.specs.Journal.{Logbook}
+use Rattle.ng_journal.specs.Storing.{ledger_of}
 use Rattle.ng_session.specs.Entries.{after_load}
 use Rattle.ng_session.specs.Session.{Underway, Sitting, Outcome, IsBetweenLines, answers, refuses, tick, open_next, end, item_of, handed, opening_of, is_running, rest, committed, load, load_unless, load_refusal, loaded, shown}
 use Rattle.ng_session.specs.declared.reply.Reply.{Reply}
@@ -14,8 +16,27 @@ use Rattle.ng_core.specs.Acts.{ComesAnyway, Stays}
 use Rattle.ng_core.proofs.Choosing.{with_session}
 use Rattle.ng_core.proofs.Ticks.{IsDue, moving, opening, tick_held, tick_item, tick_none, rests_there}
 
-pub stays_same : {R : Type 0} (fault : Fault) (old new : Station R) → new.session ≡ old.session → Stays fault old new
-stays_same fault old new same = (ap shown same, λ other. same)
+-- nothing was asked of the device, or it failed
+pub stays_same : {R : Type 0} (reads : Type 0) (fault : Fault) (old new : Station R) → new.session ≡ old.session → (fault ≢ DeviceFailed → new.journal ≡ old.journal) → Stays reads fault old new
+stays_same {R} reads fault old new same journal = record {
+  status = ap shown same;
+  session = λ other. same;
+  ledger = λ other. ap (λ (j : Logbook R). ledger_of j) (journal other);
+  journal = λ other none. journal other;
+}
+
+-- a line was read, or the device failed in that
+pub stays_read : {R : Type 0} (fault : Fault) (old new : Station R) → new.session ≡ old.session → ledger_of new.journal ≡ ledger_of old.journal → Stays (Unit {0}) fault old new
+stays_read fault old new same ledger = record { status = ap shown same; session = λ other. same; ledger = λ other. ledger; journal = λ other none. absurd (none tt) }
+
+-- it may be read where it is
+stays_wider : {R : Type 0} (reads wider : Type 0) (fault : Fault) (old new : Station R) → (reads → wider) → Stays reads fault old new → Stays wider fault old new
+stays_wider reads wider fault old new wide s = record { status = s.status; session = s.session; ledger = s.ledger; journal = λ other none. s.journal other (λ r. none (wide r)) }
+
+-- a counter was used up, or the device failed
+pub unless_lost : {J : Type 0} (fault : Fault) (old new : J) → (fault ≡ CountersUsed) ⊎ (fault ≡ DeviceFailed) → (fault ≡ CountersUsed → new ≡ old) → fault ≢ DeviceFailed → new ≡ old
+unless_lost fault old new (inl used) same other = same used
+unless_lost fault old new (inr lost) same other = absurd (other lost)
 
 pub comes_by : {R : Type 0} (reads : Type 0) (r : Reply) (out : List ℕ → Outcome) (old new : Station R)
     → ((program : List ℕ) → r ≡ (out program).reply) → ((program : List ℕ) → new.session ≡ (out program).next) → ComesAnyway reads (Ok r) out old new
@@ -32,7 +53,7 @@ comes_to : {R : Type 0} (reads wider : Type 0) (answer : Result Reply Fault) (ou
 comes_to reads wider (Ok r) out wanted old new wide equal comes = λ read program.
     let here = comes (λ p. read (wide p)) program in
     (here.0 ∙ ap (λ (o : Outcome). o.reply) (equal program), here.1 ∙ ap (λ (o : Outcome). o.next) (equal program))
-comes_to reads wider (Err fault) out wanted old new wide equal stays = stays
+comes_to reads wider (Err fault) out wanted old new wide equal stays = stays_wider reads wider fault old new wide stays
 
 -- ---- a Tick: held, an item, a segment, an entry, a line, nothing
 
@@ -45,7 +66,7 @@ comes_held reads c held =
 comes_before : {R : Type 0} (answer : Result Reply Fault) (out : List ℕ → Outcome) (old new : Station R)
     → IfErr answer (λ e. e ≡ DeviceFailed) → ComesAnyway ⊥ answer out (with_session old (handed old.session)) new → ComesAnyway ⊥ answer out old new
 comes_before (Ok r) out old new errors comes = comes
-comes_before (Err fault) out old new errors comes = (comes.0, λ other. absurd (other errors))
+comes_before (Err fault) out old new errors stays = record { status = stays.status; session = λ other. absurd (other errors); ledger = stays.ledger; journal = stays.journal }
 
 pub comes_item : {R : Type 0} (reads : Type 0) (answer : Result Reply Fault) (item : Item) (old new : Station R) (taken : Sitting)
     → old.session.held ≡ false → Some item ≡ item_of old.session.current → taken ≡ handed old.session → IfErr answer (λ e. e ≡ DeviceFailed)
@@ -90,10 +111,10 @@ comes_commit reads r saved old new due replied next =
     (comes_by reads r (λ program. end old.equipment program old.session (Some due.block)) old new (λ program. replied) (λ program. next))
 
 pub comes_line : {R : Type 0} (answer : Result Reply Fault) (old new : Station R)
-    → old.session.current ≡ None → is_running old.session.activity ≡ true → IfErr answer (λ fault. Stays fault old new)
+    → old.session.current ≡ None → is_running old.session.activity ≡ true → IfErr answer (λ fault. Stays (Unit {0}) fault old new)
     → ComesAnyway (IsBetweenLines old.session) answer (λ program. end old.equipment program old.session old.session.current) old new
 comes_line (Ok r) old new none runs stays = λ read program. absurd (read (none, runs))
-comes_line (Err fault) old new none runs stays = stays
+comes_line (Err fault) old new none runs stays = stays_wider (Unit {0}) (IsBetweenLines old.session) fault old new (λ read. (none, runs)) stays
 
 pub comes_rest : {R : Type 0} (reads : Type 0) (r : Reply) (c : Station R) → c.session.current ≡ None → is_running c.session.activity ≡ false
     → ((program : List ℕ) → r ≡ (rest program c.session).reply)

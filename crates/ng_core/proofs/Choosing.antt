@@ -1,16 +1,17 @@
 -- What a Tick chooses is what it does.
-use Rattle.std.proofs.Common.{◌≡◌, ℕ, true, false, List, Option, Some, None, Result, Ok, Err, refl, sym, ◌∙◌, ap, subst}
+use Rattle.std.proofs.Common.{◌≡◌, ℕ, true, false, List, [], ◌∷◌, Option, Some, None, Result, Ok, Err, refl, sym, ◌∙◌, ap, subst}
 use Rattle.std.specs.Option.{is_some}
-use Rattle.std.specs.Prelude.{IfErr, MatchOption}
+use Rattle.std.specs.Prelude.{IfErr, IfSome, IsSome, MatchOption}
 use Rattle.ng_num.specs.declared.fault.Fault.{Fault}
 use Rattle.ng_num.specs.declared.fault.Fault.TheVariants.{DeviceFailed}
 use Rattle.ng_canon.specs.declared.item.Item.{Item}
+use Rattle.ng_canon.specs.declared.segment.Segment.{Segment}
 use Rattle.ng_rig.specs.Life.{Life}
 use Rattle.ng_rig.proofs.Promise.{meaning}
 use Rattle.ng_layout.specs.Programs.{line_at}
 use Rattle.ng_layout.specs.Stored.{HalfDone}
 use Rattle.ng_session.specs.Entries.{Equipment}
-use Rattle.ng_session.specs.Session.{Underway, Sitting, Outcome, tick, open_next, end, begin, item_of, handed, opening_of, is_running}
+use Rattle.ng_session.specs.Session.{Underway, Sitting, Outcome, tick, open_next, end, begin, item_of, handed, opening_of, opening_on, is_running}
 use Rattle.ng_session.specs.declared.reply.Reply.{Reply}
 use Rattle.ng_core.specs.Station.{Station}
 use Rattle.ng_core.specs.Acts.{Acts, Does}
@@ -64,6 +65,18 @@ does_further honest life answer old new left held none same does =
     (subst (λ (s : Sitting). Does honest life answer (λ program. open_next old.equipment program s (opening_of s.current)) (with_session old s) new) same does)
 
 -- ---- a segment, or none
+
+opens_on : (c : Underway) (left : List Segment) → IfSome (opening_on c left) (λ half. IsSome half.opened)
+opens_on c [] = tt
+opens_on c (segment ∷ left) = refl
+
+opens_of : (o : Option Underway) → IfSome (opening_of o) (λ half. IsSome half.opened)
+opens_of None = tt
+opens_of (Some c) = opens_on c c.left
+
+-- in the half-done block that is stored for it, something is open
+pub segment_opens : (o : Option Underway) (half : HalfDone) → Some half ≡ opening_of o → IsSome half.opened
+segment_opens o half is = subst (λ (x : Option HalfDone). IfSome x (λ h. IsSome h.opened)) (sym is) (opens_of o)
 
 pub does_open : {R : Type 0} (honest : R → Type 0) (life : R → Life) (answer : Result Reply Fault) (half : HalfDone) (old new : Station R)
     → Some half ≡ opening_of old.session.current → Does honest life answer (λ program. opening half program old.equipment old.session) old new

@@ -1,10 +1,9 @@
 -- What power on gives, by what the journal recovers.
 use Rattle.std.proofs.Common.{◌≡◌, ℕ, List, Ok, sym, ◌∙◌, ap, subst}
-use Rattle.ng_rig.specs.Life.{Life, reads}
+use Rattle.ng_rig.specs.Life.{Life}
 use Rattle.ng_layout.specs.Stored.{Saved, Standing}
 use Rattle.ng_journal.specs.Journal.{Logbook, RestsAt}
 use Rattle.ng_journal.specs.Recover.{Recovers, IsRecovered as IsJournalRecovered}
-use Rattle.ng_journal.specs.Recovery.{IsFound}
 use Rattle.ng_session.specs.Entries.{Equipment}
 use Rattle.ng_session.specs.LinesBefore.{IsTrueOf}
 use Rattle.ng_session.specs.Session.{Sitting}
@@ -25,10 +24,6 @@ recovered journal session lines equipment old new stored known r =
 pub powered : {R : Type 0} (journal : Logbook R) (saved : Saved) (session : Sitting) (lines : LinesBefore) (equipment : Equipment) (old new : Life) → session.stored ≡ saved → journal.saved ≡ saved → ((program : List ℕ) → IsTrueOf program lines)
     → Recovers (Ok (journal, saved)) old new → Powers {R = R} (Ok (record { journal = journal; session = session; lines = lines; equipment = equipment })) old new
 powered journal saved session lines equipment old new stored held known r = record {
-  finds = (subst (λ (x : Saved). IsFound x (reads old)) (sym stored) r.finds.0, r.finds.1);
-  refused = tt;
-  renews = r.renews;
-  kept = λ written.
-      let k = r.kept written in
-      record { stops = k.stops; ready = recovered journal session lines equipment old new (stored ∙ sym held) known k.ready };
+  recovers = subst (λ (x : Saved). Recovers (Ok (journal, x)) old new) (sym stored) r;
+  rests = λ written. recovered journal session lines equipment old new (stored ∙ sym held) known (r.kept written).ready;
 }

@@ -7,6 +7,7 @@ use Rattle.ng_rig.specs.Life.{Image, Life, items}
 use Rattle.ng_rig.specs.Calls.{Promises}
 use Rattle.ng_rig.specs.Onward.{Onward}
 use Rattle.ng_journal.specs.Journal.{StandsFor, IsBrokenBy, Tells}
+use Rattle.ng_journal.specs.Storing.{ledger_of}
 use Rattle.ng_session.specs.Session.{Sitting, Outcome, shown, IsBetweenLines}
 use Rattle.ng_session.specs.Runs.{Scene, Left, left_in, scene_after}
 use Rattle.ng_session.specs.declared.event.Event.{Event}
@@ -30,9 +31,13 @@ Comes (Ok r) out old new = (r ≡ out.reply) × (new.session ≡ out.next)
 Comes (Err DeviceFailed) out old new = shown new.session ≡ shown old.session
 Comes (Err fault) out old new = new.session ≡ old.session
 
--- Where an event isn't answered, what the status shows stays; where the device didn't fail, all of the session does.
-abbrev pub Stays : {R : Type 0} → Fault → Station R → Station R → Type 0
-Stays fault old new = (shown new.session ≡ shown old.session) × (fault ≢ DeviceFailed → new.session ≡ old.session)
+-- Where an event isn't answered, what the status shows stays. Where the device didn't fail, so does all of the session, and what the
+-- journal keeps; and the device isn't called, unless a line is read.
+pub record Stays {R : Type 0} (reads : Type 0) (fault : Fault) (old new : Station R) : Type 0 where
+  pub status : shown new.session ≡ shown old.session
+  pub session : fault ≢ DeviceFailed → new.session ≡ old.session
+  pub ledger : fault ≢ DeviceFailed → ledger_of new.journal ≡ ledger_of old.journal
+  pub journal : fault ≢ DeviceFailed → (reads → ⊥) → new.journal ≡ old.journal
 
 -- a line of the program is read for it
 abbrev pub ReadsLine : {A : Type 0} → Sitting → Event A → Type 0
@@ -42,7 +47,7 @@ ReadsLine s _ = ⊥
 -- What is told, and the session then, whatever the device is: by the session alone, unless a line is read for it.
 abbrev pub ComesAnyway : {R : Type 0} → (reads : Type 0) → Result Reply Fault → (List ℕ → Outcome) → Station R → Station R → Type 0
 ComesAnyway reads answer out old new =
-    MatchResult answer (λ r. (reads → ⊥) → (program : List ℕ) → (r ≡ (out program).reply) × (new.session ≡ (out program).next)) (λ fault. Stays fault old new)
+    MatchResult answer (λ r. (reads → ⊥) → (program : List ℕ) → (r ≡ (out program).reply) × (new.session ≡ (out program).next)) (λ fault. Stays reads fault old new)
 
 -- What stands then and was handed out: of an answer what it leads to, alone; where memory or a count is wanting, the device stays.
 abbrev pub Leaves : {R : Type 0} → Result Reply Fault → Outcome → List ℕ → Station R → Life → Life → Type 0

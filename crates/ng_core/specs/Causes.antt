@@ -1,8 +1,11 @@
--- Why an event isn't answered as the session would answer it: memory, a count, or the device (own).
-use Rattle.std.specs.Prelude.{◌≡◌, ◌≤◌, ◌<◌, ◌⊎◌, ℕ, List}
+-- Why an event isn't answered as the session would answer it: memory, a counter, or the device (own).
+use Rattle.std.specs.Prelude.{◌≡◌, ◌⊎◌, ℕ, List, [], ◌∷◌, Option, Some, None, IsSomeAnd}
+use Rattle.std.specs.Option.{option_map}
 use Rattle.ng_num.specs.declared.fault.Fault.{Fault}
 use Rattle.ng_num.specs.declared.fault.Fault.TheVariants.{DeviceFailed, CountersUsed, OutOfMemory}
-use Rattle.ng_layout.specs.Limits.{greatest_count}
+use Rattle.ng_layout.specs.Stored.{Saved}
+use Rattle.ng_journal.specs.Storing.{Ledger, Storing, Commit, Open, Load, UsesUp, ledger_of}
+use Rattle.ng_session.specs.Entries.{Entry, Block, Loaded}
 use Rattle.ng_session.specs.Session.{Outcome, step, TakesMemory, AsksDevice}
 use Rattle.ng_session.specs.declared.event.Event.{Event}
 use Rattle.ng_session.specs.declared.reply.Reply.{Reply}
@@ -13,19 +16,41 @@ use Rattle.ng_core.specs.Station.{Station}
 abbrev pub outcome_of : {A R : Type 0} → Station R → List ℕ → Event A → Outcome
 outcome_of c program event = step c.equipment program c.session event
 
--- a count is used up for a reply: what is opened needs an epoch, what is done an epoch and a number
-abbrev pub IsUsedUp : ℕ → Reply → Type 0
-IsUsedUp epoch (reply.Opened index) = greatest_count ≤ epoch
-IsUsedUp epoch (reply.Done n) = greatest_count ≤ epoch ⊎ greatest_count < n
-IsUsedUp epoch _ = ⊥
+-- what is stored with an entry: a block's is committed, a program's is loaded
+abbrev pub with_entry : Saved → Entry → Storing
+with_entry saved (Block source text block_delete) = Commit saved
+with_entry saved (Loaded text) = Load saved
 
--- Memory is wanting where it is taken, a count where the reply has used it up; the device failed where it is asked and no count is
--- used up. The reply is by the program that the device has.
-abbrev pub IsHinderedBy : (memory device : Type 0) → ℕ → (List ℕ → Reply) → Fault → Type 0
-IsHinderedBy memory device epoch told fault =
+-- the same of the entry that there is, if there is one
+abbrev pub with_entries : Saved → List Entry → Option Storing
+with_entries saved [] = None
+with_entries saved (entry ∷ more) = Some (with_entry saved entry)
+
+-- what has to be stored before an outcome is told, by its reply
+abbrev pub stored_for : Outcome → Reply → Option Storing
+stored_for out (reply.Done n) = with_entries out.next.stored out.entries
+stored_for out (reply.Opened index) = option_map Open out.next.stored.half
+stored_for out reply.Moved = None
+stored_for out reply.Begun = None
+stored_for out reply.Going = None
+stored_for out reply.Held = None
+stored_for out reply.Idle = None
+stored_for out reply.Stopped = None
+stored_for out reply.Taken = None
+stored_for out (reply.Status status) = None
+stored_for out (reply.Refused fault) = None
+
+-- an outcome uses up a counter of the journal
+abbrev pub IsUsedUp : Ledger → Outcome → Type 0
+IsUsedUp ledger out = IsSomeAnd (stored_for out out.reply) (UsesUp ledger)
+
+-- Memory is wanting where it is taken, a counter where the outcome uses one up; the device failed where it is asked and no counter is
+-- used up. The outcome is by the program that the device has.
+abbrev pub IsHinderedBy : (memory device : Type 0) → Ledger → (List ℕ → Outcome) → Fault → Type 0
+IsHinderedBy memory device ledger told fault =
     ((fault ≡ OutOfMemory) × memory)
-    ⊎ (((fault ≡ CountersUsed) × ((program : List ℕ) → IsUsedUp epoch (told program)))
-    ⊎ ((fault ≡ DeviceFailed) × device × ((program : List ℕ) → IsUsedUp epoch (told program) → ⊥)))
+    ⊎ (((fault ≡ CountersUsed) × ((program : List ℕ) → IsUsedUp ledger (told program)))
+    ⊎ ((fault ≡ DeviceFailed) × device × ((program : List ℕ) → IsUsedUp ledger (told program) → ⊥)))
 
 abbrev pub Hinders : {A R : Type 0} → Station R → Event A → Fault → Type 0
-Hinders c event fault = IsHinderedBy (TakesMemory c.session event) (AsksDevice c.session event) c.journal.header.epoch (λ program. (outcome_of c program event).reply) fault
+Hinders c event fault = IsHinderedBy (TakesMemory c.session event) (AsksDevice c.session event) (ledger_of c.journal) (λ program. outcome_of c program event) fault

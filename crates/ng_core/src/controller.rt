@@ -3,6 +3,7 @@ ghost use Rattle.std.specs.Prelude.{◌≡◌, ℕ, true, false, None, IfErr};
 ghost use Rattle.ng_num.specs.declared.fault.Fault.{Fault};
 ghost use Rattle.ng_num.specs.declared.fault.Fault.TheVariants.{OutOfMemory};
 ghost use Rattle.ng_journal.specs.Journal.{Tells, IsBrokenBy};
+ghost use Rattle.ng_journal.specs.Storing.{ledger_of};
 
 use ng_canon::Geometry;
 use ng_journal::Journal;
@@ -67,14 +68,15 @@ impl<R: Rig, A: Allocator + Copy + Drop> Controller<R, A> {
     ///
     /// Refused by the session, which stays as it is: K1, K2, K3, J5, an operator's line by its own faults. A line of the program that
     /// is refused, and a text that ends before its program does (X3, X4), leave the program stopped there. M1 where memory is wanting,
-    /// which only a Load, a line of the operator and a Tick between two lines take; J4 where the epoch or the entry count that a Load,
-    /// an opened segment or an entry needs would be beyond its limit: nothing is changed then. J1 where the device failed: the controller
-    /// is broken then, and the device stands for what stood before the event or for what stands behind it. K5 to all but Status where
-    /// it is broken already.
+    /// which only a Load, a line of the operator and a Tick between two lines take; J4 where the journal has used up a counter that a
+    /// Load, an opened segment or an entry needs. Nothing is changed then, though the Tick has read its line. J1 where the device failed:
+    /// the controller is broken then, and the device stands for what stood before the event or for what stands behind it. K5 to all but
+    /// Status where it is broken already. The device keeps its size.
     pub fn on(&mut self, event: Event<A>) -> Reply
         ensures serves { self.old.journal.broken ≡ false → Serves R.honest R.life R.failed event result self.old self.new }
         ensures broken { self.old.journal.broken ≡ true → (self.new ≡ self.old) × (result ≡ reply_to (broken_answer self.old.session event)) }
         ensures equipment { self.new.equipment ≡ self.old.equipment }
+        ensures size { R.sectors self.new.journal.rig ≡ R.sectors self.old.journal.rig }
     {
         self.reply(&event)
     }
@@ -84,6 +86,7 @@ impl<R: Rig, A: Allocator + Copy + Drop> Controller<R, A> {
         ensures serves { self.old.journal.broken ≡ false → Serves R.honest R.life R.failed event.now result self.old self.new }
         ensures broken { self.old.journal.broken ≡ true → (self.new ≡ self.old) × (result ≡ reply_to (broken_answer self.old.session event.now)) }
         ensures equipment { self.new.equipment ≡ self.old.equipment }
+        ensures size { R.sectors self.new.journal.rig ≡ R.sectors self.old.journal.rig }
     {
         match self.handle(event) {
             Ok(reply) => reply,
@@ -98,6 +101,7 @@ impl<R: Rig, A: Allocator + Copy + Drop> Controller<R, A> {
         ensures hindered { self.old.journal.broken ≡ false → IfErr result (Hinders self.old event.now) }
         ensures fails { self.old.journal.broken ≡ false → IsBrokenBy result self.new.journal.broken }
         ensures broken { self.old.journal.broken ≡ true → (self.new ≡ self.old) × (result ≡ broken_answer self.old.session event.now) }
+        ensures size { R.sectors self.new.journal.rig ≡ R.sectors self.old.journal.rig }
         ensures failures { Tells result (R.failed self.old.journal.rig) (R.failed self.new.journal.rig) }
         ensures equipment { self.new.equipment ≡ self.old.equipment }
     {
@@ -144,7 +148,8 @@ impl<R: Rig, A: Allocator + Copy + Drop> Controller<R, A> {
         ensures comes { ComesAnyway ⊥ result (λ program. load program self.old.session text.now) self.old self.new }
         ensures equipment { self.new.equipment ≡ self.old.equipment }
         ensures broken { IsBrokenBy result self.new.journal.broken }
-        ensures hindered { IfErr result (IsHinderedBy (load_refusal self.old.session text.now ≡ None) (load_refusal self.old.session text.now ≡ None) self.old.journal.header.epoch (λ program. (load program self.old.session text.now).reply)) }
+        ensures hindered { IfErr result (IsHinderedBy (load_refusal self.old.session text.now ≡ None) (load_refusal self.old.session text.now ≡ None) (ledger_of self.old.journal) (λ program. load program self.old.session text.now)) }
+        ensures size { R.sectors self.new.journal.rig ≡ R.sectors self.old.journal.rig }
         ensures failures { Tells result (R.failed self.old.journal.rig) (R.failed self.new.journal.rig) }
     {
         if let Some(fault) = self.session.load_refusal(text) {
@@ -165,6 +170,7 @@ impl<R: Rig, A: Allocator + Copy + Drop> Controller<R, A> {
         ensures equipment { self.new.equipment ≡ self.old.equipment }
         ensures broken { IsBrokenBy result self.new.journal.broken }
         ensures hindered { IfErr result (λ fault. (fault ≡ OutOfMemory) × TakesMemory self.old.session event.now) }
+        ensures size { R.sectors self.new.journal.rig ≡ R.sectors self.old.journal.rig }
         ensures failures { Tells result (R.failed self.old.journal.rig) (R.failed self.new.journal.rig) }
     {
         Ok(self.session.answer(event, &self.tools, &self.geometry)?)

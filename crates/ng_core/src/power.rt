@@ -18,8 +18,8 @@ use std::alloc::Allocator;
 /// Powers on (own): finds what the device stands for, writes it again with nothing open, and starts a session at rest over it, with
 /// both switches of the operator off. Where something was open, its block is half-done, and it isn't known where the machine stands.
 ///
-/// J2 for fewer than 1,710 sectors, with no call of the device, and where no header is valid; J3 where what stands is damaged, or a log
-/// has begun; J4 where the epoch would be beyond its limit: all before any write. J1 where the device failed. M1 where memory is
+/// J2 for fewer than 1,710 sectors, with no call of the device, and where it isn't formatted; J3 where what stands is damaged, or a log
+/// has begun; J4 where the journal's counter is used up: all before any write. J1 where the device failed. M1 where memory is
 /// wanting, before any call of the device. The device is handed back with each of them. Nothing is handed out.
 pub fn power_on<R: Rig, A: Allocator + Copy + Drop>(
     alloc: A,

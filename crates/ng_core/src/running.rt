@@ -23,6 +23,7 @@ impl<R: Rig, A: Allocator + Copy + Drop> Controller<R, A> {
         ensures each { IfOk result (λ replies. length replies.items ≡ length events.now) }
         ensures failures { IfOk result (λ replies. FailsOnce self.old.journal.broken self.new.journal.broken (R.failed self.old.journal.rig) (R.failed self.new.journal.rig)) }
         ensures equipment { self.new.equipment ≡ self.old.equipment }
+        ensures size { R.sectors self.new.journal.rig ≡ R.sectors self.old.journal.rig }
         ensures memory { IfErr result (λ fault. (fault ≡ OutOfMemory) × (self.new ≡ self.old)) }
     {
         let mut replies = Vec::with_capacity(self.alloc, events.len())?;

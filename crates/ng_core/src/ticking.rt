@@ -6,6 +6,7 @@ ghost use Rattle.ng_layout.specs.Storable.{CanWait};
 ghost use Rattle.ng_layout.specs.Stored.{Standing};
 ghost use Rattle.ng_journal.specs.Journal.{RestsAt, Tells, IsBrokenBy};
 ghost use Rattle.ng_journal.specs.ProgramLines.{FindsFirst};
+ghost use Rattle.ng_journal.specs.Storing.{ledger_of};
 ghost use Rattle.ng_session.specs.LinesBefore.{IsTrueOf, Next};
 
 use crate::controller::Controller;
@@ -28,9 +29,10 @@ fn first_kind_before<R: Rig, A: Allocator + Copy + Drop>(
     requires place { place ≤ journal.old.saved.length }
     ensures kind { Promises (R.honest journal.old.rig) (R.honest journal.new.rig) ((standing : Standing) → RestsAt (R.life journal.old.rig) journal.old standing → IsTrueOf standing.program known.now
         → FindsFirst result journal.new standing place (R.life journal.old.rig) (R.life journal.new.rig)) }
-    ensures saved { journal.new.saved ≡ journal.old.saved }
+    ensures ledger { ledger_of journal.new ≡ ledger_of journal.old }
     ensures broken { IsBrokenBy result journal.new.broken }
     ensures errors { IfErr result (λ e. e ≡ DeviceFailed) }
+    ensures size { R.sectors journal.new.rig ≡ R.sectors journal.old.rig }
     ensures failures { Tells result (R.failed journal.old.rig) (R.failed journal.new.rig) }
 {
     match known.first_before(place) {
@@ -63,7 +65,8 @@ impl<R: Rig, A: Allocator + Copy + Drop> Controller<R, A> {
         ensures comes { ComesAnyway ((self.old.session.held ≡ false) × IsBetweenLines self.old.session) result (λ program. tick self.old.equipment program self.old.session) self.old self.new }
         ensures equipment { self.new.equipment ≡ self.old.equipment }
         ensures broken { IsBrokenBy result self.new.journal.broken }
-        ensures hindered { IfErr result (IsHinderedBy ((self.old.session.held ≡ false) × IsBetweenLines self.old.session) ((self.old.session.held ≡ false) × (is_busy self.old.session ≡ true)) self.old.journal.header.epoch (λ program. (tick self.old.equipment program self.old.session).reply)) }
+        ensures hindered { IfErr result (IsHinderedBy ((self.old.session.held ≡ false) × IsBetweenLines self.old.session) ((self.old.session.held ≡ false) × (is_busy self.old.session ≡ true)) (ledger_of self.old.journal) (λ program. tick self.old.equipment program self.old.session)) }
+        ensures size { R.sectors self.new.journal.rig ≡ R.sectors self.old.journal.rig }
         ensures failures { Tells result (R.failed self.old.journal.rig) (R.failed self.new.journal.rig) }
     {
         if self.session.is_held() {
@@ -82,7 +85,8 @@ impl<R: Rig, A: Allocator + Copy + Drop> Controller<R, A> {
         ensures comes { ComesAnyway (IsBetweenLines self.old.session) result (λ program. open_next self.old.equipment program self.old.session (opening_of self.old.session.current)) self.old self.new }
         ensures equipment { self.new.equipment ≡ self.old.equipment }
         ensures broken { IsBrokenBy result self.new.journal.broken }
-        ensures hindered { IfErr result (IsHinderedBy (IsBetweenLines self.old.session) (is_busy self.old.session ≡ true) self.old.journal.header.epoch (λ program. (open_next self.old.equipment program self.old.session (opening_of self.old.session.current)).reply)) }
+        ensures hindered { IfErr result (IsHinderedBy (IsBetweenLines self.old.session) (is_busy self.old.session ≡ true) (ledger_of self.old.journal) (λ program. open_next self.old.equipment program self.old.session (opening_of self.old.session.current))) }
+        ensures size { R.sectors self.new.journal.rig ≡ R.sectors self.old.journal.rig }
         ensures failures { Tells result (R.failed self.old.journal.rig) (R.failed self.new.journal.rig) }
     {
         match self.session.opening() {
@@ -98,7 +102,8 @@ impl<R: Rig, A: Allocator + Copy + Drop> Controller<R, A> {
         ensures comes { ComesAnyway (IsBetweenLines self.old.session) result (λ program. end self.old.equipment program self.old.session self.old.session.current) self.old self.new }
         ensures equipment { self.new.equipment ≡ self.old.equipment }
         ensures broken { IsBrokenBy result self.new.journal.broken }
-        ensures hindered { IfErr result (IsHinderedBy (IsBetweenLines self.old.session) (is_busy self.old.session ≡ true) self.old.journal.header.epoch (λ program. (end self.old.equipment program self.old.session self.old.session.current).reply)) }
+        ensures hindered { IfErr result (IsHinderedBy (IsBetweenLines self.old.session) (is_busy self.old.session ≡ true) (ledger_of self.old.journal) (λ program. end self.old.equipment program self.old.session self.old.session.current)) }
+        ensures size { R.sectors self.new.journal.rig ≡ R.sectors self.old.journal.rig }
         ensures failures { Tells result (R.failed self.old.journal.rig) (R.failed self.new.journal.rig) }
     {
         if self.session.after().is_some() {
@@ -118,6 +123,7 @@ impl<R: Rig, A: Allocator + Copy + Drop> Controller<R, A> {
         ensures equipment { self.new.equipment ≡ self.old.equipment }
         ensures broken { IsBrokenBy result self.new.journal.broken }
         ensures errors { IfErr result (λ e. e ≡ DeviceFailed) }
+        ensures size { R.sectors self.new.journal.rig ≡ R.sectors self.old.journal.rig }
         ensures failures { Tells result (R.failed self.old.journal.rig) (R.failed self.new.journal.rig) }
     {
         self.journal.hand_out(item)?;
@@ -128,11 +134,13 @@ impl<R: Rig, A: Allocator + Copy + Drop> Controller<R, A> {
     fn open(&mut self, half: Half) -> Result<Reply, Fault>
         requires whole { self.old.journal.broken ≡ false }
         requires half { CanWait half }
+        requires is_open { IsSome half.opened }
         ensures does { Does R.honest R.life result (λ program. answers program (Reply.Opened half.index) (opened self.old.equipment.geometry self.old.session half)) self.old self.new }
         ensures comes { ComesAnyway ⊥ result (λ program. answers program (Reply.Opened half.index) (opened self.old.equipment.geometry self.old.session half)) self.old self.new }
         ensures equipment { self.new.equipment ≡ self.old.equipment }
         ensures broken { IsBrokenBy result self.new.journal.broken }
-        ensures hindered { IfErr result (IsHinderedBy ⊥ (Unit {0}) self.old.journal.header.epoch (λ program. Reply.Opened half.index)) }
+        ensures hindered { IfErr result (IsHinderedBy ⊥ (Unit {0}) (ledger_of self.old.journal) (λ program. answers program (Reply.Opened half.index) (opened self.old.equipment.geometry self.old.session half))) }
+        ensures size { R.sectors self.new.journal.rig ≡ R.sectors self.old.journal.rig }
         ensures failures { Tells result (R.failed self.old.journal.rig) (R.failed self.new.journal.rig) }
     {
         self.journal.open_segment(&half)?;
@@ -147,7 +155,8 @@ impl<R: Rig, A: Allocator + Copy + Drop> Controller<R, A> {
         ensures comes { ComesAnyway (IsBetweenLines self.old.session) result (λ program. end self.old.equipment program self.old.session self.old.session.current) self.old self.new }
         ensures equipment { self.new.equipment ≡ self.old.equipment }
         ensures broken { IsBrokenBy result self.new.journal.broken }
-        ensures hindered { IfErr result (IsHinderedBy ⊥ (Unit {0}) self.old.journal.header.epoch (λ program. (end self.old.equipment program self.old.session self.old.session.current).reply)) }
+        ensures hindered { IfErr result (IsHinderedBy ⊥ (Unit {0}) (ledger_of self.old.journal) (λ program. end self.old.equipment program self.old.session self.old.session.current)) }
+        ensures size { R.sectors self.new.journal.rig ≡ R.sectors self.old.journal.rig }
         ensures failures { Tells result (R.failed self.old.journal.rig) (R.failed self.new.journal.rig) }
     {
         let Some(after) = self.session.after() else {
@@ -161,10 +170,11 @@ impl<R: Rig, A: Allocator + Copy + Drop> Controller<R, A> {
     fn begin(&mut self) -> Result<Reply, Fault>
         requires { self.old.journal.broken ≡ false }
         ensures does { Does R.honest R.life result (λ program. begin self.old.equipment program self.old.session (line_at program self.old.session.stored.place)) self.old self.new }
-        ensures stays { IfErr result (λ fault. Stays fault self.old self.new) }
+        ensures stays { IfErr result (λ fault. Stays (Unit {0}) fault self.old self.new) }
         ensures equipment { self.new.equipment ≡ self.old.equipment }
         ensures broken { IsBrokenBy result self.new.journal.broken }
         ensures hindered { IfErr result (λ fault. (fault ≡ OutOfMemory) ⊎ (fault ≡ DeviceFailed)) }
+        ensures size { R.sectors self.new.journal.rig ≡ R.sectors self.old.journal.rig }
         ensures failures { Tells result (R.failed self.old.journal.rig) (R.failed self.new.journal.rig) }
     {
         let place = self.session.place();

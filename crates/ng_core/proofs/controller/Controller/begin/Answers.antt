@@ -2,12 +2,13 @@ use Rattle.std.proofs.Common.{◌≡◌, ℕ, List, [], Option, Some, None, Ok, 
 use Rattle.std.proofs.lemmas.Result.{err_from_is_err_and}
 use Rattle.ng_num.specs.declared.fault.Fault.{Fault}
 use Rattle.ng_layout.specs.Programs.{Line, line_at}
+use Rattle.ng_journal.specs.Storing.{Ledger}
 use Rattle.ng_session.specs.Entries.{Equipment}
 use Rattle.ng_session.specs.Session.{Sitting, begin}
 use Rattle.ng_core.specs.Station.{Station}
 use Rattle.ng_core.proofs.Choosing.{does_as}
 use Rattle.ng_core.proofs.Beginning.{Reading, finding_both, does_begin, does_begin_short, does_begin_unfound, does_begin_unread, known_behind}
-use Rattle.ng_core.proofs.Anyway.{stays_same}
+use Rattle.ng_core.proofs.Anyway.{stays_read}
 use Rattle.ng_core.proofs.controller.Controller.begin.Goals as goal
 
 pub returns-in_err-first-clause-does : goal.returns-in_err-first-clause-does
@@ -47,13 +48,13 @@ returns-in_err-reply-in-Some-clause-does g c =
 pub invariant_of-self-in-Some : goal.invariant_of-self-in-Some
 invariant_of-self-in-Some g c =
     let whole = ap (λ (x : Station g.row.R.Denot). x.journal.broken) c.self.view_is ∙ c.requires in
-    λ _. c.in_ok-reply-in-Some.ensures.stored ∙ c.self.invariant whole ∙ sym (c.in_ok-line.ensures.saved ∙ c.in_ok-first.ensures.saved)
+    λ _. c.in_ok-reply-in-Some.ensures.stored ∙ c.self.invariant whole ∙ sym (ap (λ (l : Ledger). l.saved) (c.in_ok-line.ensures.ledger ∙ c.in_ok-first.ensures.ledger))
 
 pub invariant_of-self-in-None : goal.invariant_of-self-in-None
 invariant_of-self-in-None g c =
     let same : c.break_off.new.self.stored ≡ c.self.inside.session.stored = ap (λ (s : Sitting). s.stored) (c.break_off.ensures.next []) in
     let whole = ap (λ (x : Station g.row.R.Denot). x.journal.broken) c.self.view_is ∙ c.requires in
-    λ _. same ∙ c.self.invariant whole ∙ sym (c.in_ok-line.ensures.saved ∙ c.in_ok-first.ensures.saved)
+    λ _. same ∙ c.self.invariant whole ∙ sym (ap (λ (l : Ledger). l.saved) (c.in_ok-line.ensures.ledger ∙ c.in_ok-first.ensures.ledger))
 
 pub returns-in_ok-reply-in-Some-clause-does : goal.returns-in_ok-reply-in-Some-clause-does
 returns-in_ok-reply-in-Some-clause-does g c =
@@ -87,7 +88,7 @@ returns-in_err-first-clause-stays g c =
     let equipment : Equipment = record { tools = c.self.inside.tools; geometry = c.self.inside.geometry } in
     let old : Station g.row.R.Denot = record { journal = c.self.inside.journal; session = c.self.inside.session; lines = c.self.inside.lines; equipment = equipment } in
     let new : Station g.row.R.Denot = record { journal = c.first_kind_before.new.journal; session = c.self.inside.session; lines = c.self.inside.lines; equipment = equipment } in
-    rw (p.1, ← c.self.view_is) (stays_same p.0 old new refl)
+    rw (p.1, ← c.self.view_is) (stays_read p.0 old new refl c.in_err-first.ensures.ledger)
 
 pub returns-in_err-line-clause-stays : goal.returns-in_err-line-clause-stays
 returns-in_err-line-clause-stays g c =
@@ -95,7 +96,7 @@ returns-in_err-line-clause-stays g c =
     let equipment : Equipment = record { tools = c.self.inside.tools; geometry = c.self.inside.geometry } in
     let old : Station g.row.R.Denot = record { journal = c.self.inside.journal; session = c.self.inside.session; lines = c.self.inside.lines; equipment = equipment } in
     let new : Station g.row.R.Denot = record { journal = c.program_line.new.self; session = c.self.inside.session; lines = c.self.inside.lines; equipment = equipment } in
-    rw (p.1, ← c.self.view_is) (stays_same p.0 old new refl)
+    rw (p.1, ← c.self.view_is) (stays_read p.0 old new refl (c.in_err-line.ensures.ledger ∙ c.in_ok-first.ensures.ledger))
 
 pub returns-in_err-reply-in-Some-clause-stays : goal.returns-in_err-reply-in-Some-clause-stays
 returns-in_err-reply-in-Some-clause-stays g c =
@@ -103,4 +104,4 @@ returns-in_err-reply-in-Some-clause-stays g c =
     let equipment : Equipment = record { tools = c.self.inside.tools; geometry = c.self.inside.geometry } in
     let old : Station g.row.R.Denot = record { journal = c.self.inside.journal; session = c.self.inside.session; lines = c.self.inside.lines; equipment = equipment } in
     let new : Station g.row.R.Denot = record { journal = c.program_line.new.self; session = c.begin.new.self; lines = c.self.inside.lines; equipment = equipment } in
-    rw (p.1, ← c.self.view_is) (stays_same p.0 old new c.in_err-reply-in-Some.ensures.err)
+    rw (p.1, ← c.self.view_is) (stays_read p.0 old new c.in_err-reply-in-Some.ensures.err (c.in_ok-line.ensures.ledger ∙ c.in_ok-first.ensures.ledger))

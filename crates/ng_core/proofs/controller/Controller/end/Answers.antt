@@ -2,6 +2,7 @@ use Rattle.std.proofs.Common.{◌≡◌, ◌⊎◌, ℕ, true, List, Ok, sym, �
 use Rattle.std.proofs.lemmas.Result.{IfErr-weaker}
 use Rattle.ng_num.specs.declared.fault.Fault.{Fault}
 use Rattle.ng_num.specs.declared.fault.Fault.TheVariants.{DeviceFailed, OutOfMemory}
+use Rattle.ng_journal.specs.Storing.{ledger_of}
 use Rattle.ng_session.specs.Entries.{Equipment}
 use Rattle.ng_session.specs.Session.{end, is_running, is_busy, IsBetweenLines}
 use Rattle.ng_core.specs.Station.{Station}
@@ -25,8 +26,8 @@ returns-then-is_running-clause-hindered g c =
     let none = by_none _ c.after.result c.if-is_some.ensures c.after.ensures.after in
     let old : Station g.row.R.Denot = c.args.self.now in
     IfErr-weaker c.begin.result (λ (fault : Fault). (fault ≡ OutOfMemory) ⊎ (fault ≡ DeviceFailed))
-    (IsHinderedBy (IsBetweenLines old.session) (is_busy old.session ≡ true) old.journal.header.epoch (λ (program : List ℕ). (end old.equipment program old.session old.session.current).reply))
-    (hindered_line old.equipment old.session old.journal.header.epoch
+    (IsHinderedBy (IsBetweenLines old.session) (is_busy old.session ≡ true) (ledger_of old.journal) (λ (program : List ℕ). end old.equipment program old.session old.session.current))
+    (hindered_line old.equipment old.session (ledger_of old.journal)
     (sym (ap (λ (x : Station g.row.R.Denot). x.session.current) c.self.view_is) ∙ none)
     (sym (ap (λ (x : Station g.row.R.Denot). is_running x.session.activity) c.self.view_is) ∙ sym c.if-is_running.ensures)) c.begin.ensures.hindered
 

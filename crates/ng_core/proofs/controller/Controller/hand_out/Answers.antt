@@ -30,7 +30,8 @@ returns-in_err-hand_out-clause-comes g c =
     let equipment : Equipment = record { tools = c.self.inside.tools; geometry = c.self.inside.geometry } in
     let old : Station g.row.R.Denot = record { journal = c.self.inside.journal; session = c.self.inside.session; lines = c.self.inside.lines; equipment = equipment } in
     let new : Station g.row.R.Denot = record { journal = c.hand_out.new.self; session = c.self.inside.session; lines = c.self.inside.lines; equipment = equipment } in
-    rw (p.1, ← c.self.view_is) (stays_same p.0 old new refl)
+    let lost : p.0 ≡ DeviceFailed = p.2 ∙ c.in_err-hand_out.ensures.errors in
+    rw (p.1, ← c.self.view_is) (stays_same ⊥ p.0 old new refl (λ other. absurd (other lost)))
 
 pub returns-clause-comes : goal.returns-clause-comes
 returns-clause-comes g c =

@@ -3,6 +3,7 @@ use Rattle.std.proofs.lemmas.Result.{err_from_is_err_and}
 use Rattle.ng_num.specs.declared.fault.Fault.{Fault}
 use Rattle.ng_num.specs.declared.fault.Fault.TheVariants.{DeviceFailed, CountersUsed}
 use Rattle.ng_journal.specs.Journal.{Tells}
+use Rattle.ng_journal.specs.Storing.{ledger_of}
 use Rattle.ng_session.specs.Entries.{Equipment}
 use Rattle.ng_session.specs.Session.{Sitting, load, load_refusal}
 use Rattle.ng_session.specs.declared.reply.Reply.{Reply}
@@ -11,7 +12,7 @@ use Rattle.ng_core.specs.Station.{Station}
 use Rattle.ng_core.proofs.Answering.{does_load, does_not_load, not_too_long}
 use Rattle.ng_core.proofs.Hindering.{hindered_load}
 use Rattle.ng_core.proofs.Storing.{kept_failed}
-use Rattle.ng_core.proofs.Anyway.{comes_load, stays_same}
+use Rattle.ng_core.proofs.Anyway.{comes_load, stays_same, unless_lost}
 use Rattle.ng_core.proofs.controller.Controller.load.Goals as goal
 
 pub invariant_of-self : goal.invariant_of-self
@@ -43,10 +44,11 @@ returns-in_err-load_program-clause-hindered g c =
     let p = err_from_is_err_and c.from_residual-in_err-load_program.result c.from_residual-in_err-load_program.ensures.1 in
     let e = c.in_err-load_program.field-0.0 in
     let session = c.self.inside.session in
-    let epoch = c.self.inside.journal.header.epoch in
+    let ledger = ledger_of c.self.inside.journal in
     let which : (e ≡ CountersUsed) ⊎ (e ≡ DeviceFailed) = not_too_long (Unit {0}) e (length c.args.text.now) c.in_default.ensures.none.1 c.in_err-load_program.ensures.errors c.in_err-load_program.ensures.too_long in
-    rw (p.1, ← c.self.view_is) (subst (λ (f : Fault). IsHinderedBy (load_refusal session c.args.text.now ≡ None) (load_refusal session c.args.text.now ≡ None) epoch (λ (program : List ℕ). (load program session c.args.text.now).reply) f) (sym p.2)
-    (hindered_load (Unit {0}) e session c.in_ok-stored.stored c.args.text.now epoch (sym c.in_default.ensures.value) c.in_default.ensures.none.1 c.in_ok-stored.ensures.value which c.in_err-load_program.ensures.used_up))
+    rw (p.1) (subst (λ (x : Station g.row.R.Denot). IsHinderedBy (load_refusal x.session c.args.text.now ≡ None) (load_refusal x.session c.args.text.now ≡ None) (ledger_of x.journal) (λ (program : List ℕ). load program x.session c.args.text.now) p.0) c.self.view_is
+    (subst (λ (f : Fault). IsHinderedBy (load_refusal session c.args.text.now ≡ None) (load_refusal session c.args.text.now ≡ None) ledger (λ (program : List ℕ). load program session c.args.text.now) f) (sym p.2)
+    (hindered_load (Unit {0}) e session c.in_ok-stored.stored c.args.text.now ledger (sym c.in_default.ensures.value) c.in_default.ensures.none.1 c.in_ok-stored.ensures.value which c.in_err-load_program.ensures.used_up)))
 
 pub returns-in_err-load_program-clause-failures : goal.returns-in_err-load_program-clause-failures
 returns-in_err-load_program-clause-failures g c =
@@ -67,7 +69,9 @@ returns-in_err-load_program-clause-comes g c =
     let equipment : Equipment = record { tools = c.self.inside.tools; geometry = c.self.inside.geometry } in
     let old : Station g.row.R.Denot = record { journal = c.self.inside.journal; session = c.self.inside.session; lines = c.self.inside.lines; equipment = equipment } in
     let new : Station g.row.R.Denot = record { journal = c.load_program.new.self; session = c.self.inside.session; lines = c.self.inside.lines; equipment = equipment } in
-    rw (p.1, ← c.self.view_is) (stays_same p.0 old new refl)
+    let which : (c.in_err-load_program.field-0.0 ≡ CountersUsed) ⊎ (c.in_err-load_program.field-0.0 ≡ DeviceFailed) = not_too_long (Unit {0}) c.in_err-load_program.field-0.0 (length c.args.text.now) c.in_default.ensures.none.1 c.in_err-load_program.ensures.errors c.in_err-load_program.ensures.too_long in
+    rw (p.1, ← c.self.view_is) (stays_same ⊥ p.0 old new refl
+    (unless_lost p.0 old.journal new.journal (subst (λ (f : Fault). (f ≡ CountersUsed) ⊎ (f ≡ DeviceFailed)) (sym p.2) which) (λ used. c.in_err-load_program.ensures.unchanged (inl (ap (λ (f : Fault). Err f) (sym p.2 ∙ used))))))
 
 pub returns-clause-comes : goal.returns-clause-comes
 returns-clause-comes g c =

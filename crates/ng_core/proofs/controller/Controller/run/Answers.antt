@@ -1,4 +1,4 @@
-use Rattle.std.proofs.Common.{refl, arith}
+use Rattle.std.proofs.Common.{refl, ◌∙◌, arith}
 use Rattle.ng_core.proofs.InTurn.{turns_more, turns_all, turns_ran, turns_fail, turns_equipment}
 use Rattle.ng_core.proofs.controller.Controller.run.Goals as goal
 
@@ -6,6 +6,7 @@ pub loop-event-init : goal.loop-event-init
 loop-event-init g c = record {
   room = omega (arith, c.in_ok-replies.ensures.capacity);
   count = omega (arith, c.in_ok-replies.ensures.len);
+  size = refl;
   turns = rw c.in_ok-replies.ensures.items refl;
 }
 
@@ -13,6 +14,7 @@ pub loop-event-preserved : goal.loop-event-preserved
 loop-event-preserved g c = record {
   room = omega (arith, c.push_reserved.ensures.capacity, c.loop-event.invariant.room);
   count = omega (arith, c.push_reserved.ensures.len, c.loop-event.invariant.count);
+  size = c.reply-reply.ensures.size ∙ c.loop-event.invariant.size;
   turns = rw c.push_reserved.ensures.items (turns_more g.R.Rig.honest g.R.Rig.life g.R.Rig.failed c.args.events.now c.loop-event.event-index c.event-item.result c.loop-event.replies.items c.reply-reply.result
       c.args.self.now c.loop-event.self c.reply-reply.new.self (omega arith) c.event-item.is c.loop-event.invariant.turns
       (record { serves = c.reply-reply.ensures.serves; refuses = c.reply-reply.ensures.broken; equipment = c.reply-reply.ensures.equipment }));

@@ -7,5 +7,6 @@ abbrev pub invariant-loop-event : goal.invariant-loop-event
 invariant-loop-event g l = record {
   room : length l.events ≤ vec_capacity l.replies;
   count : vec_len l.replies ≡ l.event-index;
+  size : g.R.Rig.sectors l.self.journal.rig ≡ g.R.Rig.sectors l.fn.self.journal.rig;
   turns : Turns g.R.Rig.honest g.R.Rig.life g.R.Rig.failed (take l.event-index l.events) l.replies.items l.fn.self l.self;
 }
