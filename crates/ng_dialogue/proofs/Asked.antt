@@ -1,11 +1,11 @@
 -- What is asked, of the parts of a text.
-use Rattle.std.proofs.Common.{◌≡◌, ◌≤◌, ◌<◌, ◌⊎◌, ◌+◌, ℕ, List, [], ◌++◌, Option, None, Some, Result, Ok, Err, IfSome, IfOk, length, take, refl, sym, ap, ◌∙◌, subst, inl, inr, arith, length-append, length-take}
+use Rattle.std.proofs.Common.{◌≡◌, ◌≤◌, ◌<◌, ◌⊎◌, ℕ, List, Option, None, Some, Result, Ok, Err, IfOk, length, take, refl, sym, ap, ◌∙◌, subst, inl, inr, arith, length-append, length-take}
 use Rattle.std.proofs.lemmas.List.{take_all}
 use Rattle.std.specs.Io.KnownBytes.{Consumes, IsAtEnd}
 use Rattle.ng_num.specs.declared.fault.Fault.TheVariants.{BadCommand, OutOfMemory}
 use Rattle.ng_commands.specs.Commands.{IsCommand, IsNoCommand}
 use Rattle.ng_commands.specs.declared.asked.Command.{Command}
-use Rattle.ng_commands.specs.declared.asked.Command.TheVariants.{Load, Quit}
+use Rattle.ng_commands.specs.declared.asked.Command.TheVariants.{Load}
 use Rattle.ng_session.specs.declared.event.Event.TheVariants as event
 use Rattle.ng_dialogue.specs.Reading.{TakesLine}
 use Rattle.ng_dialogue.specs.Orders.{Behind, Follows, Means, TakesOrder}

@@ -1,8 +1,7 @@
 -- A line that is written.
-use Rattle.std.proofs.Common.{◌≡◌, ℕ, List, ◌++◌, [], Option, None, Some, Result, Ok, Err, refl, sym, ap, ◌∙◌, subst, take, length, arith}
+use Rattle.std.proofs.Common.{◌≡◌, ℕ, List, Option, None, Some, Result, sym, ◌∙◌, subst, take, length, arith}
 use Rattle.std.proofs.lemmas.List.{take_all}
 use Rattle.std.specs.Io.KnownBytes.{Appends, Keeps}
-use Rattle.ng_block.proofs.Streams.{Appends-nil}
 use Rattle.ng_dialogue.specs.Telling.{Sends}
 use Rattle.ng_dialogue.specs.declared.telling.Unsent.{Unsent}
 

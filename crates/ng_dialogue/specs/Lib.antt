@@ -1,3 +1,4 @@
+pub mod Waiting
 pub mod Reading
 pub mod Orders
 pub mod Telling

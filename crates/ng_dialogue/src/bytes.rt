@@ -1,7 +1,7 @@
 //! The bytes of a program, as they come behind a command's line.
 ghost use Rattle.std.specs.Prelude.{◌≡◌, ◌++◌, [], true, IfOk};
-ghost use Rattle.std.specs.Io.KnownBytes.{prepend_known};
 ghost use Rattle.ng_dialogue.specs.Reading.{TakesBytes};
+ghost use Rattle.ng_dialogue.specs.Waiting.{EndHolds, text_left};
 
 use crate::input::{Input, Unread};
 use std::alloc::Allocator;
@@ -25,7 +25,8 @@ fn keep_on<A: Allocator + Copy + Drop>(text: &mut Vec<u8, A>, has_room: bool, by
     has_room && text.extend_from_slice(bytes).is_ok()
 }
 
-/// Takes so many bytes, and keeps them in a text that is empty before. Memory grows with the bytes that came.
+/// Takes so many bytes, and keeps them in a text that is empty before. Memory grows with the bytes that came. Where the text has ended
+/// the reader isn't read.
 ///
 /// `Unread` where the reader failed: some of the bytes are taken then. Source: own.
 pub fn take_bytes<R: Read, A: Allocator + Copy + Drop>(
@@ -35,7 +36,9 @@ pub fn take_bytes<R: Read, A: Allocator + Copy + Drop>(
     text: &mut Vec<u8, A>,
 ) -> Result<Passed, Unread>
     requires { text.old.items ≡ [] }
-    ensures { IfOk result (TakesBytes length (prepend_known input.old (R.remaining reader.old)) (prepend_known input.new (R.remaining reader.new)) text.new.items) }
+    ensures bytes { IfOk result (TakesBytes length (text_left input.old (R.remaining reader.old)) (text_left input.new (R.remaining reader.new)) text.new.items) }
+    ensures holds { EndHolds input.old (R.remaining reader.old) → EndHolds input.new (R.remaining reader.new) }
+    ensures last { input.old.ended ≡ true → (input.new ≡ input.old) × (reader.new ≡ reader.old) }
 {
     let mut left = length as usize;
     let mut has_room = true;

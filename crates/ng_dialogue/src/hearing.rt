@@ -1,7 +1,7 @@
 //! What the console is asked to do, as its lines come.
-ghost use Rattle.std.specs.Prelude.{◌≡◌, IfOk};
-ghost use Rattle.std.specs.Io.KnownBytes.{prepend_known};
+ghost use Rattle.std.specs.Prelude.{◌≡◌, true, IfOk};
 ghost use Rattle.ng_dialogue.specs.Orders.{Behind, Follows, TakesOrder};
+ghost use Rattle.ng_dialogue.specs.Waiting.{EndHolds, text_left};
 
 use crate::bytes::{Passed, take_bytes};
 use crate::input::{Input, Unread};
@@ -46,7 +46,9 @@ fn load<R: Read, A: Allocator + Copy + Drop>(
     reader: &mut R,
     length: u32,
 ) -> Result<Order<A>, Unread>
-    ensures { IfOk result (λ order. Behind (Command.Load length) (prepend_known input.old (R.remaining reader.old)) (prepend_known input.new (R.remaining reader.new)) order) }
+    ensures order { IfOk result (λ order. Behind (Command.Load length) (text_left input.old (R.remaining reader.old)) (text_left input.new (R.remaining reader.new)) order) }
+    ensures holds { EndHolds input.old (R.remaining reader.old) → EndHolds input.new (R.remaining reader.new) }
+    ensures last { input.old.ended ≡ true → (input.new ≡ input.old) × (reader.new ≡ reader.old) }
 {
     let mut text = Vec::new(alloc);
     match take_bytes(input, reader, length, &mut text)? {
@@ -63,7 +65,9 @@ fn ask<R: Read, A: Allocator + Copy + Drop>(
     reader: &mut R,
     command: Command<'_>,
 ) -> Result<Option<Order<A>>, Deaf>
-    ensures { IfOk result (Follows command.entry (prepend_known input.old (R.remaining reader.old)) (prepend_known input.new (R.remaining reader.new))) }
+    ensures order { IfOk result (Follows command.entry (text_left input.old (R.remaining reader.old)) (text_left input.new (R.remaining reader.new))) }
+    ensures holds { EndHolds input.old (R.remaining reader.old) → EndHolds input.new (R.remaining reader.new) }
+    ensures last { input.old.ended ≡ true → (input.new ≡ input.old) × (reader.new ≡ reader.old) }
 {
     let event = match command {
         Command::Load(length) => {
@@ -85,6 +89,7 @@ fn ask<R: Read, A: Allocator + Copy + Drop>(
 
 /// Takes the next line and what it asks. None at the end: the text's, or `quit`.
 ///
+/// The text ends where a read gives no byte, and that is final: from then on the reader isn't read, and None is all that is answered.
 /// A line that is no command is refused, U1, and so is a program that the end of the text cuts off; a program that finds no memory
 /// is refused, M1, and its bytes are passed over. `Deaf` where the reader failed, or a line of the operator found no memory. Lines
 /// take no memory but those. Source: own.
@@ -93,7 +98,9 @@ pub fn next_order<R: Read, A: Allocator + Copy + Drop>(
     input: &mut Input,
     reader: &mut R,
 ) -> Result<Option<Order<A>>, Deaf>
-    ensures { IfOk result (TakesOrder (prepend_known input.old (R.remaining reader.old)) (prepend_known input.new (R.remaining reader.new))) }
+    ensures order { IfOk result (TakesOrder (text_left input.old (R.remaining reader.old)) (text_left input.new (R.remaining reader.new))) }
+    ensures holds { EndHolds input.old (R.remaining reader.old) → EndHolds input.new (R.remaining reader.new) }
+    ensures last { input.old.ended ≡ true → (result ≡ Ok None) × (input.new ≡ input.old) × (reader.new ≡ reader.old) }
 {
     let mut line = ArrayVec::new();
     if !next_line(input, reader, &mut line)? {

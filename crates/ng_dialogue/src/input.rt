@@ -1,6 +1,7 @@
 //! The bytes of a reader, in buffers.
-ghost use Rattle.std.specs.Prelude.{◌≡◌, ◌≢◌, ◌≤◌, ℕ, List, [], drop, length, true, false, IfOk};
-ghost use Rattle.std.specs.Io.KnownBytes.{Keeps, IsAtEnd, prepend_known};
+ghost use Rattle.std.specs.Prelude.{◌≡◌, ◌≢◌, ◌≤◌, [], drop, length, true, false, IfOk};
+ghost use Rattle.std.specs.Io.KnownBytes.{Keeps};
+ghost use Rattle.ng_dialogue.specs.Waiting.{EndHolds, text_left};
 
 use std::io::Read;
 use std::marker::Model;
@@ -15,59 +16,68 @@ const BUFFER: usize = 8192;
 #[derive(Clone, Copy, Debug, PartialEq, Eq)]
 pub struct Unread;
 
-/// The bytes that were read and not taken yet. Contracts see the list of them.
+/// The bytes that were read and not taken yet, and whether the text has ended: a read gave no byte. Contracts see a `Waiting`.
 #[derive(Drop)]
 pub struct Input {
     buffer: [u8; BUFFER],
     start: usize,
     end: usize,
     reads_left: u64,
+    ended: bool,
 }
 
 impl Model for Input {
-    ghost use Rattle.std.specs.Prelude.{List, ℕ, ◌≤◌, slice_range};
+    ghost use Rattle.std.specs.Prelude.{◌≡◌, ◌≤◌, true, slice_range};
+    ghost use Rattle.ng_dialogue.specs.Waiting.{Waiting};
 
-    ghost Value = { List ℕ };
+    ghost Value = { Waiting };
 
-    ghost view = { λ i. slice_range i.buffer i.start i.end };
+    ghost view = { λ i. record { bytes = slice_range i.buffer i.start i.end; ended = i.ended } };
 
-    ghost invariant = { λ i. (i.start ≤ i.end) × (i.end ≤ 8192) };
+    ghost invariant = { λ i. (i.start ≤ i.end) × (i.end ≤ 8192) × (i.ended ≡ true → i.start ≡ i.end) };
 }
 
 impl Input {
     /// Nothing was read yet.
     pub fn new() -> Input
-        ensures { result ≡ [] }
+        ensures { result ≡ record { bytes = []; ended = false } }
     {
         Input {
             buffer: [0; BUFFER],
             start: 0,
             end: 0,
             reads_left: READS,
+            ended: false,
         }
     }
 
     /// The bytes that wait.
     pub fn waiting(&self) -> &[u8]
-        ensures { result.now ≡ self.now }
+        ensures { result.now ≡ self.now.bytes }
     {
         &self.buffer[self.start..self.end]
     }
 
     /// Takes the first bytes that wait.
     pub fn consume(&mut self, count: usize)
-        requires { count ≤ length self.old }
-        ensures { self.new ≡ drop count self.old }
+        requires { count ≤ length self.old.bytes }
+        ensures { self.new ≡ record self.old { bytes = drop count self.old.bytes } }
     {
         self.start += count;
     }
 
-    /// Reads where nothing waits. False at the end of the text.
+    /// Reads where nothing waits. False at the end of the text, where a read gives no byte; that is final, and the reader isn't read
+    /// again. `Unread` where the read failed, or one read too many was needed: nothing waits then.
     pub fn fill<R: Read>(&mut self, reader: &mut R) -> Result<bool, Unread>
-        ensures keeps { Keeps (prepend_known self.old (R.remaining reader.old)) (prepend_known self.new (R.remaining reader.new)) }
-        ensures some { IfOk result (λ more. more ≡ true → self.new ≢ []) }
-        ensures end { IfOk result (λ more. more ≡ false → (self.new ≡ []) × IsAtEnd (R.remaining reader.new)) }
+        ensures keeps { Keeps (text_left self.old (R.remaining reader.old)) (text_left self.new (R.remaining reader.new)) }
+        ensures some { IfOk result (λ more. more ≡ true → (self.new.bytes ≢ []) × (self.new.ended ≡ false)) }
+        ensures end { IfOk result (λ more. more ≡ false → (self.new.bytes ≡ []) × (self.new.ended ≡ true)) }
+        ensures holds { EndHolds self.old (R.remaining reader.old) → EndHolds self.new (R.remaining reader.new) }
+        ensures last { self.old.ended ≡ true → (result ≡ Ok false) × (self.new ≡ self.old) × (reader.new ≡ reader.old) }
     {
+        if self.ended {
+            return Ok(false);
+        }
         if self.start < self.end {
             return Ok(true);
         }
@@ -80,6 +90,7 @@ impl Input {
         match reader.read(&mut self.buffer) {
             Ok(n) => {
                 self.end = n;
+                self.ended = n == 0;
                 Ok(n > 0)
             }
             Err(_) => Err(Unread),

@@ -1,8 +1,9 @@
 //! Lines of a reader.
 ghost use Rattle.std.specs.Prelude.{◌≡◌, ◌∷◌, ◌++◌, ◌+◌, ◌≤◌, ℕ, List, [], take, true, false, MatchOption, IfOk};
-ghost use Rattle.std.specs.Io.KnownBytes.{Keeps, IsAtEnd, prepend_known};
+ghost use Rattle.std.specs.Io.KnownBytes.{IsAtEnd};
 ghost use Rattle.ng_block.specs.Parts.{HasNoNewline};
 ghost use Rattle.ng_dialogue.specs.Reading.{TakesLine};
+ghost use Rattle.ng_dialogue.specs.Waiting.{EndHolds, text_left};
 
 use crate::input::{Input, Unread};
 use arrayvec::ArrayVec;
@@ -34,14 +35,17 @@ fn keep(line: &mut ArrayVec<u8, CUT>, bytes: &[u8])
     };
 }
 
-/// Takes the next line, and keeps its first 301 bytes. False at the end of the text, where none follows.
+/// Takes the next line, and keeps its first 301 bytes. False at the end of the text, where none follows; the last line may lack its
+/// newline. Where the text has ended the reader isn't read.
 pub fn next_line<R: Read>(
     input: &mut Input,
     reader: &mut R,
     line: &mut ArrayVec<u8, CUT>,
 ) -> Result<bool, Unread>
-    ensures some { IfOk result (λ more. more ≡ true → TakesLine 301 (prepend_known input.old (R.remaining reader.old)) (prepend_known input.new (R.remaining reader.new)) line.new.items) }
-    ensures end { IfOk result (λ more. more ≡ false → IsAtEnd (prepend_known input.old (R.remaining reader.old))) }
+    ensures some { IfOk result (λ more. more ≡ true → TakesLine 301 (text_left input.old (R.remaining reader.old)) (text_left input.new (R.remaining reader.new)) line.new.items) }
+    ensures end { IfOk result (λ more. more ≡ false → IsAtEnd (text_left input.old (R.remaining reader.old)) × (input.new.ended ≡ true)) }
+    ensures holds { EndHolds input.old (R.remaining reader.old) → EndHolds input.new (R.remaining reader.new) }
+    ensures last { input.old.ended ≡ true → (result ≡ Ok false) × (input.new ≡ input.old) × (reader.new ≡ reader.old) }
 {
     line.clear();
     for _turn in 0..u64::MAX {

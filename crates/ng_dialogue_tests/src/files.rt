@@ -2,12 +2,13 @@
 //! fails leaves.
 use linked_list_allocator::LocalHeap;
 use ng_canon::{Item, Outputs, Pulse, Spindle, Step};
-use ng_file::{FileRig, Storage};
+use ng_file::{FileRig, OpenedFile, Storage};
 use ng_num::Num;
 use ng_rig::{Failed, Rig};
 use std::alloc::{AllocError, Global};
+use std::fs::{Metadata, OpenFile};
 use std::io;
-use std::io::{ErrorKind, Write};
+use std::io::{ErrorKind, Read, Seek, SeekFrom, Write};
 use std::test::Fail;
 
 /// Bytes in memory, as a disk keeps them that gets full, and a file that gets shorter.
@@ -315,5 +316,56 @@ fn a_hand_out_is_a_write_and_a_flush_and_fails_with_each(rt: HostRuntime) -> Res
 fn a_device_without_memory_for_a_line_is_none(rt: HostRuntime) -> Result<(), Fail> {
     let heap = LocalHeap::new(rt.alloc(), 16)?;
     assert!(rt; FileRig::over(&heap, disk_with(rt.alloc(), 0, 0)?, io::sink()).is_err());
+    Ok(())
+}
+
+/// A file of the system that holds nothing, and that can't make last what it is given.
+#[derive(Drop)]
+struct Unlasting;
+
+impl Read for Unlasting {
+    fn read(&mut self, _: &mut [u8]) -> io::Result<usize> {
+        Ok(0)
+    }
+}
+
+impl Write for Unlasting {
+    fn write(&mut self, buf: &[u8]) -> io::Result<usize> {
+        Ok(buf.len())
+    }
+
+    fn flush(&mut self) -> io::Result<()> {
+        Ok(())
+    }
+}
+
+impl Seek for Unlasting {
+    fn seek(&mut self, _: SeekFrom) -> io::Result<u64> {
+        Ok(0)
+    }
+}
+
+impl OpenFile for Unlasting {
+    fn metadata(&self) -> io::Result<Metadata> {
+        Err(io::Error::from(ErrorKind::Unsupported))
+    }
+
+    fn set_len(&self, _: u64) -> io::Result<()> {
+        Ok(())
+    }
+
+    fn sync_all(&self) -> io::Result<()> {
+        Err(io::Error::from(ErrorKind::Other))
+    }
+
+    fn sync_data(&self) -> io::Result<()> {
+        Ok(())
+    }
+}
+
+#[test]
+fn a_sync_is_the_files_own(rt: HostRuntime) -> Result<(), Fail> {
+    let mut rig = FileRig::over(rt.alloc(), OpenedFile::of(Unlasting), io::sink())?;
+    assert_eq!(rt; (rig.sync(), rig.failures()), (Err(Failed), 1));
     Ok(())
 }

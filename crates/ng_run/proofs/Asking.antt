@@ -1,9 +1,9 @@
 -- What a text asks, one order after the other.
-use Rattle.std.proofs.Common.{◌≡◌, ℕ, List, [], ◌∷◌, ◌++◌, Option, None, Some, refl, sym, ap, ◌∙◌, subst, append-nil}
+use Rattle.std.proofs.Common.{◌≡◌, ℕ, List, [], ◌∷◌, ◌++◌, Option, None, Some, Result, Ok, false, refl, sym, ap, ◌∙◌, subst, append-nil}
 use Rattle.std.specs.List.{flat_map}
-use Rattle.std.specs.Io.KnownBytes.{prepend_known}
 use Rattle.std.proofs.lemmas.List.Concat.{flat_map-append}
 use Rattle.ng_dialogue.specs.Orders.{Asks, TakesOrder}
+use Rattle.ng_dialogue.specs.Waiting.{Waiting, text_left}
 use Rattle.ng_run.specs.Talks.{AsksAll, Exchange, Hears}
 
 pub one_more : {X Y : Type 0} (f : X → List Y) (xs : List X) (x : X) → flat_map f xs ++ f x ≡ flat_map f (xs ++ x ∷ [])
@@ -13,7 +13,19 @@ asks_more : {A : Type 0} (text rest next : List ℕ) (talk : List (Exchange A)) 
 asks_more text rest next [] x p q = (next, subst (λ (t : List ℕ). Asks t x.order next) p q, refl)
 asks_more text rest next (y ∷ talk) x p q = (p.0, p.1, asks_more p.0 rest next talk x p.2 q)
 
-pub hears_none : (A : Type 0) (text : Option (List ℕ)) → Hears {A = A} text [] (prepend_known [] text)
+-- all of a text is left where nothing was read
+pub text_unread : (w : Waiting) (left : Option (List ℕ)) → w ≡ record { bytes = []; ended = false } → text_left w left ≡ left
+text_unread w left e = ap (λ (i : Waiting). text_left i left) e ∙ text_unread_at left
+  where
+    text_unread_at : (left : Option (List ℕ)) → text_left (record { bytes = []; ended = false }) left ≡ left
+    text_unread_at None = refl
+    text_unread_at (Some xs) = refl
+
+-- nothing is asked where the end is answered
+pub asks_none : {X E : Type 0} (r : Result (Option X) E) (o : Option X) (x : X) → r ≡ Ok None → r ≡ Ok o → o ≡ Some x → ⊥
+asks_none r o x p q e = absurd cc
+
+pub hears_none : (A : Type 0) (text : Option (List ℕ)) → Hears {A = A} text [] text
 hears_none A None = tt
 hears_none A (Some text) = refl
 

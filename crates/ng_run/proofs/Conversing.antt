@@ -1,6 +1,6 @@
 -- A conversation, one order after the other.
 use Rattle.std.proofs.Common.{◌≡◌, ℕ, List, [], ◌∷◌, ◌++◌, Option, Some, Result, Ok, Err, All, IfSome, refl, sym, subst, append-nil}
-use Rattle.std.specs.Io.KnownBytes.{Appends, prepend_known}
+use Rattle.std.specs.Io.KnownBytes.{Appends}
 use Rattle.std.proofs.lemmas.List.Elements.{All-nil, All-push}
 use Rattle.ng_block.proofs.Streams.{Appends-nil, Appends-trans}
 use Rattle.ng_rig.specs.Life.{Life}
@@ -29,7 +29,7 @@ pub record Talked {R : Type 0} (A : Type 0) (honest : R → Type 0) (life : R �
   pub tells : Appends old new (words_in talk)
 
 pub talked_none : {R : Type 0} (A : Type 0) (honest : R → Type 0) (life : R → Life) (failed : R → ℕ) (text old : Option (List ℕ)) (c : Station R)
-    → Talked A honest life failed text (prepend_known [] text) old old c c
+    → Talked A honest life failed text text old old c c
 talked_none A honest life failed text old c = record {
   talk = [];
   each = All-nil (IsAnswered {A = A});

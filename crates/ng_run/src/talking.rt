@@ -1,5 +1,8 @@
 //! The lines of an operator, one after the other.
+ghost use Rattle.std.specs.Prelude.{◌≡◌, true};
+ghost use Rattle.ng_dialogue.specs.Waiting.{EndHolds, text_left};
 ghost use Rattle.ng_run.specs.Consoles.{Conversation};
+ghost use Rattle.ng_run.specs.Endings.{ended_by};
 
 use crate::answering::answer;
 use crate::ending::{Ended, Stop, ended_by};
@@ -19,8 +22,24 @@ pub(crate) fn talk<I: Read, W: Write, R: Rig, A: Allocator + Copy + Drop>(
     ensures { Conversation A R.honest R.life R.failed result (I.remaining reader.old) (W.contents writer.old) (W.contents writer.new) controller.old controller.new }
 {
     let mut input = Input::new();
+    talk_on(alloc, &mut input, reader, writer, controller)
+}
+
+/// The same behind what was read before. The end of the text is final: where it was found before, nothing is read, nothing is written
+/// and the controller is given nothing.
+fn talk_on<I: Read, W: Write, R: Rig, A: Allocator + Copy + Drop>(
+    alloc: A,
+    input: &mut Input,
+    reader: &mut I,
+    writer: &mut W,
+    controller: &mut Controller<R, A>,
+) -> Result<Ended, Stop>
+    ensures talk { Conversation A R.honest R.life R.failed result (text_left input.old (I.remaining reader.old)) (W.contents writer.old) (W.contents writer.new) controller.old controller.new }
+    ensures holds { EndHolds input.old (I.remaining reader.old) → EndHolds input.new (I.remaining reader.new) }
+    ensures last { input.old.ended ≡ true → (result ≡ Ok (ended_by controller.old.journal.broken)) × (reader.new ≡ reader.old) × (writer.new ≡ writer.old) × (controller.new ≡ controller.old) }
+{
     for _turn in 0..u64::MAX {
-        match next_order(alloc, &mut input, reader) {
+        match next_order(alloc, input, reader) {
             Ok(Some(order)) => match answer(alloc, writer, controller, order) {
                 Ok(()) => {}
                 Err(_) => return Err(Stop::Mute),

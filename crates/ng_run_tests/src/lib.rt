@@ -9,4 +9,6 @@ mod console;
 #[cfg(test)]
 mod controller;
 #[cfg(test)]
+mod ending;
+#[cfg(test)]
 mod flushing;

@@ -1,12 +1,15 @@
 use Rattle.std.proofs.Common.{◌≡◌, ◌+◌, ℕ, List, length, true}
-use Rattle.std.specs.Io.KnownBytes.{Consumes, prepend_known}
+use Rattle.std.specs.Io.KnownBytes.{Consumes}
+use Rattle.ng_dialogue.specs.Waiting.{EndHolds, text_left}
 use Rattle.ng_dialogue.proofs.bytes.take_bytes.Given as goal
 
--- the bytes that were passed, which are kept where there was room
+-- the bytes that were passed, which are kept where there was room; nothing is read where the text had ended
 abbrev pub invariant-loop-left : goal.invariant-loop-left
 invariant-loop-left g l =
-    (passed : List ℕ) × Consumes (prepend_known l.fn.input (g.R.Read.remaining l.fn.reader)) (prepend_known l.input (g.R.Read.remaining l.reader)) passed
+    (passed : List ℕ) × Consumes (text_left l.fn.input (g.R.Read.remaining l.fn.reader)) (text_left l.input (g.R.Read.remaining l.reader)) passed
     × (length passed + l.left ≡ l.fn.length) × (l.has_room ≡ true → l.text.items ≡ passed)
+    × (EndHolds l.fn.input (g.R.Read.remaining l.fn.reader) → EndHolds l.input (g.R.Read.remaining l.reader))
+    × (l.fn.input.ended ≡ true → (l.input ≡ l.fn.input) × (l.reader ≡ l.fn.reader))
 
 abbrev pub decreases-loop-left : goal.decreases-loop-left
 decreases-loop-left g l = l.left

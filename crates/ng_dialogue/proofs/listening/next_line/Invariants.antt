@@ -1,10 +1,13 @@
-use Rattle.std.proofs.Common.{◌≡◌, ℕ, List, take}
-use Rattle.std.specs.Io.KnownBytes.{Consumes, prepend_known}
+use Rattle.std.proofs.Common.{◌≡◌, ℕ, List, [], take, true}
+use Rattle.std.specs.Io.KnownBytes.{Consumes}
 use Rattle.ng_block.specs.Parts.{HasNoNewline}
+use Rattle.ng_dialogue.specs.Waiting.{EndHolds, text_left}
 use Rattle.ng_dialogue.proofs.listening.next_line.Given as goal
 
--- what was passed of the line, and what is kept of that
+-- what was passed of the line, and what is kept of that; nothing is read where the text had ended
 abbrev pub invariant-loop-turn : goal.invariant-loop-turn
 invariant-loop-turn g l =
     (passed : List ℕ) × HasNoNewline passed × (l.line.items ≡ take 301 passed)
-    × Consumes (prepend_known l.fn.input (g.R.Read.remaining l.fn.reader)) (prepend_known l.input (g.R.Read.remaining l.reader)) passed
+    × Consumes (text_left l.fn.input (g.R.Read.remaining l.fn.reader)) (text_left l.input (g.R.Read.remaining l.reader)) passed
+    × (EndHolds l.fn.input (g.R.Read.remaining l.fn.reader) → EndHolds l.input (g.R.Read.remaining l.reader))
+    × (l.fn.input.ended ≡ true → (l.input ≡ l.fn.input) × (l.reader ≡ l.fn.reader) × (l.line.items ≡ []) × (l._turn ≡ 0))
