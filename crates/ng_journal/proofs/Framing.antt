@@ -1,6 +1,7 @@
 -- What each call writes, and where: a checkpoint what is stored under the next epoch, a load the text besides, a format a fresh controller
 -- among zeros.
 use Rattle.std.proofs.Common.{◌≡◌, ◌≢◌, ◌⊎◌, inl, inr, ⊎_elim, ℕ, ◌+◌, ◌-◌, ◌*◌, ◌%◌, ◌<◌, ◌≤◌, List, Result, Ok, Err, refl, sym, ◌∙◌, ap, subst, arith}
+use Rattle.std.proofs.lemmas.Bool.{cases_eq}
 use Rattle.std.proofs.lemmas.Bool.Decides.{nat_tests}
 use Rattle.std.specs.Prelude.{OnOk}
 use Rattle.ng_rig.specs.Life.{Life, Wrote, Synced, reads}
@@ -18,7 +19,7 @@ use Rattle.ng_layout.specs.Stored.{Saved, Standing}
 use Rattle.ng_journal.specs.Area.{BelongsIn, AreaTo, WritesArea}
 use Rattle.ng_journal.specs.AtRest.{IsOfEpoch, BelongsTo, WritesState, IsLaidOut, next_header}
 use Rattle.ng_journal.specs.Formats.{IsEmpty, Overwrites, first_header}
-use Rattle.ng_journal.specs.Loads.{BelongsToText, BelongsToLoad, IsTextAt, WritesLoad, WritesText, other_area}
+use Rattle.ng_journal.specs.Loads.{BelongsToText, BelongsToLoad, IsTextAt, TextTo, WritesLoad, WritesText, other_area}
 
 -- what a read gives after a write
 pub there : (n : ℕ) (bytes : List ℕ) (life : Life) → reads (Wrote n bytes life) n ≡ bytes
@@ -69,15 +70,43 @@ state_laid (Ok _) u first header saved bytes old mid synced wrote new is area ho
     let parts : (j : ℕ) → j < snapshot_size → HoldsPart saved j (reads mid (snapshot_first header.epoch + j)) = λ j lt. subst (λ (k : ℕ). HoldsPart saved j (reads mid (k + j))) is (area.parts j lt) in
     subst (λ (l : Life). IsLaidOut header saved (reads l)) (sym whole) (laid_out header saved bytes mid parts holds)
 
+-- one sector more of a stretch, and right
+pub one_more : (n first size : ℕ) (IsRight : ℕ → List ℕ → Type 0) (bytes : List ℕ) (old mid new : Life) → n < size → IsRight n bytes
+    → WritesOnly (BelongsIn first size IsRight) old mid → ((j : ℕ) → j < n → IsRight j (reads mid (first + j))) → new ≡ Wrote (first + n) bytes mid
+    → WritesOnly (BelongsIn first size IsRight) old new × ((j : ℕ) → j < n + 1 → IsRight j (reads new (first + j)))
+one_more n first size IsRight bytes old mid new lt right w parts is =
+    let ok : Result ℕ ℕ = Ok 0 in (
+      only_more (BelongsIn first size IsRight) old mid new w (only_write (BelongsIn first size IsRight) ok (first + n) bytes mid new (record { place = n; within = lt; is = refl; right = right }) is),
+      λ j below. elim (cases_eq j n) [
+        | inl same ↦ subst (λ (x : ℕ). IsRight x (reads new (first + x))) (sym same) (subst (IsRight n) (sym (ap (λ (l : Life). reads l (first + n)) is ∙ there (first + n) bytes mid)) right)
+        | inr other ↦ subst (IsRight j) (sym (ap (λ (l : Life). reads l (first + j)) is ∙ elsewhere (first + j) (first + n) bytes mid (λ e. other (omega arith)))) (parts j (omega arith))
+      ],
+    )
+
+-- or its write failed
+pub one_failed : {T E : Type 0} (result : Result T E) (n first size : ℕ) (IsRight : ℕ → List ℕ → Type 0) (bytes : List ℕ) (old mid new : Life) → n < size → IsRight n bytes
+    → WritesOnly (BelongsIn first size IsRight) old mid → Writes result (first + n) bytes mid new → WritesOnly (BelongsIn first size IsRight) old new
+one_failed result n first size IsRight bytes old mid new lt right w is =
+    only_more (BelongsIn first size IsRight) old mid new w (only_write (BelongsIn first size IsRight) result (first + n) bytes mid new (record { place = n; within = lt; is = refl; right = right }) is)
+
+pub area_more : (n first : ℕ) (saved : Saved) (bytes : List ℕ) (old mid new : Life) → n < snapshot_size → HoldsPart saved n bytes → AreaTo n first saved old mid → new ≡ Wrote (first + n) bytes mid → AreaTo (n + 1) first saved old new
+area_more n first saved bytes old mid new lt right w is =
+    let more = one_more n first snapshot_size (HoldsPart saved) bytes old mid new lt right w.writes w.parts is in
+    record { writes = more.0; parts = more.1 }
+
+pub text_more : (n first : ℕ) (text bytes : List ℕ) (old mid new : Life) → n < program_size → HoldsText text (512 * n) bytes → TextTo n first text old mid → new ≡ Wrote (first + n) bytes mid → TextTo (n + 1) first text old new
+text_more n first text bytes old mid new lt right w is =
+    let more = one_more n first program_size (λ j part. HoldsText text (512 * j) part) bytes old mid new lt right w.writes w.parts is in
+    record { writes = more.0; parts = more.1 }
+
+pub text_failed : {T E F : Type 0} (e : E) (result : Result T F) (n first : ℕ) (text bytes : List ℕ) (old mid new : Life) → n < program_size → HoldsText text (512 * n) bytes → TextTo n first text old mid → Writes result (first + n) bytes mid new → WritesText {T = T} (Err e) first text old new
+text_failed e result n first text bytes old mid new lt right w is =
+    record { writes = one_failed result n first program_size (λ j part. HoldsText text (512 * j) part) bytes old mid new lt right w.writes is; parts = tt }
+
 -- the write of a part that failed
 pub area_failed : {T E F : Type 0} (e : E) (result : Result T F) (n first : ℕ) (saved : Saved) (bytes : List ℕ) (old mid new : Life) → n < snapshot_size → HoldsPart saved n bytes → AreaTo n first saved old mid → Writes result (first + n) bytes mid new → WritesArea {T = T} (Err e) first saved old new
-area_failed e result n first saved bytes old mid new lt right w is = record {
-  writes = only_more Part old mid new w.writes (only_write Part result (first + n) bytes mid new (record { place = n; within = lt; is = refl; right = right }) is);
-  parts = tt;
-}
-  where
-    Part : ℕ → List ℕ → Type 0
-    Part m c = BelongsIn first snapshot_size (HoldsPart saved) m c
+area_failed e result n first saved bytes old mid new lt right w is =
+    record { writes = one_failed result n first snapshot_size (HoldsPart saved) bytes old mid new lt right w.writes is; parts = tt }
 
 -- all of that is in sectors of the epoch
 of_epoch : (header : Header) (saved : Saved) (n : ℕ) (bytes : List ℕ) → BelongsTo header saved n bytes → IsOfEpoch header.epoch n

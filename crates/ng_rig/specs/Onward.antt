@@ -1,11 +1,12 @@
 -- What a run of calls may leave at a stop (own).
 use Rattle.std.specs.Prelude.{◌≡◌, ◌⊎◌, ℕ, ◌≤◌, List, [], ◌∷◌, ◌++◌}
 use Rattle.ng_canon.specs.declared.item.Item.{Item}
-use Rattle.ng_rig.specs.Life.{Image, Life, MayHold, reads, items, moment, StopSince}
+use Rattle.ng_rig.specs.Life.{Image, Life, MayHold, reads, items, moment, life_at, StopSince}
 
--- Each stop since old is one that old might have had, or has P.
+-- Each stop since old is one that old might have had, or has P; and the new life is the old one, or was it at its moment.
 pub record Onward (old new : Life) (P : Image → List Item → Type 0) : Type 0 where
   pub later : moment old ≤ moment new
+  pub was : (new ≡ old) ⊎ (life_at (moment old) new ≡ old)
   pub each : (t : ℕ) (image : ℕ → List ℕ) (handed : List Item) → t ≤ moment old → StopSince new t image handed → StopSince old t image handed ⊎ P image handed
 
 -- each sector has one content, which is what a read gives
