@@ -3,8 +3,9 @@ pub mod Firsts
 pub mod Worked
 pub mod Tying
 pub mod Cutting
-pub mod Keeping
 pub mod Living
+pub mod Keeping
 pub mod LinesBehind
 pub mod Limits
 pub mod Standing
+pub mod Refusing

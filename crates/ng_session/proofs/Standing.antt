@@ -1,6 +1,7 @@
 -- What stands behind a line can be stored where what stood before it could be.
-use Rattle.std.proofs.Common.{◌≡◌, ℕ, ◌-◌, ◌≤◌, ℤ, Bool, true, false, cond, List, [], ◌∷◌, length, Option, Some, None, Result, Ok, Err, refl, ◌∙◌, ap, subst, arith}
-use Rattle.std.specs.Prelude.{◌&&◌, MatchResult, OnOk}
+use Rattle.std.proofs.Common.{◌≡◌, ℕ, ◌-◌, ◌≤◌, ℤ, Bool, true, false, cond, List, [], ◌∷◌, length, Option, Some, None, Result, Ok, Err, refl, sym, ◌∙◌, ap, subst, arith}
+use Rattle.std.specs.Prelude.{◌&&◌, MatchResult, OnOk, IfSome}
+use Rattle.ng_num.specs.declared.point.Point.{Point}
 use Rattle.std.specs.List.{enumerate_from}
 use Rattle.std.proofs.lemmas.List.{length-map, length-set}
 use Rattle.std.proofs.lemmas.List.FromFn.{length-enumerate_from}
@@ -37,7 +38,7 @@ use Rattle.ng_layout.specs.Storable.{CanStand, CanWait, IsStorable}
 use Rattle.ng_layout.specs.Stored.{HalfDone, Saved}
 use Rattle.ng_layout.specs.declared.half.Source.{Source}
 use Rattle.ng_layout.specs.declared.half.Source.TheVariants.{Program, Mdi}
-use Rattle.ng_session.specs.Entries.{place_by, place_after, after_block, after_load}
+use Rattle.ng_session.specs.Entries.{place_by, place_after, after_block, after_load, reached, after_reference, referenced, after_abandon, abandoned}
 use Rattle.ng_session.specs.Kept.{IsNext}
 use Rattle.ng_session.proofs.Limits.{found, same, block-stands}
 
@@ -114,6 +115,11 @@ pub behind-stands : {T : Type 0} (r : Result T Fault) (t : Terms) (first : Kind)
     → MatchResult r (λ x. executed_behind t first s text ≡ Ok done) (λ fault. executed_behind t first s text ≡ Err fault) → OnOk r (CanStand s.machine → CanStand done.setup.machine)
 behind-stands r t first s text done few = kept r s (executed_behind t first s text) done (behind-keeps t first s text few)
 
+-- a half-done one
+pub again-stands : {T : Type 0} (r : Result T Fault) (s : Setup) (tools : List ℤ) (geometry : Geometry) (text : List ℕ) (done : Done) → length tools ≤ 64
+    → MatchResult r (λ x. executed s tools geometry text ≡ Ok done) (λ fault. executed s tools geometry text ≡ Err fault) → OnOk r (CanStand s.machine → CanStand done.setup.machine)
+again-stands r s tools geometry text done few = kept r s (executed s tools geometry text) done (line-keeps s tools geometry text few)
+
 -- ---- what is stored behind a block and behind a load
 
 long-after : (table : List ℤ) (changes : List Change) → length (with_changes table changes) ≡ length table
@@ -153,3 +159,29 @@ load_storable x length_new was short = record {
 -- with a half-done block besides
 pub half_storable : (x : Saved) (half : HalfDone) → IsStorable x → CanWait half → IsStorable (record x { half = Some half })
 half_storable x half was waits = record { table = was.table; machine = was.machine; half = waits; place = was.place; program = was.program }
+
+-- behind an approach
+pub approach_storable : (x : Saved) (half : HalfDone) (point : Point) → IsStorable x → length half.text ≤ 256 → IsNext x (reached x half point)
+approach_storable x half point was short = record {
+  count = refl;
+  same = refl;
+  storable = record { table = was.table; machine = was.machine; half = record { unknown = λ none. let e : false ≡ true = none in cc; text = short }; place = was.place; program = was.program };
+}
+
+-- the machine is known to stand at a point
+pub reference_storable : (x y : Saved) (point : Point) → IsStorable x → y ≡ after_reference x point → IsStorable y
+reference_storable x y point was is = subst IsStorable (sym is) (by x.half refl)
+  where
+    by : (o : Option HalfDone) → x.half ≡ o → IsStorable (referenced x point o)
+    by None held = record { table = was.table; machine = record { feed = was.machine.feed; speed = was.machine.speed; selected = was.machine.selected; held = was.machine.held }; half = tt; place = was.place; program = was.program }
+    by (Some half) held =
+        let waits : CanWait half = subst (λ (o : Option HalfDone). IfSome o CanWait) held was.half in
+        record { table = was.table; machine = was.machine; half = record { unknown = λ none. let e : false ≡ true = none in cc; text = waits.text }; place = was.place; program = was.program }
+
+-- a half-done block is given up
+pub abandon_storable : (x y : Saved) → IsStorable x → y ≡ after_abandon x → IsStorable y
+abandon_storable x y was is = subst IsStorable (sym is) (by x.half)
+  where
+    by : (o : Option HalfDone) → IsStorable (abandoned x o)
+    by None = was
+    by (Some half) = record { table = was.table; machine = record { feed = was.machine.feed; speed = was.machine.speed; selected = was.machine.selected; held = was.machine.held }; half = tt; place = was.place; program = was.program }

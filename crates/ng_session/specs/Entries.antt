@@ -1,25 +1,42 @@
 -- What is committed, and what stands behind it (own).
-use Rattle.std.specs.Prelude.{ℕ, ◌+◌, ℤ, List, Bool, Result, None, length, if◌then◌else◌}
+use Rattle.std.specs.Prelude.{ℕ, ◌+◌, ℤ, List, ◌++◌, take, Bool, false, true, Result, Option, None, Some, unwrap_or, length, if◌then◌else◌}
+use Rattle.std.specs.Option.{is_some}
 use Rattle.ng_num.specs.declared.fault.Fault.{Fault}
+use Rattle.ng_num.specs.declared.point.Point.{Point}
 use Rattle.ng_canon.specs.declared.geometry.Geometry.{Geometry}
+use Rattle.ng_canon.specs.declared.item.Item.{Item}
+use Rattle.ng_canon.specs.declared.outputs.Outputs.{Outputs}
+use Rattle.ng_canon.specs.declared.outputs.Spindle.TheVariants as spindle
+use Rattle.ng_canon.specs.declared.pace.Pace.TheVariants as pace
+use Rattle.ng_canon.specs.declared.segment.Segment.TheVariants as segment
+use Rattle.ng_cycles.specs.Segments.{behind, line_to}
+use Rattle.ng_cycles.specs.declared.standing.Standing.{Standing as Stance}
+use Rattle.ng_step.specs.Hands.{hand}
 use Rattle.ng_params.specs.Lasting.{cleared}
 use Rattle.ng_block.specs.Dry.{Terms, executed_in_program, executed_unless_deleted, is_end}
-use Rattle.ng_block.specs.Effects.{Done}
+use Rattle.ng_block.specs.Effects.{Done, executed}
+use Rattle.ng_block.specs.Setup.{Setup}
 use Rattle.ng_block.specs.declared.effect.Stop.{Stop}
-use Rattle.ng_layout.specs.Stored.{Saved}
+use Rattle.ng_block.specs.declared.machine.Machine.{Machine}
+use Rattle.ng_layout.specs.Stored.{HalfDone, Saved}
 use Rattle.ng_layout.specs.declared.half.Source.{Source}
 use Rattle.ng_layout.specs.declared.half.Source.TheVariants.{Program, Mdi}
 use Rattle.ng_layout.specs.Programs.{lines_before}
+use Rattle.ng_session.specs.declared.stage.Approach.{Approach}
 
 -- the tool table and the geometry: they stay as they are
 pub record Equipment : Type 0 where
   pub tools : List ℤ
   pub geometry : Geometry
 
--- what is committed: a line of the program or of the operator, begun with block delete on or off; a program
+-- what is committed: a line of the program or of the operator, begun with block delete on or off; a program; the point at which the machine
+-- stands; the way back to where a half-done block goes on; that such a block is given up
 pub data Entry : Type 0 where
   Block : Source → List ℕ → Bool → Entry
   Loaded : List ℕ → Entry
+  Referenced : Point → Entry
+  Approached : Entry
+  Abandoned : Entry
 
 abbrev pub terms_of : Equipment → Bool → Terms
 terms_of equipment block_delete = record { block_delete = block_delete; tools = equipment.tools; geometry = equipment.geometry }
@@ -31,6 +48,10 @@ equipment_of terms = record { tools = terms.tools; geometry = terms.geometry }
 unfoldable pub done_of : Equipment → List ℕ → Saved → Source → List ℕ → Bool → Result Done Fault
 done_of equipment program x Program text block_delete = executed_in_program (terms_of equipment block_delete) (lines_before program x.place) x.setup text
 done_of equipment program x Mdi text block_delete = executed_unless_deleted (terms_of equipment block_delete) x.setup text
+
+-- what a half-done block does from its beginning, or why it is refused: none is deleted and none is a percent line, since it had a segment
+unfoldable pub done_again : Equipment → Saved → List ℕ → Result Done Fault
+done_again equipment x text = executed x.setup equipment.tools equipment.geometry text
 
 -- where the program goes on behind a block: a line of the program goes on at the next one, and the program's end at its beginning
 abbrev pub place_by : ℕ → ℕ → Source → ℕ
@@ -49,3 +70,56 @@ after_block next x source done =
 abbrev pub after_load : Saved → ℕ → Saved
 after_load x length =
     record { entries = x.entries + 1; setup = record { params = cleared x.setup.params; machine = x.setup.machine }; place = 0; length = length; half = None }
+
+-- ---- a half-done block
+
+-- how the machine stands before the segment of a number of a block that is begun in a state
+abbrev pub stance_before : Setup → Done → ℕ → Stance
+stance_before setup done n = behind (record { point = setup.machine.point; outputs = done.before }) (take n done.segments)
+
+-- what an approach hands out: a switch with the outputs there, then a line at the traverse rate
+abbrev pub hand_approach : Geometry → Approach → List Item
+hand_approach geometry a = hand (segment.Switch a.to.outputs) geometry ++ hand (line_to pace.Traverse a.from a.to.point) geometry
+
+-- the machine stands at a point of the operator's
+abbrev pub placed : Setup → Point → Setup
+placed setup point = record { params = setup.params; machine = record setup.machine { point = point; place_known = true } }
+
+-- a half-done block whose machine stands at a point
+abbrev pub placed_at : Point → HalfDone → HalfDone
+placed_at point half = record half { at = Some point; opened = None }
+
+-- what stands behind a reference: with a half-done block it says where that one's machine stands, and nothing else
+abbrev pub referenced : Saved → Point → Option HalfDone → Saved
+referenced x point None = record { entries = x.entries + 1; setup = placed x.setup point; place = x.place; length = x.length; half = None }
+referenced x point (Some half) = record { entries = x.entries + 1; setup = x.setup; place = x.place; length = x.length; half = Some (placed_at point half) }
+
+abbrev pub after_reference : Saved → Point → Saved
+after_reference x point = referenced x point x.half
+
+-- what stands behind an approach of a half-done block that ended at a point
+abbrev pub reached : Saved → HalfDone → Point → Saved
+reached x half point = record { entries = x.entries + 1; setup = x.setup; place = x.place; length = x.length; half = Some (placed_at point half) }
+
+abbrev pub reached_by : Saved → Option HalfDone → Point → Saved
+reached_by x None point = x
+reached_by x (Some half) point = reached x half point
+
+abbrev pub after_approach : Saved → Point → Saved
+after_approach x point = reached_by x x.half point
+
+-- spindle stopped, coolant off
+abbrev pub turned_off : Outputs → Outputs
+turned_off o = record o { spindle = spindle.Stopped; mist = false; flood = false }
+
+-- the machine where a half-done block is given up: it stands where that one says, if it says so
+abbrev pub given_up : Machine → HalfDone → Machine
+given_up m half = record m { outputs = turned_off m.outputs; point = unwrap_or half.at m.point; place_known = is_some half.at }
+
+abbrev pub abandoned : Saved → Option HalfDone → Saved
+abandoned x None = x
+abandoned x (Some half) = record { entries = x.entries + 1; setup = record { params = x.setup.params; machine = given_up x.setup.machine half }; place = x.place; length = x.length; half = None }
+
+-- what stands behind a half-done block that is given up
+abbrev pub after_abandon : Saved → Saved
+after_abandon x = abandoned x x.half

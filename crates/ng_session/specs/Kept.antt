@@ -1,15 +1,22 @@
--- What is kept of a session (own): its lists, and what holds of each session.
+-- What is kept of a session (own): what its block holds ready, and what holds of each session.
 use Rattle.std.specs.Prelude.{◌≡◌, ◌≤◌, ◌+◌, List, [], ◌∷◌, Option, Some, None, IfSome}
-use Rattle.ng_canon.specs.declared.segment.Segment.{Segment}
 use Rattle.ng_layout.specs.Limits.{greatest_count}
 use Rattle.ng_layout.specs.Storable.{IsStorable}
 use Rattle.ng_layout.specs.Stored.{Saved}
-use Rattle.ng_session.specs.Session.{Underway}
+use Rattle.ng_session.specs.Session.{Underway, behind_block, behind_approach}
+use Rattle.ng_session.specs.declared.stage.Approach.{Approach}
+use Rattle.ng_session.specs.declared.stage.Stage.{Stage}
+use Rattle.ng_session.specs.declared.stage.Stage.TheVariants as stage
 
--- the segments that weren't opened: that which comes next, and those behind it
-abbrev pub left_of : Option Segment → List Segment → List Segment
+-- what comes next, and what comes behind it
+abbrev pub left_of : {T : Type 0} → Option T → List T → List T
 left_of None rest = []
-left_of (Some segment) rest = segment ∷ rest
+left_of (Some first) rest = first ∷ rest
+
+-- what comes first if there is anything, and what comes behind it
+abbrev pub onto : {T : Type 0} → Option T → List T → List T
+onto None rest = rest
+onto (Some first) rest = first ∷ rest
 
 -- one entry further in the same program, which can be stored
 pub record IsNext (x y : Saved) : Type 0 where
@@ -17,8 +24,36 @@ pub record IsNext (x y : Saved) : Type 0 where
   pub same : y.length ≡ x.length
   pub storable : IsStorable y
 
+-- a block that is worked, and what is held ready to be stored behind it and behind its approach
+pub record Prepared : Type 0 where
+  pub block : Underway
+  pub after : Saved
+  pub approached : Option Saved
+
+abbrev pub block_of : Prepared → Underway
+block_of p = p.block
+
+-- an approach that isn't committed, and what stands behind it; behind that one the block is the next entry
+pub record IsBeforeBlock (x : Saved) (p : Prepared) (a : Approach) : Type 0 where
+  pub between : Saved
+  pub held : p.approached ≡ Some between
+  pub between_is : between ≡ behind_approach x p.block a.to.point
+  pub first : IsNext x between
+  pub second : IsNext between p.after
+  pub after_is : p.after ≡ behind_block between p.block
+
+pub record IsReady (x : Saved) (p : Prepared) : Type 0 where
+  pub next : IsNext x p.after
+  pub after_is : p.after ≡ behind_block x p.block
+
+-- what is held ready is what will stand
+abbrev pub IsReadyOn : Saved → Prepared → Stage → Type 0
+IsReadyOn x p (stage.ToApproach a) = IsBeforeBlock x p a
+IsReadyOn x p (stage.OnApproach a) = IsBeforeBlock x p a
+IsReadyOn x p stage.OnBlock = IsReady x p
+
 -- it can be stored, and what stands behind the current block is the next entry
-pub record IsKept (x : Saved) (current : Option Underway) : Type 0 where
+pub record IsKept (x : Saved) (current : Option Prepared) : Type 0 where
   pub count : x.entries ≤ greatest_count
   pub storable : IsStorable x
-  pub next : IfSome current (λ c. IsNext x c.after)
+  pub next : IfSome current (λ p. IsReadyOn x p p.block.stage)

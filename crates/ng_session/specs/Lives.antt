@@ -1,23 +1,23 @@
 -- Lives of a device (own): sessions one after another, each from what the one before left.
-use Rattle.std.specs.Prelude.{◌≡◌, ◌⊎◌, ◌≤◌, Option, None, Some, List, [], ◌∷◌, ◌++◌, length}
+use Rattle.std.specs.Prelude.{◌≡◌, ◌⊎◌, ◌≤◌, ℕ, Option, None, Some, List, [], ◌∷◌, ◌++◌, length}
 use Rattle.ng_canon.specs.declared.item.Item.{Item}
 use Rattle.ng_layout.specs.Stands.{recovered}
 use Rattle.ng_layout.specs.Stored.{Saved, Standing}
 use Rattle.ng_session.specs.Entries.{Equipment, Entry}
-use Rattle.ng_session.specs.Fold.{after_all, items_all}
+use Rattle.ng_session.specs.Fold.{AreLawful, after_all, items_all}
 use Rattle.ng_session.specs.Runs.{Left}
 use Rattle.ng_session.specs.Cuts.{Follows, IsCut}
 
 -- One session from what stood, cut with these entries acknowledged: within power on; or behind it, with at most one entry more.
-abbrev pub IsSession : Equipment → Standing → List Entry → Left → Type 0
-IsSession equipment x acknowledged left =
+abbrev pub IsSession : Equipment → List (List ℕ) → Standing → List Entry → Left → Type 0
+IsSession equipment lines x acknowledged left =
     ((left.standing ≡ x) × (left.items ≡ []) × (acknowledged ≡ []))
-    ⊎ ((more : List Entry) × (length more ≤ 1) × IsCut equipment (recovered x) [] (acknowledged ++ more) left)
+    ⊎ ((more : List Entry) × (length more ≤ 1) × IsCut equipment lines (recovered x) [] (acknowledged ++ more) left)
 
 -- each session begins with what the one before left
-abbrev pub IsLife : Equipment → Standing → List (List Entry × Left) → Type 0
-IsLife equipment x [] = Unit {0}
-IsLife equipment x (s ∷ ss) = IsSession equipment x s.0 s.1 × IsLife equipment s.1.standing ss
+abbrev pub IsLife : Equipment → List (List ℕ) → Standing → List (List Entry × Left) → Type 0
+IsLife equipment lines x [] = Unit {0}
+IsLife equipment lines x (s ∷ ss) = IsSession equipment lines x s.0 s.1 × IsLife equipment lines s.1.standing ss
 
 abbrev pub all_items : List (List Entry × Left) → List Item
 all_items [] = []
@@ -43,17 +43,17 @@ items_lived equipment x None = []
 items_lived equipment x (Some l) = items_all equipment (recovered x) l.entries ++ l.more
 
 -- the acknowledged entries and at most one more, and behind them what may follow
-abbrev pub IsLawful : Equipment → Standing → List Entry → Option Lived → Type 0
-IsLawful equipment x acknowledged None = acknowledged ≡ []
-IsLawful equipment x acknowledged (Some l) =
-    (more : List Entry) × (length more ≤ 1) × (l.entries ≡ acknowledged ++ more) × Follows equipment (after_all equipment (recovered x) l.entries) l.saved l.more
+abbrev pub KeepsToFold : Equipment → List (List ℕ) → Standing → List Entry → Option Lived → Type 0
+KeepsToFold equipment lines x acknowledged None = acknowledged ≡ []
+KeepsToFold equipment lines x acknowledged (Some l) =
+    (more : List Entry) × (length more ≤ 1) × (l.entries ≡ acknowledged ++ more) × AreLawful equipment lines (recovered x) l.entries × Follows equipment lines (after_all equipment (recovered x) l.entries) l.saved l.more
 
 -- the same of each session, each from the fold of the one before
-abbrev pub AreLawful : Equipment → Standing → List (List Entry × Left) → List (Option Lived) → Type 0
-AreLawful equipment x [] [] = Unit {0}
-AreLawful equipment x [] (l ∷ ls) = ⊥
-AreLawful equipment x (s ∷ ss) [] = ⊥
-AreLawful equipment x (s ∷ ss) (l ∷ ls) = IsLawful equipment x s.0 l × AreLawful equipment (standing_lived equipment x l) ss ls
+abbrev pub KeepToFold : Equipment → List (List ℕ) → Standing → List (List Entry × Left) → List (Option Lived) → Type 0
+KeepToFold equipment lines x [] [] = Unit {0}
+KeepToFold equipment lines x [] (l ∷ ls) = ⊥
+KeepToFold equipment lines x (s ∷ ss) [] = ⊥
+KeepToFold equipment lines x (s ∷ ss) (l ∷ ls) = KeepsToFold equipment lines x s.0 l × KeepToFold equipment lines (standing_lived equipment x l) ss ls
 
 abbrev pub fold_items : Equipment → Standing → List (Option Lived) → List Item
 fold_items equipment x [] = []
@@ -65,6 +65,6 @@ fold_standing equipment x (l ∷ ls) = fold_standing equipment (standing_lived e
 
 -- However often power is cut: what was handed out in all sessions, and what stands at last, is the fold's over lawful entries.
 abbrev pub CutsOfLife : Type 0
-CutsOfLife = (equipment : Equipment) (x : Standing) (life : List (List Entry × Left)) → IsLife equipment x life →
-    (lived : List (Option Lived)) × AreLawful equipment x life lived
+CutsOfLife = (equipment : Equipment) (lines : List (List ℕ)) (x : Standing) (life : List (List Entry × Left)) → IsLife equipment lines x life →
+    (lived : List (Option Lived)) × KeepToFold equipment lines x life lived
     × (all_items life ≡ fold_items equipment x lived) × (last_standing x life ≡ fold_standing equipment x lived)

@@ -5,6 +5,7 @@ use Rattle.ng_layout.specs.Stored.{Standing}
 use Rattle.ng_session.specs.Entries.{Equipment, Entry}
 use Rattle.ng_session.specs.Session.{Sitting, Outcome, resting, step}
 use Rattle.ng_session.specs.declared.event.Event.{Event}
+use Rattle.ng_session.specs.declared.event.Event.TheVariants as event
 use Rattle.ng_session.specs.declared.reply.Reply.{Reply}
 use Rattle.ng_session.specs.declared.reply.Reply.TheVariants as reply
 
@@ -59,3 +60,22 @@ done_count _ = 0
 abbrev pub dones : List Reply → ℕ
 dones [] = 0
 dones (r ∷ rs) = done_count r + dones rs
+
+-- the lines that the operator gave
+abbrev pub given_by : {A : Type 0} → Event A → List (List ℕ)
+given_by (event.Load text) = []
+given_by event.Start = []
+given_by event.Hold = []
+given_by event.Continue = []
+given_by (event.Mdi text) = text ∷ []
+given_by (event.Reference point) = []
+given_by event.Resume = []
+given_by event.Abandon = []
+given_by (event.OptionalStop wanted) = []
+given_by (event.BlockDelete on) = []
+given_by event.Status = []
+given_by event.Tick = []
+
+abbrev pub lines_given : {A : Type 0} → List (Event A) → List (List ℕ)
+lines_given [] = []
+lines_given (event ∷ events) = given_by event ++ lines_given events

@@ -1,24 +1,27 @@
 -- What a session answers, hands out, commits and goes on to, for each event (own).
-use Rattle.std.specs.Prelude.{◌≡◌, ℕ, ◌+◌, ◌==◌, nat_lt, min, Bool, true, false, not, ◌&&◌, ◌||◌, if◌then◌else◌, Option, None, Some, unwrap_or, Result, Ok, Err, List, [], ◌∷◌, length}
+use Rattle.std.specs.Prelude.{◌≡◌, ℕ, ◌+◌, ◌==◌, nat_lt, min, Bool, true, false, not, ◌&&◌, ◌||◌, if◌then◌else◌, Option, None, Some, unwrap_or, Result, Ok, Err, List, [], ◌∷◌, drop, length}
 use Rattle.std.specs.Option.{is_some, is_none, option_map}
 use Rattle.ng_num.specs.declared.point.Point.{Point}
 use Rattle.ng_num.specs.declared.fault.Fault.{Fault}
 use Rattle.ng_num.specs.declared.fault.Fault.TheVariants as fault
+use Rattle.ng_canon.specs.Inside.{is_inside}
 use Rattle.ng_canon.specs.declared.geometry.Geometry.{Geometry}
 use Rattle.ng_canon.specs.declared.item.Item.{Item}
 use Rattle.ng_canon.specs.declared.segment.Segment.{Segment}
 use Rattle.ng_step.specs.Hands.{hand}
 use Rattle.ng_block.specs.Dry.{first_kind, missing_end}
 use Rattle.ng_block.specs.Effects.{Done}
+use Rattle.ng_block.specs.Setup.{Setup}
 use Rattle.ng_block.specs.declared.effect.Stop.{Stop}
 use Rattle.ng_block.specs.declared.effect.Stop.TheVariants as stop
 use Rattle.ng_layout.specs.Limits.{longest_program}
 use Rattle.ng_layout.specs.Stored.{HalfDone, Saved}
 use Rattle.ng_layout.specs.declared.half.Source.{Source}
 use Rattle.ng_layout.specs.declared.half.Source.TheVariants as source
+use Rattle.ng_layout.specs.declared.half.Opened.{Opened}
 use Rattle.ng_layout.specs.declared.half.Opened.TheVariants as open_part
-use Rattle.ng_layout.specs.Programs.{Line, lines_before, line_at}
-use Rattle.ng_session.specs.Entries.{Equipment, Entry, Block, Loaded, done_of, after_block, after_load}
+use Rattle.ng_layout.specs.Programs.{Line, lines_before, line_at, place_behind}
+use Rattle.ng_session.specs.Entries.{Equipment, Entry, Block, Loaded, Referenced, Approached, Abandoned, done_of, done_again, place_after, after_load, stance_before, hand_approach, after_reference, after_abandon}
 use Rattle.ng_session.specs.declared.activity.Activity.{Activity}
 use Rattle.ng_session.specs.declared.activity.Activity.TheVariants as activity
 use Rattle.ng_session.specs.declared.reply.Reply.{Reply}
@@ -29,19 +32,24 @@ use Rattle.ng_session.specs.declared.reply.HalfShown.{HalfShown}
 use Rattle.ng_session.specs.declared.reply.Status.{Status}
 use Rattle.ng_session.specs.declared.event.Event.{Event}
 use Rattle.ng_session.specs.declared.event.Event.TheVariants as event
+use Rattle.ng_session.specs.declared.stage.Approach.{Approach}
+use Rattle.ng_session.specs.declared.stage.Stage.{Stage}
+use Rattle.ng_session.specs.declared.stage.Stage.TheVariants as stage
 
 -- the block that is worked, as it was begun, and what is left of it
 pub record Underway : Type 0 where
   pub source : Source
   pub text : List ℕ
   pub block_delete : Bool
-  -- the number of the segment that opens next
+  pub stage : Stage
+  -- the number of the segment that opens next, behind the approach if there is one
   pub index : ℕ
-  -- the segments that weren't opened yet, and the items of the open one that weren't handed out
+  -- the segments that weren't opened yet, and the items of what is open that weren't handed out
   pub left : List Segment
   pub items : List Item
-  -- what stands behind it, and how the program goes on then
-  pub after : Saved
+  -- the state that it leaves, where the next line of the program begins then, and how the program goes on
+  pub setup : Setup
+  pub place : ℕ
   pub stop : Stop
 
 -- a session: what a controller keeps between two events
@@ -131,10 +139,12 @@ begun x source text block_delete next done = record {
   source = source;
   text = text;
   block_delete = block_delete;
+  stage = stage.OnBlock;
   index = 0;
   left = done.segments;
   items = [];
-  after = after_block next x source done;
+  setup = done.setup;
+  place = place_after next x.place source done.stop;
   stop = done.stop;
 }
 
@@ -174,6 +184,96 @@ load_unless program s text None = commits text (Loaded text) (loaded s (after_lo
 abbrev pub load : List ℕ → Sitting → List ℕ → Outcome
 load program s text = load_unless program s text (load_refusal s text)
 
+-- ---- a half-done block: where its machine stands is told, it goes on, or it is given up
+
+-- the point is told while a block is half-done or none is
+abbrev pub reference_refusal : Geometry → Sitting → Point → Option Fault
+reference_refusal geometry s point =
+    if not (is_at_rest s) then Some fault.Busy
+    else if not (is_inside geometry point) then Some fault.OutsideTravel
+    else None
+
+abbrev pub reference_unless : List ℕ → Sitting → Point → Option Fault → Outcome
+reference_unless program s point (Some fault) = refuses program fault s
+reference_unless program s point None = commits program (Referenced point) (record s { stored = after_reference s.stored point })
+
+abbrev pub reference : Equipment → List ℕ → Sitting → Point → Outcome
+reference equipment program s point = reference_unless program s point (reference_refusal equipment.geometry s point)
+
+-- why no half-done block can be given up
+abbrev pub abandon_refusal : Sitting → Option Fault
+abandon_refusal s =
+    if not (is_at_rest s) then Some fault.Busy
+    else if is_none s.stored.half then Some fault.NothingHalfDone
+    else None
+
+abbrev pub abandon_unless : List ℕ → Sitting → Option Fault → Outcome
+abandon_unless program s (Some fault) = refuses program fault s
+abandon_unless program s None = commits program Abandoned (record s { stored = after_abandon s.stored })
+
+abbrev pub abandon : List ℕ → Sitting → Outcome
+abandon program s = abandon_unless program s (abandon_refusal s)
+
+-- The half-done block from its index on, and before that the approach, from a point. What it leaves is what the whole block leaves.
+abbrev pub begun_again : Saved → HalfDone → Point → ℕ → Done → Underway
+begun_again x half from next done = record {
+  source = half.source;
+  text = half.text;
+  block_delete = false;
+  stage = stage.ToApproach (record { from = from; to = stance_before x.setup done half.index });
+  index = half.index;
+  left = drop half.index done.segments;
+  items = [];
+  setup = done.setup;
+  place = place_after next x.place half.source done.stop;
+  stop = done.stop;
+}
+
+-- a line of the program goes on with the program
+abbrev pub activity_again : Source → Activity → Activity
+activity_again source.Program before = activity.Running
+activity_again source.Mdi before = before
+
+-- where the next line of the program begins then: behind its own, where that came from the program
+abbrev pub next_behind : List ℕ → ℕ → Source → ℕ
+next_behind program place source.Program = place_behind program place
+next_behind program place source.Mdi = place
+
+-- why a line is refused, if it is
+abbrev pub refusal_of : Result Done Fault → Option Fault
+refusal_of (Ok done) = None
+refusal_of (Err fault) = Some fault
+
+abbrev pub half_refusal : Equipment → Saved → HalfDone → Option Point → Option Fault
+half_refusal equipment x half None = Some fault.PlaceUnknown
+half_refusal equipment x half (Some from) = refusal_of (done_again equipment x half.text)
+
+abbrev pub waiting_refusal : Equipment → Saved → Option HalfDone → Option Fault
+waiting_refusal equipment x None = Some fault.NothingHalfDone
+waiting_refusal equipment x (Some half) = half_refusal equipment x half half.at
+
+-- why no half-done block goes on: the session isn't at rest, none is half-done, it isn't known where its machine stands, or its line is refused
+abbrev pub resume_refusal : Equipment → Sitting → Option Fault
+resume_refusal equipment s = if not (is_at_rest s) then Some fault.Busy else waiting_refusal equipment s.stored s.stored.half
+
+abbrev pub resume_by : List ℕ → Sitting → HalfDone → Point → Result Done Fault → Outcome
+resume_by program s half from (Err fault) = refuses program fault s
+resume_by program s half from (Ok done) = answers program reply.Going (record s {
+  current = Some (begun_again s.stored half from (next_behind program s.stored.place half.source) done);
+  activity = activity_again half.source s.activity;
+})
+
+abbrev pub resume_from : Equipment → List ℕ → Sitting → HalfDone → Option Point → Outcome
+resume_from equipment program s half None = refuses program fault.PlaceUnknown s
+resume_from equipment program s half (Some from) = resume_by program s half from (done_again equipment s.stored half.text)
+
+abbrev pub resume_half : Equipment → List ℕ → Sitting → Option HalfDone → Outcome
+resume_half equipment program s None = refuses program fault.NothingHalfDone s
+resume_half equipment program s (Some half) = resume_from equipment program s half half.at
+
+abbrev pub resume : Equipment → List ℕ → Sitting → Outcome
+resume equipment program s = if not (is_at_rest s) then refuses program fault.Busy s else resume_half equipment program s s.stored.half
+
 -- ---- what the status shows
 
 -- a block with an open segment counts as half-done
@@ -203,76 +303,9 @@ shown s = record {
   condition = if s.held then condition.Held else condition_of s.activity;
 }
 
--- ---- a Tick: held, or the first of five that applies, each by what the one before hasn't
+-- ---- what a Tick is made of
 
--- 5. nothing is to do
-abbrev pub rest : List ℕ → Sitting → Outcome
-rest program s = answers program (idleness s.activity) s
-
--- 4. a line of the program is begun; one that is refused stops the program before it
-abbrev pub begin_by : List ℕ → Sitting → Line → Result Done Fault → Outcome
-begin_by program s line (Err fault) = answers program (reply.Refused fault) (record s { activity = activity.Stopped })
-begin_by program s line (Ok done) =
-    answers program reply.Begun (record s { current = Some (begun s.stored source.Program line.text s.block_delete line.next done) })
-
--- a program that ends before its end stops there
-abbrev pub break_off : List ℕ → Sitting → Outcome
-break_off program s = answers program (reply.Refused (missing_end (first_kind (lines_before program s.stored.place)))) (record s { activity = activity.Stopped })
-
-abbrev pub begin : Equipment → List ℕ → Sitting → Option Line → Outcome
-begin equipment program s None = break_off program s
-begin equipment program s (Some line) = begin_by program s line (done_of equipment program s.stored source.Program line.text s.block_delete)
-
--- 3. a block of which nothing is left is committed. Optional stop is looked at here. M2, M30 and the closing percent line end
--- the program, M0, M1 and M60 stop it; by the operator the last three do nothing
-abbrev pub stopped_by : Source → Bool → Activity → Activity
-stopped_by source.Program wanted before = if wanted then activity.Stopped else before
-stopped_by source.Mdi wanted before = before
-
-abbrev pub activity_after : Source → Stop → Bool → Activity → Activity
-activity_after source stop.GoesOn optional_stop before = before
-activity_after source stop.Stops optional_stop before = stopped_by source true before
-activity_after source stop.StopsIfWanted optional_stop before = stopped_by source optional_stop before
-activity_after source stop.Ends optional_stop before = activity.Idle
-
-abbrev pub committed : Sitting → Underway → Sitting
-committed s c = record s {
-  stored = c.after;
-  activity = activity_after c.source c.stop s.optional_stop s.activity;
-  current = None;
-}
-
-abbrev pub end : Equipment → List ℕ → Sitting → Option Underway → Outcome
-end equipment program s (Some c) = commits program (Block c.source c.text c.block_delete) (committed s c)
-end equipment program s None = if is_running s.activity then begin equipment program s (line_at program s.stored.place) else rest program s
-
--- 2. a segment that is left is opened: its block is stored as half-done. Indices are counted up to the greatest of 64 bits
-abbrev pub greatest_index : ℕ
-greatest_index = 18_446_744_073_709_551_615
-
-abbrev pub opening_on : Underway → List Segment → Option HalfDone
-opening_on c [] = None
-opening_on c (segment ∷ left) = Some (record { text = c.text; source = c.source; index = c.index; at = None; opened = Some open_part.Segment })
-
-abbrev pub opening_of : Option Underway → Option HalfDone
-opening_of None = None
-opening_of (Some c) = opening_on c c.left
-
-abbrev pub opened_on : Geometry → Underway → List Segment → Underway
-opened_on geometry c [] = c
-opened_on geometry c (segment ∷ left) = record c { index = min (c.index + 1) greatest_index; left = left; items = hand segment geometry }
-
-abbrev pub opened : Geometry → Sitting → HalfDone → Sitting
-opened geometry s half = record s {
-  stored = record s.stored { half = Some half };
-  current = option_map (λ c. opened_on geometry c c.left) s.current;
-}
-
-abbrev pub open_next : Equipment → List ℕ → Sitting → Option HalfDone → Outcome
-open_next equipment program s (Some half) = answers program (reply.Opened half.index) (opened equipment.geometry s half)
-open_next equipment program s None = end equipment program s s.current
-
--- 1. an item of the open segment that is left is handed out
+-- 1. an item of what is open that is left is handed out
 abbrev pub first_of : List Item → Option Item
 first_of [] = None
 first_of (item ∷ items) = Some item
@@ -291,12 +324,148 @@ handed_on c = record c { items = rest_of c.items }
 abbrev pub handed : Sitting → Sitting
 handed s = record s { current = option_map handed_on s.current }
 
-abbrev pub hand_next : Equipment → List ℕ → Sitting → Option Item → Outcome
-hand_next equipment program s (Some item) = record { reply = reply.Moved; items = item ∷ []; entries = []; program = program; next = handed s }
-hand_next equipment program s None = open_next equipment program s (opening_of s.current)
+abbrev pub hand_out : List ℕ → Sitting → Item → Outcome
+hand_out program s item = record { reply = reply.Moved; items = item ∷ []; entries = []; program = program; next = handed s }
+
+-- 2. the approach or a segment that is left is opened: its block is stored as half-done. Indices are counted up to the greatest of 64 bits
+abbrev pub greatest_index : ℕ
+greatest_index = 18_446_744_073_709_551_615
+
+abbrev pub half_open : Underway → Opened → HalfDone
+half_open c opened = record { text = c.text; source = c.source; index = c.index; at = None; opened = Some opened }
+
+abbrev pub segment_open : Underway → List Segment → Option HalfDone
+segment_open c [] = None
+segment_open c (segment ∷ left) = Some (half_open c open_part.Segment)
+
+abbrev pub opening_on : Underway → Stage → Option HalfDone
+opening_on c (stage.ToApproach a) = Some (half_open c open_part.Approach)
+opening_on c (stage.OnApproach a) = None
+opening_on c stage.OnBlock = segment_open c c.left
+
+abbrev pub opening_of : Option Underway → Option HalfDone
+opening_of None = None
+opening_of (Some c) = opening_on c c.stage
+
+abbrev pub next_opened : Geometry → Underway → List Segment → Underway
+next_opened geometry c [] = c
+next_opened geometry c (segment ∷ left) = record c { index = min (c.index + 1) greatest_index; left = left; items = hand segment geometry }
+
+abbrev pub opened_on : Geometry → Underway → Stage → Underway
+opened_on geometry c (stage.ToApproach a) = record c { stage = stage.OnApproach a; items = hand_approach geometry a }
+opened_on geometry c (stage.OnApproach a) = c
+opened_on geometry c stage.OnBlock = next_opened geometry c c.left
+
+abbrev pub opened : Geometry → Sitting → HalfDone → Sitting
+opened geometry s half = record s {
+  stored = record s.stored { half = Some half };
+  current = option_map (λ c. opened_on geometry c c.stage) s.current;
+}
+
+abbrev pub opening_reply : ℕ → Option Opened → Reply
+opening_reply index None = reply.Opened index
+opening_reply index (Some open_part.Segment) = reply.Opened index
+opening_reply index (Some open_part.Approach) = reply.Approaching
+
+abbrev pub open_part_of : Equipment → List ℕ → Sitting → HalfDone → Outcome
+open_part_of equipment program s half = answers program (opening_reply half.index half.opened) (opened equipment.geometry s half)
+
+-- 3. an approach of which nothing is left is committed: the half-done block's machine stands where the approach ends. So is a block of
+-- which nothing is left. Optional stop is looked at here. M2, M30 and the closing percent line end the program, M0, M1 and M60 stop it;
+-- by the operator the last three do nothing
+abbrev pub stopped_by : Source → Bool → Activity → Activity
+stopped_by source.Program wanted before = if wanted then activity.Stopped else before
+stopped_by source.Mdi wanted before = before
+
+abbrev pub activity_after : Source → Stop → Bool → Activity → Activity
+activity_after source stop.GoesOn optional_stop before = before
+activity_after source stop.Stops optional_stop before = stopped_by source true before
+activity_after source stop.StopsIfWanted optional_stop before = stopped_by source optional_stop before
+activity_after source stop.Ends optional_stop before = activity.Idle
+
+-- what stands behind the current block
+abbrev pub behind_block : Saved → Underway → Saved
+behind_block x c = record { entries = x.entries + 1; setup = c.setup; place = c.place; length = x.length; half = None }
+
+-- what stands behind the approach of the current block, which ends at a point
+abbrev pub behind_approach : Saved → Underway → Point → Saved
+behind_approach x c point = record {
+  entries = x.entries + 1;
+  setup = x.setup;
+  place = x.place;
+  length = x.length;
+  half = Some (record { text = c.text; source = c.source; index = c.index; at = Some point; opened = None });
+}
+
+abbrev pub approach_done : Sitting → Underway → Approach → Sitting
+approach_done s c a = record s { stored = behind_approach s.stored c a.to.point; current = Some (record c { stage = stage.OnBlock }) }
+
+-- an approach is opened before it is committed, so of the first of these no Tick makes use
+abbrev pub committed_on : Sitting → Underway → Stage → Sitting
+committed_on s c (stage.ToApproach a) = approach_done s c a
+committed_on s c (stage.OnApproach a) = approach_done s c a
+committed_on s c stage.OnBlock = record s {
+  stored = behind_block s.stored c;
+  activity = activity_after c.source c.stop s.optional_stop s.activity;
+  current = None;
+}
+
+abbrev pub committed : Sitting → Underway → Sitting
+committed s c = committed_on s c c.stage
+
+abbrev pub entry_on : Underway → Stage → Entry
+entry_on c (stage.ToApproach a) = Approached
+entry_on c (stage.OnApproach a) = Approached
+entry_on c stage.OnBlock = Block c.source c.text c.block_delete
+
+abbrev pub commit : List ℕ → Sitting → Underway → Outcome
+commit program s c = commits program (entry_on c c.stage) (committed s c)
+
+-- 4. a line of the program is begun; one that is refused stops the program before it
+abbrev pub begin_by : List ℕ → Sitting → Line → Result Done Fault → Outcome
+begin_by program s line (Err fault) = answers program (reply.Refused fault) (record s { activity = activity.Stopped })
+begin_by program s line (Ok done) =
+    answers program reply.Begun (record s { current = Some (begun s.stored source.Program line.text s.block_delete line.next done) })
+
+-- a program that ends before its end stops there
+abbrev pub break_off : List ℕ → Sitting → Outcome
+break_off program s = answers program (reply.Refused (missing_end (first_kind (lines_before program s.stored.place)))) (record s { activity = activity.Stopped })
+
+abbrev pub begin : Equipment → List ℕ → Sitting → Option Line → Outcome
+begin equipment program s None = break_off program s
+begin equipment program s (Some line) = begin_by program s line (done_of equipment program s.stored source.Program line.text s.block_delete)
+
+-- 5. nothing is to do
+abbrev pub rest : List ℕ → Sitting → Outcome
+rest program s = answers program (idleness s.activity) s
+
+-- ---- a Tick: held, or the first that applies
+
+abbrev pub if_some : {T : Type 0} → Option T → (found : T → Outcome) → (otherwise : Outcome) → Outcome
+if_some None found otherwise = otherwise
+if_some (Some x) found otherwise = found x
 
 abbrev pub tick : Equipment → List ℕ → Sitting → Outcome
-tick equipment program s = if s.held then answers program reply.Held s else hand_next equipment program s (item_of s.current)
+tick equipment program s =
+    if s.held then answers program reply.Held s
+    else if_some (item_of s.current) (λ item. hand_out program s item)
+    (if_some (opening_of s.current) (λ half. open_part_of equipment program s half)
+    (if_some s.current (λ c. commit program s c)
+    (if is_running s.activity then begin equipment program s (line_at program s.stored.place)
+    else rest program s)))
+
+-- the same from its third and from its second case on
+abbrev pub end : Equipment → List ℕ → Sitting → Option Underway → Outcome
+end equipment program s current =
+    if_some current (λ c. commit program s c)
+    (if is_running s.activity then begin equipment program s (line_at program s.stored.place)
+    else rest program s)
+
+abbrev pub open_next : Equipment → List ℕ → Sitting → Option HalfDone → Outcome
+open_next equipment program s opening = if_some opening (λ half. open_part_of equipment program s half) (end equipment program s s.current)
+
+abbrev pub hand_next : Equipment → List ℕ → Sitting → Option Item → Outcome
+hand_next equipment program s item = if_some item (λ item. hand_out program s item) (open_next equipment program s (opening_of s.current))
 
 -- ---- an event
 
@@ -306,6 +475,9 @@ step equipment program s event.Start = start program s
 step equipment program s event.Hold = hold program s
 step equipment program s event.Continue = go_on program s
 step equipment program s (event.Mdi text) = mdi equipment program s text
+step equipment program s (event.Reference point) = reference equipment program s point
+step equipment program s event.Resume = resume equipment program s
+step equipment program s event.Abandon = abandon program s
 step equipment program s (event.OptionalStop wanted) = answers program reply.Taken (record s { optional_stop = wanted })
 step equipment program s (event.BlockDelete on) = answers program reply.Taken (record s { block_delete = on })
 step equipment program s event.Status = answers program (reply.Status (shown s)) s
@@ -319,26 +491,69 @@ is_busy s = is_running s.activity || is_some s.current
 abbrev pub IsBetweenLines : Sitting → Type 0
 IsBetweenLines s = (s.current ≡ None) × (is_running s.activity ≡ true)
 
--- the events that take memory: a program that is loaded, a line of the operator that is tried, a Tick between two lines of a program that runs
-abbrev pub TakesMemory : {A : Type 0} → Sitting → Event A → Type 0
-TakesMemory s (event.Load text) = load_refusal s text ≡ None
-TakesMemory s (event.Mdi text) = (is_engaged s ≡ false) × (s.stored.setup.machine.place_known ≡ true)
-TakesMemory s event.Tick = (s.held ≡ false) × IsBetweenLines s
-TakesMemory s _ = ⊥
+-- the half-done block is a line of the program
+abbrev pub IsProgramsLine : Option HalfDone → Type 0
+IsProgramsLine None = ⊥
+IsProgramsLine (Some half) = half.source ≡ source.Program
 
--- the events that ask something of the device: a program that is loaded, a Tick that finds something to do
-abbrev pub AsksDevice : {A : Type 0} → Sitting → Event A → Type 0
-AsksDevice s (event.Load text) = load_refusal s text ≡ None
-AsksDevice s event.Tick = (s.held ≡ false) × (is_busy s ≡ true)
-AsksDevice s _ = ⊥
+-- Each event by its own line.
 
--- an event that neither writes to the device nor hands anything out
+-- What takes memory: a program that is loaded, a line of the operator that is tried, a half-done block that goes on, a Tick between two
+-- lines of a program that runs.
+abbrev pub TakesMemory : {A : Type 0} → Equipment → Sitting → Event A → Type 0
+TakesMemory equipment s (event.Load text) = load_refusal s text ≡ None
+TakesMemory equipment s event.Start = ⊥
+TakesMemory equipment s event.Hold = ⊥
+TakesMemory equipment s event.Continue = ⊥
+TakesMemory equipment s (event.Mdi text) = (is_engaged s ≡ false) × (s.stored.setup.machine.place_known ≡ true)
+TakesMemory equipment s (event.Reference point) = ⊥
+TakesMemory equipment s event.Resume = resume_refusal equipment s ≡ None
+TakesMemory equipment s event.Abandon = ⊥
+TakesMemory equipment s (event.OptionalStop wanted) = ⊥
+TakesMemory equipment s (event.BlockDelete on) = ⊥
+TakesMemory equipment s event.Status = ⊥
+TakesMemory equipment s event.Tick = (s.held ≡ false) × IsBetweenLines s
+
+-- What asks something of the device: what is committed, a line of the program that goes on, a Tick that finds something to do.
+abbrev pub AsksDevice : {A : Type 0} → Equipment → Sitting → Event A → Type 0
+AsksDevice equipment s (event.Load text) = load_refusal s text ≡ None
+AsksDevice equipment s event.Start = ⊥
+AsksDevice equipment s event.Hold = ⊥
+AsksDevice equipment s event.Continue = ⊥
+AsksDevice equipment s (event.Mdi text) = ⊥
+AsksDevice equipment s (event.Reference point) = reference_refusal equipment.geometry s point ≡ None
+AsksDevice equipment s event.Resume = (resume_refusal equipment s ≡ None) × IsProgramsLine s.stored.half
+AsksDevice equipment s event.Abandon = abandon_refusal s ≡ None
+AsksDevice equipment s (event.OptionalStop wanted) = ⊥
+AsksDevice equipment s (event.BlockDelete on) = ⊥
+AsksDevice equipment s event.Status = ⊥
+AsksDevice equipment s event.Tick = (s.held ≡ false) × (is_busy s ≡ true)
+
+-- a line of the program is read for it: the next one, or where that begins behind a half-done one
+abbrev pub ReadsLine : {A : Type 0} → Equipment → Sitting → Event A → Type 0
+ReadsLine equipment s (event.Load text) = ⊥
+ReadsLine equipment s event.Start = ⊥
+ReadsLine equipment s event.Hold = ⊥
+ReadsLine equipment s event.Continue = ⊥
+ReadsLine equipment s (event.Mdi text) = ⊥
+ReadsLine equipment s (event.Reference point) = ⊥
+ReadsLine equipment s event.Resume = (resume_refusal equipment s ≡ None) × IsProgramsLine s.stored.half
+ReadsLine equipment s event.Abandon = ⊥
+ReadsLine equipment s (event.OptionalStop wanted) = ⊥
+ReadsLine equipment s (event.BlockDelete on) = ⊥
+ReadsLine equipment s event.Status = ⊥
+ReadsLine equipment s event.Tick = (s.held ≡ false) × IsBetweenLines s
+
+-- the session answers it of itself: the device is neither read, nor written, nor given an item
 abbrev pub IsQuiet : {A : Type 0} → Event A → Type 0
 IsQuiet (event.Load text) = ⊥
 IsQuiet event.Start = Unit {0}
 IsQuiet event.Hold = Unit {0}
 IsQuiet event.Continue = Unit {0}
 IsQuiet (event.Mdi text) = Unit {0}
+IsQuiet (event.Reference point) = ⊥
+IsQuiet event.Resume = ⊥
+IsQuiet event.Abandon = ⊥
 IsQuiet (event.OptionalStop wanted) = Unit {0}
 IsQuiet (event.BlockDelete on) = Unit {0}
 IsQuiet event.Status = Unit {0}

@@ -1,6 +1,6 @@
 //! What a session is about, beside its block.
-ghost use Rattle.std.specs.Prelude.{◌≡◌};
-ghost use Rattle.ng_session.specs.Session.{activity_after, condition_of, idleness, is_running, stopped_by};
+ghost use Rattle.std.specs.Prelude.{◌≡◌, ◌&&◌, if◌then◌else◌};
+ghost use Rattle.ng_session.specs.Session.{activity_after, activity_again, condition_of, idleness, is_running, stopped_by};
 
 use crate::reply::{Condition, Reply};
 use ng_block::Stop;
@@ -26,6 +26,27 @@ impl Activity {
         match self {
             Activity::Running => true,
             Activity::Idle | Activity::Stopped => false,
+        }
+    }
+
+    /// Where a line of the operator ends a hold, the program that ran waits.
+    pub(crate) fn laid_by(self, held: bool) -> Activity
+        ensures { result ≡ (if held && is_running self then Activity.Stopped else self) }
+    {
+        if held && self.is_running() {
+            Activity::Stopped
+        } else {
+            self
+        }
+    }
+
+    /// Where a half-done block goes on: a line of the program goes on with the program.
+    pub(crate) fn again(self, source: Source) -> Activity
+        ensures { result ≡ activity_again source self }
+    {
+        match source {
+            Source::Program => Activity::Running,
+            Source::Mdi => self,
         }
     }
 

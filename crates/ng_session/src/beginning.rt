@@ -67,6 +67,7 @@ impl<A: Allocator + Copy + Drop> Session<A> {
     /// current or half-done, or the program runs and isn't held, K3 where it isn't known where the machine stands, then the
     /// line's own faults; nothing is changed then. `AllocError` where the state after the line found no memory: nothing is
     /// changed then either.
+    #[tactic(auto, using(crate::proofs::Keeping::kept_ready))]
     pub(crate) fn mdi(
         &mut self,
         text: &[u8],
@@ -96,11 +97,9 @@ impl<A: Allocator + Copy + Drop> Session<A> {
             Err(fault) => return Ok(Reply::Refused(fault)),
         };
         let current = Current::begun(&self.stored, Source::Mdi, text, block_delete, place, effect)?;
-        self.current = Some(current);
-        if self.held && self.activity.is_running() {
-            self.activity = Activity::Stopped;
-        }
+        self.activity = self.activity.laid_by(self.held);
         self.held = false;
+        self.current = Some(current);
         Ok(Reply::Begun)
     }
 

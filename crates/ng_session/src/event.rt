@@ -1,6 +1,7 @@
 //! What a session is given.
 ghost use Rattle.std.specs.Prelude.{◌≡◌};
 
+use ng_num::Point;
 use std::alloc::Allocator;
 use std::marker::Model;
 
@@ -47,6 +48,12 @@ pub enum Event<A: Allocator> {
     Continue,
     /// A line of the operator, without its end.
     Mdi(Text<A>),
+    /// Where the machine stands, in nm of machine coordinates: a point outside the travel is refused with X2.
+    Reference(Point),
+    /// The half-done block is to go on, by an approach.
+    Resume,
+    /// The half-done block is given up.
+    Abandon,
     /// Whether the program stops at M1.
     OptionalStop(bool),
     /// Whether lines that begin with a slash are deleted.

@@ -12,11 +12,13 @@ mod answering;
 mod beginning;
 mod current;
 mod event;
+mod half_done;
 pub mod laws;
 mod lines_before;
 mod loading;
 mod reply;
 mod session;
+mod stage;
 mod ticking;
 
 pub use activity::Activity;
@@ -24,3 +26,4 @@ pub use event::{Event, Text};
 pub use lines_before::LinesBefore;
 pub use reply::{Condition, HalfShown, Reply, Status};
 pub use session::Session;
+pub use stage::{Approach, Stage};

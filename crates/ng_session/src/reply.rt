@@ -65,6 +65,8 @@ pub enum Reply {
     Moved,
     /// The segment of this number was opened.
     Opened(u64),
+    /// The approach of a half-done block was opened.
+    Approaching,
     /// What an event Status asked for.
     Status(Status),
     /// Why the event is refused, or the line of the program that was to begin.

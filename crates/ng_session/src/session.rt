@@ -27,18 +27,20 @@ pub struct Session<A: Allocator> {
 }
 
 impl<A: Allocator> Model for Session<A> {
+    ghost use Rattle.std.specs.Option.{option_map};
     ghost use Rattle.ng_session.specs.Session.{Sitting};
-    ghost use Rattle.ng_session.specs.Kept.{IsKept};
+    ghost use Rattle.ng_session.specs.Kept.{IsKept, block_of};
 
     ghost Value = { Sitting };
 
-    ghost view = { λ s. record { stored = s.stored; activity = s.activity; held = s.held; optional_stop = s.optional_stop; block_delete = s.block_delete; current = s.current } };
+    ghost view = { λ s. record { stored = s.stored; activity = s.activity; held = s.held; optional_stop = s.optional_stop; block_delete = s.block_delete; current = option_map block_of s.current } };
 
     ghost invariant = { λ s. IsKept s.stored s.current };
 }
 
 impl<A: Allocator + Copy + Drop> Session<A> {
     ghost use Rattle.std.specs.Prelude.{None};
+    ghost use Rattle.ng_layout.specs.Storable.{IsStorable};
     ghost use Rattle.ng_session.specs.Kept.{IsKept};
     ghost use Rattle.ng_session.specs.Session.{resting, is_at_rest, is_free, is_engaged, start, hold, go_on, shown};
 
@@ -61,13 +63,14 @@ impl<A: Allocator + Copy + Drop> Session<A> {
     /// What the device stands for.
     pub fn stored(&self) -> &Stored<A>
         ensures value { result.now ≡ self.now.stored }
-        ensures kept { IsKept self.now.stored self.now.current }
+        ensures count { self.now.stored.entries ≤ 1_000_000_000_000 }
+        ensures storable { IsStorable self.now.stored }
     {
         &self.stored
     }
 
     /// Whether no block is current, the program doesn't run, and nothing is held.
-    fn is_at_rest(&self) -> bool
+    pub(crate) fn is_at_rest(&self) -> bool
         ensures { result ≡ is_at_rest self.now }
     {
         self.current.is_none() && !self.activity.is_running() && !self.held

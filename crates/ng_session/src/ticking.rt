@@ -1,10 +1,12 @@
-//! What a Tick is made of: an item, a segment, an entry.
-ghost use Rattle.std.specs.Prelude.{◌≡◌, ◌≤◌, List, ℕ, None, Some, MatchOption, IfSome, IfNone};
+//! What a Tick is made of: an item, an approach, a segment, an entry.
+ghost use Rattle.std.specs.Prelude.{◌≡◌, ◌≤◌, ◌<◌, List, ℕ, None, Some, MatchOption, IfSome, IfNone};
 
+use crate::current::Current;
 use crate::reply::Reply;
 use crate::session::Session;
+use crate::stage::{Approach, Stage};
 use ng_canon::{Geometry, Item};
-use ng_layout::{Half, Stored};
+use ng_layout::{Half, Opened, Stored};
 use std::alloc::Allocator;
 
 impl<A: Allocator + Copy + Drop> Session<A> {
@@ -12,7 +14,8 @@ impl<A: Allocator + Copy + Drop> Session<A> {
     ghost use Rattle.ng_layout.specs.Storable.{CanWait};
     ghost use Rattle.ng_session.specs.Entries.{Equipment};
     ghost use Rattle.ng_session.specs.Kept.{IsNext};
-    ghost use Rattle.ng_session.specs.Session.{Underway, answers, tick, is_running, item_of, handed, opening_of, opened, committed, rest};
+    ghost use Rattle.ng_session.specs.Session.{Underway, answers, tick, is_running, item_of, handed, opening_of, opening_reply, opened, committed, approach_done, activity_after, behind_block, rest};
+    ghost use Rattle.ng_session.specs.Kept.{IsBeforeBlock, IsReady};
 
     /// Whether it is held: then a Tick moves, opens, commits and begins nothing.
     pub fn is_held(&self) -> bool
@@ -29,7 +32,7 @@ impl<A: Allocator + Copy + Drop> Session<A> {
         self.activity.is_running()
     }
 
-    /// Takes the next item of the open segment, to be handed out; none where none is left: the session stays as it is then.
+    /// Takes the next item of the open approach or segment, to be handed out; none where none is left: the session stays as it is then.
     pub fn next_item(&mut self) -> Option<Item>
         ensures item { result ≡ item_of self.old.current }
         ensures next { self.new ≡ handed self.old }
@@ -41,8 +44,8 @@ impl<A: Allocator + Copy + Drop> Session<A> {
         current.next_item()
     }
 
-    /// What is to be stored before the next segment is opened: its block, half-done; none where no segment is left. The session
-    /// stays as it is.
+    /// What is to be stored before the approach or the next segment is opened: its block, half-done; none where neither is left. The
+    /// session stays as it is.
     pub fn opening(&self) -> Option<Half>
         ensures half { result ≡ opening_of self.now.current }
         ensures waits { IfSome result CanWait }
@@ -53,38 +56,42 @@ impl<A: Allocator + Copy + Drop> Session<A> {
         }
     }
 
-    /// Opens that segment, once the half-done block is stored.
-    #[tactic(auto, using(crate::proofs::Standing::half_storable))]
+    /// Opens that approach or segment, once the half-done block is stored. The reply is Approaching, or Opened with the segment's number.
+    #[tactic(auto, using(crate::proofs::Keeping::kept_open))]
     pub fn open(&mut self, half: Half, geometry: &Geometry) -> Reply
         requires { CanWait half }
-        ensures reply { result ≡ Reply.Opened half.index }
+        ensures reply { result ≡ opening_reply half.index half.opened }
         ensures next { self.new ≡ opened geometry.now self.old half }
     {
         let index = half.index;
+        let opened = half.opened;
         self.stored.half = Some(half);
         if let Some(current) = &mut self.current {
             current.open(geometry);
         }
-        Reply::Opened(index)
+        match opened {
+            Some(Opened::Approach) => Reply::Approaching,
+            Some(Opened::Segment) | None => Reply::Opened(index),
+        }
     }
 
-    /// What is to be stored once nothing is left of the current block; none where no block is current. The session stays as it
-    /// is.
+    /// What is to be stored once nothing is left of the current block, or of its approach where that isn't committed; none where no
+    /// block is current. The session stays as it is.
     pub fn after(&self) -> Option<&Stored<A>>
-        ensures after { MatchOption result (self.now.current ≡ None) (λ stored. (c : Underway) × (self.now.current ≡ Some c) × (stored.now ≡ c.after)) }
+        ensures after { MatchOption result (self.now.current ≡ None) (λ stored. (c : Underway) × (self.now.current ≡ Some c) × (stored.now ≡ (committed self.now c).stored)) }
         ensures next { IfSome result (λ stored. IsNext self.now.stored stored.now) }
     {
         match &self.current {
-            Some(current) => Some(&current.after),
+            Some(current) => Some(current.next_stored()),
             None => None,
         }
     }
 
-    /// Goes on behind the current block, once that is stored. Where no block is current the reply is that of a session that has nothing
-    /// to do, and the session stays as it is.
+    /// Goes on behind the current block or its approach, once that is stored. Where no block is current the reply is that of a session
+    /// that has nothing to do, and the session stays as it is.
     pub fn commit(&mut self) -> Reply
-        requires { IfSome self.old.current (λ c. c.after.entries ≤ 1_000_000_000_000) }
-        ensures reply { (c : Underway) → self.old.current ≡ Some c → result ≡ Reply.Done c.after.entries }
+        requires { IfSome self.old.current (λ c. self.old.stored.entries < 1_000_000_000_000) }
+        ensures reply { (c : Underway) → self.old.current ≡ Some c → result ≡ Reply.Done (committed self.old c).stored.entries }
         ensures next { (c : Underway) → self.old.current ≡ Some c → self.new ≡ committed self.old c }
         ensures rest_reply { (program : List ℕ) → self.old.current ≡ None → result ≡ (rest program self.old).reply }
         ensures rest_next { self.old.current ≡ None → self.new ≡ self.old }
@@ -92,11 +99,67 @@ impl<A: Allocator + Copy + Drop> Session<A> {
         let Some(current) = self.current.take() else {
             return self.rest();
         };
+        match current.stage() {
+            Stage::ToApproach(approach) | Stage::OnApproach(approach) => {
+                self.end_approach(current, approach)
+            }
+            Stage::OnBlock => self.end_block(current),
+        }
+        Reply::Done(self.stored.entries)
+    }
+
+    /// Goes on behind the block that was taken from it.
+    fn end_block(&mut self, current: Current<A>)
+        requires count { self.old.stored.entries < 1_000_000_000_000 }
+        requires none { self.old.current ≡ None }
+        requires ready { IsReady self.old.stored current }
+        ensures { self.new ≡ record self.old { stored = behind_block self.old.stored current.block; activity = activity_after current.block.source current.block.stop self.old.optional_stop self.old.activity } }
+    {
         self.activity = self
             .activity
             .after(current.source, current.stop, self.optional_stop);
         self.stored = current.after;
-        Reply::Done(self.stored.entries)
+    }
+
+    /// Goes on with the block that was taken from it, behind its approach.
+    #[tactic(auto, using(crate::proofs::Keeping::kept_between))]
+    fn end_approach(&mut self, current: Current<A>, approach: Approach)
+        requires count { self.old.stored.entries < 1_000_000_000_000 }
+        requires ready { IsBeforeBlock self.old.stored current approach }
+        ensures { self.new ≡ record (approach_done self.old current.block approach) { current = Some (record current.block { stage = Stage.OnBlock }) } }
+    {
+        let Current {
+            source,
+            text,
+            block_delete,
+            stage: _,
+            index,
+            upcoming,
+            left,
+            switch,
+            items,
+            after,
+            approached,
+            stop,
+        } = current;
+        let Some(between) = approached else {
+            unreachable!()
+        };
+        self.stored = between;
+        self.current = Some(Current {
+            source,
+            text,
+            block_delete,
+            stage: Stage::OnBlock,
+            index,
+            upcoming,
+            left,
+            switch,
+            items,
+            after,
+            approached: None,
+            stop,
+        });
     }
 
     /// The reply of a session that has nothing to do.

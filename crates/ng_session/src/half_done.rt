@@ -1,0 +1,279 @@
+//! A half-done block (own): where its machine stands is told, it goes on, or it is given up.
+ghost use Rattle.std.specs.Prelude.{◌≡◌, ◌≤◌, not, nat_lt, false, ℕ, List, Ok, Err, IfOk, OnOk, OnErr, MatchResult, MatchOption, length};
+ghost use Rattle.ng_block.specs.Effects.{in_state};
+ghost use Rattle.ng_layout.specs.Storable.{CanStand, IsStorable};
+ghost use Rattle.ng_layout.specs.Stored.{with_report};
+ghost use Rattle.ng_session.specs.Entries.{equipment_of, done_again, turned_off, given_up};
+
+use crate::current::Current;
+use crate::reply::Reply;
+use crate::session::Session;
+use ng_block::{Effect, Machine, Places, Terms, Tools};
+use ng_canon::{Geometry, Outputs, Spindle};
+use ng_layout::{Half, Reported, Source, Stored};
+use ng_num::{Fault, Point};
+use std::alloc::{AllocError, Allocator};
+
+/// What the line of a half-done block does from its beginning, in places, or the first fault that refuses it.
+#[tactic(auto, unfolding(crate::specs::Entries::done_again))]
+fn execute_again<'p, A: Allocator + Copy + Drop>(
+    places: &'p mut Places,
+    stored: &Stored<A>,
+    half: &Half,
+    terms: &Terms<'_>,
+) -> Result<&'p Effect, Fault>
+    ensures done { MatchResult result (λ e. done_again (equipment_of terms.now) stored.now half.now.text ≡ Ok (in_state stored.now.setup e.now)) (λ fault. done_again (equipment_of terms.now) stored.now half.now.text ≡ Err fault) }
+    ensures stands { IfOk result (λ e. CanStand stored.now.setup.machine → CanStand e.now.machine) }
+{
+    // called for its contract: a table has at most 64 slots, and no more are stored
+    let _ = terms.tools.slots();
+    let text = half.text.as_slice();
+    match places.execute(&stored.state, text, terms.tools, terms.geometry) {
+        Ok(effect) => Ok(effect),
+        Err(fault) => Err(fault),
+    }
+}
+
+/// The outputs with spindle stopped and coolant off.
+fn turned_off(outputs: Outputs) -> Outputs
+    ensures { result ≡ turned_off outputs }
+{
+    Outputs {
+        spindle: Spindle::Stopped,
+        mist: false,
+        flood: false,
+        ..outputs
+    }
+}
+
+/// The machine where a half-done block is given up.
+fn given_up(machine: &Machine, half: &Half) -> Machine
+    ensures { result ≡ given_up machine.now half.now }
+{
+    Machine {
+        outputs: turned_off(machine.outputs),
+        point: half.at.unwrap_or(machine.point),
+        place_known: half.at.is_some(),
+        ..*machine
+    }
+}
+
+impl<A: Allocator + Copy + Drop> Session<A> {
+    ghost use Rattle.std.specs.Prelude.{None, Some, IfNone, IfSome, true, ◌<◌, ◌+◌};
+    ghost use Rattle.std.specs.Option.{is_some};
+    ghost use Rattle.ng_layout.specs.Programs.{place_behind};
+    ghost use Rattle.ng_layout.specs.Stored.{Report};
+    ghost use Rattle.ng_session.specs.Entries.{after_reference, after_abandon};
+    ghost use Rattle.ng_session.specs.Session.{reference_refusal, abandon_refusal};
+
+    /// Why the machine's point, in nm of machine coordinates, isn't taken now: K1 where the session isn't at rest, X2 where the point lies
+    /// outside the travel.
+    pub fn reference_refusal(&self, point: Point, geometry: &Geometry) -> Option<Fault>
+        ensures { result ≡ reference_refusal geometry.now self.now point }
+    {
+        if !self.is_at_rest() {
+            return Some(Fault::Busy);
+        }
+        if !geometry.contains(point) {
+            return Some(Fault::OutsideTravel);
+        }
+        None
+    }
+
+    /// What is to be stored once the machine is known to stand at a point, in nm of machine coordinates: where a block is half-done that
+    /// one alone says it. The session stays as it is.
+    #[tactic(auto, using(crate::proofs::Standing::reference_storable))]
+    pub fn referenced(&self, point: Point) -> Reported
+        requires { self.now.stored.entries < 1_000_000_000_000 }
+        ensures value { with_report self.now.stored result self.now.stored.length ≡ after_reference self.now.stored point }
+        ensures count { result.entries ≡ self.now.stored.entries + 1 }
+        ensures storable { IsStorable (with_report self.now.stored result self.now.stored.length) }
+    {
+        let stored = &self.stored;
+        let machine = stored.state.machine;
+        let entries = stored.entries + 1;
+        match &stored.half {
+            Some(half) => Reported {
+                entries,
+                place: stored.place,
+                machine,
+                half: Some(Half {
+                    at: Some(point),
+                    opened: None,
+                    ..half.copy()
+                }),
+            },
+            None => Reported {
+                entries,
+                place: stored.place,
+                machine: Machine {
+                    point,
+                    place_known: true,
+                    ..machine
+                },
+                half: None,
+            },
+        }
+    }
+
+    /// Why no half-done block is given up now: K1 where the session isn't at rest, K4 where none is half-done.
+    pub fn abandon_refusal(&self) -> Option<Fault>
+        ensures { result ≡ abandon_refusal self.now }
+    {
+        if !self.is_at_rest() {
+            return Some(Fault::Busy);
+        }
+        if self.stored.half.is_none() {
+            return Some(Fault::NothingHalfDone);
+        }
+        None
+    }
+
+    /// What is to be stored once the half-done block is given up: spindle stopped, coolant off, and the machine where that block says that
+    /// it stands, else no longer known; none where no block is half-done. The session stays as it is.
+    #[tactic(auto, using(crate::proofs::Standing::abandon_storable))]
+    pub fn abandoned(&self) -> Option<Reported>
+        requires { self.now.stored.entries < 1_000_000_000_000 }
+        ensures count { IfSome result (λ report. report.entries ≡ self.now.stored.entries + 1) }
+        ensures storable { IfSome result (λ report. IsStorable (with_report self.now.stored report self.now.stored.length)) }
+        ensures value { MatchOption result (self.now.stored.half ≡ None) (λ report. with_report self.now.stored report self.now.stored.length ≡ after_abandon self.now.stored) }
+    {
+        match &self.stored.half {
+            Some(half) => Some(Reported {
+                entries: self.stored.entries + 1,
+                place: self.stored.place,
+                machine: given_up(&self.stored.state.machine, half),
+                half: None,
+            }),
+            None => None,
+        }
+    }
+}
+
+impl<A: Allocator + Copy + Drop> Session<A> {
+    ghost use Rattle.std.specs.Prelude.{IfSome, true};
+    ghost use Rattle.ng_session.specs.Session.{next_behind, resume, resume_refusal, IsProgramsLine};
+
+    /// Why no half-done block goes on now: K1 where the session isn't at rest, K4 where no block is half-done, K3 where it isn't known
+    /// where its machine stands, then its line's own faults. The session stays as it is.
+    pub fn resume_refusal(&mut self, tools: &Tools, geometry: &Geometry) -> Option<Fault>
+        ensures refusal { result ≡ resume_refusal (record { tools = tools.now; geometry = geometry.now }) self.old }
+        ensures same { self.new ≡ self.old }
+    {
+        if !self.is_at_rest() {
+            return Some(Fault::Busy);
+        }
+        let Some(half) = self.waiting() else {
+            return Some(Fault::NothingHalfDone);
+        };
+        if half.at.is_none() {
+            return Some(Fault::PlaceUnknown);
+        }
+        let terms = Terms {
+            block_delete: false,
+            tools,
+            geometry,
+        };
+        match execute_again(&mut self.places, &self.stored, &half, &terms) {
+            Ok(_) => None,
+            Err(fault) => Some(fault),
+        }
+    }
+
+    /// Whether the half-done block is a line of the program: then, where it goes on, it is looked up where the next line begins.
+    pub fn is_programs_line(&self) -> bool
+        ensures yes { result ≡ true → IsProgramsLine self.now.stored.half }
+        ensures no { result ≡ false → IsProgramsLine self.now.stored.half → ⊥ }
+        ensures stays { (program : List ℕ) → result ≡ false → IfSome self.now.stored.half (λ half. self.now.stored.place ≡ next_behind program self.now.stored.place half.source) }
+    {
+        match &self.stored.half {
+            Some(half) => match half.source {
+                Source::Program => true,
+                Source::Mdi => false,
+            },
+            None => false,
+        }
+    }
+
+    /// Whether an entry more would be beyond the greatest count.
+    pub fn is_count_used_up(&self) -> bool
+        ensures { result ≡ not (nat_lt self.now.stored.entries 1_000_000_000_000) }
+    {
+        !(self.stored.entries < 1_000_000_000_000)
+    }
+
+    /// Puts a report in the place of what is stored of it, and gives that back: put in its place again, that takes the report back.
+    #[tactic(auto, using(crate::proofs::Keeping::kept_report))]
+    pub fn exchange(&mut self, report: Reported) -> Reported
+        requires free { self.old.current ≡ None }
+        requires count { report.entries ≤ 1_000_000_000_000 }
+        requires storable { IsStorable (with_report self.old.stored report self.old.stored.length) }
+        ensures next { self.new ≡ record self.old { stored = with_report self.old.stored report self.old.stored.length } }
+        ensures before { result ≡ record { entries = self.old.stored.entries; place = self.old.stored.place; machine = self.old.stored.setup.machine; half = self.old.stored.half } }
+    {
+        let before = Reported {
+            entries: self.stored.entries,
+            place: self.stored.place,
+            machine: self.stored.state.machine,
+            half: self.stored.half.take(),
+        };
+        self.stored.entries = report.entries;
+        self.stored.place = report.place;
+        self.stored.state.machine = report.machine;
+        self.stored.half = report.half;
+        before
+    }
+
+    /// The half-done block, if there is one.
+    fn waiting(&self) -> Option<Half>
+        ensures { result ≡ self.now.stored.half }
+    {
+        match &self.stored.half {
+            Some(half) => Some(half.copy()),
+            None => None,
+        }
+    }
+
+    /// The half-done block goes on, by its approach, where the next line of the program begins at the byte `next`. K1 where the session
+    /// isn't at rest, K4 where no block is half-done, K3 where it isn't known where its machine stands, then its line's own faults;
+    /// nothing is changed then. `AllocError` where the states after it and after its approach found no memory: nothing is changed then
+    /// either.
+    #[tactic(auto, using(crate::proofs::Keeping::kept_again))]
+    pub fn resume(
+        &mut self,
+        next: u64,
+        tools: &Tools,
+        geometry: &Geometry,
+    ) -> Result<Reply, AllocError>
+        requires { next ≤ self.old.stored.length }
+        ensures stored { OnOk result (self.new.stored ≡ self.old.stored) }
+        ensures reply { IfOk result (λ reply. (program : List ℕ) → IfSome self.old.stored.half (λ half. next ≡ next_behind program self.old.stored.place half.source) → reply ≡ (resume (record { tools = tools.now; geometry = geometry.now }) program self.old).reply) }
+        ensures next { OnOk result ((program : List ℕ) → IfSome self.old.stored.half (λ half. next ≡ next_behind program self.old.stored.place half.source) → self.new ≡ (resume (record { tools = tools.now; geometry = geometry.now }) program self.old).next) }
+        ensures err { OnErr result (self.new ≡ self.old) }
+        ensures memory { OnErr result (resume_refusal (record { tools = tools.now; geometry = geometry.now }) self.old ≡ None) }
+    {
+        if !self.is_at_rest() {
+            return Ok(Reply::Refused(Fault::Busy));
+        }
+        let Some(waiting) = self.waiting() else {
+            return Ok(Reply::Refused(Fault::NothingHalfDone));
+        };
+        let half = &waiting;
+        let Some(from) = half.at else {
+            return Ok(Reply::Refused(Fault::PlaceUnknown));
+        };
+        let terms = Terms {
+            block_delete: false,
+            tools,
+            geometry,
+        };
+        let effect = match execute_again(&mut self.places, &self.stored, half, &terms) {
+            Ok(effect) => effect,
+            Err(fault) => return Ok(Reply::Refused(fault)),
+        };
+        let current = Current::begun_again(&self.stored, half, from, next, effect)?;
+        self.activity = self.activity.again(half.source);
+        self.current = Some(current);
+        Ok(Reply::Going)
+    }
+}
