@@ -48,7 +48,7 @@ pub comes_as : {R : Type 0} (reads : Station R → Type 0) (answer : Result Repl
 comes_as reads answer out old mid new same comes = subst (λ (c : Station _). ComesAnyway (reads c) answer (out c) c new) same comes
 
 -- the same of an equal outcome, and where more may be read
-comes_to : {R : Type 0} (reads wider : Type 0) (answer : Result Reply Fault) (out wanted : List ℕ → Outcome) (old new : Station R)
+pub comes_to : {R : Type 0} (reads wider : Type 0) (answer : Result Reply Fault) (out wanted : List ℕ → Outcome) (old new : Station R)
     → (reads → wider) → ((program : List ℕ) → out program ≡ wanted program) → ComesAnyway reads answer out old new → ComesAnyway wider answer wanted old new
 comes_to reads wider (Ok r) out wanted old new wide equal comes = λ read program.
     let here = comes (λ p. read (wide p)) program in
@@ -103,7 +103,7 @@ comes_end reads answer old new is comes =
     (λ program. ap (λ (o : Option HalfDone). open_next old.equipment program old.session o) is) comes
 
 pub comes_commit : {R : Type 0} (reads : Type 0) (r : Reply) (saved : Saved) (old new : Station R) (due : IsDue old.session saved)
-    → r ≡ reply.Done due.block.after.entries → new.session ≡ committed old.session due.block
+    → r ≡ reply.Done (committed old.session due.block).stored.entries → new.session ≡ committed old.session due.block
     → ComesAnyway reads (Ok r) (λ program. end old.equipment program old.session old.session.current) old new
 comes_commit reads r saved old new due replied next =
     comes_to reads reads (Ok r) (λ program. end old.equipment program old.session (Some due.block)) (λ program. end old.equipment program old.session old.session.current) old new (λ p. p)

@@ -11,8 +11,10 @@ use Rattle.ng_rig.proofs.Promise.{meaning}
 use Rattle.ng_layout.specs.Programs.{line_at}
 use Rattle.ng_layout.specs.Stored.{HalfDone}
 use Rattle.ng_session.specs.Entries.{Equipment}
-use Rattle.ng_session.specs.Session.{Underway, Sitting, Outcome, tick, open_next, end, begin, item_of, handed, opening_of, opening_on, is_running}
+use Rattle.ng_session.specs.Session.{Underway, Sitting, Outcome, tick, open_next, end, begin, item_of, handed, opening_of, opening_on, segment_open, is_running}
 use Rattle.ng_session.specs.declared.reply.Reply.{Reply}
+use Rattle.ng_session.specs.declared.stage.Stage.{Stage}
+use Rattle.ng_session.specs.declared.stage.Stage.TheVariants as stage
 use Rattle.ng_core.specs.Station.{Station}
 use Rattle.ng_core.specs.Acts.{Acts, Does}
 use Rattle.ng_core.proofs.Ticks.{does_on, moving, tick_item, tick_none, opening}
@@ -64,15 +66,20 @@ does_further honest life answer old new left held none same does =
     (λ program. sym (tick_none old.equipment program old.session held (sym none)))
     (subst (λ (s : Sitting). Does honest life answer (λ program. open_next old.equipment program s (opening_of s.current)) (with_session old s) new) same does)
 
--- ---- a segment, or none
+-- ---- an approach or a segment, or none
 
-opens_on : (c : Underway) (left : List Segment) → IfSome (opening_on c left) (λ half. IsSome half.opened)
-opens_on c [] = tt
-opens_on c (segment ∷ left) = refl
+opens_left : (c : Underway) (left : List Segment) → IfSome (segment_open c left) (λ half. IsSome half.opened)
+opens_left c [] = tt
+opens_left c (segment ∷ left) = refl
+
+opens_on : (c : Underway) (at : Stage) → IfSome (opening_on c at) (λ half. IsSome half.opened)
+opens_on c (stage.ToApproach a) = refl
+opens_on c (stage.OnApproach a) = tt
+opens_on c stage.OnBlock = opens_left c c.left
 
 opens_of : (o : Option Underway) → IfSome (opening_of o) (λ half. IsSome half.opened)
 opens_of None = tt
-opens_of (Some c) = opens_on c c.left
+opens_of (Some c) = opens_on c c.stage
 
 -- in the half-done block that is stored for it, something is open
 pub segment_opens : (o : Option Underway) (half : HalfDone) → Some half ≡ opening_of o → IsSome half.opened

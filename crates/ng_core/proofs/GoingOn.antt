@@ -39,7 +39,7 @@ goes_more life events event rest done r answer program old now next g s rests = 
   on = λ replies new h. subst (λ (l : List Reply). History life events l program old new) (sym (append_assoc done (r ∷ []) replies)) (g.on (r ∷ replies) new (answer, (next, (s, h))));
 }
 
-rests_behind : {A R : Type 0} (life : R → Life) (event : Event A) (answer : Result Reply Fault) (here : List ℕ) (now next : Station R)
+pub rests_behind : {A R : Type 0} (life : R → Life) (event : Event A) (answer : Result Reply Fault) (here : List ℕ) (now next : Station R)
     → Serving life answer event here now next → Rests (life now.journal.rig) now here
     → next.journal.broken ≡ false → Rests (life next.journal.rig) next (program_behind answer (outcome_of now here event) here)
 rests_behind life event (Ok v) here now next s rests whole = s.acts.leaves.0

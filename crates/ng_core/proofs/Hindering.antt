@@ -1,17 +1,22 @@
 -- What hinders an event, by what hinders the calls that it makes.
 use Rattle.std.proofs.Common.{◌≡◌, ◌≤◌, ◌⊎◌, ◌↔◌, inl, inr, ℕ, Bool, true, false, ◌||◌, List, length, Option, Some, None, Result, Ok, Err, refl, sym, ◌∙◌, ap, subst, IsSomeAnd}
-use Rattle.std.specs.Option.{is_some}
+use Rattle.std.specs.Option.{is_some, option_map}
 use Rattle.std.specs.Prelude.{IsErrOf}
 use Rattle.ng_num.specs.declared.fault.Fault.{Fault}
 use Rattle.ng_num.specs.declared.fault.Fault.TheVariants.{DeviceFailed, CountersUsed, OutOfMemory}
 use Rattle.ng_layout.specs.Programs.{Line, line_at}
 use Rattle.ng_layout.specs.Stored.{HalfDone, Saved}
 use Rattle.ng_layout.specs.declared.half.Source.TheVariants as source
+use Rattle.ng_layout.specs.declared.half.Opened.{Opened}
+use Rattle.ng_layout.specs.declared.half.Opened.TheVariants as open_part
 use Rattle.ng_block.specs.Effects.{Done}
 use Rattle.ng_journal.specs.Storing.{Ledger, Storing, Commit, Open, Load, UsesUp}
-use Rattle.ng_session.specs.Entries.{Equipment, done_of, after_load}
-use Rattle.ng_session.specs.Session.{Underway, Sitting, Outcome, open_next, end, begin, begin_by, load, load_unless, load_refusal, opening_of, is_running, is_busy, IsBetweenLines}
-use Rattle.ng_core.specs.Causes.{IsUsedUp, IsHinderedBy, stored_for}
+use Rattle.ng_num.specs.declared.point.Point.{Point}
+use Rattle.ng_session.specs.Entries.{Equipment, done_of, after_load, after_reference, after_abandon}
+use Rattle.ng_session.specs.Session.{Underway, Sitting, Outcome, open_next, end, begin, begin_by, load, load_unless, load_refusal, reference, reference_unless, reference_refusal, abandon, abandon_unless, abandon_refusal, opening_of, opening_reply, entry_on, committed, is_running, is_busy, IsBetweenLines}
+use Rattle.ng_session.specs.declared.stage.Stage.{Stage}
+use Rattle.ng_session.specs.declared.stage.Stage.TheVariants as stage
+use Rattle.ng_core.specs.Causes.{IsUsedUp, IsHinderedBy, stored_for, with_entry}
 use Rattle.ng_core.proofs.Ticks.{IsDue, opening}
 use Rattle.ng_core.proofs.Choosing.{begins_there}
 
@@ -36,19 +41,31 @@ hindered_storing T e ledger told s (inl used) iff stores =
 hindered_storing T e ledger told s (inr lost) iff stores =
     inr (inr (lost, tt, λ program used. differ T e lost (iff.1 (subst (λ (o : Option Storing). IsSomeAnd o (UsesUp ledger)) (stores program) used))))
 
--- the half-done block of the segment that opens
+-- the half-done block of what opens
+stored_opening : (out : Outcome) (n : ℕ) (o : Option Opened) → stored_for out (opening_reply n o) ≡ option_map Open out.next.stored.half
+stored_opening out n None = refl
+stored_opening out n (Some open_part.Segment) = refl
+stored_opening out n (Some open_part.Approach) = refl
+
 pub hindered_opening : (T : Type 0) (e : Fault) (q : Equipment) (s : Sitting) (ledger : Ledger) (half : HalfDone) → (e ≡ CountersUsed) ⊎ (e ≡ DeviceFailed)
     → (let answered : Result T Fault = Err e in IsErrOf answered CountersUsed ↔ UsesUp ledger (Open half))
     → IsHinderedBy ⊥ (Unit {0}) ledger (λ program. opening half program q s) e
-hindered_opening T e q s ledger half which iff = hindered_storing T e ledger (λ program. opening half program q s) (Open half) which iff (λ program. refl)
+hindered_opening T e q s ledger half which iff =
+    hindered_storing T e ledger (λ program. opening half program q s) (Open half) which iff (λ program. stored_opening (opening half program q s) half.index half.opened)
 
--- the entry of the current block
+-- the entry of the current block, or of its approach
+entry_commits : (x : Saved) (c : Underway) (at : Stage) → with_entry x (entry_on c at) ≡ Commit x
+entry_commits x c (stage.ToApproach a) = refl
+entry_commits x c (stage.OnApproach a) = refl
+entry_commits x c stage.OnBlock = refl
+
 pub hindered_entry : (T : Type 0) (e : Fault) (q : Equipment) (s : Sitting) (ledger : Ledger) (saved : Saved) (due : IsDue s saved) → (e ≡ CountersUsed) ⊎ (e ≡ DeviceFailed)
     → (let answered : Result T Fault = Err e in IsErrOf answered CountersUsed ↔ UsesUp ledger (Commit saved))
     → IsHinderedBy ⊥ (Unit {0}) ledger (λ program. end q program s s.current) e
 hindered_entry T e q s ledger saved due which iff =
     hindered_storing T e ledger (λ program. end q program s s.current) (Commit saved) which iff
-    (λ program. ap (λ (o : Option Underway). stored_for (end q program s o) (end q program s o).reply) due.current ∙ ap (λ (x : Saved). Some (Commit x)) (sym due.after))
+    (λ program. ap (λ (o : Option Underway). stored_for (end q program s o) (end q program s o).reply) due.current
+    ∙ ap (λ (x : Storing). Some x) (entry_commits (committed s due.block).stored due.block due.block.stage) ∙ ap (λ (x : Saved). Some (Commit x)) (sym due.after))
 
 -- the entry of a program
 pub hindered_load : (T : Type 0) (e : Fault) (s : Sitting) (saved : Saved) (text : List ℕ) (ledger : Ledger) → load_refusal s text ≡ None → length text ≤ 131072 → saved ≡ after_load s.stored (length text)
@@ -60,6 +77,19 @@ hindered_load T e s saved text ledger free small is which iff =
     (hindered_storing T e ledger (λ program. load program s text) (Load saved) which
     (λ used. (iff.0 used).1, λ u. iff.1 (small, u))
     (λ program. ap (λ (o : Option Fault). stored_for (load_unless program s text o) (load_unless program s text o).reply) free ∙ ap (λ (x : Saved). Some (Load x)) (sym is)))
+
+-- a point where the machine stands, or a half-done block that is given up
+pub stored_reference : (q : Equipment) (P : List ℕ) (s : Sitting) (point : Point) → reference_refusal q.geometry s point ≡ None
+    → stored_for (reference q P s point) (reference q P s point).reply ≡ Some (Commit (after_reference s.stored point))
+stored_reference q P s point free = ap (λ (o : Option Fault). stored_for (reference_unless P s point o) (reference_unless P s point o).reply) free
+
+pub stored_abandon : (P : List ℕ) (s : Sitting) → abandon_refusal s ≡ None → stored_for (abandon P s) (abandon P s).reply ≡ Some (Commit (after_abandon s.stored))
+stored_abandon P s free = ap (λ (o : Option Fault). stored_for (abandon_unless P s o) (abandon_unless P s o).reply) free
+
+-- an entry past the greatest count isn't stored
+pub hindered_count : (ledger : Ledger) (told : List ℕ → Outcome) (x : Saved) (device : Type 0) → UsesUp ledger (Commit x) → ((program : List ℕ) → stored_for (told program) (told program).reply ≡ Some (Commit x))
+    → IsHinderedBy ⊥ device ledger told CountersUsed
+hindered_count ledger told x device used stores = inr (inl (refl, λ program. subst (λ (o : Option Storing). IsSomeAnd o (UsesUp ledger)) (sym (stores program)) used))
 
 -- ---- a session that is busy
 
@@ -96,7 +126,7 @@ hindered_line q s ledger none runs fault (inr lost) = inr (inr (
       unused_begin q program s (line_at program s.stored.place) ledger (subst (λ (o : Outcome). IsUsedUp ledger o) (begins_there q program s none runs) used),
 ))
 
--- ---- a segment that is opened by a Tick
+-- ---- what is opened by a Tick
 
 pub hindered_open : (q : Equipment) (s : Sitting) (ledger : Ledger) (half : HalfDone) → Some half ≡ opening_of s.current
     → (fault : Fault) → IsHinderedBy ⊥ (Unit {0}) ledger (λ program. opening half program q s) fault

@@ -1,11 +1,16 @@
 pub mod Acting
 pub mod Quiet
+pub mod Timing
 pub mod Histories
+pub mod Accounting
 pub mod GoingOn
+pub mod Pasts
 pub mod InTurn
 pub mod Doing
 pub mod Storing
 pub mod Ticks
+pub mod Reporting
+pub mod Resuming
 pub mod Beginning
 pub mod Choosing
 pub mod Anyway

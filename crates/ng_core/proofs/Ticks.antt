@@ -7,10 +7,12 @@ use Rattle.ng_rig.specs.Life.{Life}
 use Rattle.ng_rig.specs.Calls.{Promises}
 use Rattle.ng_rig.proofs.Promise.{meaning}
 use Rattle.ng_layout.specs.Stored.{HalfDone, Saved, Standing}
+use Rattle.ng_layout.specs.declared.half.Opened.{Opened}
+use Rattle.ng_layout.specs.declared.half.Opened.TheVariants as open_part
 use Rattle.ng_journal.specs.Journal.{Logbook, RestsAt, Moves, HandsOut}
 use Rattle.ng_session.specs.Entries.{Equipment}
 use Rattle.ng_session.specs.LinesBefore.{IsTrueOf}
-use Rattle.ng_session.specs.Session.{Underway, Sitting, Outcome, answers, tick, open_next, end, item_of, handed, opening_of, opened, committed, is_running, rest, shown}
+use Rattle.ng_session.specs.Session.{Underway, Sitting, Outcome, answers, tick, open_next, end, item_of, handed, opening_of, opening_reply, opened, committed, is_running, rest, shown}
 use Rattle.ng_session.specs.declared.lines_before.LinesBefore.{LinesBefore}
 use Rattle.ng_session.specs.declared.reply.Reply.{Reply}
 use Rattle.ng_session.specs.declared.reply.Reply.TheVariants as reply
@@ -39,7 +41,7 @@ does_held honest life c held =
     (does_still honest life reply.Held (λ program. answers program reply.Held c.session) c c (λ program. still refl refl refl) refl refl (λ program. refl) (λ program. refl))
 
 -- what is known of the lines stays
-kept : (k l : LinesBefore) → l ≡ k → (program : List ℕ) → IsTrueOf program k → IsTrueOf program l
+pub kept : (k l : LinesBefore) → l ≡ k → (program : List ℕ) → IsTrueOf program k → IsTrueOf program l
 kept k l same program known = known_as program program k l refl same known
 
 -- ---- an item
@@ -72,10 +74,15 @@ tick_item q P s item held is = rw (held, is) refl
 pub tick_none : (q : Equipment) (P : List ℕ) (s : Sitting) → s.held ≡ false → item_of s.current ≡ None → tick q P s ≡ open_next q P s (opening_of s.current)
 tick_none q P s held is = rw (held, is) refl
 
--- ---- a segment
+-- ---- an approach or a segment
 
 abbrev pub opening : HalfDone → List ℕ → Equipment → Sitting → Outcome
-opening half P q s = answers P (reply.Opened half.index) (opened q.geometry s half)
+opening half P q s = answers P (opening_reply half.index half.opened) (opened q.geometry s half)
+
+opening_touches : (n : ℕ) (o : Option Opened) → TouchesNothing (opening_reply n o) → ⊥
+opening_touches n None nothing = nothing
+opening_touches n (Some open_part.Segment) nothing = nothing
+opening_touches n (Some open_part.Approach) nothing = nothing
 
 -- what `open_segment` promises
 abbrev pub StoresHalf : {R T : Type 0} → (R → Type 0) → (R → Life) → Result T Fault → HalfDone → Logbook R → Logbook R → Type 0
@@ -92,12 +99,12 @@ storing_half honest life result half old journal held p =
     (f (standing_of program old.session) rests.0))
 
 pub opens : {R T : Type 0} (honest : R → Type 0) (life : R → Life) (v : T) (r : Reply) (half : HalfDone) (old new : Station R)
-    → r ≡ reply.Opened half.index → new.session ≡ opened old.equipment.geometry old.session half → old.session.stored ≡ old.journal.saved
+    → r ≡ opening_reply half.index half.opened → new.session ≡ opened old.equipment.geometry old.session half → old.session.stored ≡ old.journal.saved
     → StoresHalf honest life (Ok v) half old.journal new.journal → new.lines ≡ old.lines
     → Does honest life (Ok r) (λ program. opening half program old.equipment old.session) old new
 opens honest life v r half old new replied next held p lines =
     does_moved honest life r v (λ program. opening half program old.equipment old.session) old new (storing_half honest life (Ok v) half old new.journal held p) (kept old.lines new.lines lines) (λ program. replied) (λ program. next) (λ program. refl)
-    (subst (λ (x : Reply). TouchesNothing x → ⊥) (sym replied) (λ z. z))
+    (subst (λ (x : Reply). TouchesNothing x → ⊥) (sym replied) (opening_touches half.index half.opened))
 
 pub opens_none : {R T : Type 0} (honest : R → Type 0) (life : R → Life) (fault e : Fault) (half : HalfDone) (old new : Station R)
     → new.session ≡ old.session → old.session.stored ≡ old.journal.saved
@@ -119,7 +126,7 @@ StoresEntry honest life result saved old new =
 pub record IsDue (s : Sitting) (saved : Saved) : Type 0 where
   pub block : Underway
   pub current : s.current ≡ Some block
-  pub after : saved ≡ block.after
+  pub after : saved ≡ (committed s block).stored
 
 storing_entry : {R T : Type 0} (honest : R → Type 0) (life : R → Life) (result : Result T Fault) (saved : Saved) (old : Station R) (journal : Logbook R) (due : IsDue old.session saved)
     → StoresEntry honest life result saved old.journal journal
@@ -130,7 +137,7 @@ storing_entry honest life result saved old journal due p =
     (f (standing_of program old.session) rests.0))
 
 pub does_commit : {R T : Type 0} (honest : R → Type 0) (life : R → Life) (v : T) (r : Reply) (saved : Saved) (old new : Station R) (due : IsDue old.session saved)
-    → r ≡ reply.Done due.block.after.entries → new.session ≡ committed old.session due.block
+    → r ≡ reply.Done (committed old.session due.block).stored.entries → new.session ≡ committed old.session due.block
     → StoresEntry honest life (Ok v) saved old.journal new.journal → new.lines ≡ old.lines
     → Does honest life (Ok r) (λ program. end old.equipment program old.session old.session.current) old new
 does_commit honest life v r saved old new due replied next p lines =

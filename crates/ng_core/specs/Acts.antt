@@ -1,5 +1,5 @@
 -- What an event does to a controller and to its device (own).
-use Rattle.std.specs.Prelude.{◌≡◌, ◌≢◌, ◌⊎◌, ℕ, false, List, ◌++◌, Result, Ok, Err, IfOk, IfErr, MatchResult}
+use Rattle.std.specs.Prelude.{◌≡◌, ◌≢◌, ◌⊎◌, ℕ, List, ◌++◌, Result, Ok, Err, IfOk, IfErr, MatchResult}
 use Rattle.ng_num.specs.declared.fault.Fault.{Fault}
 use Rattle.ng_num.specs.declared.fault.Fault.TheVariants.{DeviceFailed, Broken}
 use Rattle.ng_canon.specs.declared.item.Item.{Item}
@@ -8,7 +8,7 @@ use Rattle.ng_rig.specs.Calls.{Promises}
 use Rattle.ng_rig.specs.Onward.{Onward}
 use Rattle.ng_journal.specs.Journal.{StandsFor, IsBrokenBy, Tells}
 use Rattle.ng_journal.specs.Storing.{ledger_of}
-use Rattle.ng_session.specs.Session.{Sitting, Outcome, shown, IsBetweenLines}
+use Rattle.ng_session.specs.Session.{Sitting, Outcome, shown, ReadsLine}
 use Rattle.ng_session.specs.Runs.{Scene, Left, left_in, scene_after}
 use Rattle.ng_session.specs.declared.event.Event.{Event}
 use Rattle.ng_session.specs.declared.event.Event.TheVariants as event
@@ -39,11 +39,6 @@ pub record Stays {R : Type 0} (reads : Type 0) (fault : Fault) (old new : Statio
   pub ledger : fault ≢ DeviceFailed → ledger_of new.journal ≡ ledger_of old.journal
   pub journal : fault ≢ DeviceFailed → (reads → ⊥) → new.journal ≡ old.journal
 
--- a line of the program is read for it
-abbrev pub ReadsLine : {A : Type 0} → Sitting → Event A → Type 0
-ReadsLine s event.Tick = (s.held ≡ false) × IsBetweenLines s
-ReadsLine s _ = ⊥
-
 -- What is told, and the session then, whatever the device is: by the session alone, unless a line is read for it.
 abbrev pub ComesAnyway : {R : Type 0} → (reads : Type 0) → Result Reply Fault → (List ℕ → Outcome) → Station R → Station R → Type 0
 ComesAnyway reads answer out old new =
@@ -59,6 +54,7 @@ Leaves (Err fault) out program new lived living = Rests living new program × (l
 abbrev pub TouchesNothing : Reply → Type 0
 TouchesNothing (reply.Done n) = ⊥
 TouchesNothing (reply.Opened index) = ⊥
+TouchesNothing reply.Approaching = ⊥
 TouchesNothing reply.Moved = ⊥
 TouchesNothing reply.Begun = Unit {0}
 TouchesNothing reply.Going = Unit {0}
@@ -97,7 +93,7 @@ Does honest life answer out old new =
 pub record Serves {A R : Type 0} (honest : R → Type 0) (life : R → Life) (failed : R → ℕ) (event : Event A) (told : Reply) (old new : Station R) : Type 0 where
   pub answer : Result Reply Fault
   pub told_is : told ≡ reply_to answer
-  pub comes : ComesAnyway (ReadsLine old.session event) answer (λ program. outcome_of old program event) old new
+  pub comes : ComesAnyway (ReadsLine old.equipment old.session event) answer (λ program. outcome_of old program event) old new
   pub does : Does honest life answer (λ program. outcome_of old program event) old new
   pub hindered : IfErr answer (Hinders old event)
   pub broken : IsBrokenBy answer new.journal.broken

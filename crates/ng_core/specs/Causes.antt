@@ -5,7 +5,7 @@ use Rattle.ng_num.specs.declared.fault.Fault.{Fault}
 use Rattle.ng_num.specs.declared.fault.Fault.TheVariants.{DeviceFailed, CountersUsed, OutOfMemory}
 use Rattle.ng_layout.specs.Stored.{Saved}
 use Rattle.ng_journal.specs.Storing.{Ledger, Storing, Commit, Open, Load, UsesUp, ledger_of}
-use Rattle.ng_session.specs.Entries.{Entry, Block, Loaded}
+use Rattle.ng_session.specs.Entries.{Entry, Block, Loaded, Referenced, Approached, Abandoned}
 use Rattle.ng_session.specs.Session.{Outcome, step, TakesMemory, AsksDevice}
 use Rattle.ng_session.specs.declared.event.Event.{Event}
 use Rattle.ng_session.specs.declared.reply.Reply.{Reply}
@@ -16,10 +16,13 @@ use Rattle.ng_core.specs.Station.{Station}
 abbrev pub outcome_of : {A R : Type 0} → Station R → List ℕ → Event A → Outcome
 outcome_of c program event = step c.equipment program c.session event
 
--- what is stored with an entry: a block's is committed, a program's is loaded
+-- what is stored with an entry: a program's is loaded, each other is committed
 abbrev pub with_entry : Saved → Entry → Storing
 with_entry saved (Block source text block_delete) = Commit saved
 with_entry saved (Loaded text) = Load saved
+with_entry saved (Referenced point) = Commit saved
+with_entry saved Approached = Commit saved
+with_entry saved Abandoned = Commit saved
 
 -- the same of the entry that there is, if there is one
 abbrev pub with_entries : Saved → List Entry → Option Storing
@@ -30,6 +33,7 @@ with_entries saved (entry ∷ more) = Some (with_entry saved entry)
 abbrev pub stored_for : Outcome → Reply → Option Storing
 stored_for out (reply.Done n) = with_entries out.next.stored out.entries
 stored_for out (reply.Opened index) = option_map Open out.next.stored.half
+stored_for out reply.Approaching = option_map Open out.next.stored.half
 stored_for out reply.Moved = None
 stored_for out reply.Begun = None
 stored_for out reply.Going = None
@@ -53,4 +57,4 @@ IsHinderedBy memory device ledger told fault =
     ⊎ ((fault ≡ DeviceFailed) × device × ((program : List ℕ) → IsUsedUp ledger (told program) → ⊥)))
 
 abbrev pub Hinders : {A R : Type 0} → Station R → Event A → Fault → Type 0
-Hinders c event fault = IsHinderedBy (TakesMemory c.session event) (AsksDevice c.session event) (ledger_of c.journal) (λ program. outcome_of c program event) fault
+Hinders c event fault = IsHinderedBy (TakesMemory c.equipment c.session event) (AsksDevice c.equipment c.session event) (ledger_of c.journal) (λ program. outcome_of c program event) fault

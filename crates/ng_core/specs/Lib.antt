@@ -1,6 +1,9 @@
 pub mod Station
+pub mod NextLines
 pub mod Causes
 pub mod Acts
 pub mod Turns
 pub mod Powers
+pub mod Moments
 pub mod Runs
+pub mod Headline

@@ -1,10 +1,9 @@
 -- What a list of events does (own).
-use Rattle.std.specs.Prelude.{◌≡◌, ◌≤◌, ◌+◌, ◌%◌, ◌^◌, ℕ, Bool, true, false, List, [], ◌∷◌, ◌++◌, length, map, take, Result, Ok, Err, IfErr}
+use Rattle.std.specs.Prelude.{◌≡◌, ◌≤◌, ◌+◌, ◌%◌, ◌^◌, ℕ, suc, Bool, true, false, List, [], ◌∷◌, ◌++◌, length, map, take, Result, Ok, Err, IfErr}
 use Rattle.ng_num.specs.declared.fault.Fault.{Fault}
 use Rattle.ng_num.specs.declared.fault.Fault.TheVariants.{DeviceFailed}
 use Rattle.ng_canon.specs.declared.item.Item.{Item}
-use Rattle.ng_rig.specs.Life.{Image, Life, StopSince, items, moment}
-use Rattle.ng_rig.specs.Onward.{Onward}
+use Rattle.ng_rig.specs.Life.{Image, Life, items, moment}
 use Rattle.ng_journal.specs.Journal.{StandsFor, IsBrokenBy}
 use Rattle.ng_session.specs.Entries.{Equipment}
 use Rattle.ng_session.specs.Session.{Outcome}
@@ -14,6 +13,7 @@ use Rattle.ng_session.specs.declared.reply.Reply.{Reply}
 use Rattle.ng_core.specs.Station.{Station, Rests}
 use Rattle.ng_core.specs.Causes.{Hinders, outcome_of}
 use Rattle.ng_core.specs.Acts.{Acts, reply_to, broken_answer, scene_of}
+use Rattle.ng_core.specs.Moments.{AtEachStop, IsRising, answered_by}
 
 -- the program that the device has behind an event: that of its outcome, where it was answered
 abbrev pub program_behind : Result Reply Fault → Outcome → List ℕ → List ℕ
@@ -80,26 +80,25 @@ abbrev pub told : List (Result Reply Fault) → List Reply
 told [] = []
 told (answer ∷ answers) = told_by answer (told answers)
 
--- A stop leaves what stands behind the first n of these events, and what they handed out, for some n.
-pub record IsLeftBehind {A : Type 0} (equipment : Equipment) (scene : Scene) (before : List Item) (events : List (Event A)) (image : Image) (handed : List Item) : Type 0 where
+-- A stop leaves what stands behind the first n of these events, and what they handed out; n is no less than this.
+pub record IsLeftBehind {A : Type 0} (least : ℕ) (equipment : Equipment) (scene : Scene) (before : List Item) (events : List (Event A)) (image : Image) (handed : List Item) : Type 0 where
   pub count : ℕ
+  pub all : least ≤ count
   pub within : count ≤ length events
   pub stands_for : let left = left_behind equipment scene before (take count events) in StandsFor left.standing left.items image handed
 
--- The same, and n is no less than this.
-pub record IsLeftFrom {A : Type 0} (least : ℕ) (equipment : Equipment) (scene : Scene) (before : List Item) (events : List (Event A)) (image : Image) (handed : List Item) : Type 0 where
-  pub behind : IsLeftBehind equipment scene before events image handed
-  pub all : least ≤ behind.count
-
--- The replies are the session's to the events that came, and each stop since leaves what stands behind some of those tried; from now on,
--- also where the device failed, behind no fewer than came.
+-- The replies are the session's to the events that came. Each event was answered at a moment of the device's life, and a stop leaves what
+-- stands behind those that came of the events answered by then, or behind the one under way too. While the device didn't fail, what stands
+-- and was handed out now is the session's.
 pub record Passes {A R : Type 0} (life : R → Life) (events : List (Event A)) (replies : List Reply) (equipment : Equipment) (scene : Scene) (lived : Life) (new : Station R) : Type 0 where
   pub answers : List (Result Reply Fault)
   pub replies_are : replies ≡ map reply_to answers
   pub told_is : told answers ≡ replies_of equipment scene (came events answers)
-  pub stops : Onward lived (life new.journal.rig) (IsLeftBehind equipment scene (items lived) (tried events answers))
-  pub lasts : (image : Image) (handed : List Item) → StopSince (life new.journal.rig) (moment (life new.journal.rig)) image handed
-      → IsLeftFrom (length (came events answers)) equipment scene (items lived) (tried events answers) image handed
+  pub moments : List ℕ
+  pub each : length moments ≡ length events
+  pub rising : IsRising (moment lived) (moment (life new.journal.rig)) moments
+  pub stops : AtEachStop lived (life new.journal.rig) (λ t. let n = answered_by t moments in
+      IsLeftBehind (length (came (take n events) answers)) equipment scene (items lived) (tried (take (suc n) events) answers))
   pub session_is : new.journal.broken ≡ false → new.session ≡ (scene_behind equipment scene (came events answers)).session
   pub rests : new.journal.broken ≡ false → Rests (life new.journal.rig) new (scene_behind equipment scene (came events answers)).program
   pub items_are : new.journal.broken ≡ false → items (life new.journal.rig) ≡ items lived ++ items_of equipment scene (came events answers)

@@ -1,7 +1,8 @@
 //! A controller, and how it answers events.
-ghost use Rattle.std.specs.Prelude.{◌≡◌, ℕ, true, false, None, IfErr};
+ghost use Rattle.std.specs.Prelude.{◌≡◌, ℕ, true, false, None, IfErr, [], ◌∷◌};
 ghost use Rattle.ng_num.specs.declared.fault.Fault.{Fault};
 ghost use Rattle.ng_num.specs.declared.fault.Fault.TheVariants.{OutOfMemory};
+ghost use Rattle.ng_rig.specs.Calls.{Promises};
 ghost use Rattle.ng_journal.specs.Journal.{Tells, IsBrokenBy};
 ghost use Rattle.ng_journal.specs.Storing.{ledger_of};
 
@@ -38,9 +39,10 @@ impl<R: Rig, A: Allocator + Copy + Drop> Model for Controller<R, A> {
 }
 
 impl<R: Rig, A: Allocator + Copy + Drop> Controller<R, A> {
-    ghost use Rattle.ng_session.specs.Session.{step, load, load_refusal, IsQuiet, TakesMemory};
-    ghost use Rattle.ng_core.specs.Acts.{ComesAnyway, Does, ReadsLine, Serves, reply_to, broken_answer};
+    ghost use Rattle.ng_session.specs.Session.{step, load, load_refusal, ReadsLine, IsQuiet, TakesMemory};
+    ghost use Rattle.ng_core.specs.Acts.{ComesAnyway, Does, Serves, reply_to, broken_answer};
     ghost use Rattle.ng_core.specs.Causes.{Hinders, IsHinderedBy};
+    ghost use Rattle.ng_core.specs.Headline.{AddsToPast};
 
     /// The device as it is, with no call to it.
     pub fn into_rig(self) -> R
@@ -66,17 +68,20 @@ impl<R: Rig, A: Allocator + Copy + Drop> Controller<R, A> {
 
     /// Answers an event (own).
     ///
-    /// Refused by the session, which stays as it is: K1, K2, K3, J5, an operator's line by its own faults. A line of the program that
-    /// is refused, and a text that ends before its program does (X3, X4), leave the program stopped there. M1 where memory is wanting,
-    /// which only a Load, a line of the operator and a Tick between two lines take; J4 where the journal has used up a counter that a
-    /// Load, an opened segment or an entry needs. Nothing is changed then, though the Tick has read its line. J1 where the device failed:
-    /// the controller is broken then, and the device stands for what stood before the event or for what stands behind it. K5 to all but
-    /// Status where it is broken already. The device keeps its size.
+    /// Refused by the session, which stays as it is: K1, K2, K3, K4, J5, a point outside the travel by X2, a line of the operator or of a
+    /// half-done block by its own faults. A line of the program that is refused, and a text that ends before its program does (X3, X4),
+    /// leave the program stopped there. M1 where memory is wanting, which only a Load, a line of the operator, a Resume and a Tick between
+    /// two lines take; J4 where the journal has used up a counter that a Load, an opened segment or approach, or an entry needs. Nothing
+    /// is changed then, though a Tick or a Resume has read its line. J1 where the device failed: the controller is broken then, and the
+    /// device stands for what stood before the event or for what stands behind it. K5 to all but Status where it is broken already. The
+    /// device keeps its size. Over an honest device all that came since power on, with this event, is accounted for by the plain
+    /// interpreter, whenever power is cut.
     pub fn on(&mut self, event: Event<A>) -> Reply
         ensures serves { self.old.journal.broken ≡ false → Serves R.honest R.life R.failed event result self.old self.new }
         ensures broken { self.old.journal.broken ≡ true → (self.new ≡ self.old) × (result ≡ reply_to (broken_answer self.old.session event)) }
         ensures equipment { self.new.equipment ≡ self.old.equipment }
         ensures size { R.sectors self.new.journal.rig ≡ R.sectors self.old.journal.rig }
+        ensures past { Promises (R.honest self.old.journal.rig) (R.honest self.new.journal.rig) (AddsToPast R.life (event ∷ []) (result ∷ []) self.old self.new) }
     {
         self.reply(&event)
     }
@@ -97,7 +102,7 @@ impl<R: Rig, A: Allocator + Copy + Drop> Controller<R, A> {
     /// What the session answers, or why it doesn't answer: M1, J4, J1 or K5.
     fn handle(&mut self, event: &Event<A>) -> Result<Reply, Fault>
         ensures does { self.old.journal.broken ≡ false → Does R.honest R.life result (λ program. step self.old.equipment program self.old.session event.now) self.old self.new }
-        ensures comes { self.old.journal.broken ≡ false → ComesAnyway (ReadsLine self.old.session event.now) result (λ program. step self.old.equipment program self.old.session event.now) self.old self.new }
+        ensures comes { self.old.journal.broken ≡ false → ComesAnyway (ReadsLine self.old.equipment self.old.session event.now) result (λ program. step self.old.equipment program self.old.session event.now) self.old self.new }
         ensures hindered { self.old.journal.broken ≡ false → IfErr result (Hinders self.old event.now) }
         ensures fails { self.old.journal.broken ≡ false → IsBrokenBy result self.new.journal.broken }
         ensures broken { self.old.journal.broken ≡ true → (self.new ≡ self.old) × (result ≡ broken_answer self.old.session event.now) }
@@ -110,6 +115,9 @@ impl<R: Rig, A: Allocator + Copy + Drop> Controller<R, A> {
         }
         match event {
             Event::Load(text) => self.load(text.bytes()),
+            Event::Reference(point) => self.reference(point),
+            Event::Resume => self.resume(),
+            Event::Abandon => self.abandon(),
             Event::Tick => self.tick(),
             Event::Start
             | Event::Hold
@@ -135,6 +143,9 @@ impl<R: Rig, A: Allocator + Copy + Drop> Controller<R, A> {
             | Event::Hold
             | Event::Continue
             | Event::Mdi(_)
+            | Event::Reference(_)
+            | Event::Resume
+            | Event::Abandon
             | Event::OptionalStop(_)
             | Event::BlockDelete(_)
             | Event::Tick => Err(Fault::Broken),
@@ -166,10 +177,10 @@ impl<R: Rig, A: Allocator + Copy + Drop> Controller<R, A> {
         requires whole { self.old.journal.broken ≡ false }
         requires quiet { IsQuiet event.now }
         ensures does { Does R.honest R.life result (λ program. step self.old.equipment program self.old.session event.now) self.old self.new }
-        ensures comes { ComesAnyway (ReadsLine self.old.session event.now) result (λ program. step self.old.equipment program self.old.session event.now) self.old self.new }
+        ensures comes { ComesAnyway (ReadsLine self.old.equipment self.old.session event.now) result (λ program. step self.old.equipment program self.old.session event.now) self.old self.new }
         ensures equipment { self.new.equipment ≡ self.old.equipment }
         ensures broken { IsBrokenBy result self.new.journal.broken }
-        ensures hindered { IfErr result (λ fault. (fault ≡ OutOfMemory) × TakesMemory self.old.session event.now) }
+        ensures hindered { IfErr result (λ fault. (fault ≡ OutOfMemory) × TakesMemory self.old.equipment self.old.session event.now) }
         ensures size { R.sectors self.new.journal.rig ≡ R.sectors self.old.journal.rig }
         ensures failures { Tells result (R.failed self.old.journal.rig) (R.failed self.new.journal.rig) }
     {

@@ -5,14 +5,23 @@ ghost use Rattle.ng_session.specs.declared.reply.Reply.{Reply};
 ghost use Rattle.ng_core.specs.Station.{Station, Rests};
 ghost use Rattle.ng_core.specs.Acts.{scene_of};
 ghost use Rattle.ng_core.specs.Runs.{History, Passes};
+ghost use Rattle.ng_layout.specs.Stored.{Standing};
+ghost use Rattle.ng_core.specs.Headline.{IsPast, Accounts};
 
 use ng_rig::Rig;
 use std::alloc::Allocator;
 
 /// What a history leaves: one event after the other, each with its reply, is what the session makes of those events that came, and
-/// each stop since its beginning leaves what stands behind some of them.
+/// each stop since its beginning leaves what stands behind those that came until then, or behind the one under way too.
 pub fn histories<R: Rig, A: Allocator>()
     ensures { (events : List (Event A)) (replies : List Reply) (program : List ℕ) (old new : Station R)
         → History R.life events replies program old new → old.journal.broken ≡ false → Rests (R.life old.journal.rig) old program
         → Passes R.life events replies old.equipment (scene_of program old) (R.life old.journal.rig) new }
+{}
+
+/// Whenever power is cut since power on, the plain interpreter accounts for what is left: by as many entries as were acknowledged until
+/// then, or one more.
+pub fn accounts<R: Rig, A: Allocator>()
+    ensures { (x : Standing) (events : List (Event A)) (replies : List Reply) (first now : Station R)
+        → IsPast R.life x events replies first now → Accounts R.life x events replies first now }
 {}

@@ -5,6 +5,7 @@ ghost use Rattle.ng_rig.specs.Calls.{Promises};
 ghost use Rattle.ng_layout.specs.Storable.{IsStorable};
 ghost use Rattle.ng_session.specs.Session.{resting};
 ghost use Rattle.ng_journal.specs.Journal.{Tells};
+ghost use Rattle.ng_core.specs.Headline.{BeginsPast};
 ghost use Rattle.ng_core.specs.Powers.{Powers, rig_of, fault_of};
 
 use crate::controller::Controller;
@@ -28,6 +29,7 @@ pub fn power_on<R: Rig, A: Allocator + Copy + Drop>(
 ) -> Result<Controller<R, A>, (Fault, R)>
     ensures powers { let after = rig_of result in 1710 ≤ R.sectors rig → Promises (R.honest rig) (R.honest after) (Powers result (R.life rig) (R.life after)) }
     ensures rests { IfOk result (λ c. (c.journal.broken ≡ false) × (c.session ≡ resting c.journal.saved) × IsStorable c.session.stored) }
+    ensures past { let after = rig_of result in 1710 ≤ R.sectors rig → Promises (R.honest rig) (R.honest after) (BeginsPast A R.life result (R.life rig)) }
     ensures equipment { IfOk result (λ c. c.equipment ≡ record { tools = settings.tools; geometry = settings.geometry }) }
     ensures small { R.sectors rig < 1710 → IsErrAnd result (λ e. (e.0 ≡ NotFormatted) × (e.1 ≡ rig)) }
     ensures memory { IfErr result (λ e. e.0 ≡ OutOfMemory → e.1 ≡ rig) }

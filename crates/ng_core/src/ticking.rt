@@ -1,4 +1,5 @@
-//! A Tick: held, or the first of these that applies. An item is handed out, a segment is opened, an entry is committed, a line is begun.
+//! A Tick: held, or the first of these that applies. An item is handed out, an approach or a segment is opened, an entry is committed, a
+//! line is begun.
 ghost use Rattle.std.specs.Prelude.{◌≡◌, ◌≤◌, ◌⊎◌, [], ◌∷◌, ℕ, List, true, false, Ok, IfErr, IsSome};
 ghost use Rattle.ng_num.specs.declared.fault.Fault.TheVariants.{DeviceFailed, OutOfMemory};
 ghost use Rattle.ng_rig.specs.Calls.{Promises};
@@ -53,7 +54,7 @@ fn lines_behind(known: &LinesBefore, place: u64, first: Kind, text: &[u8], next:
 }
 
 impl<R: Rig, A: Allocator + Copy + Drop> Controller<R, A> {
-    ghost use Rattle.ng_session.specs.Session.{answers, opened, tick, open_next, end, begin, opening_of, is_busy, IsBetweenLines};
+    ghost use Rattle.ng_session.specs.Session.{open_part_of, tick, open_next, end, begin, opening_of, is_busy, IsBetweenLines};
     ghost use Rattle.ng_layout.specs.Programs.{line_at};
     ghost use Rattle.ng_core.specs.Acts.{ComesAnyway, Does, Stays};
     ghost use Rattle.ng_core.specs.Causes.{IsHinderedBy};
@@ -78,7 +79,7 @@ impl<R: Rig, A: Allocator + Copy + Drop> Controller<R, A> {
         }
     }
 
-    /// With no item left: opens the next segment of the current block, or else ends it.
+    /// With no item left: opens the approach or the next segment of the current block, or else ends what is open of it.
     fn go_further(&mut self) -> Result<Reply, Fault>
         requires { self.old.journal.broken ≡ false }
         ensures does { Does R.honest R.life result (λ program. open_next self.old.equipment program self.old.session (opening_of self.old.session.current)) self.old self.new }
@@ -95,7 +96,7 @@ impl<R: Rig, A: Allocator + Copy + Drop> Controller<R, A> {
         }
     }
 
-    /// With no segment left: commits the current block; with none, begins the program's next line, if it runs.
+    /// With nothing left to open: commits the approach or the current block; with none, begins the program's next line, if it runs.
     fn end(&mut self) -> Result<Reply, Fault>
         requires { self.old.journal.broken ≡ false }
         ensures does { Does R.honest R.life result (λ program. end self.old.equipment program self.old.session self.old.session.current) self.old self.new }
@@ -130,16 +131,16 @@ impl<R: Rig, A: Allocator + Copy + Drop> Controller<R, A> {
         Ok(Reply::Moved)
     }
 
-    /// Opens the next segment, once its half-done block is stored.
+    /// Opens the approach or the next segment, once its half-done block is stored.
     fn open(&mut self, half: Half) -> Result<Reply, Fault>
         requires whole { self.old.journal.broken ≡ false }
         requires half { CanWait half }
         requires is_open { IsSome half.opened }
-        ensures does { Does R.honest R.life result (λ program. answers program (Reply.Opened half.index) (opened self.old.equipment.geometry self.old.session half)) self.old self.new }
-        ensures comes { ComesAnyway ⊥ result (λ program. answers program (Reply.Opened half.index) (opened self.old.equipment.geometry self.old.session half)) self.old self.new }
+        ensures does { Does R.honest R.life result (λ program. open_part_of self.old.equipment program self.old.session half) self.old self.new }
+        ensures comes { ComesAnyway ⊥ result (λ program. open_part_of self.old.equipment program self.old.session half) self.old self.new }
         ensures equipment { self.new.equipment ≡ self.old.equipment }
         ensures broken { IsBrokenBy result self.new.journal.broken }
-        ensures hindered { IfErr result (IsHinderedBy ⊥ (Unit {0}) (ledger_of self.old.journal) (λ program. answers program (Reply.Opened half.index) (opened self.old.equipment.geometry self.old.session half))) }
+        ensures hindered { IfErr result (IsHinderedBy ⊥ (Unit {0}) (ledger_of self.old.journal) (λ program. open_part_of self.old.equipment program self.old.session half)) }
         ensures size { R.sectors self.new.journal.rig ≡ R.sectors self.old.journal.rig }
         ensures failures { Tells result (R.failed self.old.journal.rig) (R.failed self.new.journal.rig) }
     {
@@ -147,7 +148,7 @@ impl<R: Rig, A: Allocator + Copy + Drop> Controller<R, A> {
         Ok(self.session.open(half, &self.geometry))
     }
 
-    /// Commits the current block, once what stands behind it is stored.
+    /// Commits the current block or its approach, once what stands behind it is stored.
     fn commit(&mut self) -> Result<Reply, Fault>
         requires whole { self.old.journal.broken ≡ false }
         requires block { IsSome self.old.session.current }

@@ -79,3 +79,15 @@ returns-clause-comes g c =
     let old : Station g.row.R.Denot = record { journal = c.self.inside.journal; session = c.self.inside.session; lines = c.self.inside.lines; equipment = equipment } in
     let new : Station g.row.R.Denot = record { journal = c.load_program.new.self; session = c.load.new.self; lines = c.none-self-inside.result; equipment = equipment } in
     rw (← c.self.view_is) (comes_load ⊥ c.load.result c.in_ok-stored.stored c.args.text.now old new (sym c.in_default.ensures.value) c.in_ok-stored.ensures.value c.load.ensures.reply c.load.ensures.next)
+
+pub returns-in_err-stored-clause-broken : goal.returns-in_err-stored-clause-broken
+returns-in_err-stored-clause-broken g c =
+    let p = err_from_is_err_and c.from_residual.result c.from_residual.ensures.1 in
+    rw (p.1, p.2) c.requires
+
+pub returns-in_err-stored-clause-hindered : goal.returns-in_err-stored-clause-hindered
+returns-in_err-stored-clause-hindered g c =
+    let p = err_from_is_err_and c.from_residual.result c.from_residual.ensures.1 in
+    let free : load_refusal c.args.self.now.session c.args.text.now ≡ None =
+    subst (λ (x : Station g.row.R.Denot). load_refusal x.session c.args.text.now ≡ None) c.self.view_is (sym c.in_default.ensures.value) in
+    rw (p.1) (inl (p.2, free))

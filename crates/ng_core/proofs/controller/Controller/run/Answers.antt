@@ -1,5 +1,6 @@
 use Rattle.std.proofs.Common.{refl, ◌∙◌, arith}
 use Rattle.ng_core.proofs.InTurn.{turns_more, turns_all, turns_ran, turns_fail, turns_equipment}
+use Rattle.ng_core.proofs.Pasts.{adds_to_past}
 use Rattle.ng_core.proofs.controller.Controller.run.Goals as goal
 
 pub loop-event-init : goal.loop-event-init
@@ -25,6 +26,9 @@ returns-clause-turns g c = turns_all g.R.Rig.honest g.R.Rig.life g.R.Rig.failed 
 
 pub returns-clause-ran : goal.returns-clause-ran
 returns-clause-ran g c = turns_ran g.R.Rig.honest g.R.Rig.life g.R.Rig.failed c.args.events.now c.loop-event.replies.items c.args.self.now c.loop-event.self (returns-clause-turns g c)
+
+pub returns-clause-past : goal.returns-clause-past
+returns-clause-past g c = adds_to_past g.R.Rig.honest g.R.Rig.life c.args.events.now c.loop-event.replies.items c.args.self.now c.loop-event.self (returns-clause-ran g c)
 
 pub returns-clause-failures : goal.returns-clause-failures
 returns-clause-failures g c = turns_fail g.R.Rig.honest g.R.Rig.life g.R.Rig.failed c.args.events.now c.loop-event.replies.items c.args.self.now c.loop-event.self (returns-clause-turns g c)

@@ -1,0 +1,162 @@
+-- What a history leaves at a stop, by the plain interpreter.
+use Rattle.std.proofs.Common.{◌≡◌, ⊎_elim, ℕ, zero, suc, Bool, Option, Some, None, List, [], ◌∷◌, ◌++◌, length, take, drop, Result, Ok, Err, refl, sym, ◌∙◌, ap, subst, append_assoc, length-append, arith}
+use Rattle.std.proofs.lemmas.List.{take-append-drop}
+use Rattle.std.specs.List.{Contains}
+use Rattle.std.proofs.lemmas.List.Elements.{Contains-append_left, Contains-append_right, Contains-append_cases}
+use Rattle.ng_num.specs.declared.fault.Fault.{Fault}
+use Rattle.ng_num.specs.declared.fault.Fault.TheVariants.{DeviceFailed}
+use Rattle.ng_canon.specs.declared.item.Item.{Item}
+use Rattle.ng_rig.specs.Life.{Image, Life, items}
+use Rattle.ng_block.specs.Effects.{Done}
+use Rattle.ng_layout.specs.Stored.{HalfDone, Saved, Standing}
+use Rattle.ng_layout.specs.declared.half.Source.{Source}
+use Rattle.ng_layout.specs.declared.half.Source.TheVariants as source
+use Rattle.ng_session.specs.Entries.{Equipment, Entry, Block, Loaded, Referenced, Approached, Abandoned}
+use Rattle.ng_session.specs.Fold.{after, IsTextOf, IsBlock, AreLawful}
+use Rattle.ng_session.specs.Session.{Sitting}
+use Rattle.ng_session.specs.Runs.{Scene, Left, resting_scene, leads_to, scene_after, scene_behind, entries_of, left_behind, dones, given_by, lines_given}
+use Rattle.ng_session.specs.Cuts.{Follows, Nothing_open, Approach_open, Segment_open, IsCut}
+use Rattle.ng_session.specs.declared.event.Event.{Event}
+use Rattle.ng_session.specs.declared.reply.Reply.{Reply}
+use Rattle.ng_session.proofs.Cutting.{cuts_behind_events}
+use Rattle.ng_core.specs.Station.{Station}
+use Rattle.ng_core.specs.Moments.{answered_by}
+use Rattle.ng_core.specs.Runs.{tried}
+use Rattle.ng_core.specs.Headline.{IsAccounted, IsPast, Accounts}
+use Rattle.ng_core.proofs.Histories.{Leads, IsLeftBy, leads, passed}
+use Rattle.ng_core.proofs.Timing.{weaker_said}
+
+-- ---- of an operator who gave more lines
+
+abbrev AreAmong : List (List ℕ) → List (List ℕ) → Type 0
+AreAmong lines more = (text : List ℕ) → Contains lines text → Contains more text
+
+module _ (equipment : Equipment) (lines more : List (List ℕ)) (among : AreAmong lines more) where
+  more_text : (x : Standing) (half : Option HalfDone) (from : Source) (text : List ℕ) (block_delete : Bool) (done : Done) → IsTextOf lines x half from text block_delete done → IsTextOf more x half from text block_delete done
+  more_text x None source.Program text block_delete done is = is
+  more_text x None source.Mdi text block_delete done is = among text is
+  more_text x (Some half) from text block_delete done is = is
+
+  more_block : (x : Standing) (from : Source) (text : List ℕ) (block_delete : Bool) (done : Done) → IsBlock equipment lines x from text block_delete done → IsBlock equipment more x from text block_delete done
+  more_block x from text block_delete done is = record { does = is.does; text_is = more_text x x.saved.half from text block_delete done is.text_is }
+
+  more_lawful : (x : Standing) (entries : List Entry) → AreLawful equipment lines x entries → AreLawful equipment more x entries
+  more_lawful x [] are = tt
+  more_lawful x (Block from text block_delete ∷ entries) are = ((are.0.0, more_block x from text block_delete are.0.0 are.0.1), more_lawful (after equipment x (Block from text block_delete)) entries are.1)
+  more_lawful x (Loaded text ∷ entries) are = (are.0, more_lawful (after equipment x (Loaded text)) entries are.1)
+  more_lawful x (Referenced point ∷ entries) are = (are.0, more_lawful (after equipment x (Referenced point)) entries are.1)
+  more_lawful x (Approached ∷ entries) are = (are.0, more_lawful (after equipment x Approached) entries are.1)
+  more_lawful x (Abandoned ∷ entries) are = (are.0, more_lawful (after equipment x Abandoned) entries are.1)
+
+  more_follows : (x : Standing) (saved : Saved) (given : List Item) → Follows equipment lines x saved given → Follows equipment more x saved given
+  more_follows x _ _ Nothing_open = Nothing_open
+  more_follows x _ _ (Approach_open half approach begun left held way whole) = Approach_open half approach begun left held way whole
+  more_follows x _ _ (Segment_open from text block_delete done before segment rest begun left is split whole) =
+      Segment_open from text block_delete done before segment rest begun left (more_block x from text block_delete done is) split whole
+
+  more_cut : (x : Standing) (before : List Item) (entries : List Entry) (left : Left) → IsCut equipment lines x before entries left → IsCut equipment more x before entries left
+  more_cut x before entries left cut = record {
+    lawful = more_lawful x entries cut.lawful;
+    program = cut.program;
+    more = cut.more;
+    items = cut.items;
+    follows = more_follows _ left.standing.saved cut.more cut.follows;
+  }
+
+either_line : (front old new : List (List ℕ)) → AreAmong old new → AreAmong (front ++ old) (front ++ new)
+either_line front old new among text there =
+    ⊎_elim (λ c. Contains-append_left front new text c) (λ c. Contains-append_right front new text (among text c)) (Contains-append_cases front old text there)
+
+-- the first of some events
+taken_lines : {A : Type 0} (n : ℕ) (events : List (Event A)) → AreAmong (lines_given (take n events)) (lines_given events)
+taken_lines zero events text there = absurd (let few = there.1 in omega (arith, few))
+taken_lines (suc n) [] text there = there
+taken_lines (suc n) (event ∷ events) text there = either_line (given_by event) (lines_given (take n events)) (lines_given events) (taken_lines n events) text there
+
+-- those that were tried
+tried_lines : {A : Type 0} (events : List (Event A)) (answers : List (Result Reply Fault)) → AreAmong (lines_given (tried events answers)) (lines_given events)
+tried_lines [] answers text there = there
+tried_lines (event ∷ events) [] text there = absurd (let few = there.1 in omega (arith, few))
+tried_lines (event ∷ events) (Ok r ∷ answers) text there = either_line (given_by event) (lines_given (tried events answers)) (lines_given events) (tried_lines events answers) text there
+tried_lines (event ∷ events) (Err DeviceFailed ∷ answers) text there =
+    either_line (given_by event) [] (lines_given events) (λ t c. absurd (let few = c.1 in omega (arith, few))) text there
+tried_lines (event ∷ events) (Err fault ∷ answers) text there = Contains-append_right (given_by event) (lines_given events) text (tried_lines events answers text there)
+
+-- ---- beginnings
+
+-- the one list begins with the other
+abbrev Begins : {X : Type 0} → List X → List X → Type 0
+Begins {X} all some = (rest : List X) × (all ≡ some ++ rest)
+
+begins_on : {X : Type 0} (all some few : List X) → Begins all some → Begins some few → Begins all few
+begins_on {X} all some few p q = (q.0 ++ p.0, p.1 ∙ ap (λ (l : List X). l ++ p.0) q.1 ∙ append_assoc few q.0 p.0)
+
+begins_taken : {X : Type 0} (n : ℕ) (all : List X) → Begins all (take n all)
+begins_taken n all = (drop n all, sym (take-append-drop n all))
+
+take_begun : {X : Type 0} (some rest : List X) → take (length some) (some ++ rest) ≡ some
+take_begun [] rest = refl
+take_begun {X} (x ∷ some) rest = ap (λ (l : List X). x ∷ l) (take_begun some rest)
+
+begins_tried : {A : Type 0} (n : ℕ) (events : List (Event A)) (answers : List (Result Reply Fault)) → Begins (tried events answers) (tried (take n events) answers)
+begins_tried zero events answers = (tried events answers, refl)
+begins_tried (suc n) [] answers = ([], refl)
+begins_tried (suc n) (event ∷ events) [] = ([], refl)
+begins_tried {A} (suc n) (event ∷ events) (Ok r ∷ answers) =
+    let rest = begins_tried n events answers in
+    (rest.0, ap (λ (l : List (Event A)). event ∷ l) rest.1)
+begins_tried (suc n) (event ∷ events) (Err DeviceFailed ∷ answers) = ([], refl)
+begins_tried (suc n) (event ∷ events) (Err fault ∷ answers) = begins_tried n events answers
+
+entries_more : {A : Type 0} (equipment : Equipment) (scene : Scene) (some rest : List (Event A)) → entries_of equipment scene (some ++ rest) ≡ entries_of equipment scene some ++ entries_of equipment (scene_behind equipment scene some) rest
+entries_more equipment scene [] rest = refl
+entries_more equipment scene (event ∷ some) rest =
+    let out = leads_to equipment scene event in
+    ap (λ (l : List Entry). out.entries ++ l) (entries_more equipment (scene_after out) some rest)
+    ∙ sym (append_assoc out.entries (entries_of equipment (scene_after out) some) (entries_of equipment (scene_behind equipment (scene_after out) some) rest))
+
+begins_executed : {A : Type 0} (equipment : Equipment) (scene : Scene) (all some : List (Event A)) → Begins all some → Begins (entries_of equipment scene all) (entries_of equipment scene some)
+begins_executed {A} equipment scene all some p =
+    (entries_of equipment (scene_behind equipment scene some) p.0, ap (λ (l : List (Event A)). entries_of equipment scene l) p.1 ∙ entries_more equipment scene some p.0)
+
+-- ---- a stop
+
+accounted : {A : Type 0} (equipment : Equipment) (x : Standing) (given : List Item) (events : List (Event A)) (answers : List (Result Reply Fault)) (replies : List Reply) (n : ℕ) (image : Image) (handed : List Item)
+    → IsLeftBy equipment (resting_scene x) given events answers replies n image handed
+    → IsAccounted equipment (lines_given (take (suc n) events)) x given (entries_of equipment (resting_scene x) (tried events answers)) (dones (take n replies)) image handed
+accounted {A} equipment x given events answers replies n image handed p =
+    let scene = resting_scene x in
+    let begun = tried (take (suc n) events) answers in
+    let some = take p.behind.count begun in
+    let entries = entries_of equipment scene some in
+    let executed = entries_of equipment scene (tried events answers) in
+    let cut = cuts_behind_events A equipment x given some in
+    let left = left_behind equipment scene given some in
+    let first = begins_executed equipment scene (tried events answers) some (begins_on (tried events answers) begun some (begins_tried (suc n) events answers) (begins_taken p.behind.count begun)) in
+    let same : take (length entries) executed ≡ entries = ap (λ (l : List Entry). take (length entries) l) first.1 ∙ take_begun entries first.0 in
+    let long : length executed ≡ length (entries ++ first.0) = ap (λ (l : List Entry). length l) first.1 in
+    record {
+      count = length entries;
+      all = omega (arith, p.all, cut.1);
+      few = omega (arith, p.few, cut.1);
+      within = omega (arith, long, length-append entries first.0);
+      left = left;
+      cut = subst (λ (l : List Entry). IsCut equipment (lines_given (take (suc n) events)) x given l left) (sym same)
+          (more_cut equipment (lines_given some) (lines_given (take (suc n) events))
+          (λ text there. tried_lines (take (suc n) events) answers text (taken_lines p.behind.count begun text there)) x given entries left cut.0);
+      stands_for = p.behind.stands_for;
+    }
+
+from_rest : {A R : Type 0} (life : R → Life) (x : Standing) (events : List (Event A)) (replies : List Reply) (first now : Station R)
+    → Leads life events replies first.equipment (resting_scene x) (life first.journal.rig) now → Accounts life x events replies first now
+from_rest life x events replies first now p = record {
+  passes = passed life events replies first.equipment (resting_scene x) (life first.journal.rig) now p;
+  stops = weaker_said (life first.journal.rig) (life now.journal.rig) _ _ p.stops
+      (λ t image handed from l. accounted first.equipment x (items (life first.journal.rig)) events p.answers replies (answered_by t p.moments) image handed l);
+}
+
+pub accounts : {A R : Type 0} (life : R → Life) (x : Standing) (events : List (Event A)) (replies : List Reply) (first now : Station R) → IsPast life x events replies first now → Accounts life x events replies first now
+accounts life x events replies first now p =
+    from_rest life x events replies first now
+    (subst (λ (s : Sitting). Leads life events replies first.equipment (record { program = x.program; session = s }) (life first.journal.rig) now) p.began.session
+    (leads life events replies x.program first now p.history p.began.whole p.began.rests))

@@ -1,0 +1,5 @@
+use Rattle.ng_core.proofs.Accounting.{accounts}
+use Rattle.ng_core.proofs.laws.accounts.Goals as goal
+
+pub returns : goal.returns
+returns g c = accounts g.R.Rig.life

@@ -1,0 +1,62 @@
+-- Wherever power is cut since power on, by the plain interpreter alone (own).
+use Rattle.std.specs.Prelude.{◌≡◌, ◌≤◌, ◌+◌, ℕ, suc, false, List, [], ◌++◌, length, take, Ok, IfOk}
+use Rattle.ng_canon.specs.declared.item.Item.{Item}
+use Rattle.ng_rig.specs.Life.{Image, Life, reads, items}
+use Rattle.ng_layout.specs.Stands.{stands, IsWritten}
+use Rattle.ng_layout.specs.Stored.{Standing}
+use Rattle.ng_journal.specs.Journal.{StandsFor}
+use Rattle.ng_journal.specs.Recovery.{recovered_of}
+use Rattle.ng_session.specs.Entries.{Equipment, Entry}
+use Rattle.ng_session.specs.Session.{resting}
+use Rattle.ng_session.specs.Runs.{Left, resting_scene, entries_of, dones, lines_given}
+use Rattle.ng_session.specs.Cuts.{IsCut}
+use Rattle.ng_session.specs.declared.event.Event.{Event}
+use Rattle.ng_session.specs.declared.reply.Reply.{Reply}
+use Rattle.ng_core.specs.Station.{Station, Rests}
+use Rattle.ng_core.specs.Moments.{AtEachStop, answered_by}
+use Rattle.ng_core.specs.Powers.{Answer}
+use Rattle.ng_core.specs.Runs.{History, Passes, tried}
+
+-- ---- what came since power on
+
+-- A controller as power on gave it over what stood: whole, at rest, and its device rests with that.
+pub record IsPoweredOn {R : Type 0} (life : R → Life) (x : Standing) (c : Station R) : Type 0 where
+  pub whole : c.journal.broken ≡ false
+  pub session : c.session ≡ resting x.saved
+  pub rests : Rests (life c.journal.rig) c x.program
+
+-- What came from there until now: these events, each with its reply.
+pub record IsPast {A R : Type 0} (life : R → Life) (x : Standing) (events : List (Event A)) (replies : List Reply) (first now : Station R) : Type 0 where
+  pub began : IsPoweredOn life x first
+  pub history : History life events replies x.program first now
+
+-- ---- what a stop leaves of it
+
+-- A stop leaves a cut of the first of the executed entries, which the plain interpreter carries out from what stood, of an operator who
+-- gave these lines: of as many as were acknowledged, or of one more.
+pub record IsAccounted (equipment : Equipment) (lines : List (List ℕ)) (x : Standing) (before : List Item) (executed : List Entry) (acknowledged : ℕ) (image : Image) (handed : List Item) : Type 0 where
+  pub count : ℕ
+  pub all : acknowledged ≤ count
+  pub few : count ≤ acknowledged + 1
+  pub within : count ≤ length executed
+  pub left : Left
+  pub cut : IsCut equipment lines x before (take count executed) left
+  pub stands_for : StandsFor left.standing left.items image handed
+
+-- What came passes as the session does, and whenever power was cut since power on, the stop is accounted for: by the entries that the
+-- session executed, as many as Done was answered by then or one more, and by the lines given by then and in the event under way.
+pub record Accounts {A R : Type 0} (life : R → Life) (x : Standing) (events : List (Event A)) (replies : List Reply) (first now : Station R) : Type 0 where
+  pub passes : Passes life events replies first.equipment (resting_scene x) (life first.journal.rig) now
+  pub stops : AtEachStop (life first.journal.rig) (life now.journal.rig) (λ t. let n = answered_by t passes.moments in
+      IsAccounted first.equipment (lines_given (take (suc n) events)) x (items (life first.journal.rig)) (entries_of first.equipment (resting_scene x) (tried events passes.answers)) (dones (take n replies)))
+
+-- ---- what the calls promise of it
+
+-- Power on gives the first past, of no event: over the recovered of what stood, where only such a controller wrote it.
+abbrev pub BeginsPast : {R : Type 0} → Type 0 → (R → Life) → Answer R → Life → Type 0
+BeginsPast {R} A life result old = IsWritten (reads old) → IfOk result (λ c. (x : Standing) → recovered_of (stands (reads old)) ≡ Ok x → IsPast {A = A} life x [] [] c c)
+
+-- Each past has these events and replies behind it now, and all of it is accounted for.
+abbrev pub AddsToPast : {A R : Type 0} → (R → Life) → List (Event A) → List Reply → Station R → Station R → Type 0
+AddsToPast {A} {R} life events replies old new = (x : Standing) (past : List (Event A)) (told : List Reply) (first : Station R) → IsPast life x past told first old
+    → IsPast life x (past ++ events) (told ++ replies) first new × Accounts life x (past ++ events) (told ++ replies) first new

@@ -1,0 +1,19 @@
+-- Stops by the moments of a device's life, and what was answered by then (own).
+use Rattle.std.specs.Prelude.{◌≡◌, ◌≤◌, ℕ, suc, List, [], ◌∷◌, if◌then◌else◌, nat_lt}
+use Rattle.ng_canon.specs.declared.item.Item.{Item}
+use Rattle.ng_rig.specs.Life.{Image, Life, moment, life_at, IsStop}
+
+-- The new life is the old one with what came then; and of each stop from the old one's last moment until now this is said, by its moment.
+pub record AtEachStop (old new : Life) (Said : ℕ → Image → List Item → Type 0) : Type 0 where
+  pub was : life_at (moment old) new ≡ old
+  pub each : (t : ℕ) (image : ℕ → List ℕ) (handed : List Item) → moment old ≤ t → t ≤ moment new → IsStop (life_at t new) image handed → Said t image handed
+
+-- moments that rise, from one to another
+abbrev pub IsRising : ℕ → ℕ → List ℕ → Type 0
+IsRising first last [] = first ≤ last
+IsRising first last (t ∷ ts) = (first ≤ t) × IsRising t last ts
+
+-- how many events were answered by the moment t, where each was at one of these
+abbrev pub answered_by : ℕ → List ℕ → ℕ
+answered_by t [] = 0
+answered_by t (answered ∷ more) = if nat_lt t answered then answered_by t more else suc (answered_by t more)

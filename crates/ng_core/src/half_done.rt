@@ -1,0 +1,150 @@
+//! A half-done block: where its machine stands is told, it goes on, or it is given up.
+ghost use Rattle.std.specs.Prelude.{◌≡◌, ◌≤◌, ℕ, List, false, Some, IfOk, IfErr};
+ghost use Rattle.ng_num.specs.declared.fault.Fault.TheVariants.{DeviceFailed};
+ghost use Rattle.ng_rig.specs.Calls.{Promises};
+ghost use Rattle.ng_layout.specs.Storable.{IsStorable};
+ghost use Rattle.ng_layout.specs.Stored.{Standing, with_report};
+ghost use Rattle.ng_journal.specs.Journal.{RestsAt, Tells, IsBrokenBy};
+ghost use Rattle.ng_journal.specs.Storing.{Commit, ledger_of};
+ghost use Rattle.ng_session.specs.Session.{IsProgramsLine};
+ghost use Rattle.ng_core.specs.NextLines.{IsNext, FindsNext};
+
+use crate::controller::Controller;
+use ng_journal::{Journal, laws};
+use ng_layout::Reported;
+use ng_num::{Fault, Point};
+use ng_rig::Rig;
+use ng_session::{Reply, Session};
+use std::alloc::Allocator;
+
+/// The byte of the program at which its next line begins behind the half-done block: behind the line at the place where the block is a
+/// line of the program, for which that is read, and else the place. J1 where the device failed: the journal is broken then.
+fn next_line<R: Rig, A: Allocator + Copy + Drop>(
+    journal: &mut Journal<R, A>,
+    session: &Session<A>,
+) -> Result<u64, Fault>
+    requires whole { journal.old.broken ≡ false }
+    requires stored { session.now.stored ≡ journal.old.saved }
+    ensures next { Promises (R.honest journal.old.rig) (R.honest journal.new.rig) ((standing : Standing) → RestsAt (R.life journal.old.rig) journal.old standing
+        → FindsNext result journal.new standing session.now (R.life journal.old.rig) (R.life journal.new.rig)) }
+    ensures within { IfOk result (λ next. next ≤ session.now.stored.length) }
+    ensures unread { (IsProgramsLine session.now.stored.half → ⊥) → (journal.new ≡ journal.old) × IfOk result (λ next. (program : List ℕ) → IsNext program session.now next) }
+    ensures ledger { ledger_of journal.new ≡ ledger_of journal.old }
+    ensures broken { IsBrokenBy result journal.new.broken }
+    ensures errors { IfErr result (λ e. (e ≡ DeviceFailed) × IsProgramsLine session.now.stored.half) }
+    ensures size { R.sectors journal.new.rig ≡ R.sectors journal.old.rig }
+    ensures failures { Tells result (R.failed journal.old.rig) (R.failed journal.new.rig) }
+{
+    let place = session.place();
+    if !session.is_programs_line() {
+        return Ok(place);
+    }
+    match journal.program_line(place)? {
+        Some(line) => Ok(line.next),
+        None => Ok(place),
+    }
+}
+
+impl<R: Rig, A: Allocator + Copy + Drop> Controller<R, A> {
+    ghost use Rattle.std.specs.Prelude.{None};
+    ghost use Rattle.ng_session.specs.Session.{reference, reference_refusal, abandon, abandon_refusal, resume, resume_refusal, IsProgramsLine, Outcome, commits};
+    ghost use Rattle.ng_session.specs.Entries.{Entry};
+    ghost use Rattle.ng_core.specs.Acts.{ComesAnyway, Does};
+    ghost use Rattle.ng_core.specs.Causes.{IsHinderedBy, stored_for};
+
+    /// Commits a report: it takes the place of what is stored of it. J4 where a counter is used up, J1 where the device failed: the
+    /// session is as it was then.
+    fn keep(&mut self, report: Reported) -> Result<Reply, Fault>
+        requires whole { self.old.journal.broken ≡ false }
+        requires free { self.old.session.current ≡ None }
+        requires count { report.entries ≤ 1_000_000_000_000 }
+        requires storable { IsStorable (with_report self.old.session.stored report self.old.session.stored.length) }
+        ensures does { (entry : Entry) → Does R.honest R.life result (λ program. commits program entry (record self.old.session { stored = with_report self.old.session.stored report self.old.session.stored.length })) self.old self.new }
+        ensures comes { (entry : Entry) → ComesAnyway ⊥ result (λ program. commits program entry (record self.old.session { stored = with_report self.old.session.stored report self.old.session.stored.length })) self.old self.new }
+        ensures hindered { (told : List ℕ → Outcome) → ((program : List ℕ) → stored_for (told program) (told program).reply ≡ Some (Commit (with_report self.old.session.stored report self.old.session.stored.length)))
+            → IfErr result (IsHinderedBy ⊥ (Unit {0}) (ledger_of self.old.journal) told) }
+        ensures equipment { self.new.equipment ≡ self.old.equipment }
+        ensures broken { IsBrokenBy result self.new.journal.broken }
+        ensures size { R.sectors self.new.journal.rig ≡ R.sectors self.old.journal.rig }
+        ensures failures { Tells result (R.failed self.old.journal.rig) (R.failed self.new.journal.rig) }
+    {
+        // called for its contract: what is stored can be stored again
+        let _ = self.session.stored();
+        let before = self.session.exchange(report);
+        match self.journal.commit(self.session.stored()) {
+            Ok(()) => Ok(Reply::Done(self.session.stored().entries)),
+            Err(fault) => {
+                self.session.exchange(before);
+                Err(fault)
+            }
+        }
+    }
+
+    /// The machine stands at a point, in nm of machine coordinates, once that is stored. K1 and X2 by the session's refusal, J4 where a
+    /// counter is used up: nothing is changed then. J1 where the device failed: the journal is broken then, and the session is as it was.
+    pub(crate) fn reference(&mut self, point: &Point) -> Result<Reply, Fault>
+        requires { self.old.journal.broken ≡ false }
+        ensures does { Does R.honest R.life result (λ program. reference self.old.equipment program self.old.session point.now) self.old self.new }
+        ensures comes { ComesAnyway ⊥ result (λ program. reference self.old.equipment program self.old.session point.now) self.old self.new }
+        ensures equipment { self.new.equipment ≡ self.old.equipment }
+        ensures broken { IsBrokenBy result self.new.journal.broken }
+        ensures hindered { IfErr result (IsHinderedBy ⊥ (reference_refusal self.old.equipment.geometry self.old.session point.now ≡ None) (ledger_of self.old.journal) (λ program. reference self.old.equipment program self.old.session point.now)) }
+        ensures size { R.sectors self.new.journal.rig ≡ R.sectors self.old.journal.rig }
+        ensures failures { Tells result (R.failed self.old.journal.rig) (R.failed self.new.journal.rig) }
+    {
+        if let Some(fault) = self.session.reference_refusal(*point, &self.geometry) {
+            return Ok(Reply::Refused(fault));
+        }
+        if self.session.is_count_used_up() {
+            laws::counters();
+            return Err(Fault::CountersUsed);
+        }
+        let report = self.session.referenced(*point);
+        self.keep(report)
+    }
+
+    /// The half-done block is given up, once that is stored. K1 and K4 by the session's refusal, J4 where a counter is used up: nothing is
+    /// changed then. J1 where the device failed: the journal is broken then, and the session is as it was.
+    pub(crate) fn abandon(&mut self) -> Result<Reply, Fault>
+        requires { self.old.journal.broken ≡ false }
+        ensures does { Does R.honest R.life result (λ program. abandon program self.old.session) self.old self.new }
+        ensures comes { ComesAnyway ⊥ result (λ program. abandon program self.old.session) self.old self.new }
+        ensures equipment { self.new.equipment ≡ self.old.equipment }
+        ensures broken { IsBrokenBy result self.new.journal.broken }
+        ensures hindered { IfErr result (IsHinderedBy ⊥ (abandon_refusal self.old.session ≡ None) (ledger_of self.old.journal) (λ program. abandon program self.old.session)) }
+        ensures size { R.sectors self.new.journal.rig ≡ R.sectors self.old.journal.rig }
+        ensures failures { Tells result (R.failed self.old.journal.rig) (R.failed self.new.journal.rig) }
+    {
+        if let Some(fault) = self.session.abandon_refusal() {
+            return Ok(Reply::Refused(fault));
+        }
+        if self.session.is_count_used_up() {
+            laws::counters();
+            return Err(Fault::CountersUsed);
+        }
+        match self.session.abandoned() {
+            Some(report) => self.keep(report),
+            None => Ok(Reply::Refused(Fault::NothingHalfDone)),
+        }
+    }
+
+    /// The half-done block goes on. K1, K4, K3 and its line's own faults by the session's refusal, with no call of the device. Where it is
+    /// a line of the program, it is read at once where the next one begins: J1 where the device failed, and the journal is broken then. M1
+    /// where memory is wanting. The session is as it was then.
+    pub(crate) fn resume(&mut self) -> Result<Reply, Fault>
+        requires { self.old.journal.broken ≡ false }
+        ensures does { Does R.honest R.life result (λ program. resume self.old.equipment program self.old.session) self.old self.new }
+        ensures comes { ComesAnyway ((resume_refusal self.old.equipment self.old.session ≡ None) × IsProgramsLine self.old.session.stored.half) result (λ program. resume self.old.equipment program self.old.session) self.old self.new }
+        ensures equipment { self.new.equipment ≡ self.old.equipment }
+        ensures broken { IsBrokenBy result self.new.journal.broken }
+        ensures hindered { IfErr result (IsHinderedBy (resume_refusal self.old.equipment self.old.session ≡ None) ((resume_refusal self.old.equipment self.old.session ≡ None) × IsProgramsLine self.old.session.stored.half) (ledger_of self.old.journal) (λ program. resume self.old.equipment program self.old.session)) }
+        ensures size { R.sectors self.new.journal.rig ≡ R.sectors self.old.journal.rig }
+        ensures failures { Tells result (R.failed self.old.journal.rig) (R.failed self.new.journal.rig) }
+    {
+        if let Some(fault) = self.session.resume_refusal(&self.tools, &self.geometry) {
+            return Ok(Reply::Refused(fault));
+        }
+        let next = next_line(&mut self.journal, &self.session)?;
+        Ok(self.session.resume(next, &self.tools, &self.geometry)?)
+    }
+}
