@@ -1,12 +1,24 @@
 -- The commands of the console, a line each, and their words parted by one blank (own).
-use Rattle.std.specs.Prelude.{◌≡◌, ◌≢◌, ◌≤◌, ◌<◌, ℕ, Bool, true, false, List, ◌++◌, length, codes}
-use Rattle.ng_words.specs.Grammar.{AreDigits, written_after}
+use Rattle.std.specs.Prelude.{◌≡◌, ◌≢◌, ◌≤◌, ◌<◌, ℕ, ℤ, Bool, true, false, List, [], ◌∷◌, ◌++◌, Some, length, codes}
+use Rattle.ng_num.specs.declared.point.Point.{Point}
+use Rattle.ng_words.specs.Grammar.{AreDigits, IsNumber, Piece, count_of, number, word, written_after}
+use Rattle.ng_words.specs.declared.letter.Letter.{Letter}
 use Rattle.ng_commands.specs.declared.asked.Command.{Command}
-use Rattle.ng_commands.specs.declared.asked.Command.TheVariants.{Load, Start, Hold, Continue, Mdi, OptionalStop, BlockDelete, Tick, Status, Quit}
+use Rattle.ng_commands.specs.declared.asked.Command.TheVariants.{Load, Start, Hold, Continue, Mdi, Reference, Resume, Abandon, OptionalStop, BlockDelete, Tick, Status, Quit}
 
 -- digits, leading zeros and all, that write this number
 abbrev pub Writes : List ℕ → ℕ → Type 0
 Writes digits n = AreDigits digits × (0 < length digits) × (n ≡ written_after 0 digits)
+
+-- A text writes a length in millimetres, this many nanometres: it is a number as it stands behind a letter on a line of a program, and
+-- its rounded value is in range.
+abbrev pub WritesLength : List ℕ → ℤ → Type 0
+WritesLength text nm = (length text ≤ 255) × ((value : ℤ) × IsNumber text value × (count_of value ≡ Some nm))
+
+-- three words, parted by one blank, write the coordinates of a point
+abbrev pub WritesPoint : List ℕ → Point → Type 0
+WritesPoint words p =
+    (x y z : List ℕ) × (words ≡ x ++ (codes " " ++ (y ++ (codes " " ++ z)))) × WritesLength x p.x × WritesLength y p.y × WritesLength z p.z
 
 abbrev pub turned : Bool → List ℕ
 turned true = codes "on"
@@ -19,6 +31,9 @@ Asks words Start = words ≡ codes "start"
 Asks words Hold = words ≡ codes "hold"
 Asks words Continue = words ≡ codes "continue"
 Asks words (Mdi line) = words ≡ codes "mdi " ++ line.now
+Asks words (Reference point) = (coordinates : List ℕ) × (words ≡ codes "reference " ++ coordinates) × WritesPoint coordinates point
+Asks words Resume = words ≡ codes "resume"
+Asks words Abandon = words ≡ codes "abandon"
 Asks words (OptionalStop is_on) = words ≡ codes "optional " ++ turned is_on
 Asks words (BlockDelete is_on) = words ≡ codes "delete " ++ turned is_on
 Asks words (Tick n) = (digits : List ℕ) × (words ≡ codes "tick " ++ digits) × Writes digits n × (1 ≤ n) × (n ≤ 1_000_000)
@@ -40,6 +55,9 @@ IsPlain Start = Unit {0}
 IsPlain Hold = Unit {0}
 IsPlain Continue = Unit {0}
 IsPlain (Mdi line) = ⊥
+IsPlain (Reference point) = ⊥
+IsPlain Resume = Unit {0}
+IsPlain Abandon = Unit {0}
 IsPlain (OptionalStop is_on) = Unit {0}
 IsPlain (BlockDelete is_on) = Unit {0}
 IsPlain (Tick n) = ⊥
@@ -49,3 +67,12 @@ IsPlain Quit = Unit {0}
 -- a line turns no switch
 abbrev pub IsNoSwitch : List ℕ → Type 0
 IsNoSwitch line = (is_on : Bool) → (line ≢ codes "optional " ++ turned is_on) × (line ≢ codes "delete " ++ turned is_on)
+
+-- no byte of a text is this one
+abbrev pub HasNo : ℕ → List ℕ → Type 0
+HasNo b [] = Unit {0}
+HasNo b (c ∷ bytes) = (c ≢ b) × HasNo b bytes
+
+-- the pieces of a line are one word with this number, in range
+abbrev pub AreNumber : List Piece → ℤ → Type 0
+AreNumber pieces n = (letter : Letter) × (pieces ≡ word letter (number (Some n)) ∷ [])

@@ -70,6 +70,7 @@ reply_line reply.Begun = codes "begun\n"
 reply_line reply.Taken = codes "taken\n"
 reply_line reply.Moved = []
 reply_line (reply.Opened index) = []
+reply_line reply.Approaching = []
 reply_line (reply.Status status) = status_line status
 reply_line (reply.Refused fault) = refused_line fault
 

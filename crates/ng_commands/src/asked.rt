@@ -1,4 +1,5 @@
 //! The commands of the console.
+use ng_num::Point;
 
 /// The most bytes of a command's line, without its end.
 pub const LONGEST: usize = 300;
@@ -16,6 +17,12 @@ pub enum Command<'a> {
     Continue,
     /// `mdi LINE`: a line of the language, the bytes behind the blank.
     Mdi(&'a [u8]),
+    /// `reference X Y Z`: where the machine stands, three numbers as on a line of a program, millimetres of machine coordinates.
+    Reference(Point),
+    /// `resume`
+    Resume,
+    /// `abandon`
+    Abandon,
     /// `optional on`, `optional off`
     OptionalStop(bool),
     /// `delete on`, `delete off`

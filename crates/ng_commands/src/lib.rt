@@ -6,6 +6,7 @@
 
 mod asked;
 mod digits;
+mod lengths;
 mod reading;
 mod replies;
 mod words;

@@ -5,6 +5,7 @@ ghost use Rattle.ng_commands.specs.declared.asked.Command.{Command};
 
 use crate::asked::{Command, LONGEST};
 use crate::digits::whole;
+use crate::lengths::point;
 use crate::words::{behind, is};
 
 /// The most digits of a program's length.
@@ -37,6 +38,12 @@ pub fn command_of(line: &[u8]) -> Option<Command<'_>>
     if let Some(digits) = behind(line, b"tick ") {
         return match ticks(digits) {
             Some(ticks) => Some(Command::Tick(ticks)),
+            None => None,
+        };
+    }
+    if let Some(words) = behind(line, b"reference ") {
+        return match point(words) {
+            Some(point) => Some(Command::Reference(point)),
             None => None,
         };
     }
@@ -80,6 +87,12 @@ fn plain(line: &[u8]) -> Option<Command<'static>>
     }
     if is(line, b"continue") {
         return Some(Command::Continue);
+    }
+    if is(line, b"resume") {
+        return Some(Command::Resume);
+    }
+    if is(line, b"abandon") {
+        return Some(Command::Abandon);
     }
     if is(line, b"status") {
         return Some(Command::Status);

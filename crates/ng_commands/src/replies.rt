@@ -164,7 +164,7 @@ pub fn push_reply<A: Allocator + Copy + Drop>(
         Reply::Stopped => text.extend_from_slice(b"stopped\n"),
         Reply::Begun => text.extend_from_slice(b"begun\n"),
         Reply::Taken => text.extend_from_slice(b"taken\n"),
-        Reply::Moved | Reply::Opened(_) => Ok(()),
+        Reply::Moved | Reply::Opened(_) | Reply::Approaching => Ok(()),
         Reply::Status(status) => push_status(text, status),
         Reply::Refused(fault) => push_refusal(text, *fault),
     }

@@ -3,7 +3,7 @@ use Rattle.std.specs.Prelude.{◌≡◌, ◌<◌, ◌⊎◌, ℕ, List, [], ◌+
 use Rattle.ng_num.specs.declared.fault.Fault.TheVariants.{BadCommand, OutOfMemory}
 use Rattle.ng_commands.specs.Commands.{IsCommand, IsNoCommand}
 use Rattle.ng_commands.specs.declared.asked.Command.{Command}
-use Rattle.ng_commands.specs.declared.asked.Command.TheVariants.{Load, Start, Hold, Continue, Mdi, OptionalStop, BlockDelete, Tick, Status, Quit}
+use Rattle.ng_commands.specs.declared.asked.Command.TheVariants.{Load, Start, Hold, Continue, Mdi, Reference, Resume, Abandon, OptionalStop, BlockDelete, Tick, Status, Quit}
 use Rattle.ng_session.specs.declared.event.Event.TheVariants as event
 use Rattle.ng_dialogue.specs.Reading.{IsLine}
 use Rattle.ng_dialogue.specs.declared.order.Order.{Order}
@@ -22,6 +22,9 @@ Means Start more order rest = (order ≡ Give event.Start) × (rest ≡ more)
 Means Hold more order rest = (order ≡ Give event.Hold) × (rest ≡ more)
 Means Continue more order rest = (order ≡ Give event.Continue) × (rest ≡ more)
 Means (Mdi line) more order rest = (order ≡ Give (event.Mdi line.now)) × (rest ≡ more)
+Means (Reference point) more order rest = (order ≡ Give (event.Reference point)) × (rest ≡ more)
+Means Resume more order rest = (order ≡ Give event.Resume) × (rest ≡ more)
+Means Abandon more order rest = (order ≡ Give event.Abandon) × (rest ≡ more)
 Means (OptionalStop is_on) more order rest = (order ≡ Give (event.OptionalStop is_on)) × (rest ≡ more)
 Means (BlockDelete is_on) more order rest = (order ≡ Give (event.BlockDelete is_on)) × (rest ≡ more)
 Means (Tick n) more order rest = (order ≡ Ticks n) × (rest ≡ more)

@@ -63,25 +63,28 @@ fn ask<R: Read, A: Allocator + Copy + Drop>(
     alloc: A,
     input: &mut Input,
     reader: &mut R,
-    command: Command<'_>,
+    command: &Command<'_>,
 ) -> Result<Option<Order<A>>, Deaf>
-    ensures order { IfOk result (Follows command.entry (text_left input.old (R.remaining reader.old)) (text_left input.new (R.remaining reader.new))) }
+    ensures order { IfOk result (Follows command.now (text_left input.old (R.remaining reader.old)) (text_left input.new (R.remaining reader.new))) }
     ensures holds { EndHolds input.old (R.remaining reader.old) → EndHolds input.new (R.remaining reader.new) }
     ensures last { input.old.ended ≡ true → (input.new ≡ input.old) × (reader.new ≡ reader.old) }
 {
     let event = match command {
         Command::Load(length) => {
-            let order = load(alloc, input, reader, length)?;
+            let order = load(alloc, input, reader, *length)?;
             return Ok(Some(order));
         }
-        Command::Tick(count) => return Ok(Some(Order::Ticks(count))),
+        Command::Tick(count) => return Ok(Some(Order::Ticks(*count))),
         Command::Quit => return Ok(None),
         Command::Mdi(line) => Event::Mdi(Text::of(Vec::from_slice(alloc, line)?)),
         Command::Start => Event::Start,
         Command::Hold => Event::Hold,
         Command::Continue => Event::Continue,
-        Command::OptionalStop(is_on) => Event::OptionalStop(is_on),
-        Command::BlockDelete(is_on) => Event::BlockDelete(is_on),
+        Command::Reference(point) => Event::Reference(*point),
+        Command::Resume => Event::Resume,
+        Command::Abandon => Event::Abandon,
+        Command::OptionalStop(is_on) => Event::OptionalStop(*is_on),
+        Command::BlockDelete(is_on) => Event::BlockDelete(*is_on),
         Command::Status => Event::Status,
     };
     Ok(Some(Order::Give(event)))
@@ -108,6 +111,6 @@ pub fn next_order<R: Read, A: Allocator + Copy + Drop>(
     }
     match command_of(line.as_slice()) {
         None => Ok(Some(Order::Refuse(Fault::BadCommand))),
-        Some(command) => ask(alloc, input, reader, command),
+        Some(command) => ask(alloc, input, reader, &command),
     }
 }
