@@ -9,14 +9,51 @@ use ng_session::{Condition, HalfShown, Reply, Status};
 use std::alloc::{AllocError, Global};
 use std::test::Fail;
 
+/// A command that holds no point. A constant can't lend one that may hold one.
+#[derive(Clone, Copy)]
+enum Asked {
+    Load(u32),
+    Start,
+    Hold,
+    Continue,
+    Mdi(&'static [u8]),
+    Resume,
+    Abandon,
+    OptionalStop(bool),
+    BlockDelete(bool),
+    Tick(u32),
+    Status,
+    Quit,
+}
+
+/// The command.
+fn command_for(asked: Asked) -> Command<'static> {
+    match asked {
+        Asked::Load(length) => Command::Load(length),
+        Asked::Start => Command::Start,
+        Asked::Hold => Command::Hold,
+        Asked::Continue => Command::Continue,
+        Asked::Mdi(line) => Command::Mdi(line),
+        Asked::Resume => Command::Resume,
+        Asked::Abandon => Command::Abandon,
+        Asked::OptionalStop(is_on) => Command::OptionalStop(is_on),
+        Asked::BlockDelete(is_on) => Command::BlockDelete(is_on),
+        Asked::Tick(count) => Command::Tick(count),
+        Asked::Status => Command::Status,
+        Asked::Quit => Command::Quit,
+    }
+}
+
 /// Lines, and what each asks for; none where it is no command.
-const ROWS: &[(&str, Option<Command<'static>>)] = &[
+const ROWS: &[(&str, Option<Asked>)] = &[
     // fixed words stand alone, as they are
-    ("start", Some(Command::Start)),
-    ("hold", Some(Command::Hold)),
-    ("continue", Some(Command::Continue)),
-    ("status", Some(Command::Status)),
-    ("quit", Some(Command::Quit)),
+    ("start", Some(Asked::Start)),
+    ("hold", Some(Asked::Hold)),
+    ("continue", Some(Asked::Continue)),
+    ("resume", Some(Asked::Resume)),
+    ("abandon", Some(Asked::Abandon)),
+    ("status", Some(Asked::Status)),
+    ("quit", Some(Asked::Quit)),
     ("", None),
     ("start ", None),
     (" start", None),
@@ -24,18 +61,20 @@ const ROWS: &[(&str, Option<Command<'static>>)] = &[
     ("Start", None),
     ("star", None),
     ("status quit", None),
+    ("resume 1", None),
+    ("abandon\r", None),
     // the switches
-    ("optional on", Some(Command::OptionalStop(true))),
-    ("optional off", Some(Command::OptionalStop(false))),
-    ("delete on", Some(Command::BlockDelete(true))),
-    ("delete off", Some(Command::BlockDelete(false))),
+    ("optional on", Some(Asked::OptionalStop(true))),
+    ("optional off", Some(Asked::OptionalStop(false))),
+    ("delete on", Some(Asked::BlockDelete(true))),
+    ("delete off", Some(Asked::BlockDelete(false))),
     ("optional", None),
     ("optional  on", None),
     ("delete\ton", None),
     // lengths of programs: one to seven digits
-    ("load 0", Some(Command::Load(0))),
-    ("load 0000013", Some(Command::Load(13))),
-    ("load 9999999", Some(Command::Load(9_999_999))),
+    ("load 0", Some(Asked::Load(0))),
+    ("load 0000013", Some(Asked::Load(13))),
+    ("load 9999999", Some(Asked::Load(9_999_999))),
     ("load 00000013", None),
     ("load 10000000", None),
     ("load", None),
@@ -46,9 +85,9 @@ const ROWS: &[(&str, Option<Command<'static>>)] = &[
     ("load 1.0", None),
     ("load 1\r", None),
     // numbers of ticks: any digits whose value is 1 to 1,000,000
-    ("tick 1", Some(Command::Tick(1))),
-    ("tick 1000000", Some(Command::Tick(1_000_000))),
-    ("tick 00000000000000000000007", Some(Command::Tick(7))),
+    ("tick 1", Some(Asked::Tick(1))),
+    ("tick 1000000", Some(Asked::Tick(1_000_000))),
+    ("tick 00000000000000000000007", Some(Asked::Tick(7))),
     ("tick 0", None),
     ("tick 1000001", None),
     // 2^32 + 1 and 2^64 + 1
@@ -57,10 +96,10 @@ const ROWS: &[(&str, Option<Command<'static>>)] = &[
     ("tick -1", None),
     ("tick", None),
     // all bytes behind the one blank belong to the operator's line
-    ("mdi G0 X1", Some(Command::Mdi(b"G0 X1"))),
-    ("mdi ", Some(Command::Mdi(b""))),
-    ("mdi  G0\r", Some(Command::Mdi(b" G0\r"))),
-    ("mdi mdi ", Some(Command::Mdi(b"mdi "))),
+    ("mdi G0 X1", Some(Asked::Mdi(b"G0 X1"))),
+    ("mdi ", Some(Asked::Mdi(b""))),
+    ("mdi  G0\r", Some(Asked::Mdi(b" G0\r"))),
+    ("mdi mdi ", Some(Asked::Mdi(b"mdi "))),
     ("mdi", None),
     ("mdi\tG0", None),
     ("mdiG0", None),
@@ -69,8 +108,83 @@ const ROWS: &[(&str, Option<Command<'static>>)] = &[
 #[test]
 fn lines_ask_for_commands(rt: HostRuntime) {
     for (line, asks) in ROWS {
-        assert!(rt; command_of(line.as_bytes()) == *asks, "{line:?}");
+        let wanted = asks.map(command_for);
+        assert!(rt; command_of(line.as_bytes()) == wanted, "{line:?}");
     }
+}
+
+/// Lines that may tell where the machine stands, and the nanometres of its coordinates where they do.
+const REFERENCES: &[(&str, Option<(i64, i64, i64)>)] = &[
+    // a number is one as on a line of a program
+    ("reference 1. .5 +2", Some((1_000_000, 500_000, 2_000_000))),
+    ("reference 007 -0 -12.25", Some((7_000_000, 0, -12_250_000))),
+    // a half is rounded away from zero, and the range is looked at after that
+    (
+        "reference 0.0000005 -.0000005 0.0000004999",
+        Some((1, -1, 0)),
+    ),
+    (
+        "reference 0 -9999999.999999 9999999.9999994",
+        Some((0, -9_999_999_999_999, 9_999_999_999_999)),
+    ),
+    ("reference 0 0 9999999.9999995", None),
+    ("reference 10000000 0 0", None),
+    ("reference 0 -10000000 0", None),
+    // three words, parted by one blank
+    ("reference", None),
+    ("reference ", None),
+    ("reference 1 2", None),
+    ("reference 1 2 ", None),
+    ("reference 1 2 3 4", None),
+    ("reference  1 2 3", None),
+    ("reference 1  2 3", None),
+    ("reference 1 2 3 ", None),
+    ("reference 1 2 3\r", None),
+    ("reference\t1 2 3", None),
+    ("reference 1 2\t3 4", None),
+    ("Reference 1 2 3", None),
+    // a number and nothing else
+    ("reference . 2 3", None),
+    ("reference - 2 3", None),
+    ("reference 1.2.3 2 3", None),
+    ("reference --1 2 3", None),
+    ("reference 1e3 2 3", None),
+    ("reference 1,5 2 3", None),
+    ("reference 1-2 2 3", None),
+    ("reference [1] 2 3", None),
+    ("reference #1 2 3", None),
+    ("reference X1 2 3", None),
+    ("reference 1Y1 2 3", None),
+    ("reference 1(a) 2 3", None),
+];
+
+/// The nanometres of the coordinates that a line tells.
+fn told_by(line: &[u8]) -> Option<(i64, i64, i64)> {
+    match command_of(line) {
+        Some(Command::Reference(point)) => Some((point.x.nm(), point.y.nm(), point.z.nm())),
+        _ => None,
+    }
+}
+
+#[test]
+fn lines_tell_where_the_machine_stands(rt: HostRuntime) {
+    for (line, tells) in REFERENCES {
+        assert_eq!(rt; told_by(line.as_bytes()), *tells, "{line:?}");
+    }
+}
+
+#[test]
+fn a_number_has_at_most_255_bytes(rt: HostRuntime) -> Result<(), Fail> {
+    let mut line = Vec::from_slice(rt.alloc(), b"reference 1 2 ")?;
+    line.resize(268, b'0')?;
+    line.push(b'3')?;
+    assert_eq!(rt;
+        told_by(line.as_slice()),
+        Some((1_000_000, 2_000_000, 3_000_000))
+    );
+    line.push(b'.')?;
+    assert_eq!(rt; told_by(line.as_slice()), None);
+    Ok(())
 }
 
 #[test]
@@ -95,6 +209,7 @@ enum Plain {
     Taken,
     Moved,
     Opened(u64),
+    Approaching,
     Refused(Fault),
 }
 
@@ -110,6 +225,7 @@ fn reply_of(plain: &Plain) -> Reply {
         Plain::Taken => Reply::Taken,
         Plain::Moved => Reply::Moved,
         Plain::Opened(index) => Reply::Opened(*index),
+        Plain::Approaching => Reply::Approaching,
         Plain::Refused(fault) => Reply::Refused(*fault),
     }
 }
@@ -131,6 +247,7 @@ const TOLD: &[(Plain, &str, bool, bool)] = &[
     (Plain::Taken, "taken\n", true, true),
     (Plain::Moved, "", true, true),
     (Plain::Opened(3), "", true, true),
+    (Plain::Approaching, "", true, true),
     (
         Plain::Refused(Fault::Busy),
         "refused K1 Busy\n",

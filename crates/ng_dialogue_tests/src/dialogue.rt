@@ -53,6 +53,9 @@ fn word_of<A: Allocator>(event: &Event<A>) -> &'static [u8] {
         Event::Start => b"start",
         Event::Hold => b"hold",
         Event::Continue => b"continue",
+        Event::Reference(_) => b"reference",
+        Event::Resume => b"resume",
+        Event::Abandon => b"abandon",
         Event::OptionalStop(true) => b"optional on",
         Event::OptionalStop(false) => b"optional off",
         Event::BlockDelete(true) => b"delete on",
@@ -91,6 +94,10 @@ const TEXTS: &[(&str, &str)] = &[
     (
         "optional on\noptional off\ndelete on\ndelete off\ncontinue\nstatus\ntick 100\n",
         "optional on|optional off|delete on|delete off|continue|status|ticks:100|",
+    ),
+    (
+        "reference 1 -2. +.5\nresume\nabandon\nreference 1 2\n",
+        "reference|resume|abandon|U1 BadCommand|",
     ),
     // behind quit nothing is heard
     ("hold\nquit\nstart\n", "hold|"),

@@ -2,7 +2,7 @@ use linked_list_allocator::LocalHeap;
 use ng_canon::{Item, Outputs, Pulse, Step};
 use ng_core::{Condition, Controller, Event, HalfShown, Reply, Source, Status, Text, power_on};
 use ng_journal::format;
-use ng_num::Fault;
+use ng_num::{Fault, Point};
 use ng_rig::{FailRig, MemoryRig, Rig};
 use ng_settings::Settings;
 use std::alloc::{AllocError, Allocator};
@@ -18,6 +18,9 @@ enum Order {
     Mdi(&'static str),
     OptionalStop(bool),
     BlockDelete(bool),
+    Reference,
+    Resume,
+    Abandon,
     Tick,
 }
 
@@ -33,6 +36,7 @@ enum Told {
     Taken,
     Moved,
     Opened(u64),
+    Approaching,
     Refused(Fault),
 }
 
@@ -169,6 +173,9 @@ fn event_of<A: Allocator + Copy + Drop>(alloc: A, order: Order) -> Result<Event<
         Order::Mdi(text) => Event::Mdi(text_of(alloc, text)?),
         Order::OptionalStop(wanted) => Event::OptionalStop(wanted),
         Order::BlockDelete(on) => Event::BlockDelete(on),
+        Order::Reference => Event::Reference(Point::zero()),
+        Order::Resume => Event::Resume,
+        Order::Abandon => Event::Abandon,
         Order::Tick => Event::Tick,
     })
 }
@@ -184,6 +191,7 @@ fn told_of(reply: Reply) -> Option<Told> {
         Reply::Taken => Told::Taken,
         Reply::Moved => Told::Moved,
         Reply::Opened(index) => Told::Opened(index),
+        Reply::Approaching => Told::Approaching,
         Reply::Status(_) => return None,
         Reply::Refused(fault) => Told::Refused(fault),
     })
@@ -444,13 +452,14 @@ fn power_is_cut_while_a_segment_is_opened(rt: HostRuntime) -> Result<(), Fail> {
     Ok(())
 }
 
-/// The replies of a controller whose device fails once, where the second of these events first writes, and then what the status shows; and
-/// what is shown once it is powered on anew.
+/// The replies of a controller over this device, which fails once, in the first call that these events make, and then what the status
+/// shows; and what is shown once it is powered on anew.
 fn failed_once<A: Allocator + Copy + Drop>(
     alloc: A,
+    rig: MemoryRig<A>,
     orders: &[(Order, Told)],
 ) -> Result<(Astray, Option<Shown>, Option<Shown>), Fault> {
-    let controller = started(alloc, FailRig::new(formatted(alloc)?, POWER_ON))?;
+    let controller = started(alloc, FailRig::new(rig, POWER_ON))?;
     let (astray, broken, rig) = behind(alloc, controller, orders);
     let anew = shown_after(alloc, &rig.into_inner(), usize::MAX, &[])?;
     Ok((astray?, broken, anew))
@@ -468,10 +477,17 @@ const FAILING: &[(Order, Told)] = &[
     (Order::Load("M2"), Told::Refused(Fault::Broken)),
 ];
 
+/// The same over a new device, as a segment is opened.
+fn failed_as_it_opens<A: Allocator + Copy + Drop>(
+    alloc: A,
+) -> Result<(Astray, Option<Shown>, Option<Shown>), Fault> {
+    failed_once(alloc, formatted(alloc)?, FAILING)
+}
+
 #[test]
 fn a_device_that_fails_once(rt: HostRuntime) -> Result<(), Fail> {
     assert_eq!(rt;
-        failed_once(rt.alloc(), FAILING),
+        failed_as_it_opens(rt.alloc()),
         Ok((
             None,
             Some((0, 0, 0, true, None, Condition::Broken)),
@@ -547,5 +563,149 @@ fn memory_that_is_wanting(rt: HostRuntime) -> Result<(), Fail> {
             "{ticks}"
         );
     }
+    Ok(())
+}
+
+/// A line of a program whose segment is opened, and then power is cut.
+const CUT: &[(Order, Told)] = &[
+    (Order::Load("G0 X0.005\nM2\n"), Told::Done(1)),
+    START,
+    BEGUN,
+    OPENED,
+];
+
+/// The line goes on once it is told where the machine stands, here at the line's start: the approach has its switch alone.
+const GOING_ON: &[(Order, Told)] = &[
+    (Order::Resume, Told::Refused(Fault::PlaceUnknown)),
+    (Order::Reference, Told::Done(2)),
+    (Order::Resume, Told::Going),
+    (Order::Abandon, Told::Refused(Fault::Busy)),
+    (Order::Tick, Told::Approaching),
+    MOVED,
+    DONE_3,
+    OPENED,
+    MOVED,
+    MOVED,
+    MOVED,
+    MOVED,
+    MOVED,
+    DONE_4,
+    BEGUN,
+    OPENED,
+    MOVED,
+    (Order::Tick, Told::Done(5)),
+    IDLE,
+    (Order::Resume, Told::Refused(Fault::NothingHalfDone)),
+];
+
+/// The device that these events leave, where each is answered as wanted.
+fn left_by<A: Allocator + Copy + Drop>(
+    alloc: A,
+    rig: MemoryRig<A>,
+    orders: &[(Order, Told)],
+) -> Result<MemoryRig<A>, Fault> {
+    let (astray, _, rig) = behind(alloc, started(alloc, rig)?, orders);
+    match astray? {
+        None => Ok(rig),
+        Some(_) => Err(Fault::Broken),
+    }
+}
+
+/// A new device, on which power is cut within a line.
+fn cut<A: Allocator + Copy + Drop>(alloc: A) -> Result<MemoryRig<A>, Fault> {
+    left_by(alloc, formatted(alloc)?, CUT)
+}
+
+/// The first reply as a cut line goes on that is another, the status then, and whether its items were handed out.
+fn gone_on<A: Allocator + Copy + Drop>(
+    alloc: A,
+    given: &[Given],
+) -> Result<(Astray, Option<Shown>, bool), Fault> {
+    let (astray, shown, rig) = behind(alloc, started(alloc, cut(alloc)?)?, GOING_ON);
+    Ok((astray?, shown, has_given(&rig, given)?))
+}
+
+#[test]
+fn a_line_that_was_cut_goes_on(rt: HostRuntime) -> Result<(), Fail> {
+    let given = [
+        Given::Off,
+        Given::Forward(50),
+        Given::Forward(50),
+        Given::Forward(50),
+        Given::Forward(50),
+        Given::Forward(50),
+        Given::Off,
+    ];
+    assert_eq!(rt;
+        gone_on(rt.alloc(), &given),
+        Ok((
+            None,
+            Some((5, 0, 5_000, true, None, Condition::Idle)),
+            true,
+        ))
+    );
+    Ok(())
+}
+
+/// Where no memory is left a cut line can't go on, and it can be given up.
+const GIVEN_UP: &[(Order, Told)] = &[
+    (Order::Reference, Told::Done(2)),
+    (Order::Resume, Told::Refused(Fault::OutOfMemory)),
+    IDLE,
+    (Order::Abandon, Told::Done(3)),
+];
+
+/// The first reply that is another where a cut line finds the memory of this heap, and the status then.
+fn given_up<A: Allocator + Copy + Drop, B: Allocator + Copy + Drop>(
+    heap: A,
+    alloc: B,
+) -> Result<(Astray, Option<Shown>), Fault> {
+    let (astray, shown, rig) = behind(heap, started(heap, cut(alloc)?)?, GIVEN_UP);
+    drop(rig);
+    Ok((astray?, shown))
+}
+
+#[test]
+fn a_line_that_was_cut_finds_no_memory(rt: HostRuntime) -> Result<(), Fail> {
+    let heap = LocalHeap::new(rt.alloc(), 100_000)?;
+    assert_eq!(rt;
+        given_up(&heap, rt.alloc()),
+        Ok((None, Some((3, 0, 0, true, None, Condition::Idle))))
+    );
+    Ok(())
+}
+
+const REFERENCED: &[(Order, Told)] = &[(Order::Reference, Told::Done(2))];
+
+/// Before a line of the program goes on, it is read where the next one begins.
+const FAILING_AS_IT_GOES_ON: &[(Order, Told)] = &[
+    (Order::Resume, Told::Refused(Fault::DeviceFailed)),
+    (Order::Resume, Told::Refused(Fault::Broken)),
+    (Order::Reference, Told::Refused(Fault::Broken)),
+    (Order::Abandon, Told::Refused(Fault::Broken)),
+];
+
+/// What a device that fails once answers as a cut line is to go on, and what its status shows then and once it is powered on anew.
+fn failed_as_it_goes_on<A: Allocator + Copy + Drop>(
+    alloc: A,
+) -> Result<(Astray, Option<Shown>, Option<Shown>), Fault> {
+    let rig = left_by(alloc, cut(alloc)?, REFERENCED)?;
+    failed_once(alloc, rig, FAILING_AS_IT_GOES_ON)
+}
+
+#[test]
+fn a_device_that_fails_as_a_line_goes_on(rt: HostRuntime) -> Result<(), Fail> {
+    let half = Some(HalfShown {
+        source: Source::Program,
+        index: 0,
+    });
+    assert_eq!(rt;
+        failed_as_it_goes_on(rt.alloc()),
+        Ok((
+            None,
+            Some((2, 0, 0, true, half, Condition::Broken)),
+            Some((2, 0, 0, true, half, Condition::Idle)),
+        ))
+    );
     Ok(())
 }
