@@ -1,100 +1,405 @@
 #!/usr/bin/env python3
-"""Ends `ngc run` by kill -9 at moments spread over a run, and looks at what the device then stands for.
+"""Ends `ngc run` by kill -9 in the midst of jobs, goes on each time where the job was cut, and looks at what each session leaves.
 
-usage, at the top of the repository: bench/cut.py [MOMENTS [FOLDER]]
+usage, at the top of the repository: bench/cut.py [JOBS [SEED]] [--ngc PATH] [--folder FOLDER] [--cuts N]
 
-Each time (100 where MOMENTS isn't given) a device in FOLDER (a temporary one where none is given) is formatted, a program of
-short moves is loaded and run by one command of ticks, and the process is ended once so much of the time has passed that a whole
-run takes. Then `ngc run` is started again on the device and asked for its status: its number of entries must be that of the last
-`done N` that was written before the end, or one more, since an entry may be lasting and not told yet. Where power on finds a
-segment that was open, the block must be half done and the place unknown.
+Each job (100 where JOBS isn't given; made by jobs.py, by chance from SEED) is run to its end once, a tick and a status at a time: that
+gives the segments of each block with their lines of OUT, and the status behind each entry. Then it is run again over another device, and
+its process is ended at a moment taken by chance, up to N times (4) over the job. Each time `ngc run` is started again with a new OUT, asked
+for its status, told where the machine stands (by the pulses of all OUTs; now and then the axes were moved by hand besides), and goes on:
+`resume` where a block is half done, then the rest of the job.
 
-Status 0 where that holds each time. It builds ngc by rt where that is needed.
-"""
-import os, re, subprocess, sys, tempfile, time
+For each cut there has to be one moment of the session at which all of these were so: the lines of OUT, to the byte; the status of the next
+power on; and the entries, of which the last `done N` that was written is the last or the one before. At the end the machine has to stand,
+and the device has to hold all but the number of entries, as behind the run that wasn't cut. Status 0 where that holds for each job.
 
-LINES = 60
-PROGRAM = "".join(f"G0 X{n % 7}.{n % 10} Y0.{n % 5}\n" for n in range(LINES - 1)) + "M2\n"
-STATUS = re.compile(r"status entries (\d+) place (\d+) at \S+ \S+ \S+ (known|unknown) half (none|\S+ \d+) (\w+)\n")
+It builds ngc by rt where that is needed and no PATH is given."""
+import argparse, collections, contextlib, math, os, random, re, struct, subprocess, sys, tempfile, threading, time
+import jobs
 
 here = os.path.dirname(os.path.dirname(os.path.abspath(__file__)))
-moments = int(sys.argv[1]) if len(sys.argv) > 1 else 100
-ngc = os.path.join(here, "crates/ngc/out/ngc")
+STATUS = re.compile(r"status entries (\d+) place (\d+) at (\S+ \S+ \S+) (known|unknown) half (none|\S+ \d+) (\w+)\n")
+OFF = "S 0 0.000000 0 0 0 0\n"
+
+# An entry of the job: "load", "mdi" or "line" of a program, its text (none of a line), its segments as lines of OUT, and behind it
+# the place, the point and what the controller does.
+Step = collections.namedtuple("Step", "kind text segments place point activity")
+# What a device stands for: the entries, the number of steps that are done, the segment of a half-done block, where the machine
+# stands if that is told of it, in steps; and what that is called in the table of cuts.
+State = collections.namedtuple("State", "entries done half at kind")
+NOTHING, SEGMENT, TOLD, APPROACH, APPROACHED = (
+    "nothing half done", "a segment open", "a reference told", "an approach open", "an approach done")
+# The seconds of power on, and of what works() counts once.
+Pace = collections.namedtuple("Pace", "power_on work")
+POWER_ON, MORE, LATE = "in power on", "one entry more than told done", "behind the job's end"
 
 
-def words(folder):
-    return [ngc, "run", f"{folder}/mill.dev", f"{folder}/mill.toml", f"{folder}/out"]
+class Wrong(Exception):
+    """What isn't as it has to be."""
 
 
-def asked():
-    return f"load {len(PROGRAM)}\n{PROGRAM}start\ntick 1000000\nstatus\n".encode()
+def millimetres(nm):
+    return f"{'-' if nm < 0 else ''}{abs(nm) // 1_000_000}.{abs(nm) % 1_000_000:06d}"
 
 
-def start(folder):
-    """A process over a fresh device, its commands given."""
-    subprocess.run([ngc, "format", f"{folder}/mill.dev"], check=True)
-    open(f"{folder}/out", "wb").close()
-    child = subprocess.Popen(words(folder), stdin=subprocess.PIPE, stdout=subprocess.PIPE)
-    child.stdin.write(asked())
+def point_text(steps):
+    return " ".join(millimetres(n * nm) for n, nm in zip(steps, jobs.STEP_NM))
+
+
+def moved(steps, lines):
+    """Where the machine stands after these lines of OUT."""
+    pulses = [line.split() for line in lines if line.startswith("P ")]
+    return tuple(at + sum(int(pulse[1 + axis]) for pulse in pulses) for axis, at in enumerate(steps))
+
+
+def straight(start, end):
+    """The pulses of a traverse: after pulse k of n an axis of d steps has made (2kd + n) / 2n of them, rounded down."""
+    ways = [b - a for a, b in zip(start, end)]
+    n = max(map(abs, ways))
+    if n == 0:
+        return []
+    square = sum((way * nm) ** 2 for way, nm in zip(ways, jobs.STEP_NM))
+    nm = math.isqrt(square - 1) + 1
+    period = max(jobs.PERIOD_US, -(-(-(-nm * 60_000_000 // jobs.TRAVERSE_NM_PER_MIN)) // n))
+    made = lambda way, k: (1 if way > 0 else -1) * ((2 * k * abs(way) + n) // (2 * n))
+    return [f"P {' '.join(str(made(way, k) - made(way, k - 1)) for way in ways)} {period}\n" for k in range(1, n + 1)]
+
+
+class Mill:
+    """A device, its settings and the program that drives it."""
+
+    def __init__(self, ngc, folder):
+        self.ngc, self.folder, self.outs = ngc, folder, 0
+        with open(f"{folder}/mill.toml", "w") as file:
+            file.write(jobs.SETTINGS)
+        subprocess.run([ngc, "format", f"{folder}/mill.dev"], check=True)
+
+    def start(self):
+        """A session, which hands out to a file of its own."""
+        self.outs += 1
+        words = [self.ngc, "run", f"{self.folder}/mill.dev", f"{self.folder}/mill.toml", f"{self.folder}/out{self.outs}"]
+        return subprocess.Popen(words, stdin=subprocess.PIPE, stdout=subprocess.PIPE)
+
+    def handed_out(self):
+        """The whole lines of OUT of the last session."""
+        try:
+            with open(f"{self.folder}/out{self.outs}") as file:
+                return [line for line in file if line.endswith("\n")]
+        except FileNotFoundError:
+            return []
+
+    def stored(self):
+        """What the device holds but for the number of entries: the snapshot in force and the program."""
+        with open(f"{self.folder}/mill.dev", "rb") as file:
+            device = file.read()
+        headers = [struct.unpack_from("<QQQ", device, 512 * k + 16) for k in (0, 1) if device[512 * k:512 * k + 8] == b"RS274NGC"]
+        epoch, area, size = max(headers)
+        snapshot = 512 * (2 + 86 * (epoch % 2))
+        text = 512 * (174 + 256 * area)
+        return device[snapshot + 8:snapshot + 512 * 86], device[text:text + size]
+
+
+def asked(child, text):
+    """The lines that are answered up to the status, which is asked behind the text."""
+    child.stdin.write(text + b"status\n")
     child.stdin.flush()
-    return child
+    lines = []
+    while not lines or not STATUS.fullmatch(lines[-1]):
+        lines.append(child.stdout.readline().decode())
+        if not lines[-1]:
+            raise Wrong(f"{text} was answered {lines}")
+        if lines[-1].startswith("refused"):
+            raise Wrong(f"{text} is refused: {lines[-1]}")
+    return lines
 
 
-def whole_run(folder):
-    """The seconds of a run to its end."""
-    child = start(folder)
+def load(text):
+    return b"load %d\n" % len(text) + text.encode()
+
+
+def whole_run(mill, does):
+    """The steps of a job, by a run to its end, a tick at a time."""
+    child, steps, segments, handed = mill.start(), [], [], 0
+    half = "none"
+
+    def tick():
+        """A tick: what it answered, and the status behind it. What it handed out comes behind its segment."""
+        nonlocal half, handed
+        told = asked(child, b"tick 1\n")
+        _, place, point, _, now, activity = STATUS.fullmatch(told[-1]).groups()
+        if now != "none" and now != half:
+            segments.append([])
+        elif now != "none":
+            segments[-1].append(handed)
+            handed += 1
+        half = now
+        return told[0], (int(place), point, activity)
+
+    for kind, text in does:
+        if kind == "load":
+            told = asked(child, load(text))
+            _, place, point, _, _, activity = STATUS.fullmatch(told[-1]).groups()
+            steps.append(Step("load", text, [], int(place), point, activity))
+        elif kind == "mdi":
+            asked(child, f"mdi {text}\n".encode())
+            first = ""
+            while not first.startswith("done"):
+                first, behind = tick()
+            steps.append(Step("mdi", text, segments, *behind))
+            segments = []
+        else:
+            asked(child, b"continue\n" if steps and steps[-1].activity == "stopped" else b"start\n")
+            activity = "running"
+            while activity == "running":
+                first, behind = tick()
+                activity = behind[2]
+                if first.startswith("done"):
+                    steps.append(Step("line", None, segments, *behind))
+                    segments = []
+    child.stdin.close()
+    if child.wait() != 0:
+        raise Wrong(f"the whole run ended with status {child.returncode}")
+    out = mill.handed_out()
+    if len(out) != handed:
+        raise Wrong(f"{handed} ticks handed out {len(out)} lines")
+    return [step._replace(segments=[[out[n] for n in segment] for segment in step.segments]) for step in steps]
+
+
+def before(steps, state):
+    """Where the half-done block's segment begins, in steps, and the outputs there."""
+    lines = [line for step in steps[:state.done] for segment in step.segments for line in segment]
+    lines += [line for segment in steps[state.done].segments[:state.half] for line in segment]
+    switches = [line for line in lines if line.startswith("S ")]
+    return moved((0, 0, 0), lines), (switches or [OFF])[-1]
+
+
+def status_of(steps, state):
+    """What the status says of a state after power on."""
+    place, point = (steps[state.done - 1].place, steps[state.done - 1].point) if state.done else (0, point_text((0, 0, 0)))
+    known, half = "known", "none"
+    if state.half is not None:
+        source = "mdi" if steps[state.done].kind == "mdi" else "program"
+        known, half = ("known" if state.at else "unknown"), f"{source} {state.half}"
+        point = point_text(state.at) if state.at else point
+    return f"status entries {state.entries} place {place} at {point} {known} half {half} idle\n"
+
+
+class Session:
+    """What a session does from a state to the job's end: its commands, and the state at each moment with the number of lines handed out."""
+
+    def __init__(self, steps, state, reference):
+        self.steps, self.lines, self.moments, self.commands = steps, [], [(state, 0)], []
+        going = stopped = False
+        first = state.done
+        if state.half is not None:
+            going, stopped = self.go_on(state, reference)
+            first += 1
+        for step in steps[first:]:
+            if step.kind == "load":
+                self.commands.append(load(step.text))
+            elif step.kind == "mdi":
+                self.commands.append(f"mdi {step.text}\ntick 1000000\n".encode())
+            elif not going:
+                self.commands.append(b"continue\ntick 1000000\n" if stopped else b"start\ntick 1000000\n")
+            if step.kind != "mdi":
+                going, stopped = step.activity == "running", step.activity == "stopped"
+            self.work(0)
+
+    def state(self):
+        return self.moments[-1][0]
+
+    def comes(self, **changes):
+        self.moments.append((self.state()._replace(**changes), len(self.lines)))
+
+    def hands_out(self, lines):
+        for line in lines:
+            self.lines.append(line)
+            self.comes()
+
+    def work(self, first):
+        """The block's segments from the first one on, and its entry."""
+        for n, segment in enumerate(self.steps[self.state().done].segments[first:], first):
+            self.comes(half=n, at=None, kind=SEGMENT)
+            self.hands_out(segment)
+        self.comes(entries=self.state().entries + 1, done=self.state().done + 1, half=None, at=None, kind=NOTHING)
+
+    def go_on(self, state, reference):
+        """A reference if one is told, the approach, and the rest of the block. Whether the program then goes, and whether it waits."""
+        if reference:
+            self.commands.append(f"reference {point_text(reference)}\n".encode())
+            self.comes(entries=self.state().entries + 1, at=reference, kind=TOLD)
+        self.commands.append(b"resume\ntick 1000000\n")
+        start, outputs = before(self.steps, state)
+        way = straight(self.state().at, start)
+        self.comes(at=None, kind=APPROACH)
+        self.hands_out([outputs, *way])
+        self.comes(entries=self.state().entries + 1, at=start, kind=APPROACHED)
+        self.work(state.half)
+        step = self.steps[state.done]
+        return (step.activity == "running", step.activity == "stopped") if step.kind == "line" else (False, False)
+
+
+class Cutting:
+    """A job that is cut: the moments at which its last session may have ended, and where the machine stands, in steps."""
+
+    def __init__(self, mill, steps, chance, counts):
+        self.mill, self.steps, self.chance, self.counts = mill, steps, chance, counts
+        self.at, self.handed, self.told, self.was_cut = (0, 0, 0), [], 0, False
+        self.moments = [(State(0, 0, None, None, NOTHING), 0)]
+
+    def found(self, status):
+        """The state of the one moment at which the last session can have ended."""
+        fits = [state for state, lines in self.moments if lines == len(self.handed) and status_of(self.steps, state) == status]
+        if len(fits) != 1 or fits[0].entries - self.told not in (0, 1):
+            raise Wrong(f"{len(fits)} moments fit: {status!r}, {len(self.handed)} lines of OUT, {self.told} told done")
+        if self.was_cut:
+            self.counts[fits[0].kind] += 1
+            self.counts[MORE] += fits[0].entries > self.told
+        return fits[0]
+
+    def reference(self, state):
+        """Where the machine stands, if that is to be told."""
+        if state.half is None:
+            return None
+        if self.chance.random() < 0.25:
+            self.at = tuple(at + self.chance.randint(-6, 6) for at in self.at)
+        return None if state.at == self.at and self.chance.random() < 0.5 else self.at
+
+    def moment(self, state, pace):
+        """The seconds behind the commands at which the session is cut: in half of the cuts of a half-done block early, about its approach."""
+        if state.half is not None and self.chance.random() < 0.5:
+            return self.chance.uniform(0, 6 * pace.work)
+        return self.chance.uniform(0, pace.work * works(self.steps[state.done:]))
+
+    def session(self, pace=None):
+        """A session, cut somewhere if a pace is given, one in ten times in power on. Whether it came to the job's end."""
+        child = self.mill.start()
+        timer = threading.Timer(self.chance.uniform(0, pace.power_on), child.kill) if pace and self.chance.random() < 0.1 else None
+        if timer:
+            timer.start()
+        try:
+            status = written(child, b"status\n") and child.stdout.readline().decode()
+            if status and status.endswith("\n"):
+                state = self.found(status)
+                begins = lambda: None
+                if pace and not timer:
+                    timer = threading.Timer(self.moment(state, pace), child.kill)
+                    begins = timer.start
+                self.goes_on(child, state, begins)
+            elif child.wait() != -9 or self.mill.handed_out():
+                raise Wrong(f"power on ended with status {child.returncode} and handed out {self.mill.handed_out()}")
+            else:
+                # it left what the session before left
+                self.counts[POWER_ON] += 1
+        finally:
+            if timer:
+                timer.cancel()
+            child.kill()
+            child.wait()
+            child.stdout.close()
+            with contextlib.suppress(BrokenPipeError):
+                child.stdin.close()
+        return child.returncode == 0
+
+    def goes_on(self, child, state, begins):
+        """Gives all commands up to the job's end, and looks at what was told and handed out until the session ended."""
+        session = Session(self.steps, state, self.reference(state))
+        begins()
+        written(child, b"".join(session.commands), last=True)
+        text = child.stdout.read().decode()
+        status = child.wait()
+        self.handed = self.mill.handed_out()
+        if self.handed != session.lines[:len(self.handed)]:
+            n = next(n for n, line in enumerate(self.handed) if session.lines[n:n + 1] != [line])
+            raise Wrong(f"from {state} on, line {n + 1} of OUT is {self.handed[n]!r}, wanted was {session.lines[n:n + 1]}")
+        told = [int(n) for n in re.findall(r"^done (\d+)\n", text, re.M)]
+        if "refused" in text or told != [state.entries + 1 + n for n in range(len(told))] or status not in (0, -9):
+            raise Wrong(f"from {state} on, with status {status}: {text}")
+        self.at = moved(self.at, self.handed)
+        self.told = state.entries + len(told)
+        self.was_cut = status != 0
+        # nothing is cut off a session that came to its end
+        self.moments = session.moments if self.was_cut else session.moments[-1:]
+
+
+def works(steps):
+    """How often the device is written: for each segment that is opened, and for each entry."""
+    return sum(1 + len(step.segments) for step in steps)
+
+
+def written(child, commands, last=False):
+    """Whether commands were written to a process, which may have ended."""
+    try:
+        child.stdin.write(commands)
+        child.stdin.flush()
+        if last:
+            child.stdin.close()
+        return True
+    except BrokenPipeError:
+        return False
+
+
+def left_behind(cutting):
+    """What the device holds once it was powered on again, which writes all that stands as a snapshot; and where the machine stands."""
+    if not cutting.session():
+        raise Wrong("power on behind the job's end failed")
+    return cutting.mill.stored(), cutting.at
+
+
+def try_job(ngc, folder, chance, counts, cuts):
+    """A job, a tick at a time, then whole, then cut."""
+    does = jobs.job(chance)
+    first, second, third = (Mill(ngc, tempfile.mkdtemp(dir=folder)) for _ in range(3))
+    steps = whole_run(first, does)
+    whole = Cutting(second, steps, chance, counts)
     began = time.monotonic()
-    child.stdin.close()
-    text = child.stdout.read().decode()
+    if not whole.session():
+        raise Wrong("the whole run didn't come to its end")
     took = time.monotonic() - began
-    if child.wait() != 0 or f"done {LINES + 1}\n" not in text:
-        sys.exit(f"the whole run ended with {child.returncode}: {text}")
-    return took
+    behind = left_behind(whole)
+    power_on = time.monotonic() - began - took
+    pace = Pace(power_on, max(0.0, took - power_on) / works(steps))
+    cutting = Cutting(third, steps, chance, counts)
+    for _ in range(chance.randint(1, cuts)):
+        if cutting.session(pace):
+            counts[LATE] += 1
+            break
+    if not cutting.session():
+        raise Wrong("the last session didn't come to its end")
+    if left_behind(cutting) != behind:
+        raise Wrong("behind the job that was cut the machine or the device is in another state")
+    return sum(len(step.segments) for step in steps), sum(len(segment) for step in steps for segment in step.segments)
 
 
-def cut(folder, seconds):
-    """The last entry that was told before the end, and whether it came before the run's own end."""
-    child = start(folder)
-    time.sleep(seconds)
-    ended = child.poll() is not None
-    child.kill()
-    text = child.stdout.read().decode()
-    child.wait()
-    child.stdin.close()
-    told = [int(n) for n in re.findall(r"^done (\d+)\n", text, re.M)]
-    return (told[-1] if told else 0), ended or "ticks" in text
+def main():
+    words = argparse.ArgumentParser(description=__doc__.splitlines()[0])
+    words.add_argument("jobs", nargs="?", type=int, default=100)
+    words.add_argument("seed", nargs="?", type=int, default=1)
+    words.add_argument("--ngc", help="the program, if it isn't crates/ngc/out/ngc, built by rt")
+    words.add_argument("--folder", help="where devices and OUT lie, if not in the system's folder for such files")
+    words.add_argument("--cuts", type=int, default=4, help="the most cuts of a job")
+    given = words.parse_args()
+    ngc = given.ngc and os.path.abspath(given.ngc)
+    if not ngc:
+        ngc = os.path.join(here, "crates/ngc/out/ngc")
+        dry = ["rt", "run", "--", "dry", "../../examples/first.ngc"]
+        subprocess.run(dry, cwd=os.path.join(here, "crates/ngc"), stdout=subprocess.DEVNULL, stderr=subprocess.DEVNULL)
+    counts = collections.Counter()
+    segments = lines = 0
+    for number in range(1, given.jobs + 1):
+        chance = random.Random(f"{given.seed} {number}")
+        with tempfile.TemporaryDirectory(dir=given.folder) as folder:
+            try:
+                made, handed = try_job(ngc, folder, chance, counts, given.cuts)
+            except Wrong as wrong:
+                sys.exit(f"job {number} of seed {given.seed}: {wrong}\n{jobs.job(random.Random(f'{given.seed} {number}'))}")
+        segments += made
+        lines += handed
+    kinds = (NOTHING, SEGMENT, TOLD, APPROACH, APPROACHED)
+    print(f"{given.jobs} jobs of {segments} segments and {lines} lines of OUT, {counts[LATE]} of them to their end before the next cut")
+    print(f"cut {sum(counts[kind] for kind in (*kinds, POWER_ON))} times: {counts[POWER_ON]} in power on, behind which stood what had stood before;")
+    print("then stood " + ", ".join(f"{kind} {counts[kind]}" for kind in kinds) + f"; {counts[MORE]} times {MORE}")
 
 
-def status(folder):
-    """What a controller that is powered on again says."""
-    done = subprocess.run(words(folder), input=b"status\n", stdout=subprocess.PIPE)
-    found = STATUS.fullmatch(done.stdout.decode())
-    if done.returncode != 0 or not found:
-        sys.exit(f"the status of a device that was cut: {done.returncode} {done.stdout}")
-    entries, place, known, half, condition = found.groups()
-    return int(entries), known, half, condition
-
-
-def main(folder):
-    took = whole_run(folder)
-    equal = more = half_done = late = 0
-    for moment in range(1, moments + 1):
-        told, whole = cut(folder, took * moment / (moments + 1))
-        entries, known, half, condition = status(folder)
-        if entries not in (told, told + 1):
-            sys.exit(f"moment {moment}: {told} entries were told, and {entries} are there")
-        if condition != "idle" or (half != "none") != (known == "unknown"):
-            sys.exit(f"moment {moment}: {known}, half {half}, {condition}")
-        equal += entries == told
-        more += entries == told + 1
-        half_done += half != "none"
-        late += whole
-    print(f"a whole run of {LINES} lines takes {took:.3f} s; cut at {moments} moments, {late} of them behind its last line:")
-    print(f"the entries of the last told done: {equal}; one more: {more}; a block half done: {half_done}")
-
-
-subprocess.run(["rt", "run", "--", "dry", "../../examples/first.ngc"], cwd=os.path.join(here, "crates/ngc"), stdout=subprocess.DEVNULL, stderr=subprocess.DEVNULL)
-with tempfile.TemporaryDirectory(dir=sys.argv[2] if len(sys.argv) > 2 else None) as folder:
-    with open(os.path.join(here, "examples/mill.toml")) as given, open(f"{folder}/mill.toml", "w") as settings:
-        settings.write(given.read())
-    main(folder)
+if __name__ == "__main__":
+    main()

@@ -44,6 +44,7 @@ def clear(room):
 
 
 FIRST_HANDED = "-- hands out\nP 1 0 0 50\nP 1 0 0 50\nS 0 0.000000 0 0 0 0\n"
+WAY_BACK, WAY_DOWN = "P 0 0 1 50\n" * 2, "P 0 0 -1 1000\n" * 3
 CHANGES = [
     ("a byte of an expected text", edit("cycles.dry", "STRAIGHT_FEED(5.000000, 7.000000, 4.200000)", "STRAIGHT_FEED(5.000000, 7.000000, 4.200001)")),
     ("a line of an expected text left out", edit("cycles.dry", "SET_FEED_RATE(100.000000)\n", "")),
@@ -68,6 +69,18 @@ CHANGES = [
     ("a byte that a device holds", edit("devices.run", "2 16 d007", "2 16 d107")),
     ("a byte that a device doesn't hold", edit("devices.run", "2 16 d007\n", "2 16 d007\n3 511 01\n")),
     ("a byte that another program wrote", edit("devices.run", "88 156 00", "88 156 01")),
+    ("an approach without its switch", edit("half_done.run", "S 1 500.000000 0 1 1 1\nP -1 0 0 50\nP 1 0 0 50\n", "P -1 0 0 50\nP 1 0 0 50\n")),
+    ("an approach with the outputs of the block's beginning", edit("half_done.run", "S 1 500.000000 0 1 1 1\nP -1 0 0 50\n", "S 0 0.000000 0 0 0 0\nP -1 0 0 50\n")),
+    ("an approach from an earlier reference", edit("half_done.run", "P 0 -1 1 50\nP -1 0 1 50\nP 0 -1 1 50\n", "P -1 0 0 50\n" * 7)),
+    ("an approach that goes to the block's beginning", edit("half_done.run", WAY_BACK + WAY_DOWN, "P -1 0 1 50\nP -1 0 0 50\n" + WAY_DOWN)),
+    ("an approach that is no entry", edit("half_done.run", "done 2\ndone 3\nidle\nticks 14\n", "done 2\nidle\nticks 13\n")),
+    ("finished segments made again", edit("half_done.run", WAY_BACK + WAY_DOWN, WAY_BACK + "P 1 0 0 50\nP 1 0 0 50\n" + WAY_DOWN)),
+    ("a cut segment that is left out", edit("half_done.run", "P -1 0 0 50\nP -1 0 0 50\nP -1 0 0 50\nP 1 0 0 50\n", "P -1 0 0 50\nP -1 0 0 50\nP -1 0 0 50\n")),
+    ("a place that is known behind a cut", edit("half_done.run", "0.000000 unknown half mdi 0 idle\n> resume\nrefused K3 PlaceUnknown\n", "0.000000 known half mdi 0 idle\n> resume\ngoing\n")),
+    ("a place that isn't known behind a reference", edit("half_done.run", "0.000000 known half program 0 idle\n", "0.000000 unknown half program 0 idle\n")),
+    ("a block given up that leaves the spindle turning", edit("half_done.run", "S 0 800.000000 0 0 1 0\nP 1", "S 1 800.000000 0 0 1 0\nP 1")),
+    ("a block given up that moves the program's place", edit("half_done.run", "status entries 3 place 10 at 0.001000 0.000000 0.000000 unknown", "status entries 3 place 20 at 0.001000 0.000000 0.000000 unknown")),
+    ("a reference that is no number", edit("half_done.run", "> reference + 2 3\n", "> reference +1 2 3\n")),
     ("a word of a command line", edit("command_lines.words", "$ ngc help wet", "$ ngc help dry")),
     ("the end of a text that isn't said whole", edit("command_lines.words", "...A file that can't be read prints nothing.", "...A file that can't be read prints more.")),
     ("the beginning of a text that isn't said whole", edit("command_lines.words", "error: ...", "errors: ...")),
