@@ -188,16 +188,16 @@ first_part row at l (suc n) other = let e = first_part row at l n other in rw e 
 no_record : (parts p : ℕ) (a b : Bool) (q : Place) → b ≡ false → (if (parts == p) && a && b then Some q else None) ≡ None
 no_record parts p a b q is = grind (arith, nat_tests)
 
-pub no-next : (length : ℕ) (row : Image) (epoch : ℕ) (p : Place) → p.at ≡ 0 → number_at 8 0 (row 0) ≢ epoch → next length row epoch p ≡ None
+pub no-next : (size length : ℕ) (row : Image) (epoch : ℕ) (p : Place) → p.at ≡ 0 → number_at 8 0 (row 0) ≢ epoch → next size length row epoch p ≡ None
 unfolding next
-no-next length row epoch p start other =
+no-next size length row epoch p start other =
     let parts = number_at 2 18 (row p.at) in
     let changes = number_at 2 20 (row p.at) in
     let q : Place = record { at = p.at + parts; number = p.number + 1; found = and_then p.found (λ before. with_record length row p.at changes before) } in
     let stand = parts_stand row p.at (record { epoch = epoch; number = p.number; part = 0; parts = parts; changes = changes }) parts in
     elim (cases_eq parts 0) [
-      | inl none ↦ no_parts parts changes (nat_le (p.at + parts) log_size) stand q none
-      | inr some ↦ no_record parts (parts_for changes) (nat_le (p.at + parts) log_size) stand q (absent parts some)
+      | inl none ↦ no_parts parts changes (nat_le (p.at + parts) size) stand q none
+      | inr some ↦ no_record parts (parts_for changes) (nat_le (p.at + parts) size) stand q (absent parts some)
     ]
   where
     no_parts : (parts changes : ℕ) (a b : Bool) (q : Place) → parts ≡ 0 → (if (parts == parts_for changes) && a && b then Some q else None) ≡ None
@@ -212,8 +212,8 @@ pub standing-none : (h : Header) (area text log : Image) → number_at 8 0 (log 
 unfolding standing_of run
 standing-none h area text log other =
     let start : Place = record { at = 0; number = 0; found = snapshot h.length area } in
-    let none = no-next h.length log h.epoch start refl other in
-    λ i. standing (after_step (none i) (λ q. run 1023 h.length log h.epoch q) start).found (text_of h.length text) h.length
+    let none = no-next log_size h.length log h.epoch start refl other in
+    λ i. standing (after_step (none i) (λ q. run 1023 log_size h.length log h.epoch q) start).found (text_of h.length text) h.length
 
 -- An image under this header that has no record of its epoch.
 pub stands-snapshot : (image : Image) (h : Header) → in_force image ≡ Some h → number_at 8 0 (image log_first) ≢ h.epoch → stands image ≡ standing (snapshot h.length (stretch (snapshot_first h.epoch) snapshot_size image)) (text_of h.length (stretch (program_first h.area) program_size image)) h.length

@@ -1,4 +1,5 @@
 pub mod Images
+pub mod Parts
 pub mod Places
 pub mod Rows
 pub mod SaysAgain

@@ -3,6 +3,7 @@ pub mod Fields
 pub mod Header
 pub mod Limits
 pub mod Log
+pub mod Part
 pub mod Report
 pub mod Sectors
 pub mod Snapshot

@@ -3,6 +3,7 @@ use Rattle.std.specs.Prelude.{ℕ, zero, suc, ◌+◌, ◌*◌, ◌/◌, ◌%◌
 use Rattle.ng_params.specs.Numbers.{index_of}
 use Rattle.ng_params.specs.Changes.{with_changes}
 use Rattle.ng_params.specs.declared.change.Change.{Change}
+use Rattle.ng_layout.specs.declared.header.Header.{Header}
 use Rattle.ng_layout.specs.Fields.{number_at, signed_at}
 use Rattle.ng_layout.specs.StateField.{field_at}
 use Rattle.ng_layout.specs.Report.{and_then, count_of, report_of}
@@ -53,16 +54,20 @@ with_record length row at changes before =
 abbrev pub parts_for : ℕ → ℕ
 parts_for changes = 1 + (changes + 47) / 48
 
--- how many sectors the log has
+-- the most sectors of a log
 abbrev pub log_size : ℕ
 log_size = 1024
 
--- the place behind the record that begins here, where it is complete and within the log
-unfoldable pub next : ℕ → (ℕ → List ℕ) → ℕ → Place → Option Place
-next length row epoch p =
+-- how many sectors the log of this header's format has; each header is of format 1, whose log has the most
+abbrev pub log_size_of : Header → ℕ
+log_size_of h = log_size
+
+-- the place behind the record that begins here, where it is complete and within a log of so many sectors
+unfoldable pub next : ℕ → ℕ → (ℕ → List ℕ) → ℕ → Place → Option Place
+next size length row epoch p =
     let parts = number_at 2 18 (row p.at) in
     let changes = number_at 2 20 (row p.at) in
-    if (parts == parts_for changes) && nat_le (p.at + parts) log_size && parts_stand row p.at (record { epoch = epoch; number = p.number; part = 0; parts = parts; changes = changes }) parts
+    if (parts == parts_for changes) && nat_le (p.at + parts) size && parts_stand row p.at (record { epoch = epoch; number = p.number; part = 0; parts = parts; changes = changes }) parts
     then Some (record { at = p.at + parts; number = p.number + 1; found = and_then p.found (λ before. with_record length row p.at changes before) })
     else None
 
@@ -71,6 +76,6 @@ after_step None go p = p
 after_step (Some q) go p = go q
 
 -- the place behind at most so many complete records
-unfoldable pub run : ℕ → ℕ → (ℕ → List ℕ) → ℕ → Place → Place
-run zero length row epoch p = p
-run (suc n) length row epoch p = after_step (next length row epoch p) (λ q. run n length row epoch q) p
+unfoldable pub run : ℕ → ℕ → ℕ → (ℕ → List ℕ) → ℕ → Place → Place
+run zero size length row epoch p = p
+run (suc n) size length row epoch p = after_step (next size length row epoch p) (λ q. run n size length row epoch q) p

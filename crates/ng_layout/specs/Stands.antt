@@ -11,7 +11,7 @@ use Rattle.ng_layout.specs.declared.header.Header.{Header}
 use Rattle.ng_layout.specs.Header.{header_in}
 use Rattle.ng_layout.specs.Report.{and_then, report_of}
 use Rattle.ng_layout.specs.Sectors.{values, text_of}
-use Rattle.ng_layout.specs.Log.{Found, run, log_size}
+use Rattle.ng_layout.specs.Log.{Found, run, log_size, log_size_of}
 use Rattle.ng_layout.specs.Stored.{HalfDone, Standing}
 
 -- The sectors: 0 and 1 headers, then two snapshot areas, two program areas, the log.
@@ -68,14 +68,14 @@ standing (Some f) program length = Ok (record {
 
 -- what a header, its snapshot, its program and the log stand for
 unfoldable pub standing_of : Header → (ℕ → List ℕ) → (ℕ → List ℕ) → (ℕ → List ℕ) → Result Standing Fault
-standing_of h area text log = standing (run log_size h.length log h.epoch (record { at = 0; number = 0; found = snapshot h.length area })).found (text_of h.length text) h.length
+standing_of h area text log = standing (run (log_size_of h) (log_size_of h) h.length log h.epoch (record { at = 0; number = 0; found = snapshot h.length area })).found (text_of h.length text) h.length
 
 abbrev pub by_header : Option Header → (Header → Result Standing Fault) → Result Standing Fault
 by_header None f = Err NotFormatted
 by_header (Some h) f = f h
 
 unfoldable pub stands : (ℕ → List ℕ) → Result Standing Fault
-stands image = by_header (in_force image) (λ h. standing_of h (stretch (snapshot_first h.epoch) snapshot_size image) (stretch (program_first h.area) program_size image) (stretch log_first log_size image))
+stands image = by_header (in_force image) (λ h. standing_of h (stretch (snapshot_first h.epoch) snapshot_size image) (stretch (program_first h.area) program_size image) (stretch log_first (log_size_of h) image))
 
 -- the epoch in force, 0 where none is
 abbrev pub epoch_in_force : Option Header → ℕ

@@ -1,5 +1,5 @@
 //! The header of an epoch: what names the snapshot and the program in force.
-ghost use Rattle.std.specs.Prelude.{◌≡◌, IfSome};
+ghost use Rattle.std.specs.Prelude.{◌≡◌, ◌≤◌, IfSome};
 
 use crate::bytes::{get_u32, get_u64, put_u32, put_u64};
 use crate::report::GREATEST_COUNT;
@@ -12,6 +12,12 @@ const FORMAT: u32 = 1;
 
 /// The most bytes of a program.
 pub const LONGEST_PROGRAM: u64 = 131_072;
+
+/// The first sector of the log.
+pub const LOG_FIRST: usize = 686;
+
+/// The most sectors of a log.
+pub const LONGEST_LOG: usize = 1024;
 
 /// The header of an epoch (own).
 #[derive(Clone, Copy, Debug, PartialEq, Eq)]
@@ -26,6 +32,7 @@ pub struct Header {
 
 impl Header {
     ghost use Rattle.ng_layout.specs.Header.{is_within, header_in, IsLawful, HoldsHeader};
+    ghost use Rattle.ng_layout.specs.Log.{log_size_of};
 
     /// The header that sector `k` holds; none where it isn't valid.
     #[tactic(auto, unfolding(crate::specs::Header::header_in, crate::specs::Header::header_at, crate::specs::Header::is_marked))]
@@ -53,6 +60,14 @@ impl Header {
             && self.epoch <= GREATEST_COUNT
             && self.area <= 1
             && self.length <= LONGEST_PROGRAM
+    }
+
+    /// How many sectors its log has, from `LOG_FIRST` on: `LONGEST_LOG` in the one format that there is.
+    pub fn log_size(self) -> usize
+        ensures value { result ≡ log_size_of self }
+        ensures most { result ≤ 1024 }
+    {
+        LONGEST_LOG
     }
 
     /// The sector that holds it, in which what it doesn't name is 0.

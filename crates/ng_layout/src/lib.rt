@@ -1,7 +1,8 @@
 //! Where what the journal stores stands in the sectors of a device, and what such sectors stand for (own; docs/DEVICE.md).
 //!
 //! What is written is read back, or refused as damaged exactly where a field is out of its range: `Header`, `StateField`,
-//! `Stored::sector`, `text_sector`. specs/Stands.antt says what an image of a device stands for. No device is called here.
+//! `Stored::sector`, `text_sector`, `first_part`, `changes_part`. specs/Stands.antt says what an image of a device stands for. No
+//! device is called here.
 #![tactic(auto)]
 
 mod bytes;
@@ -17,8 +18,10 @@ mod writing;
 
 pub use field::{CodeField, HalfField, KeptField, StateField, Triple};
 pub use half::{Half, Opened, Source, TEXT, text_of};
-pub use header::{Header, LONGEST_PROGRAM};
-pub use part::epoch_of_part;
+pub use header::{Header, LOG_FIRST, LONGEST_LOG, LONGEST_PROGRAM};
+pub use part::{
+    CHANGES, PartLabel, changes_part, first_part, parts_for, report_of_part, take_changes,
+};
 pub use report::{GREATEST_COUNT, Reported};
 pub use sectors::{BYTES, take_values, text_sector};
 pub use stored::{Stored, fresh_sector};

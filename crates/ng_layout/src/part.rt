@@ -1,12 +1,170 @@
-//! The parts of records in the log.
-ghost use Rattle.std.specs.Prelude.{◌≡◌};
-ghost use Rattle.ng_layout.specs.Fields.{number_at};
+//! The parts of a record in the log, one sector each (own; docs/DEVICE.md).
+//!
+//! A record holds the whole state field in its first part, and its changes of parameters in the others, 48 in each but the last. Each
+//! part begins with the same label but for its own number.
+ghost use Rattle.std.specs.Prelude.{◌≡◌, ◌≤◌, length, drop, replicate, IfSome};
+ghost use Rattle.ng_layout.specs.Fields.{bytes_at, SameBelow, SameFrom, Puts};
+ghost use Rattle.ng_layout.specs.Log.{is_part, change_at, parts_for};
+ghost use Rattle.ng_layout.specs.Part.{label_of, label_at, HoldsLabel, HoldsState, HoldsChanges, MakesOrDamaged};
+ghost use Rattle.ng_layout.specs.Report.{report_of};
+ghost use Rattle.ng_layout.specs.Sound.{IsSound};
+ghost use Rattle.ng_layout.specs.StateField.{field_at};
+ghost use Rattle.ng_layout.specs.Storable.{IsStorable};
 
-use crate::bytes::get_u64;
+use crate::bytes::{get_i64, get_u16, get_u64, put_i64, put_u16, put_u64};
+use crate::field::StateField;
+use crate::report::Reported;
+use crate::sectors::BYTES;
+use crate::stored::Stored;
+use ng_num::Num;
+use ng_params::{Change, Index, Params};
+use std::alloc::Allocator;
 
-/// The epoch that a part of a record says it is of.
-pub fn epoch_of_part(sector: &[u8; 512]) -> u64
-    ensures { result ≡ number_at 8 0 sector.now }
+/// How many changes a part has room for.
+pub const CHANGES: usize = 48;
+
+/// The byte of a part at which its content begins.
+const CONTENT: usize = 32;
+
+/// How many bytes a change takes.
+const CHANGE: usize = 10;
+
+/// What a part says of itself (own).
+#[derive(Clone, Copy, Debug, PartialEq, Eq)]
+pub struct PartLabel {
+    /// The epoch of its record.
+    pub epoch: u64,
+    /// The number of its record in that epoch, from 0.
+    pub number: u64,
+    /// Its own number in the record, from 0.
+    pub part: u16,
+    /// How many parts the record has.
+    pub parts: u16,
+    /// How many changes the record has.
+    pub changes: u16,
+}
+
+impl PartLabel {
+    /// What a sector says of itself where it is a part; whether it is one, and of which record, has to be seen from that.
+    pub fn read(sector: &[u8; BYTES]) -> PartLabel
+        ensures { result ≡ label_at sector.now }
+    {
+        PartLabel {
+            epoch: get_u64(sector, 0),
+            number: get_u64(sector, 8),
+            part: get_u16(sector, 16),
+            parts: get_u16(sector, 18),
+            changes: get_u16(sector, 20),
+        }
+    }
+
+    /// Whether a sector says this of itself.
+    #[tactic(auto, unfolding(crate::specs::Log::is_part))]
+    pub fn is_of(self, sector: &[u8; BYTES]) -> bool
+        ensures { result ≡ is_part (label_of self) sector.now }
+    {
+        get_u64(sector, 0) == self.epoch
+            && get_u64(sector, 8) == self.number
+            && get_u16(sector, 16) == self.part
+            && get_u16(sector, 18) == self.parts
+            && get_u16(sector, 20) == self.changes
+    }
+
+    /// A sector that says this, in which all else is 0.
+    fn sector(self) -> [u8; BYTES]
+        ensures label { HoldsLabel (label_of self) result }
+        ensures rest { SameFrom 22 (replicate 512 0) result }
+    {
+        let mut sector = [0; BYTES];
+        put_u64(&mut sector, 0, self.epoch);
+        put_u64(&mut sector, 8, self.number);
+        put_u16(&mut sector, 16, self.part);
+        put_u16(&mut sector, 18, self.parts);
+        put_u16(&mut sector, 20, self.changes);
+        sector
+    }
+}
+
+/// How many parts a record of so many changes has.
+pub fn parts_for(changes: usize) -> usize
+    requires { changes ≤ 65_535 }
+    ensures value { result ≡ parts_for changes }
+    ensures few { result ≤ 1367 }
 {
-    get_u64(sector, 0)
+    1 + (changes + CHANGES - 1) / CHANGES
+}
+
+/// The first part of a record of what is stored, in which what no field names is 0; its label says part 0. It takes no memory.
+pub fn first_part<A: Allocator + Copy + Drop>(label: PartLabel, stored: &Stored<A>) -> [u8; BYTES]
+    requires count { stored.now.entries ≤ 1_000_000_000_000 }
+    requires storable { IsStorable stored.now }
+    ensures label { HoldsLabel (label_of label) result }
+    ensures state { HoldsState stored.now result }
+{
+    let mut sector = label.sector();
+    put_content(&mut sector, &stored.field());
+    sector
+}
+
+/// Puts a state field behind a label. The byte of the content that it leaves free stays, and so do all behind it.
+fn put_content(sector: &mut [u8; BYTES], field: &StateField)
+    ensures label { SameBelow 32 sector.old sector.new }
+    ensures put { Puts field_at 0 456 field.now (drop 32 sector.old) (drop 32 sector.new) }
+    ensures gap { bytes_at 1 165 (drop 32 sector.new) ≡ bytes_at 1 165 (drop 32 sector.old) }
+{
+    field.write(&mut sector[CONTENT..]);
+}
+
+/// What the state field of a record's first part says beside a program of this length, in bytes; none where a number of it is out of
+/// its range.
+pub fn report_of_part(sector: &[u8; BYTES], length: u64) -> Option<Reported>
+    ensures value { result ≡ report_of length (field_at (drop 32 sector.now)) }
+    ensures sound { IfSome result (IsSound length) }
+{
+    StateField::read(&sector[CONTENT..]).report(length)
+}
+
+/// Another part of a record, with these changes, in which what none of them names is 0. It takes no memory.
+pub fn changes_part(label: PartLabel, changes: &[Change]) -> [u8; BYTES]
+    requires { length changes.now ≤ 48 }
+    ensures label { HoldsLabel (label_of label) result }
+    ensures changes { HoldsChanges changes.now result }
+{
+    let mut sector = label.sector();
+    for (k, change) in changes.iter().enumerate() {
+        let at = CONTENT + CHANGE * k;
+        put_u16(&mut sector, at, change.index.number());
+        put_i64(&mut sector, at + 2, change.value.count());
+    }
+    sector
+}
+
+/// The change at a place of a part; none where its index or its value is out of range.
+fn change_at(sector: &[u8; BYTES], at: usize) -> Option<Change>
+    requires { at ≤ 502 }
+    ensures { result ≡ change_at sector.now at }
+{
+    Some(Change {
+        index: Index::of(i64::from(get_u16(sector, at)))?,
+        value: Num::of(i128::from(get_i64(sector, at + 2))).ok()?,
+    })
+}
+
+/// Makes the first changes of a part in a table; false where one is out of its range, and those before it were made.
+pub fn take_changes<A: Allocator + Copy + Drop>(
+    table: &mut Params<A>,
+    sector: &[u8; BYTES],
+    count: usize,
+) -> bool
+    requires { count ≤ 48 }
+    ensures { MakesOrDamaged result sector.now count table.old table.new }
+{
+    for k in 0..count {
+        let at = CONTENT + CHANGE * k;
+        match change_at(sector, at) {
+            Some(change) => table.set(change.index, change.value),
+            None => return false,
+        }
+    }
+    true
 }

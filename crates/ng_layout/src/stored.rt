@@ -4,8 +4,10 @@ ghost use Rattle.std.specs.Option.{option_map};
 ghost use Rattle.ng_layout.specs.Fields.{AreZero};
 ghost use Rattle.ng_layout.specs.StateField.{field_at};
 ghost use Rattle.ng_layout.specs.Storable.{IsStorable};
-ghost use Rattle.ng_layout.specs.Snapshot.{HoldsPart};
+ghost use Rattle.ng_layout.specs.Report.{report_of};
+ghost use Rattle.ng_layout.specs.Snapshot.{report_in, HoldsPart};
 ghost use Rattle.ng_layout.specs.Stored.{fresh};
+ghost use Rattle.ng_layout.specs.Writing.{field_of};
 
 use crate::field::StateField;
 use crate::half::Half;
@@ -102,6 +104,21 @@ impl<A: Allocator + Copy + Drop> Stored<A> {
         };
     }
 
+    /// Its state field.
+    pub(crate) fn field(&self) -> StateField
+        requires count { self.now.entries ≤ 1_000_000_000_000 }
+        requires storable { IsStorable self.now }
+        ensures is { result ≡ field_of (report_in self.now) }
+        ensures means { report_of self.now.length result ≡ Some (report_in self.now) }
+    {
+        StateField::of(
+            self.entries,
+            self.place,
+            &self.state.machine,
+            self.half.as_ref(),
+        )
+    }
+
     /// The sector of a snapshot that holds this part of it: the state field first, then the parameters. What no field names is 0.
     pub fn sector(&self, part: usize) -> [u8; BYTES]
         requires part { part < 86 }
@@ -110,9 +127,7 @@ impl<A: Allocator + Copy + Drop> Stored<A> {
         ensures { HoldsPart self.now part result }
     {
         if part == 0 {
-            let half = self.half.as_ref();
-            let field = StateField::of(self.entries, self.place, &self.state.machine, half);
-            state_sector(&field)
+            state_sector(&self.field())
         } else {
             values_sector(&self.state.params, VALUES * (part - 1))
         }

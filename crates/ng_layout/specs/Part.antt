@@ -1,0 +1,59 @@
+-- What a part of a record holds, as it is written and as it is read (own).
+use Rattle.std.specs.Prelude.{◌≡◌, ◌+◌, ◌-◌, ◌*◌, ℕ, zero, suc, Bool, true, List, [], ◌∷◌, ◌++◌, length, take, drop, ℤ, Option, Some, None, MatchBool}
+use Rattle.ng_params.specs.Changes.{with_changes}
+use Rattle.ng_params.specs.declared.change.Change.{Change}
+use Rattle.ng_layout.specs.Fields.{number_at, AreZero}
+use Rattle.ng_layout.specs.StateField.{field_at}
+use Rattle.ng_layout.specs.Report.{and_then, report_of}
+use Rattle.ng_layout.specs.Log.{Label, is_part, change_at}
+use Rattle.ng_layout.specs.Snapshot.{report_in, HoldsReport}
+use Rattle.ng_layout.specs.Stored.{Saved}
+use Rattle.ng_layout.specs.declared.part.PartLabel.{PartLabel}
+
+-- what a part says of itself
+abbrev pub label_of : PartLabel → Label
+label_of l = record { epoch = l.epoch; number = l.number; part = l.part; parts = l.parts; changes = l.changes }
+
+-- the numbers that stand where a part says it, whether the sector is one or not
+abbrev pub label_at : List ℕ → PartLabel
+label_at sector = record { epoch = number_at 8 0 sector; number = number_at 8 8 sector; part = number_at 2 16 sector; parts = number_at 2 18 sector; changes = number_at 2 20 sector }
+
+-- the first n changes of a part; nothing where one of them is out of its range
+unfoldable pub changes_in : List ℕ → ℕ → Option (List Change)
+changes_in sector zero = Some []
+changes_in sector (suc n) = and_then (changes_in sector n) (λ earlier. and_then (change_at sector (32 + 10 * n)) (λ change. Some (earlier ++ change ∷ [])))
+
+-- the changes that part i + 1 of a record has: 48, or what is left of them
+abbrev pub piece : ℕ → List Change → List Change
+piece i changes = take 48 (drop (48 * i) changes)
+
+-- The sector is written with this label, and 0 in each byte between that and the content.
+pub record HoldsLabel (l : Label) (sector : List ℕ) : Type 0 where
+  pub is : is_part l sector ≡ true
+  pub gap : AreZero 10 22 sector
+
+-- Its content is the state field of what is stored, which says that again.
+pub record HoldsState (saved : Saved) (sector : List ℕ) : Type 0 where
+  pub field : HoldsReport (report_in saved) 480 (drop 32 sector)
+  pub report : report_of saved.length (field_at (drop 32 sector)) ≡ Some (report_in saved)
+
+-- Its content is these changes, which are read again, and 0 in each byte behind the last one.
+pub record HoldsChanges (changes : List Change) (sector : List ℕ) : Type 0 where
+  pub made : changes_in sector (length changes) ≡ Some changes
+  pub rest : AreZero (480 - 10 * length changes) (32 + 10 * length changes) sector
+
+-- The sector is written with this part of a record: the state field in the first one, its piece of all changes in each other.
+pub record HoldsRecordPart (l : Label) (saved : Saved) (all : List Change) (sector : List ℕ) : Type 0 where
+  pub label : HoldsLabel l sector
+  pub state : l.part ≡ 0 → HoldsState saved sector
+  pub changes : (i : ℕ) → l.part ≡ 1 + i → HoldsChanges (piece i all) sector
+
+-- the first n changes of a part are made in a table
+pub record Makes (sector : List ℕ) (n : ℕ) (old new : List ℤ) : Type 0 where
+  pub changes : List Change
+  pub there : changes_in sector n ≡ Some changes
+  pub is : new ≡ with_changes old changes
+
+-- they are made, or one of them is out of its range
+abbrev pub MakesOrDamaged : Bool → List ℕ → ℕ → List ℤ → List ℤ → Type 0
+MakesOrDamaged whole sector n old new = MatchBool whole (Makes sector n old new) (changes_in sector n ≡ None)
