@@ -17,10 +17,11 @@ use Rattle.ng_layout.specs.Spare.{IsAmong}
 use Rattle.ng_layout.specs.Stands.{snapshot_first, snapshot_size, program_first, program_size, log_first, stretch, newer, in_force, snapshot, standing, stands, IsWritten}
 use Rattle.ng_layout.specs.Stored.{Saved}
 use Rattle.ng_layout.proofs.Rows.{number-zeros}
-use Rattle.ng_layout.proofs.Images.{stretch-at, stands-snapshot}
+use Rattle.ng_layout.proofs.Images.{stretch-at}
 use Rattle.ng_layout.proofs.Snapshots.{snapshot-new}
 use Rattle.ng_journal.specs.Area.{BelongsIn}
-use Rattle.ng_journal.specs.AtRest.{IsAt, IsLaidOut}
+use Rattle.ng_log.specs.AtEnd.{no_records, EndsIn, IsAtEnd}
+use Rattle.ng_journal.specs.AtRest.{IsLaidOut}
 use Rattle.ng_journal.specs.Formats.{IsEmpty, OverwritesTo, Overwrites, first_header}
 use Rattle.ng_journal.proofs.Framing.{there, elsewhere, WritesFirst, first_headers, first_log, first_area, first_sync, first_write, laid_out}
 
@@ -94,19 +95,27 @@ made_force : (image : Image) (saved : Saved) → IsMade image saved → in_force
 unfolding in_force
 made_force image saved m = λ i. newer (no_header 0 (image 0) m.other i) (m.header i)
 
-made_stands : (image : Image) (saved : Saved) → IsMade image saved → saved.length ≡ 0 → length saved.setup.params ≡ 5399 → stands image ≡ Ok (record { saved = saved; program = [] })
-made_stands image saved m long table =
-    let force = made_force image saved m in
-    let none : number_at 8 0 (image log_first) ≢ 1 = let e = m.log 0 (omega arith) in λ is. omega (arith, is, e) in
+made_written : (image : Image) (saved : Saved) → IsMade image saved → IsWritten image
+made_written image saved m = record { past = λ n lt. let e = m.log n lt in omega (arith, e) }
+
+-- stands for what was written, and its log is empty
+made_ends : (image : Image) (saved : Saved) → IsMade image saved → saved.length ≡ 0 → length saved.setup.params ≡ 5399 → EndsIn image first_header (record { saved = saved; program = [] }) no_records
+made_ends image saved m long table =
     let row = stretch (snapshot_first 1) snapshot_size image in
     let parts : (j : ℕ) → j < snapshot_size → HoldsPart saved j (row j) = λ j lt. subst (HoldsPart saved j) (sym (stretch-at (snapshot_first 1) snapshot_size image j lt)) (m.parts j lt) in
     let snap = snapshot-new saved row table parts in
-    stands-snapshot image first_header force none
-    ∙ (λ i. standing (snapshot (sym long i) row) (no_text (stretch (program_first 0) program_size image) i) (sym long i))
-    ∙ (λ i. standing (snap i) [] saved.length)
-
-pub made_written : (image : Image) (saved : Saved) → IsMade image saved → IsWritten image
-made_written image saved m = record { past = λ n lt. let e = m.log n lt in omega (arith, e) }
+    record {
+      force = made_force image saved m;
+      written = made_written image saved m;
+      ends = record {
+        records = 0;
+        reached = (λ i. record { at = 0; number = 0; found = snapshot (sym long i) row }) ∙ (λ i. record { at = 0; number = 0; found = snap i });
+        room = omega arith;
+        clean = record { none = λ n ge lt is. omega (arith, is, ap (number_at 8 0) (stretch-at log_first log_size image n lt), m.log n lt) };
+      };
+      program = no_text (stretch (program_first 0) program_size image);
+      long = long;
+    }
 
 -- The three stretches, written one after the other.
 pub record Steps (saved : Saved) (old a b c : Life) : Type 0 where
@@ -153,7 +162,7 @@ table_long n p v = length-set (replicate n (pos 0)) p v ∙ length-replicate n (
 -- What is made, whatever is stored.
 pub record Begins {T E : Type 0} (result : Result T E) (saved : Saved) (old new : Life) : Type 0 where
   pub writes : WritesFirst saved old new
-  pub at : OnOk result (IsAt new first_header (record { saved = saved; program = [] }))
+  pub at : OnOk result (IsAtEnd new first_header (record { saved = saved; program = [] }) no_records)
   pub laid : OnOk result (IsLaidOut first_header saved (reads new))
   pub zeros : OnOk result ((n : ℕ) → (n ≡ 0) ⊎ IsAmong log_first log_size n → IsEmpty n (reads new n))
 
@@ -178,11 +187,9 @@ finished {T = T} {E = E} result saved old a b c synced wrote last bytes s long t
         let image = reads (Wrote 1 bytes (Synced c)) in
         record {
           writes = first_sync ok saved old (Wrote 1 bytes (Synced c)) last upto same;
-          at = subst (λ (l : Life). IsAt l first_header (record { saved = saved; program = [] })) (sym same) (record {
+          at = subst (λ (l : Life). IsAtEnd l first_header (record { saved = saved; program = [] }) no_records) (sym same) (record {
             synced = is_synced (Wrote 1 bytes (Synced c));
-            force = made_force image saved m;
-            stands_for = made_stands image saved m long table;
-            written = made_written image saved m;
+            image = made_ends image saved m long table;
           });
           laid = subst (λ (l : Life). IsLaidOut first_header saved (reads l)) (sym same) (laid_out first_header saved bytes c s.parts holds);
           zeros = subst (λ (l : Life). (n : ℕ) → (n ≡ 0) ⊎ IsAmong log_first log_size n → IsEmpty n (reads l n)) (sym same) (made_zeros saved old a b c bytes s);

@@ -1,16 +1,18 @@
 -- What was read, and what it says of what the image stands for.
-use Rattle.std.proofs.Common.{◌≡◌, ◌≢◌, inl, inr, ℕ, ◌==◌, Bool, true, false, Option, Some, None, Ok, Err, refl, sym, ◌∙◌, subst, arith}
-use Rattle.std.proofs.lemmas.Bool.Decides.{nat_tests}
+use Rattle.std.proofs.Common.{◌≡◌, ◌≤◌, ⊎_elim, inl, inr, ◌⊎◌, ℕ, zero, suc, Bool, true, false, Option, Some, None, Ok, Err, refl, sym, ◌∙◌, ap, subst}
 use Rattle.ng_num.specs.declared.fault.Fault.TheVariants.{NotFormatted, Damaged}
 use Rattle.ng_rig.specs.Life.{Image}
 use Rattle.ng_layout.specs.declared.header.Header.{Header}
-use Rattle.ng_layout.specs.Fields.{number_at}
-use Rattle.ng_layout.specs.Log.{log_size}
+use Rattle.ng_layout.specs.Log.{Place, after_step, log_size, next, run, with_record}
+use Rattle.ng_layout.specs.Report.{and_then}
 use Rattle.ng_layout.specs.Sectors.{text_of}
 use Rattle.ng_layout.specs.Stands.{by_header, in_force, log_first, program_first, program_size, snapshot, snapshot_first, snapshot_size, standing, standing_of, stands, stretch}
 use Rattle.ng_layout.specs.Stored.{Saved}
-use Rattle.ng_layout.proofs.Images.{stands-snapshot}
-use Rattle.ng_journal.specs.Reading.{IsSnapshotOf, has_record}
+use Rattle.ng_log.specs.declared.log_end.LogEnd.{LogEnd}
+use Rattle.ng_log.specs.Reading.{IsRunOf}
+use Rattle.ng_log.proofs.Epochs.{run-stands, run-damaged}
+use Rattle.ng_log.proofs.Runs.{step-from}
+use Rattle.ng_journal.specs.Reading.{IsSnapshotOf}
 use Rattle.ng_journal.specs.Recovery.{HasCause, StandsUnder}
 
 -- no header is in force
@@ -20,39 +22,55 @@ none_found image h is none =
     let e : in_force image ≡ None = sym is ∙ none in
     λ i. by_header (e i) (λ x. standing_of x (stretch (snapshot_first x.epoch) snapshot_size image) (stretch (program_first x.area) program_size image) (stretch log_first log_size image))
 
-same-number : (a b : ℕ) → (a == b) ≡ true → a ≡ b
-same-number a b is = grind (arith, nat_tests)
+-- the snapshot is damaged, and so is what is found with each record behind it
+by_cases : (o : Option Place) → (o ≡ None) ⊎ ((m : Place) × (o ≡ Some m))
+by_cases None = inl refl
+by_cases (Some m) = inr (m, refl)
 
-other-number : (a b : ℕ) → (a == b) ≡ false → a ≢ b
-other-number a b is = grind (arith, nat_tests)
+run_none : (fuel length : ℕ) (log : Image) (epoch : ℕ) (p : Place) → p.found ≡ None → (run fuel log_size length log epoch p).found ≡ None
+unfolding run
+run_none zero length log epoch p none = none
+run_none (suc n) length log epoch p none = elim (by_cases (next log_size length log epoch p)) [
+  | inl last ↦ ap (λ (o : Option Place). (after_step o (λ q. run n log_size length log epoch q) p).found) last ∙ none
+  | inr on ↦
+      let s = step-from log_size length log epoch p on.0 on.1 in
+      let none_on : on.0.found ≡ None = ap (λ (x : Place). x.found) s.is ∙ (λ i. and_then (none i) (λ before. with_record length log p.at s.changes before)) in
+      ap (λ (o : Option Place). (after_step o (λ q. run n log_size length log epoch q) p).found) on.1 ∙ run_none n length log epoch on.0 none_on
+]
 
--- the log has begun
-pub log_found : (image : Image) (h : Option Header) (header : Header) (has : Bool) → h ≡ in_force image → h ≡ Some header → has ≡ has_record header.epoch image → has ≡ true → HasCause Damaged image
-log_found image h header has is some has_is there = inr (record { header = header; force = sym is ∙ some; there = same-number (number_at 8 0 (image log_first)) header.epoch (sym has_is ∙ there) })
-
-no_log : (image : Image) (header : Header) (has : Bool) → has ≡ has_record header.epoch image → has ≡ false → number_at 8 0 (image log_first) ≢ header.epoch
-no_log image header has has_is none = other-number (number_at 8 0 (image log_first)) header.epoch (sym has_is ∙ none)
-
-snapshot-alone : (image : Image) (h : Option Header) (header : Header) (has : Bool) → h ≡ in_force image → h ≡ Some header → has ≡ has_record header.epoch image → has ≡ false
-    → stands image ≡ standing (snapshot header.length (stretch (snapshot_first header.epoch) snapshot_size image)) (text_of header.length (stretch (program_first header.area) program_size image)) header.length
-snapshot-alone image h header has is some has_is none = stands-snapshot image header (sym is ∙ some) (no_log image header has has_is none)
-
--- the snapshot is damaged
-pub damage_found : (image : Image) (h : Option Header) (header : Header) (has whole : Bool) (saved : Saved) → h ≡ in_force image → h ≡ Some header → has ≡ has_record header.epoch image → has ≡ false → IsSnapshotOf (snapshot_first header.epoch) header.length saved image whole → whole ≡ false → HasCause Damaged image
-damage_found image h header has whole saved is some has_is none read broken =
+pub damage_found : (image : Image) (h : Option Header) (header : Header) (whole : Bool) (saved : Saved) → h ≡ in_force image → h ≡ Some header → IsSnapshotOf (snapshot_first header.epoch) header.length saved image whole → whole ≡ false → HasCause Damaged image
+unfolding stands standing_of
+damage_found image h header whole saved is some read broken =
     let damaged : snapshot header.length (stretch (snapshot_first header.epoch) snapshot_size image) ≡ None = subst (λ (b : Bool). IsSnapshotOf (snapshot_first header.epoch) header.length saved image b) broken read in
-    inl (snapshot-alone image h header has is some has_is none ∙ (λ i. standing (damaged i) (text_of header.length (stretch (program_first header.area) program_size image)) header.length))
+    let force : in_force image ≡ Some header = sym is ∙ some in
+    let log = stretch log_first log_size image in
+    let text = text_of header.length (stretch (program_first header.area) program_size image) in
+    (λ i. by_header (force i) (λ x. standing_of x (stretch (snapshot_first x.epoch) snapshot_size image) (stretch (program_first x.area) program_size image) log))
+    ∙ (λ i. standing (run log_size log_size header.length log header.epoch (record { at = 0; number = 0; found = damaged i })).found text header.length)
+    ∙ (λ i. standing (run_none log_size header.length log header.epoch (record { at = 0; number = 0; found = None }) refl i) text header.length)
+
+-- What a whole snapshot says.
+pub record Snapped (image : Image) (header : Header) (snap : Saved) : Type 0 where
+  pub force : in_force image ≡ Some header
+  pub is : IsSnapshotOf (snapshot_first header.epoch) header.length snap image true
+
+pub snapped : (image : Image) (h : Option Header) (header : Header) (whole : Bool) (snap : Saved) → h ≡ in_force image → h ≡ Some header → IsSnapshotOf (snapshot_first header.epoch) header.length snap image whole → whole ≡ true → Snapped image header snap
+snapped image h header whole snap is some read sound = record {
+  force = sym is ∙ some;
+  is = subst (λ (b : Bool). IsSnapshotOf (snapshot_first header.epoch) header.length snap image b) sound read;
+}
+
+-- the log behind it is damaged
+pub log_damaged : (image : Image) (header : Header) (snap saved : Saved) (found : Option LogEnd) → Snapped image header snap → found ≡ None → IsRunOf header snap saved image found → HasCause Damaged image
+log_damaged image header snap saved found s none r = run-damaged image header snap saved s.force s.is.0 (subst (λ (o : Option LogEnd). IsRunOf header snap saved image o) none r)
 
 -- all is found
-pub all_found : (image : Image) (h : Option Header) (header : Header) (has whole : Bool) (saved : Saved) → h ≡ in_force image → h ≡ Some header → has ≡ has_record header.epoch image → has ≡ false → IsSnapshotOf (snapshot_first header.epoch) header.length saved image whole → whole ≡ true → StandsUnder header saved image
-all_found image h header has whole saved is some has_is none read sound =
-    let w = subst (λ (b : Bool). IsSnapshotOf (snapshot_first header.epoch) header.length saved image b) sound read in
-    let text = stretch (program_first header.area) program_size image in
+pub all_found : (image : Image) (header : Header) (snap saved : Saved) (found : Option LogEnd) (end : LogEnd) → Snapped image header snap → found ≡ Some end → end.sector ≤ log_size → IsRunOf header snap saved image found → StandsUnder header saved image
+all_found image header snap saved found end s some room r =
+    let run : IsRunOf header snap saved image (Some end) = subst (λ (o : Option LogEnd). IsRunOf header snap saved image o) some r in
     record {
-      force = sym is ∙ some;
-      state = snapshot-alone image h header has is some has_is none
-          ∙ (λ i. standing (w.0 i) (text_of header.length text) header.length)
-          ∙ sym (λ i. Ok (record { saved = record saved { length = w.1 i }; program = text_of (w.1 i) text }))
-          ∙ refl;
-      long = w.1;
+      force = s.force;
+      state = run-stands image header snap saved end s.force s.is.0 room run
+          ∙ (λ i. Ok (record { saved = saved; program = text_of (sym run.1 i) (stretch (program_first header.area) program_size image) }));
+      long = run.1;
     }

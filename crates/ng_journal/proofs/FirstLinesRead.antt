@@ -9,13 +9,13 @@ use Rattle.ng_layout.specs.Sectors.{text_of}
 use Rattle.ng_layout.specs.Stands.{program_first, program_size, stretch}
 use Rattle.ng_layout.specs.Stored.{Standing}
 use Rattle.ng_layout.specs.declared.header.Header.{Header}
-use Rattle.ng_journal.specs.AtRest.{IsAt}
+use Rattle.ng_log.specs.declared.log_end.LogEnd.{LogEnd}
+use Rattle.ng_log.specs.AtEnd.{IsAtEnd}
 use Rattle.ng_journal.specs.FirstLines.{kind_in, shortest, Tells}
 use Rattle.ng_journal.specs.ProgramLines.{IsPart}
 use Rattle.ng_journal.specs.declared.first_line.FirstLine.{FirstLine}
 use Rattle.ng_journal.proofs.FirstLineLemmas.{tells_more}
 use Rattle.ng_journal.proofs.LinesRead.{front, take_min, length-text, text-at, same_lists}
-use Rattle.ng_journal.proofs.Moving.{stands-program}
 
 pub tells_part : (text part : List ℕ) (n : ℕ) (old new : FirstLine) → IsPart text 0 (512 * n) part → Tells (take (512 * n) text) old → Tells (shortest old ++ part) new → Tells (take (512 * (n + 1)) text) new
 tells_part text part n old new p told more_told =
@@ -40,11 +40,11 @@ text_of-take m n row le =
     same_lists m (text_of m row) (take m (text_of n row)) (length-text m row) (length-take-le m (text_of n row) (omega (arith, length-text n row)))
     (λ k lt. text-at m row k lt ∙ sym (text-at n row k (omega arith)) ∙ sym (get_or-take m (text_of n row) k 0 lt))
 
-pub first_in_force : (old : Life) (header : Header) (standing : Standing) (first place : ℕ) (kind : Kind) → IsAt old header standing → first ≡ program_first header.area → place ≤ header.length
+pub first_in_force : {end : LogEnd} (old : Life) (header : Header) (standing : Standing) (first place : ℕ) (kind : Kind) → IsAtEnd old header standing end → first ≡ program_first header.area → place ≤ header.length
     → kind ≡ kind_in (text_of place (stretch first program_size (reads old))) → kind ≡ first_kind (lines_before standing.program place)
 first_in_force old header standing first place kind at is within found =
     let row = stretch (program_first header.area) program_size (reads old) in
     found
     ∙ ap (λ (n : ℕ). kind_in (text_of place (stretch n program_size (reads old)))) is
     ∙ ap kind_in (text_of-take place header.length row within)
-    ∙ ap (λ (l : List ℕ). first_kind (lines_before l place)) (sym (stands-program (reads old) header standing at.force at.stands_for))
+    ∙ ap (λ (l : List ℕ). first_kind (lines_before l place)) at.image.program

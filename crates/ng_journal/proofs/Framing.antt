@@ -6,7 +6,9 @@ use Rattle.std.proofs.lemmas.Bool.Decides.{nat_tests}
 use Rattle.std.specs.Prelude.{OnOk}
 use Rattle.ng_rig.specs.Life.{Life, Wrote, Synced, reads}
 use Rattle.ng_rig.specs.Calls.{Writes, Syncs}
+use Rattle.ng_rig.specs.Onward.{IsSynced}
 use Rattle.ng_rig.specs.Only.{WritesOnly}
+use Rattle.ng_rig.proofs.Running.{is_synced}
 use Rattle.ng_rig.proofs.Writes_only.{only_more, only_write, only_syncs, only_wider, reads_blend}
 use Rattle.ng_layout.specs.declared.header.Header.{Header}
 use Rattle.ng_layout.specs.Header.{HoldsHeader}
@@ -17,7 +19,7 @@ use Rattle.ng_layout.specs.Spare.{IsAmong}
 use Rattle.ng_layout.specs.Stands.{snapshot_first, snapshot_size, program_first, program_size, log_first}
 use Rattle.ng_layout.specs.Stored.{Saved, Standing}
 use Rattle.ng_journal.specs.Area.{BelongsIn, AreaTo, WritesArea}
-use Rattle.ng_journal.specs.AtRest.{IsOfEpoch, BelongsTo, WritesState, IsLaidOut, next_header}
+use Rattle.ng_journal.specs.AtRest.{IsOfEpoch, BelongsTo, WritesState, StoresState, IsLaidOut, next_header}
 use Rattle.ng_journal.specs.Formats.{IsEmpty, Overwrites, first_header}
 use Rattle.ng_journal.specs.Loads.{BelongsToText, BelongsToLoad, IsTextAt, TextTo, WritesLoad, WritesText, other_area}
 
@@ -70,6 +72,13 @@ state_laid (Ok _) u first header saved bytes old mid synced wrote new is area ho
     let parts : (j : ℕ) → j < snapshot_size → HoldsPart saved j (reads mid (snapshot_first header.epoch + j)) = λ j lt. subst (λ (k : ℕ). HoldsPart saved j (reads mid (k + j))) is (area.parts j lt) in
     subst (λ (l : Life). IsLaidOut header saved (reads l)) (sym whole) (laid_out header saved bytes mid parts holds)
 
+pub synced_by : {T E : Type 0} (result : Result T E) (old new : Life) → Syncs result old new → OnOk result (IsSynced new)
+synced_by (Err _) old new is = tt
+synced_by (Ok _) old new is = subst IsSynced (sym is) (is_synced old)
+
+pub state_under : {T E : Type 0} (result : Result T E) (next header : Header) (saved : Saved) (old new : Life) → next ≡ header → StoresState result next saved old new → StoresState result header saved old new
+state_under result next header saved old new is s = subst (λ (h : Header). StoresState result h saved old new) is s
+
 -- one sector more of a stretch, and right
 pub one_more : (n first size : ℕ) (IsRight : ℕ → List ℕ → Type 0) (bytes : List ℕ) (old mid new : Life) → n < size → IsRight n bytes
     → WritesOnly (BelongsIn first size IsRight) old mid → ((j : ℕ) → j < n → IsRight j (reads mid (first + j))) → new ≡ Wrote (first + n) bytes mid
@@ -109,7 +118,7 @@ area_failed e result n first saved bytes old mid new lt right w is =
     record { writes = one_failed result n first snapshot_size (HoldsPart saved) bytes old mid new lt right w.writes is; parts = tt }
 
 -- all of that is in sectors of the epoch
-of_epoch : (header : Header) (saved : Saved) (n : ℕ) (bytes : List ℕ) → BelongsTo header saved n bytes → IsOfEpoch header.epoch n
+pub of_epoch : (header : Header) (saved : Saved) (n : ℕ) (bytes : List ℕ) → BelongsTo header saved n bytes → IsOfEpoch header.epoch n
 of_epoch header saved n bytes (inl b) = let is = b.is in let within = b.within in inl (record { from = omega arith; to = omega arith })
 of_epoch header saved n bytes (inr h) = inr h.0
 

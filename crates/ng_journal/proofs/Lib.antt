@@ -1,4 +1,5 @@
 pub mod Beginning
+pub mod Recording
 pub mod Finding
 pub mod FirstLineLemmas
 pub mod FirstLinesRead

@@ -10,8 +10,8 @@ use Rattle.ng_layout.specs.Sectors.{text_of}
 use Rattle.ng_layout.specs.declared.header.Header.{Header}
 use Rattle.ng_layout.specs.Stands.{program_first, program_size, stretch}
 use Rattle.ng_layout.specs.Stored.{Standing}
-use Rattle.ng_journal.specs.AtRest.{IsAt}
-use Rattle.ng_journal.proofs.Moving.{stands-program}
+use Rattle.ng_log.specs.declared.log_end.LogEnd.{LogEnd}
+use Rattle.ng_log.specs.AtEnd.{IsAtEnd}
 use Rattle.ng_layout.proofs.Images.{stretch-at}
 use Rattle.std.specs.Str.Lines.{lines, strip_carriage_return}
 use Rattle.ng_block.specs.Parts.{HasNoNewline}
@@ -253,8 +253,8 @@ pub end_none : (rest kept : List ℕ) (o : Option ℕ) → o ≡ None → IsEnd 
 end_none rest kept o is e = subst (IsEnd rest kept) is e
 
 -- The program of what stands is that of the area in force.
-pub line_in_force : (old : Life) (header : Header) (standing : Standing) (first place : ℕ) (line : Option Line) → IsAt old header standing → first ≡ program_first header.area → line ≡ line_at (text_of header.length (stretch first program_size (reads old))) place → line ≡ line_at standing.program place
+pub line_in_force : {end : LogEnd} (old : Life) (header : Header) (standing : Standing) (first place : ℕ) (line : Option Line) → IsAtEnd old header standing end → first ≡ program_first header.area → line ≡ line_at (text_of header.length (stretch first program_size (reads old))) place → line ≡ line_at standing.program place
 line_in_force old header standing first place line at is found =
     found
     ∙ ap (λ (n : ℕ). line_at (text_of header.length (stretch n program_size (reads old))) place) is
-    ∙ ap (λ (l : List ℕ). line_at l place) (sym (stands-program (reads old) header standing at.force at.stands_for))
+    ∙ ap (λ (l : List ℕ). line_at l place) at.image.program

@@ -1,53 +1,63 @@
--- A checkpoint of a journal at rest moves it from what stood to the new.
-use Rattle.std.proofs.Common.{◌≡◌, inl, inr, ⊎_elim, ℕ, List, Option, Some, None, Result, Ok, Err, refl, sym, ◌∙◌, ap, subst}
-use Rattle.std.specs.Prelude.{OnOk}
-use Rattle.ng_rig.specs.Life.{Image, Life, reads, items}
+-- What is stored moves a journal at rest from what stood to the new.
+use Rattle.std.proofs.Common.{◌≡◌, ◌≤◌, ◌∙◌, inl, inr, ⊎_elim, ℕ, Result, Ok, Err, sym, subst}
+use Rattle.ng_rig.specs.Life.{Life, reads, items}
+use Rattle.ng_rig.specs.Onward.{Onward}
 use Rattle.ng_rig.proofs.Running.{weaker}
 use Rattle.ng_layout.specs.declared.header.Header.{Header}
-use Rattle.ng_layout.specs.Log.{Found, log_size}
-use Rattle.ng_layout.specs.Sectors.{text_of}
-use Rattle.ng_layout.specs.Stands.{by_header, in_force, log_first, program_first, program_size, snapshot_first, snapshot_size, standing, standing_of, stands, stretch}
+use Rattle.ng_layout.specs.Limits.{greatest_count}
+use Rattle.ng_layout.specs.Stands.{least_size, stands}
+use Rattle.ng_layout.specs.Storable.{IsStorable}
 use Rattle.ng_layout.specs.Stored.{Saved, Standing}
-use Rattle.ng_journal.specs.AtRest.{IsOwn, IsAt, IsEither, beside, next_header, Checkpoints}
-use Rattle.ng_journal.specs.Journal.{Logbook, RestsAt, Moves}
+use Rattle.ng_log.specs.declared.log_end.LogEnd.{LogEnd}
+use Rattle.ng_log.specs.AtEnd.{no_records, IsAtEnd}
+use Rattle.ng_log.proofs.Ending.{ends-stand}
+use Rattle.ng_journal.specs.declared.storing.Tip.{Tip}
+use Rattle.ng_journal.specs.AtRest.{IsEither, next_header}
+use Rattle.ng_journal.specs.Loads.{Loads, other_area}
+use Rattle.ng_journal.specs.Journal.{Logbook, IsTip, IsSteady, Moves}
+use Rattle.ng_journal.specs.Records.{tip_of, Stores}
+use Rattle.ng_journal.specs.Storing.{Ledger, StoresRecord, ledger_of}
 
-program-of : (f : Option Found) (text : List ℕ) (length : ℕ) (s : Standing) → standing f text length ≡ Ok s → s.program ≡ text
-program-of None text length s is = absurd (cc)
-program-of (Some f) text length s is = let e : text ≡ s.program = cc in sym e
-
--- The program of what stands lies in the area that the header names.
-pub stands-program : (image : Image) (h : Header) (s : Standing) → in_force image ≡ Some h → stands image ≡ Ok s → s.program ≡ text_of h.length (stretch (program_first h.area) program_size image)
-unfolding stands standing_of
-stands-program image h s is state =
-    program-of _ (text_of h.length (stretch (program_first h.area) program_size image)) h.length s
-    (sym (λ i. by_header (is i) (λ x. standing_of x (stretch (snapshot_first x.epoch) snapshot_size image) (stretch (program_first x.area) program_size image) (stretch log_first log_size image))) ∙ state)
-
--- the same program beside what is stored
-beside-is : (old : Life) (header : Header) (before : Standing) (saved : Saved) → IsAt old header before → saved.length ≡ header.length → beside saved header.area (reads old) ≡ record before { saved = saved }
-beside-is old header before saved at long =
-    let program = stands-program (reads old) header before at.force at.stands_for in
-    λ i. record { saved = saved; program = (ap (λ (n : ℕ). text_of n (stretch (program_first header.area) program_size (reads old))) long ∙ sym program) i }
-
-pub own : {life : Life} {header : Header} {standing : Standing} → IsAt life header standing → IsOwn life header
-own at = record { synced = at.synced; force = at.force; written = at.written }
-
-rests : {R T E : Type 0} (result : Result T E) (header : Header) (journal : Logbook R) (saved : Saved) (after : Standing) (old new : Life) → OnOk result (journal.header ≡ next_header header header.area saved.length) → journal.saved ≡ saved → after ≡ record { saved = saved; program = after.program } → beside saved header.area (reads old) ≡ after → OnOk result (IsAt new (next_header header header.area saved.length) (beside saved header.area (reads old))) → OnOk result (RestsAt new journal after)
-rests (Err e) header journal saved after old new is saved_is whole same at = tt
-rests (Ok v) header journal saved after old new is saved_is whole same at = record {
-  at = subst (λ (h : Header). IsAt new h after) (sym is) (subst (λ (s : Standing). IsAt new (next_header header header.area saved.length) s) same at);
-  saved_is = ap (λ (s : Standing). s.saved) whole ∙ sym saved_is;
+pub moved : {R T E F : Type 0} (v : T) (tip : Tip) (journal : Logbook R) (before : Standing) (saved : Saved) (old new : Life) → tip ≡ tip_of (ledger_of journal) → journal.saved ≡ saved → Stores {E = F} (Ok tip) before saved old new → Moves {E = E} (Ok v) journal before (record before { saved = saved }) old new
+moved v tip journal before saved old new is saved_is s = record {
+  stops = s.stops;
+  items_are = s.items_are;
+  at = record { at = subst (λ (t : Tip). IsAtEnd new t.header (record before { saved = saved }) t.end) is s.at; saved_is = sym saved_is };
 }
 
-pub moved : {R T E : Type 0} (result : Result T E) (header : Header) (journal : Logbook R) (before : Standing) (saved : Saved) (old new : Life) → IsAt old header before → saved.length ≡ header.length → OnOk result (journal.header ≡ next_header header header.area saved.length) → journal.saved ≡ saved → Checkpoints result header header.area saved old new → Moves result journal before (record before { saved = saved }) old new
-moved result header journal before saved old new at long is saved_is c =
-    let same = beside-is old header before saved at long in
-    record {
-      stops = weaker old new (IsEither (stands (reads old)) (Ok (beside saved header.area (reads old))) (items old)) (IsEither (Ok before) (Ok (record before { saved = saved })) (items old)) c.stops
-          (λ image handed p. record {
-            state = ⊎_elim (λ b. inl (b ∙ at.stands_for)) (λ a. inr (a ∙ ap (λ (s : Standing). Ok s) same)) p.state;
-            written = p.written;
-            handed_is = p.handed_is;
-          });
-      items_are = c.items_are;
-      at = rests result header journal saved (record before { saved = saved }) old new is saved_is refl same c.at;
-    }
+-- or fails to
+pub not_moved : {R T E F : Type 0} (e : E) (result : Result Tip F) (journal : Logbook R) (before : Standing) (saved : Saved) (old new : Life) → Stores result before saved old new → Moves {T = T} (Err e) journal before (record before { saved = saved }) old new
+not_moved e result journal before saved old new s = record { stops = s.stops; items_are = s.items_are; at = tt }
+
+-- what is written, as another call answers for it
+pub stored_as : {T U E F : Type 0} (t : T) (u : U) (l : Ledger) (saved : Saved) (old new : Life) → StoresRecord {E = F} (Ok u) l saved old new → StoresRecord {E = E} (Ok t) l saved old new
+stored_as t u l saved old new s = record { writes = s.writes; laid = s.laid }
+
+pub not_stored_as : {T U E F : Type 0} (e : E) (result : Result U F) (l : Ledger) (saved : Saved) (old new : Life) → StoresRecord result l saved old new → StoresRecord {T = T} (Err e) l saved old new
+not_stored_as e result l saved old new s = record { writes = s.writes; laid = tt }
+
+-- what holds of a journal, with what was stored
+pub steady_with : (sectors : ℕ) (tip : Tip) (saved stored : Saved) → saved ≡ stored → least_size ≤ sectors → IsTip stored.length tip.header tip.end → IsStorable stored → stored.entries ≤ greatest_count → IsSteady sectors tip.header tip.end saved
+steady_with sectors tip saved stored is room t storable count = subst (λ (s : Saved). IsSteady sectors tip.header tip.end s) (sym is) (record { room = room; tip = t; storable = storable; count = count })
+
+-- A load that is done moves it too.
+as_moved : (old new : Life) (header : Header) (end : LogEnd) (before loaded : Standing) → IsAtEnd old header before end → Onward old new (IsEither (stands (reads old)) (Ok loaded) (items old)) → Onward old new (IsEither (Ok before) (Ok loaded) (items old))
+as_moved old new header end before loaded at stops = weaker old new (IsEither (stands (reads old)) (Ok loaded) (items old)) (IsEither (Ok before) (Ok loaded) (items old)) stops (λ image handed p. record {
+  state = ⊎_elim (λ b. inl (b ∙ ends-stand (reads old) header before end at.image)) (λ a. inr a) p.state;
+  written = p.written;
+  handed_is = p.handed_is;
+})
+
+pub loaded : {R T U E F : Type 0} (v : T) (u : U) (journal : Logbook R) (header next : Header) (end : LogEnd) (before after : Standing) (old new : Life) → tip_of (ledger_of journal) ≡ record { header = next; end = no_records } → next ≡ next_header header (other_area header) after.saved.length → journal.saved ≡ after.saved
+    → IsAtEnd old header before end → Loads {E = F} (Ok u) header after old new → Moves {E = E} (Ok v) journal before after old new
+loaded v u journal header next end before after old new tip_is next_is saved_is at l = record {
+  stops = as_moved old new header end before after at l.stops;
+  items_are = l.items_are;
+  at = record {
+    at = subst (λ (t : Tip). IsAtEnd new t.header after t.end) (sym tip_is) (subst (λ (h : Header). IsAtEnd new h after no_records) (sym next_is) l.at);
+    saved_is = sym saved_is;
+  };
+}
+
+pub not_loaded : {R T U E F : Type 0} (e : E) (result : Result U F) (journal : Logbook R) (header : Header) (end : LogEnd) (before after : Standing) (old new : Life) → IsAtEnd old header before end → Loads result header after old new → Moves {T = T} (Err e) journal before after old new
+not_loaded e result journal header end before after old new at l = record { stops = as_moved old new header end before after at l.stops; items_are = l.items_are; at = tt }

@@ -14,7 +14,8 @@ use Rattle.ng_layout.specs.Stands.{program_first, program_size, stretch, stands}
 use Rattle.ng_layout.specs.Stored.{Saved, Standing}
 use Rattle.ng_layout.proofs.Images.{stretch-at, force-frame, stands-frame, written-frame}
 use Rattle.ng_layout.proofs.Snapshots.{text-whole}
-use Rattle.ng_journal.specs.AtRest.{IsOwn, IsAt, IsEither, beside, next_header, Checkpoints}
+use Rattle.ng_log.specs.AtEnd.{no_records, IsAtEnd}
+use Rattle.ng_journal.specs.AtRest.{IsOwn, IsEither, beside, next_header, Checkpoints}
 use Rattle.ng_journal.specs.Loads.{WritesText, Loads, other_area}
 use Rattle.ng_journal.proofs.Framing.{among_text}
 
@@ -76,9 +77,9 @@ exit_text e result old mid first header loaded text at place w =
 pub exit_sync : {T E F : Type 0} (e : E) (result : Result T F) (old mid last : Life) (first : ℕ) (header : Header) (loaded : Standing) (text : List ℕ) → IsOwn old header → first ≡ first_of_other header → WritesText result first text old mid → last ≡ mid → Loads {T = T} (Err e) header loaded old last
 exit_sync {T = T} e result old mid last first header loaded text at place w same = subst (λ (l : Life). Loads {T = T} (Err e) header loaded old l) (sym same) (exit_text e result old mid first header loaded text at place w)
 
-pub loaded_all : {T E U F : Type 0} (result : Result T E) (u : U) (old mid synced last : Life) (first : ℕ) (header : Header) (saved : Saved) (text : List ℕ) → IsOwn old header → first ≡ first_of_other header → saved.length ≡ length text → length text ≤ 131_072
-    → WritesText {E = F} (Ok u) first text old mid → synced ≡ Synced mid → Checkpoints result header (1 - header.area) saved synced last → Loads result header (record { saved = saved; program = text }) old last
-loaded_all {T = T} {E = E} {F = F} result u old mid synced last first header saved text at place long short w is c =
+pub loaded_all : {T E U F : Type 0} (result : Result T E) (u : U) (old mid synced last : Life) (first : ℕ) (header next : Header) (saved : Saved) (text : List ℕ) → IsOwn old header → first ≡ first_of_other header → saved.length ≡ length text → length text ≤ 131_072
+    → WritesText {E = F} (Ok u) first text old mid → synced ≡ Synced mid → next ≡ next_header header (1 - header.area) saved.length → Checkpoints result next saved synced last → Loads result header (record { saved = saved; program = text }) old last
+loaded_all {T = T} {E = E} {F = F} result u old mid synced last first header next saved text at place long short w is next_is c_next =
     record {
       stops = joined old synced last (P old loaded) (subst (λ (l : Life). Onward old l (P old loaded)) (sym is) (at_sync old mid header loaded at only))
           (weaker synced last (IsEither (stands (reads synced)) (Ok (beside saved (1 - header.area) (reads synced))) (items synced)) (P old loaded) c.stops (λ image handed p. record {
@@ -90,6 +91,9 @@ loaded_all {T = T} {E = E} {F = F} result u old mid synced last first header sav
       at = go result c.at;
     }
   where
+    c : Checkpoints result (next_header header (1 - header.area) saved.length) saved synced last
+    c = subst (λ (h : Header). Checkpoints result h saved synced last) next_is c_next
+
     loaded : Standing
     loaded = record { saved = saved; program = text }
 
@@ -108,6 +112,6 @@ loaded_all {T = T} {E = E} {F = F} result u old mid synced last first header sav
     made : beside saved (1 - header.area) (reads synced) ≡ loaded
     made = ap (λ (l : Life). beside saved (1 - header.area) (reads l)) is ∙ beside_is saved (1 - header.area) text (reads mid) long short writes.parts
 
-    go : (result : Result T E) → OnOk result (IsAt last (next_header header (1 - header.area) saved.length) (beside saved (1 - header.area) (reads synced))) → OnOk result (IsAt last (next_header header (other_area header) saved.length) loaded)
+    go : (result : Result T E) → OnOk result (IsAtEnd last (next_header header (1 - header.area) saved.length) (beside saved (1 - header.area) (reads synced)) no_records) → OnOk result (IsAtEnd last (next_header header (other_area header) saved.length) loaded no_records)
     go (Err e) at = tt
-    go (Ok v) at = subst (IsAt last (next_header header (1 - header.area) saved.length)) made at
+    go (Ok v) at = subst (λ (s : Standing). IsAtEnd last (next_header header (1 - header.area) saved.length) s no_records) made at

@@ -20,6 +20,9 @@ use Rattle.ng_layout.specs.Log.{log_size}
 use Rattle.ng_layout.specs.Stored.{Saved, Standing}
 use Rattle.ng_layout.proofs.Images.{force-same, force-next, stretch-same, stretch-at, stands-frame, written-frame, stands-snapshot, none-of-new, written-new}
 use Rattle.ng_layout.proofs.Snapshots.{snapshot-new}
+use Rattle.ng_log.specs.AtEnd.{no_records, EndsIn, IsAtEnd}
+use Rattle.ng_log.proofs.Ending.{ends-stand}
+use Rattle.ng_log.proofs.Epochs.{ends-new}
 use Rattle.ng_journal.specs.Area.{WritesArea}
 use Rattle.ng_journal.specs.AtRest.{IsOwn, IsEither, beside, next_header, Checkpoints}
 use Rattle.ng_journal.proofs.Framing.{among}
@@ -65,30 +68,19 @@ outside : (old mid : Life) (header : Header) → IsOwn old header → WritesOnly
 outside old mid header at w n out = ⊎_elim (λ may. at.synced.one n (reads mid n) may) (λ among. absurd (out among)) ((reads_blend (In (area_of header)) old mid w).each n)
 
 -- an image with the new header
-pub record IsNew (new : Header) (target : Standing) (image : Image) : Type 0 where
-  pub force : in_force image ≡ Some new
-  pub state : stands image ≡ Ok target
-  pub written : IsWritten image
-
-new_image : (old mid : Life) (header new : Header) (saved : Saved) (bytes : List ℕ) → Ready old mid header new saved bytes → (image : Image) → image (new.epoch % 2) ≡ bytes → ((n : ℕ) → n ≢ new.epoch % 2 → image n ≡ reads mid n) → IsNew new (target_of old new saved) image
+new_image : (old mid : Life) (header new : Header) (saved : Saved) (bytes : List ℕ) → Ready old mid header new saved bytes → (image : Image) → image (new.epoch % 2) ≡ bytes → ((n : ℕ) → n ≢ new.epoch % 2 → image n ≡ reads mid n) → EndsIn image new (target_of old new saved) no_records
 new_image old mid header new saved bytes r image there others =
     let out = outside old mid header r.at r.writes in
     let first : area_of header ≡ snapshot_first new.epoch = ap snapshot_first (sym r.epoch) in
     let base : in_force (reads mid) ≡ Some header = force-same (reads mid) (reads old) (out 0 (λ a. omega (arith, a.from))) (out 1 (λ a. omega (arith, a.from))) ∙ r.at.force in
     let force : in_force image ≡ Some new = force-next image (reads mid) header new base r.epoch (ap (header_in (new.epoch % 2)) there ∙ r.bytes_are) (λ k lt ne. others k ne) in
     let log : (m : ℕ) → m < log_size → image (log_first + m) ≡ reads old (log_first + m) = λ m lt. others (log_first + m) (λ e. omega (arith, e)) ∙ out (log_first + m) (λ a. omega (arith, a.to)) in
-    let none : number_at 8 0 (image log_first) ≢ new.epoch = let e = log 0 (omega arith) in let below = none-of-new (reads old) header r.at.force r.at.written 0 (omega arith) in λ is. omega (arith, is, ap (number_at 8 0) e, below, r.epoch) in
     let row : (j : ℕ) → j < snapshot_size → stretch (snapshot_first new.epoch) snapshot_size image j ≡ reads mid (area_of header + j) = λ j lt. stretch-at (snapshot_first new.epoch) snapshot_size image j lt ∙ others (snapshot_first new.epoch + j) (λ e. omega (arith, e)) ∙ ap (λ (x : ℕ). reads mid (x + j)) (sym first) in
     let parts : (j : ℕ) → j < snapshot_size → HoldsPart saved j (stretch (snapshot_first new.epoch) snapshot_size image j) = λ j lt. subst (HoldsPart saved j) (sym (row j lt)) (r.parts j lt) in
     let snap = snapshot-new saved (stretch (snapshot_first new.epoch) snapshot_size image) r.table parts in
     let text = stretch-same (program_first new.area) program_size image (reads old) (λ j lt. others (program_first new.area + j) (λ e. omega (arith, e)) ∙ out (program_first new.area + j) (λ a. omega (arith, a.to))) in
-    record {
-      force = force;
-      state = stands-snapshot image new force none
-          ∙ (λ i. standing (snapshot (r.long i) (stretch (snapshot_first new.epoch) snapshot_size image)) (text_of (r.long i) (text i)) (r.long i))
-          ∙ (λ i. standing (snap i) (text_of saved.length (stretch (program_first new.area) program_size (reads old))) saved.length);
-      written = written-new image (reads old) header new r.at.force force (omega (arith, r.epoch)) r.at.written log;
-    }
+    ends-new image (reads old) header new saved (text_of saved.length (stretch (program_first new.area) program_size (reads old))) r.at.force r.at.written force (omega (arith, r.epoch)) log
+    ((λ i. snapshot (r.long i) (stretch (snapshot_first new.epoch) snapshot_size image)) ∙ snap) (λ i. text_of (r.long i) (text i)) (sym r.long)
 
 -- a stop with the header unsynced
 header_stop : (old mid : Life) (header new : Header) (saved : Saved) (bytes : List ℕ) → Ready old mid header new saved bytes → (image : Image) (handed : List Item)
@@ -97,7 +89,7 @@ header_stop old mid header new saved bytes r image handed each given =
     let h = new.epoch % 2 in
     let others : (n : ℕ) → n ≢ h → image n ≡ reads mid n = λ n ne. ⊎_elim (λ w. absurd (ne w.0)) (λ e. e) (each n) in
     ⊎_elim
-    (λ w. let is = new_image old mid header new saved bytes r image w.1 others in record { state = inr is.state; written = is.written; handed_is = given ∙ r.writes.items_are })
+    (λ w. let is = new_image old mid header new saved bytes r image w.1 others in record { state = inr (ends-stand image new (target_of old new saved) no_records is); written = is.written; handed_is = given ∙ r.writes.items_are })
     (λ e.
     let all : (n : ℕ) → image n ≡ reads mid n = λ n. elim (cases_eq n h) [
       | inl same ↦ subst (λ (k : ℕ). image k ≡ reads mid k) (sym same) e
@@ -126,7 +118,7 @@ header_reads mid h n bytes = elim (cases_eq n h) [
 ]
 
 -- and when all is synced
-after_all : (old mid : Life) (header new : Header) (saved : Saved) (bytes : List ℕ) → Ready old mid header new saved bytes → IsNew new (target_of old new saved) (reads (Wrote (new.epoch % 2) bytes (Synced mid)))
+after_all : (old mid : Life) (header new : Header) (saved : Saved) (bytes : List ℕ) → Ready old mid header new saved bytes → EndsIn (reads (Wrote (new.epoch % 2) bytes (Synced mid))) new (target_of old new saved) no_records
 after_all old mid header new saved bytes r =
     let h = new.epoch % 2 in
     new_image old mid header new saved bytes r (reads (Wrote h bytes (Synced mid)))
@@ -134,16 +126,16 @@ after_all old mid header new saved bytes r =
     (λ n ne. ⊎_elim (λ same. absurd (ne same.0)) (λ other. other.1) (header_reads mid h n bytes))
 
 -- The exits.
-gave_up : {T E : Type 0} (e : E) (old last : Life) (header : Header) (area : ℕ) (saved : Saved) → Onward old last (P old (beside saved area (reads old))) → items last ≡ items old → Checkpoints {T = T} (Err e) header area saved old last
-gave_up e old last header area saved stops given = record { stops = stops; items_are = given; at = tt }
+gave_up : {T E : Type 0} (e : E) (old last : Life) (next : Header) (saved : Saved) → Onward old last (P old (beside saved next.area (reads old))) → items last ≡ items old → Checkpoints {T = T} (Err e) next saved old last
+gave_up e old last next saved stops given = record { stops = stops; items_are = given; at = tt }
 
-pub exit_area : {T E F : Type 0} (e : E) (result : Result T F) (old mid : Life) (first : ℕ) (header : Header) (area : ℕ) (saved : Saved) → IsOwn old header → first ≡ area_of header → WritesArea result first saved old mid → Checkpoints {T = T} (Err e) header area saved old mid
-exit_area e result old mid first header area saved at is w =
+pub exit_area : {T E F : Type 0} (e : E) (result : Result T F) (old mid : Life) (first : ℕ) (header next : Header) (saved : Saved) → IsOwn old header → first ≡ area_of header → WritesArea result first saved old mid → Checkpoints {T = T} (Err e) next saved old mid
+exit_area e result old mid first header next saved at is w =
     let writes = subst (λ (x : ℕ). WritesOnly (In x) old mid) is (among first snapshot_size (HoldsPart saved) old mid w.writes) in
-    gave_up e old mid header area saved (after_area old mid header (beside saved area (reads old)) at writes) w.writes.items_are
+    gave_up e old mid next saved (after_area old mid header (beside saved next.area (reads old)) at writes) w.writes.items_are
 
-pub exit_sync : {T E F : Type 0} (e : E) (result : Result T F) (old mid last : Life) (first : ℕ) (header : Header) (area : ℕ) (saved : Saved) → IsOwn old header → first ≡ area_of header → WritesArea result first saved old mid → last ≡ mid → Checkpoints {T = T} (Err e) header area saved old last
-exit_sync {T = T} e result old mid last first header area saved at is w same = subst (λ (l : Life). Checkpoints {T = T} (Err e) header area saved old l) (sym same) (exit_area e result old mid first header area saved at is w)
+pub exit_sync : {T E F : Type 0} (e : E) (result : Result T F) (old mid last : Life) (first : ℕ) (header next : Header) (saved : Saved) → IsOwn old header → first ≡ area_of header → WritesArea result first saved old mid → last ≡ mid → Checkpoints {T = T} (Err e) next saved old last
+exit_sync {T = T} e result old mid last first header next saved at is w same = subst (λ (l : Life). Checkpoints {T = T} (Err e) next saved old l) (sym same) (exit_area e result old mid first header next saved at is w)
 
 pub ready : {T E : Type 0} (v : T) (old mid : Life) (first : ℕ) (header new : Header) (saved : Saved) (bytes : List ℕ) → IsOwn old header → first ≡ area_of header → WritesArea {E = E} (Ok v) first saved old mid → length saved.setup.params ≡ 5399 → header_in (new.epoch % 2) bytes ≡ Some new → new.epoch ≡ header.epoch + 1 → new.length ≡ saved.length → Ready old mid header new saved bytes
 ready v old mid first header new saved bytes at is w table bytes_are epoch long = record {
@@ -167,15 +159,15 @@ write_items (Err _) n bytes old last (inl is) = ap items is
 write_items (Err _) n bytes old last (inr (inl is)) = ap items is
 write_items (Err _) n bytes old last (inr (inr is)) = ap items is
 
-pub exit_header : {T E F : Type 0} (e : E) (result : Result T F) (old mid synced last : Life) (header new : Header) (saved : Saved) (bytes : List ℕ) → Ready old mid header new saved bytes → synced ≡ Synced mid → Writes result (new.epoch % 2) bytes synced last → Checkpoints {T = T} (Err e) header new.area saved old last
+pub exit_header : {T E F : Type 0} (e : E) (result : Result T F) (old mid synced last : Life) (header new : Header) (saved : Saved) (bytes : List ℕ) → Ready old mid header new saved bytes → synced ≡ Synced mid → Writes result (new.epoch % 2) bytes synced last → Checkpoints {T = T} (Err e) new saved old last
 exit_header e result old mid synced last header new saved bytes r is w =
     let w' = subst (λ (l : Life). Writes result (new.epoch % 2) bytes l last) is w in
-    gave_up e old last header new.area saved
+    gave_up e old last new saved
     (joined old (Synced mid) last (P old (target_of old new saved)) (to_sync old mid (Synced mid) header new saved bytes r refl) (after_header result old mid last header new saved bytes r w'))
     (write_items result (new.epoch % 2) bytes (Synced mid) last w' ∙ r.writes.items_are)
 
-pub finished : {T E : Type 0} (result : Result T E) (old mid synced wrote last : Life) (header new : Header) (saved : Saved) (bytes : List ℕ) → Ready old mid header new saved bytes → new ≡ next_header header new.area saved.length → synced ≡ Synced mid → wrote ≡ Wrote (new.epoch % 2) bytes synced → Syncs result wrote last → Checkpoints result header new.area saved old last
-finished {T = T} {E = E} result old mid synced wrote last header new saved bytes r new_is is is_written done =
+pub finished : {T E : Type 0} (result : Result T E) (old mid synced wrote last : Life) (header new : Header) (saved : Saved) (bytes : List ℕ) → Ready old mid header new saved bytes → synced ≡ Synced mid → wrote ≡ Wrote (new.epoch % 2) bytes synced → Syncs result wrote last → Checkpoints result new saved old last
+finished {T = T} {E = E} result old mid synced wrote last header new saved bytes r is is_written done =
     go result last (subst (λ (l : Life). Syncs result l last) whole done)
   where
     h : ℕ
@@ -193,17 +185,14 @@ finished {T = T} {E = E} result old mid synced wrote last header new saved bytes
     upto : Onward old (Wrote (new.epoch % 2) bytes (Synced mid)) (P old (target_of old new saved))
     upto = let ok : Result ℕ ℕ = Ok 0 in joined old (Synced mid) (Wrote (new.epoch % 2) bytes (Synced mid)) (P old (target_of old new saved)) (to_sync old mid (Synced mid) header new saved bytes r refl) (after_header ok old mid (Wrote (new.epoch % 2) bytes (Synced mid)) header new saved bytes r refl)
 
-    go : (result : Result T E) (last : Life) → Syncs result (Wrote (new.epoch % 2) bytes (Synced mid)) last → Checkpoints result header new.area saved old last
+    go : (result : Result T E) (last : Life) → Syncs result (Wrote (new.epoch % 2) bytes (Synced mid)) last → Checkpoints result new saved old last
     go (Err e) last same = record { stops = subst (λ (l : Life). Onward old l (P old (target_of old new saved))) (sym same) upto; items_are = ap items same ∙ r.writes.items_are; at = tt }
     go (Ok v) last same =
-        let all = after_all old mid header new saved bytes r in
         record {
           stops = subst (λ (l : Life). Onward old l (P old (target_of old new saved))) (sym same) (joined old (Wrote (new.epoch % 2) bytes (Synced mid)) (Synced (Wrote (new.epoch % 2) bytes (Synced mid))) (P old (target_of old new saved)) upto (on_sync (Wrote (new.epoch % 2) bytes (Synced mid)) (P old (target_of old new saved)) (λ image handed s. header_stop old mid header new saved bytes r image handed (λ n. ⊎_elim (λ x. inl (x.0, s.0 n ∙ x.1)) (λ x. inr (s.0 n ∙ x.1)) (header_reads mid (new.epoch % 2) n bytes)) s.1)));
           items_are = ap items same ∙ r.writes.items_are;
           at = record {
             synced = subst IsSynced (sym same) (is_synced (Wrote (new.epoch % 2) bytes (Synced mid)));
-            force = ap (λ (l : Life). in_force (reads l)) same ∙ all.force ∙ ap (λ (x : Header). Some x) new_is;
-            stands_for = ap (λ (l : Life). stands (reads l)) same ∙ all.state;
-            written = subst (λ (l : Life). IsWritten (reads l)) (sym same) all.written;
+            image = subst (λ (l : Life). EndsIn (reads l) new (target_of old new saved) no_records) (sym same) (after_all old mid header new saved bytes r);
           };
         }

@@ -1,5 +1,5 @@
 -- A device at rest, and a hand-out from there.
-use Rattle.std.proofs.Common.{◌≡◌, ◌⊎◌, ℕ, List, [], ◌∷◌, ◌++◌, Some, Result, Ok, Err, sym, ◌∙◌, ap, subst}
+use Rattle.std.proofs.Common.{◌≡◌, ◌⊎◌, ℕ, List, [], ◌∷◌, ◌++◌, Result, Ok, Err, sym, ◌∙◌, ap, subst}
 use Rattle.std.specs.Prelude.{OnOk}
 use Rattle.ng_canon.specs.declared.item.Item.{Item}
 use Rattle.ng_rig.specs.Life.{Image, Life, Handed, reads, items, moment, StopSince}
@@ -7,19 +7,24 @@ use Rattle.ng_rig.specs.Calls.{Hands}
 use Rattle.ng_rig.specs.Onward.{HasBesides}
 use Rattle.ng_rig.proofs.Running.{weaker, stop_now, one_image, hands}
 use Rattle.ng_layout.specs.declared.header.Header.{Header}
-use Rattle.ng_layout.specs.Stands.{in_force, stands, IsWritten}
+use Rattle.ng_layout.specs.Stands.{stands, IsWritten}
 use Rattle.ng_layout.specs.Stored.{Standing}
-use Rattle.ng_journal.specs.AtRest.{IsAt}
+use Rattle.ng_log.specs.declared.log_end.LogEnd.{LogEnd}
+use Rattle.ng_log.specs.AtEnd.{EndsIn, IsAtEnd}
+use Rattle.ng_log.proofs.Ending.{ends-stand}
+use Rattle.ng_journal.specs.declared.storing.Tip.{Tip}
 use Rattle.ng_journal.specs.Journal.{Logbook, RestsAt, StandsFor, HandsOut}
+use Rattle.ng_journal.specs.Records.{tip_of}
+use Rattle.ng_journal.specs.Storing.{ledger_of}
 
-stands_for : (life : Life) (header : Header) (standing : Standing) (given : List Item) (image : Image) (handed : List Item) → IsAt life header standing → image ≡ reads life → handed ≡ given → StandsFor standing given image handed
-stands_for life header standing given image handed at same is = record {
-  state = ap stands same ∙ at.stands_for;
-  written = subst IsWritten (sym same) at.written;
+stands_for : {end : LogEnd} (life : Life) (header : Header) (standing : Standing) (given : List Item) (image : Image) (handed : List Item) → IsAtEnd life header standing end → image ≡ reads life → handed ≡ given → StandsFor standing given image handed
+stands_for {end = end} life header standing given image handed at same is = record {
+  state = ap stands same ∙ ends-stand (reads life) header standing end at.image;
+  written = subst IsWritten (sym same) at.image.written;
   handed_is = is;
 }
 
-pub alone : (life : Life) (header : Header) (standing : Standing) (image : Image) (handed : List Item) → IsAt life header standing → StopSince life (moment life) image handed → StandsFor standing (items life) image handed
+pub alone : {end : LogEnd} (life : Life) (header : Header) (standing : Standing) (image : Image) (handed : List Item) → IsAtEnd life header standing end → StopSince life (moment life) image handed → StandsFor standing (items life) image handed
 alone life header standing image handed at since =
     let stop = stop_now life image handed since in
     stands_for life header standing (items life) image handed at (one_image life image handed at.synced stop) stop.1
@@ -29,7 +34,7 @@ given_by (Ok v) item old new is = ap items is
 given_by (Err e) item old new is = tt
 
 -- A hand-out changes nothing that is read.
-pub handed_out : {R T E : Type 0} (result : Result T E) (journal before : Logbook R) (standing : Standing) (item : Item) (old new : Life) → journal.header ≡ before.header → journal.saved ≡ before.saved → RestsAt old before standing → Hands result item old new → HandsOut result journal standing item old new
+pub handed_out : {R T E : Type 0} (result : Result T E) (journal before : Logbook R) (standing : Standing) (item : Item) (old new : Life) → tip_of (ledger_of journal) ≡ tip_of (ledger_of before) → journal.saved ≡ before.saved → RestsAt old before standing → Hands result item old new → HandsOut result journal standing item old new
 handed_out result journal before standing item old new same saved_is rest is =
     let h = hands result item old new rest.at.synced is in
     record {
@@ -37,18 +42,16 @@ handed_out result journal before standing item old new same saved_is rest is =
       items_are = h.items_are;
       given = given_by result item old new is;
       at = record {
-        at = record {
+        at = subst (λ (t : Tip). IsAtEnd new t.header standing t.end) (sym same) (record {
           synced = h.synced;
-          force = ap in_force h.reads_are ∙ rest.at.force ∙ ap (λ (x : Header). Some x) (sym same);
-          stands_for = ap stands h.reads_are ∙ rest.at.stands_for;
-          written = subst IsWritten (sym h.reads_are) rest.at.written;
-        };
+          image = subst (λ (image : Image). EndsIn image before.header standing before.end) (sym h.reads_are) rest.at.image;
+        });
         saved_is = rest.saved_is ∙ sym saved_is;
       };
     }
 
 -- one that failed handed out its item or nothing
-pub perhaps_handed : {R T F : Type 0} (f : F) (journal before : Logbook R) (standing : Standing) (item : Item) (old new : Life) → journal.header ≡ before.header → journal.saved ≡ before.saved → RestsAt old before standing → (new ≡ old) ⊎ (new ≡ Handed item old) → HandsOut {T = T} (Err f) journal standing item old new
+pub perhaps_handed : {R T F : Type 0} (f : F) (journal before : Logbook R) (standing : Standing) (item : Item) (old new : Life) → tip_of (ledger_of journal) ≡ tip_of (ledger_of before) → journal.saved ≡ before.saved → RestsAt old before standing → (new ≡ old) ⊎ (new ≡ Handed item old) → HandsOut {T = T} (Err f) journal standing item old new
 perhaps_handed f journal before standing item old new same saved_is rest is =
     let err : Result ℕ ℕ = Err 0 in
     let out = handed_out err journal before standing item old new same saved_is rest is in

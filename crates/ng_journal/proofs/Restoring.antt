@@ -1,5 +1,5 @@
 -- The exits of power on: a sync, what is found, a checkpoint of its recovered.
-use Rattle.std.proofs.Common.{◌≡◌, inl, inr, ⊎_elim, ℕ, ◌≤◌, List, Some, Result, Ok, Err, refl, sym, ◌∙◌, ap, subst}
+use Rattle.std.proofs.Common.{◌≡◌, inl, inr, ⊎_elim, ℕ, ◌+◌, ◌≤◌, List, Some, Result, Ok, Err, refl, sym, ◌∙◌, ap, subst}
 use Rattle.std.specs.Option.{option_map}
 use Rattle.ng_num.specs.declared.fault.Fault.{Fault}
 use Rattle.ng_num.specs.declared.fault.Fault.TheVariants.{CountersUsed}
@@ -12,7 +12,8 @@ use Rattle.ng_layout.specs.declared.header.Header.{Header}
 use Rattle.ng_layout.specs.Limits.{greatest_count}
 use Rattle.ng_layout.specs.Stands.{in_force, stands, closed, IsWritten}
 use Rattle.ng_layout.specs.Stored.{Saved}
-use Rattle.ng_journal.specs.AtRest.{IsOwn, IsAt, IsEither, BelongsTo, WritesState, beside, next_header, Checkpoints}
+use Rattle.ng_log.specs.AtEnd.{no_records, IsAtEnd}
+use Rattle.ng_journal.specs.AtRest.{IsOwn, IsEither, BelongsTo, WritesState, beside, next_header, Checkpoints}
 use Rattle.ng_journal.specs.Recovery.{recovered_of, HasCause, BelongsToNext, Renews, StandsUnder, IsRead, Restores}
 
 abbrev Same : Life → Image → List Item → Type 0
@@ -59,6 +60,10 @@ exit_used answer header saved old mid new sound is same read last =
     let u = under answer header saved (reads mid) sound read in
     exit_refused CountersUsed saved old new (same ∙ is) (subst (λ (l : Life). HasCause CountersUsed (reads l)) is (record { header = header; force = u.force; last = last; standing = beside saved header.area (reads mid); sound = u.state }))
 
+-- the header of the epoch after this one's, in the same area
+abbrev Next : Header → Saved → Header
+Next header saved = next_header header header.area saved.length
+
 abbrev closed_of : Saved → Saved
 closed_of s = record s { half = option_map closed s.half }
 
@@ -69,7 +74,7 @@ recovered_is header found saved old mid is u closed_is =
     ∙ ap recovered_of u.state
     ∙ ap (λ (s : Saved). Ok (beside s header.area (reads mid))) (sym closed_is)
 
-through : {T E : Type 0} (result : Result T E) (header : Header) (found saved : Saved) (old mid new : Life) → mid ≡ Synced old → StandsUnder header found (reads mid) → saved ≡ closed_of found → IsWritten (reads old) → Checkpoints result header header.area saved mid new → Onward old new (Same old)
+through : {T E : Type 0} (result : Result T E) (header : Header) (found saved : Saved) (old mid new : Life) → mid ≡ Synced old → StandsUnder header found (reads mid) → saved ≡ closed_of found → IsWritten (reads old) → Checkpoints result (Next header saved) saved mid new → Onward old new (Same old)
 through result header found saved old mid new is u closed_is written c =
     let after = recovered_is header found saved old mid is u closed_is in
     joined old mid new (Same old) (subst (λ (l : Life). Onward old l (Same old)) (sym is) (synced_stops old written))
@@ -83,10 +88,6 @@ through result header found saved old mid new is u closed_is written c =
 own_on : (header : Header) (found : Saved) (old mid : Life) → mid ≡ Synced old → StandsUnder header found (reads mid) → IsWritten (reads old) → IsOwn mid header
 own_on header found old mid is u written = record { synced = subst IsSynced (sym is) (is_synced old); force = u.force; written = subst (λ (l : Life). IsWritten (reads l)) (sym is) written }
 
--- the header of the epoch after this one's, in the same area
-abbrev Next : Header → Saved → Header
-Next header saved = next_header header header.area saved.length
-
 -- what a checkpoint writes of what was found is the recovered of what stood
 renewed : (header : Header) (found saved : Saved) (old now new : Life) → now ≡ Synced old → StandsUnder header found (reads now) → saved ≡ closed_of found → WritesState (Next header saved) saved now new → Renews old new
 renewed header found saved old now new is u closed_is w =
@@ -97,35 +98,49 @@ renewed header found saved old now new is u closed_is w =
     (only_wider (λ n bytes. BelongsTo (Next header saved) saved n bytes) May now new
     (λ n bytes own. record { header = header; force = was; standing = beside saved header.area (reads now); is = after; own = own }) w)
 
-pub exit_within : {T E F : Type 0} (e : E) (result : Result T F) (answer : Result Header Fault) (header : Header) (found saved : Saved) (old mid now new : Life) → answer ≡ Ok header → mid ≡ Synced old → now ≡ mid → IsRead found (reads mid) answer → saved ≡ closed_of found → WritesState (Next header saved) saved now new → (IsOwn now header → Checkpoints result header header.area saved now new) → Restores (Err e) saved old new
-exit_within e result answer header found saved old mid now new sound is same read closed_is writes c =
+-- that is what this is
+next_is : (header next : Header) (found saved : Saved) (image : Image) → StandsUnder header found image → saved ≡ closed_of found → next ≡ next_header header header.area header.length → next ≡ Next header saved
+next_is header next found saved image u closed_is is =
+    let long : saved.length ≡ header.length = ap (λ (s : Saved). s.length) closed_is ∙ u.long in
+    is ∙ ap (next_header header header.area) (sym long)
+
+-- What is promised of a checkpoint under it.
+abbrev pub Promised : {T E : Type 0} → Result T E → Header → Saved → Life → Life → Type 0
+Promised result next saved now new = (header : Header) → IsOwn now header → next.epoch ≡ header.epoch + 1 → Checkpoints result next saved now new
+
+done_by : {T E : Type 0} (result : Result T E) (header next : Header) (saved : Saved) (now new : Life) → next ≡ Next header saved → IsOwn now header → Promised result next saved now new → Checkpoints result (Next header saved) saved now new
+done_by result header next saved now new is own c = subst (λ (h : Header). Checkpoints result h saved now new) is (c header own (ap (λ (h : Header). h.epoch) is))
+
+pub exit_within : {T E F : Type 0} (e : E) (result : Result T F) (answer : Result Header Fault) (header next : Header) (found saved : Saved) (old mid now new : Life) → answer ≡ Ok header → mid ≡ Synced old → now ≡ mid → IsRead found (reads mid) answer → saved ≡ closed_of found → next ≡ next_header header header.area header.length → WritesState next saved now new → Promised result next saved now new → Restores (Err e) saved old new
+exit_within e result answer header next found saved old mid now new sound is same read closed_is next_by writes c =
     let u = under answer header found (reads now) sound (subst (λ (l : Life). IsRead found (reads l) answer) (sym same) read) in
+    let to = next_is header next found saved (reads now) u closed_is next_by in
     record {
       outcome = tt;
       refused = tt;
-      renews = renewed header found saved old now new (same ∙ is) u closed_is writes;
+      renews = renewed header found saved old now new (same ∙ is) u closed_is (subst (λ (h : Header). WritesState h saved now new) to writes);
       kept = λ written.
-          let d = c (own_on header found old now (same ∙ is) u written) in
+          let d = done_by result header next saved now new to (own_on header found old now (same ∙ is) u written) c in
           record { stops = through result header found saved old now new (same ∙ is) u closed_is written d; ready = tt };
     }
 
-pub exit_restored : {T F : Type 0} (v : T) (answer : Result Header Fault) (header : Header) (found saved : Saved) (old mid now new : Life) → answer ≡ Ok header → mid ≡ Synced old → now ≡ mid → IsRead found (reads mid) answer → saved ≡ closed_of found → WritesState (Next header saved) saved now new → (IsOwn now header → Checkpoints {E = F} (Ok v) header header.area saved now new) → Restores {E = F} (Ok (Ok (next_header header header.area header.length))) saved old new
-exit_restored {F = F} v answer header found saved old mid now new sound is same read closed_is writes c =
+pub exit_restored : {T F : Type 0} (v : T) (answer : Result Header Fault) (header next : Header) (found saved : Saved) (old mid now new : Life) → answer ≡ Ok header → mid ≡ Synced old → now ≡ mid → IsRead found (reads mid) answer → saved ≡ closed_of found → next ≡ next_header header header.area header.length → WritesState next saved now new → Promised {E = F} (Ok v) next saved now new → Restores {E = F} (Ok (Ok next)) saved old new
+exit_restored {F = F} v answer header next found saved old mid now new sound is same read closed_is next_by writes c =
     let ok : Result _ F = Ok v in
     let u = under answer header found (reads now) sound (subst (λ (l : Life). IsRead found (reads l) answer) (sym same) read) in
     let after = recovered_is header found saved old now (same ∙ is) u closed_is in
-    let long : saved.length ≡ header.length = ap (λ (s : Saved). s.length) closed_is ∙ u.long in
+    let to = next_is header next found saved (reads now) u closed_is next_by in
     record {
-      outcome = (record { program = (beside saved header.area (reads now)).program; is = after }, record { before = header; force = subst (λ (l : Life). in_force (reads l) ≡ Some header) (same ∙ is) u.force; next = refl });
+      outcome = (record { program = (beside saved header.area (reads now)).program; is = after }, record { before = header; force = subst (λ (l : Life). in_force (reads l) ≡ Some header) (same ∙ is) u.force; next = ap (λ (h : Header). h.epoch) to });
       refused = tt;
-      renews = renewed header found saved old now new (same ∙ is) u closed_is writes;
+      renews = renewed header found saved old now new (same ∙ is) u closed_is (subst (λ (h : Header). WritesState h saved now new) to writes);
       kept = λ written.
-          let d = c (own_on header found old now (same ∙ is) u written) in
+          let d = done_by ok header next saved now new to (own_on header found old now (same ∙ is) u written) c in
           record {
             stops = through ok header found saved old now new (same ∙ is) u closed_is written d;
             ready = record {
               standing = beside saved header.area (reads now);
-              at = subst (λ (n : ℕ). IsAt new (next_header header header.area n) (beside saved header.area (reads now))) long d.at;
+              at = subst (λ (h : Header). IsAtEnd new h (beside saved header.area (reads now)) no_records) (sym to) d.at;
               is = after;
               saved_is = refl;
             };

@@ -1,7 +1,5 @@
 -- A device at rest, and what a stop of it stands for (own).
 use Rattle.std.specs.Prelude.{◌≡◌, ◌⊎◌, ◌+◌, ◌%◌, ℕ, List, Some, Result, Ok, OnOk}
-use Rattle.ng_num.specs.declared.fault.Fault.{Fault}
-use Rattle.ng_canon.specs.declared.item.Item.{Item}
 use Rattle.ng_rig.specs.Life.{Image, Life, reads, items}
 use Rattle.ng_rig.specs.Only.{WritesOnly}
 use Rattle.ng_rig.specs.Onward.{Onward, IsSynced}
@@ -13,25 +11,15 @@ use Rattle.ng_layout.specs.Spare.{IsAmong}
 use Rattle.ng_layout.specs.Stands.{snapshot_first, snapshot_size, program_first, program_size, stretch, in_force, stands, IsWritten}
 use Rattle.ng_layout.specs.Stored.{Saved, Standing}
 use Rattle.ng_journal.specs.Area.{BelongsIn}
+use Rattle.ng_log.specs.AtEnd.{no_records, IsAtEnd}
+
+pub use Rattle.ng_log.specs.AtEnd.{IsEither}
 
 -- one image, under this header, with no record of an epoch to come
 pub record IsOwn (life : Life) (header : Header) : Type 0 where
   pub synced : IsSynced life
   pub force : in_force (reads life) ≡ Some header
   pub written : IsWritten (reads life)
-
--- one image, under this header, that stands for this, and no record of an epoch to come
-pub record IsAt (life : Life) (header : Header) (standing : Standing) : Type 0 where
-  pub synced : IsSynced life
-  pub force : in_force (reads life) ≡ Some header
-  pub stands_for : stands (reads life) ≡ Ok standing
-  pub written : IsWritten (reads life)
-
--- An image stands for one of the two and has no record of an epoch to come; nothing was handed out.
-pub record IsEither (before after : Result Standing Fault) (given : List Item) (image : Image) (handed : List Item) : Type 0 where
-  pub state : (stands image ≡ before) ⊎ (stands image ≡ after)
-  pub written : IsWritten image
-  pub handed_is : handed ≡ given
 
 -- what is stored with a program that lies in an area of an image
 abbrev pub beside : Saved → ℕ → Image → Standing
@@ -40,11 +28,11 @@ beside saved area image = record { saved = saved; program = text_of saved.length
 abbrev pub next_header : Header → ℕ → ℕ → Header
 next_header header area length = record { epoch = header.epoch + 1; area = area; length = length }
 
--- Each stop since stands for what stood before or for the new, after Ok for that alone.
-pub record Checkpoints {T E : Type 0} (result : Result T E) (header : Header) (area : ℕ) (saved : Saved) (old new : Life) : Type 0 where
-  pub stops : Onward old new (IsEither (stands (reads old)) (Ok (beside saved area (reads old))) (items old))
+-- Each stop since stands for what stood before or for the new, after Ok for that alone, and its log has no record.
+pub record Checkpoints {T E : Type 0} (result : Result T E) (next : Header) (saved : Saved) (old new : Life) : Type 0 where
+  pub stops : Onward old new (IsEither (stands (reads old)) (Ok (beside saved next.area (reads old))) (items old))
   pub items_are : items new ≡ items old
-  pub at : OnOk result (IsAt new (next_header header area saved.length) (beside saved area (reads old)))
+  pub at : OnOk result (IsAtEnd new next (beside saved next.area (reads old)) no_records)
 
 -- a sector of an epoch: its header's, or one of its snapshot's
 abbrev pub IsOfEpoch : ℕ → ℕ → Type 0
@@ -62,7 +50,8 @@ WritesState header saved = WritesOnly (λ n bytes. BelongsTo header saved n byte
 abbrev pub IsLaidOut : Header → Saved → Image → Type 0
 IsLaidOut header saved image = (n : ℕ) → IsOfEpoch header.epoch n → BelongsTo header saved n (image n)
 
--- Only what belongs there is written, nothing is handed out, and after Ok all of it stands there.
+-- Only what belongs there is written, nothing is handed out, and after Ok all of it stands there and nothing is unsynced.
 pub record StoresState {T E : Type 0} (result : Result T E) (header : Header) (saved : Saved) (old new : Life) : Type 0 where
   pub writes : WritesState header saved old new
   pub laid : OnOk result (IsLaidOut header saved (reads new))
+  pub synced : OnOk result (IsSynced new)

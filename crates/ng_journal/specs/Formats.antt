@@ -7,8 +7,9 @@ use Rattle.ng_layout.specs.Log.{log_size}
 use Rattle.ng_layout.specs.Spare.{IsAmong}
 use Rattle.ng_layout.specs.Stands.{log_first}
 use Rattle.ng_layout.specs.Stored.{Standing, fresh}
+use Rattle.ng_log.specs.AtEnd.{no_records, IsAtEnd}
 use Rattle.ng_journal.specs.Area.{BelongsIn}
-use Rattle.ng_journal.specs.AtRest.{IsAt, BelongsTo, IsLaidOut}
+use Rattle.ng_journal.specs.AtRest.{BelongsTo, IsLaidOut}
 
 -- all its bytes are 0, so it holds neither a header nor a part
 abbrev pub IsEmpty : ℕ → List ℕ → Type 0
@@ -42,9 +43,9 @@ abbrev pub WritesFormat : Life → Life → Type 0
 WritesFormat = WritesOnly (λ n bytes. BelongsToFormat n bytes)
 
 -- Only that is written, and nothing is handed out. After Ok it stands there, with zeros in sector 0 and the log, and the device has one image,
--- which stands for a fresh controller under the first epoch.
+-- which stands for a fresh controller under the first epoch, whose log has no record.
 pub record Formats {T E : Type 0} (result : Result T E) (old new : Life) : Type 0 where
   pub writes : WritesFormat old new
-  pub at : OnOk result (IsAt new first_header fresh_standing)
+  pub at : OnOk result (IsAtEnd new first_header fresh_standing no_records)
   pub laid : OnOk result (IsLaidOut first_header fresh (reads new))
   pub zeros : OnOk result ((n : ℕ) → (n ≡ 0) ⊎ IsAmong log_first log_size n → IsEmpty n (reads new n))

@@ -8,29 +8,39 @@ use Rattle.ng_rig.specs.Onward.{Onward}
 use Rattle.ng_layout.specs.declared.header.Header.{Header}
 use Rattle.ng_layout.specs.Header.{IsLawful}
 use Rattle.ng_layout.specs.Limits.{greatest_count}
+use Rattle.ng_layout.specs.Log.{log_size_of}
 use Rattle.ng_layout.specs.Stands.{least_size, stands, IsWritten}
 use Rattle.ng_layout.specs.Storable.{IsStorable}
 use Rattle.ng_layout.specs.Stored.{Saved, Standing}
-use Rattle.ng_journal.specs.AtRest.{IsAt, IsEither}
+use Rattle.ng_log.specs.declared.log_end.LogEnd.{LogEnd}
+use Rattle.ng_log.specs.AtEnd.{IsAtEnd}
+use Rattle.ng_journal.specs.AtRest.{IsEither}
 
--- the device, the header in force, what is stored, and whether a call of the device failed
+-- the device, the header in force, where its log ends, what is stored, and whether a call of the device failed
 pub record Logbook (R : Type 0) : Type 0 where
   pub rig : R
   pub header : Header
+  pub end : LogEnd
   pub saved : Saved
   pub broken : Bool
 
--- What holds of every journal, whatever its device does.
-pub record IsSteady (sectors : ℕ) (header : Header) (saved : Saved) : Type 0 where
-  pub room : least_size ≤ sectors
+-- The header is within its limits and names a program of this length, and its log ends here within its sectors, of which each record has one.
+pub record IsTip (length : ℕ) (header : Header) (end : LogEnd) : Type 0 where
   pub lawful : IsLawful header
+  pub long : length ≡ header.length
+  pub within : end.sector ≤ log_size_of header
+  pub number : end.number ≤ end.sector
+
+-- What holds of every journal, whatever its device does.
+pub record IsSteady (sectors : ℕ) (header : Header) (end : LogEnd) (saved : Saved) : Type 0 where
+  pub room : least_size ≤ sectors
+  pub tip : IsTip saved.length header end
   pub storable : IsStorable saved
   pub count : saved.entries ≤ greatest_count
-  pub long : saved.length ≡ header.length
 
--- The device has one image, which stands for this.
+-- The device has one image, which stands for this, and the log ends where the journal has it.
 pub record RestsAt {R : Type 0} (life : Life) (journal : Logbook R) (standing : Standing) : Type 0 where
-  pub at : IsAt life journal.header standing
+  pub at : IsAtEnd life journal.header standing journal.end
   pub saved_is : standing.saved ≡ journal.saved
 
 -- Each stop since stands for the one or for the other, after Ok for the other alone; nothing is handed out.

@@ -6,6 +6,7 @@ pub mod Journal
 pub mod Loads
 pub mod ProgramLines
 pub mod Reading
+pub mod Records
 pub mod Recover
 pub mod Recovery
 pub mod Storing

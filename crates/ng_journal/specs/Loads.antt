@@ -8,7 +8,8 @@ use Rattle.ng_layout.specs.Sectors.{HoldsText}
 use Rattle.ng_layout.specs.Stands.{program_first, program_size, stands}
 use Rattle.ng_layout.specs.Stored.{Standing}
 use Rattle.ng_journal.specs.Area.{BelongsIn}
-use Rattle.ng_journal.specs.AtRest.{IsAt, IsEither, BelongsTo, IsLaidOut, next_header}
+use Rattle.ng_log.specs.AtEnd.{no_records, IsAtEnd}
+use Rattle.ng_journal.specs.AtRest.{IsEither, BelongsTo, IsLaidOut, next_header}
 
 -- these bytes are the text's in this sector of a program area
 abbrev pub BelongsToText : List ℕ → ℕ → ℕ → List ℕ → Type 0
@@ -45,8 +46,8 @@ pub record StoresLoad {T E : Type 0} (result : Result T E) (header : Header) (lo
   pub text : OnOk result (IsTextAt (program_first (other_area header)) loaded.program (reads new))
   pub laid : OnOk result (IsLaidOut (next_header header (other_area header) loaded.saved.length) loaded.saved (reads new))
 
--- Each stop since stands for what stood before or for the new with its program, after Ok for that alone.
+-- Each stop since stands for what stood before or for the new with its program, after Ok for that alone, and its log has no record.
 pub record Loads {T E : Type 0} (result : Result T E) (header : Header) (loaded : Standing) (old new : Life) : Type 0 where
   pub stops : Onward old new (IsEither (stands (reads old)) (Ok loaded) (items old))
   pub items_are : items new ≡ items old
-  pub at : OnOk result (IsAt new (next_header header (other_area header) loaded.saved.length) loaded)
+  pub at : OnOk result (IsAtEnd new (next_header header (other_area header) loaded.saved.length) loaded no_records)

@@ -6,11 +6,11 @@ use Rattle.ng_rig.specs.Life.{Image, Life, Synced, reads, items}
 use Rattle.ng_rig.specs.Only.{WritesOnly}
 use Rattle.ng_rig.specs.Onward.{Onward}
 use Rattle.ng_layout.specs.declared.header.Header.{Header}
-use Rattle.ng_layout.specs.Fields.{number_at}
 use Rattle.ng_layout.specs.Limits.{greatest_count}
-use Rattle.ng_layout.specs.Stands.{in_force, stands, recovered, log_first, IsWritten}
+use Rattle.ng_layout.specs.Stands.{in_force, stands, recovered, IsWritten}
 use Rattle.ng_layout.specs.Stored.{Saved, Standing}
-use Rattle.ng_journal.specs.AtRest.{IsAt, IsEither, BelongsTo, beside, next_header}
+use Rattle.ng_log.specs.AtEnd.{no_records, IsAtEnd}
+use Rattle.ng_journal.specs.AtRest.{IsEither, BelongsTo, beside, next_header}
 
 -- the faults of what a device holds
 abbrev pub IsRefusal : Fault → Type 0
@@ -21,12 +21,6 @@ abbrev pub recovered_of : Result Standing Fault → Result Standing Fault
 recovered_of (Ok s) = Ok (recovered s)
 recovered_of (Err e) = Err e
 
--- the log begins with a part of the epoch in force
-pub record HasRecord (image : Image) : Type 0 where
-  pub header : Header
-  pub force : in_force image ≡ Some header
-  pub there : number_at 8 0 (image log_first) ≡ header.epoch
-
 -- the epoch in force is the last
 pub record IsUsedUp (image : Image) : Type 0 where
   pub header : Header
@@ -35,10 +29,10 @@ pub record IsUsedUp (image : Image) : Type 0 where
   pub standing : Standing
   pub sound : stands image ≡ Ok standing
 
--- Why nothing is recovered. No log is read yet: a device whose log has begun counts as damaged.
+-- why nothing is recovered
 abbrev pub HasCause : Fault → Image → Type 0
 HasCause NotFormatted image = stands image ≡ Err NotFormatted
-HasCause Damaged image = (stands image ≡ Err Damaged) ⊎ HasRecord image
+HasCause Damaged image = stands image ≡ Err Damaged
 HasCause CountersUsed image = IsUsedUp image
 HasCause _ image = ⊥
 
@@ -80,10 +74,10 @@ abbrev pub Outcome : Result Header Fault → Saved → Image → Type 0
 Outcome (Ok header) saved image = IsFound saved image × IsNextEpoch header image
 Outcome (Err fault) saved image = HasCause fault image
 
--- at rest, under this header, with the recovered of what stood
+-- at rest, under this header, with the recovered of what stood and no record
 pub record IsReady (header : Header) (saved : Saved) (old new : Life) : Type 0 where
   pub standing : Standing
-  pub at : IsAt new header standing
+  pub at : IsAtEnd new header standing no_records
   pub is : recovered_of (stands (reads old)) ≡ Ok standing
   pub saved_is : saved ≡ standing.saved
 

@@ -10,8 +10,8 @@ ghost use Rattle.ng_journal.specs.Formats.{Overwrites, IsEmpty, Formats};
 ghost use Rattle.ng_journal.specs.Journal.{Tells};
 
 use crate::checkpoint::header_sector;
-use crate::sectors::{LEAST, LOG, LOG_SIZE, SNAPSHOT, snapshot_first};
-use ng_layout::{BYTES, Header, fresh_sector};
+use crate::sectors::{LEAST, SNAPSHOT, snapshot_first};
+use ng_layout::{BYTES, Header, LOG_FIRST, LONGEST_LOG, fresh_sector};
 use ng_num::Fault;
 use ng_rig::{Failed, Rig};
 
@@ -43,8 +43,8 @@ fn clear_log<R: Rig>(rig: &mut R) -> Result<(), Failed>
     ensures size { R.sectors rig.new ≡ R.sectors rig.old }
     ensures failures { Counts result (R.failed rig.old) (R.failed rig.new) }
 {
-    for n in 0..LOG_SIZE {
-        rig.write(LOG + n, &empty_sector())?;
+    for n in 0..LONGEST_LOG {
+        rig.write(LOG_FIRST + n, &empty_sector())?;
     }
     Ok(())
 }

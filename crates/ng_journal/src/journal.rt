@@ -1,25 +1,26 @@
 //! The journal of a device.
-ghost use Rattle.std.specs.Prelude.{◌≡◌, ◌≤◌, ◌<◌, ◌⊎◌, ◌↔◌, false, true, Some, length, MatchResult, OnOk, IfOk, IfErr, IfSome, IsSome, IsErrOf, IsErrAnd};
+ghost use Rattle.std.specs.Prelude.{◌≡◌, ◌≤◌, ◌<◌, ◌⊎◌, ◌↔◌, false, true, Some, length, OnOk, IfOk, IfErr, IfSome, IsSome, IsErrOf, IsErrAnd};
 ghost use Rattle.ng_num.specs.declared.fault.Fault.TheVariants.{DeviceFailed, NotFormatted, CountersUsed, ProgramTooLong, OutOfMemory};
-ghost use Rattle.ng_rig.specs.Calls.{Promises, Counts, Hands};
+ghost use Rattle.ng_rig.specs.Calls.{Promises, Hands};
 ghost use Rattle.ng_layout.specs.Limits.{greatest_count};
 ghost use Rattle.ng_layout.specs.Storable.{CanWait, IsStorable};
 ghost use Rattle.ng_layout.specs.Stored.{Standing};
+ghost use Rattle.ng_log.specs.AtEnd.{no_records};
 ghost use Rattle.ng_journal.specs.Recover.{Recovers, rig_of, fault_of};
 ghost use Rattle.ng_journal.specs.Journal.{Tells};
 ghost use Rattle.ng_journal.specs.ProgramLines.{FindsFirst, ReadsLine};
-ghost use Rattle.ng_journal.specs.AtRest.{IsOwn, Checkpoints, StoresState, next_header};
 ghost use Rattle.ng_journal.specs.Loads.{StoresLoad};
-ghost use Rattle.ng_journal.specs.Storing.{Commit, Open, Load, UsesUp, ledger_of};
+ghost use Rattle.ng_journal.specs.Storing.{Commit, Open, Load, UsesUp, IsFullFor, StoresRecord, ledger_of};
 
-use crate::checkpoint::checkpoint;
+use crate::checkpoint::next_header;
 use crate::line::{ProgramLine, read_line};
 use crate::lines_before::read_first_kind;
 use crate::loading::load;
 use crate::recovery::restore;
 use crate::sectors::{LEAST, program_first};
+use crate::storing::{Tip, changes_between, store, store_half};
 use ng_canon::Item;
-use ng_layout::{GREATEST_COUNT, Half, Header, LONGEST_PROGRAM, Stored};
+use ng_layout::{GREATEST_COUNT, Half, LONGEST_PROGRAM, Stored};
 use ng_num::Fault;
 use ng_rig::{Failed, Rig};
 use ng_words::Kind;
@@ -30,7 +31,7 @@ use std::marker::Model;
 /// `Logbook`.
 pub struct Journal<R: Rig, A: Allocator + Copy + Drop> {
     rig: R,
-    header: Header,
+    tip: Tip,
     stored: Stored<A>,
     broken: bool,
 }
@@ -40,15 +41,17 @@ impl<R: Rig, A: Allocator + Copy + Drop> Model for Journal<R, A> {
 
     ghost Value = { Logbook R };
 
-    ghost view = { λ j. record { rig = j.rig; header = j.header; saved = j.stored; broken = j.broken } };
+    ghost view = { λ j. record { rig = j.rig; header = j.tip.header; end = j.tip.end; saved = j.stored; broken = j.broken } };
 
-    ghost invariant = { λ j. IsSteady (R.sectors j.rig) j.header j.stored };
+    ghost invariant = { λ j. IsSteady (R.sectors j.rig) j.tip.header j.tip.end j.stored };
 }
 
 /// Powers on (own): finds what the device stands for, and writes it again under the next epoch with nothing open.
 ///
+/// What stands is the snapshot of the header in force with the complete records behind it. The log ends at its beginning then.
+///
 /// J2 for fewer than 1,710 sectors, with no call of the device, and where no header is valid; J3 where what stands is
-/// damaged or its log has begun; J4 where the epoch would be beyond its limit: all before any write. J1 where the device failed. M1 where
+/// damaged; J4 where the epoch would be beyond its limit: all before any write. J1 where the device failed. M1 where
 /// memory is wanting, before any call of the device. The device is handed back with each of them.
 pub fn recover<R: Rig, A: Allocator + Copy + Drop>(
     alloc: A,
@@ -56,6 +59,7 @@ pub fn recover<R: Rig, A: Allocator + Copy + Drop>(
 ) -> Result<(Journal<R, A>, Stored<A>), (Fault, R)>
     ensures recovers { let after = rig_of result in 1710 ≤ R.sectors rig → Promises (R.honest rig) (R.honest after) (Recovers result (R.life rig) (R.life after)) }
     ensures journal { IfOk result (λ x. (x.0.broken ≡ false) × (x.0.saved ≡ x.1) × IsStorable x.1) }
+    ensures end { IfOk result (λ x. x.0.end ≡ no_records) }
     ensures small { R.sectors rig < 1710 → IsErrAnd result (λ e. (e.0 ≡ NotFormatted) × (e.1 ≡ rig)) }
     ensures memory { IfErr result (λ e. e.0 ≡ OutOfMemory → e.1 ≡ rig) }
     ensures size { let after = rig_of result in R.sectors after ≡ R.sectors rig }
@@ -75,7 +79,7 @@ pub fn recover<R: Rig, A: Allocator + Copy + Drop>(
             kept.take_over(&stored);
             let journal = Journal {
                 rig,
-                header,
+                tip: Tip::beginning(header),
                 stored: kept,
                 broken: false,
             };
@@ -100,7 +104,7 @@ impl<R: Rig, A: Allocator + Copy + Drop> Journal<R, A> {
     {
         let Journal {
             rig,
-            header: _,
+            tip: _,
             stored: _,
             broken: _,
         } = self;
@@ -114,9 +118,10 @@ impl<R: Rig, A: Allocator + Copy + Drop> Journal<R, A> {
         self.broken
     }
 
-    /// Stores an entry (own): what is stored from now on, beside the same program.
+    /// Stores an entry (own): what is stored from now on, beside the same program. It is written as a record behind the log's end, one
+    /// write a part and one sync. Where the log has no room for it, what stood is written under the next epoch before.
     ///
-    /// J4 where the entry count or the epoch would be beyond its limit; then nothing is changed. J1 where the device
+    /// J4 where the entry count would be beyond its limit, or where the next epoch is needed and would be; then nothing is changed. J1 where the device
     /// failed: the journal is broken then, and the device stands for what stood before or for the new. It takes no
     /// memory.
     #[tactic(auto, unfolding(crate::specs::Storing::UsesUp))]
@@ -126,7 +131,7 @@ impl<R: Rig, A: Allocator + Copy + Drop> Journal<R, A> {
         requires program { stored.now.length ≡ self.old.saved.length }
         ensures stops { Promises (R.honest self.old.rig) (R.honest self.new.rig) ((before : Standing) → RestsAt (R.life self.old.rig) self.old before
             → Moves result self.new before (record before { saved = stored.now }) (R.life self.old.rig) (R.life self.new.rig)) }
-        ensures stores { Promises (R.honest self.old.rig) (R.honest self.new.rig) (StoresState result (next_header self.old.header self.old.header.area stored.now.length) stored.now (R.life self.old.rig) (R.life self.new.rig)) }
+        ensures stores { Promises (R.honest self.old.rig) (R.honest self.new.rig) (StoresRecord result (ledger_of self.old) stored.now (R.life self.old.rig) (R.life self.new.rig)) }
         ensures saved { OnOk result (self.new.saved ≡ stored.now) }
         ensures broken { IsBrokenBy result self.new.broken }
         ensures errors { IfErr result (λ e. (e ≡ CountersUsed) ⊎ (e ≡ DeviceFailed)) }
@@ -136,16 +141,27 @@ impl<R: Rig, A: Allocator + Copy + Drop> Journal<R, A> {
         ensures size { R.sectors self.new.rig ≡ R.sectors self.old.rig }
         ensures failures { Tells result (R.failed self.old.rig) (R.failed self.new.rig) }
     {
-        if self.is_used_up(stored.entries) {
+        let count = changes_between(&self.stored, stored);
+        if stored.entries > GREATEST_COUNT || self.is_used_up_by(count) {
             return Err(Fault::CountersUsed);
         }
-        self.stored.take_over(stored);
-        self.renew()
+        match store(&mut self.rig, self.tip, &self.stored, stored, count) {
+            Ok(tip) => {
+                self.stored.take_over(stored);
+                self.tip = tip;
+                Ok(())
+            }
+            Err(Failed) => {
+                self.broken = true;
+                Err(Fault::DeviceFailed)
+            }
+        }
     }
 
-    /// Stores that a segment or an approach of a half-done block is open (own); the entry count stays.
+    /// Stores that a segment or an approach of a half-done block is open (own); the entry count stays. It is written as a record with no
+    /// changes, as for `commit`.
     ///
-    /// J4 where the epoch would be beyond its limit; then nothing is changed. J1 as for `commit`. It takes no
+    /// J4 where the next epoch is needed and would be beyond its limit; then nothing is changed. J1 as for `commit`. It takes no
     /// memory.
     #[tactic(auto, unfolding(crate::specs::Storing::UsesUp))]
     pub fn open_segment(&mut self, half: &Half) -> Result<(), Fault>
@@ -154,7 +170,7 @@ impl<R: Rig, A: Allocator + Copy + Drop> Journal<R, A> {
         requires is_open { IsSome half.now.opened }
         ensures stops { Promises (R.honest self.old.rig) (R.honest self.new.rig) ((before : Standing) → RestsAt (R.life self.old.rig) self.old before
             → Moves result self.new before (record before { saved = record self.old.saved { half = Some half.now } }) (R.life self.old.rig) (R.life self.new.rig)) }
-        ensures stores { Promises (R.honest self.old.rig) (R.honest self.new.rig) (StoresState result (next_header self.old.header self.old.header.area self.old.saved.length) (record self.old.saved { half = Some half.now }) (R.life self.old.rig) (R.life self.new.rig)) }
+        ensures stores { Promises (R.honest self.old.rig) (R.honest self.new.rig) (StoresRecord result (ledger_of self.old) (record self.old.saved { half = Some half.now }) (R.life self.old.rig) (R.life self.new.rig)) }
         ensures saved { OnOk result (self.new.saved ≡ record self.old.saved { half = Some half.now }) }
         ensures broken { IsBrokenBy result self.new.broken }
         ensures errors { IfErr result (λ e. (e ≡ CountersUsed) ⊎ (e ≡ DeviceFailed)) }
@@ -163,14 +179,22 @@ impl<R: Rig, A: Allocator + Copy + Drop> Journal<R, A> {
         ensures size { R.sectors self.new.rig ≡ R.sectors self.old.rig }
         ensures failures { Tells result (R.failed self.old.rig) (R.failed self.new.rig) }
     {
-        if self.header.epoch >= GREATEST_COUNT {
+        if self.is_used_up_by(0) {
             return Err(Fault::CountersUsed);
         }
-        self.stored.take_half(half);
-        self.renew()
+        match store_half(&mut self.rig, self.tip, &mut self.stored, half) {
+            Ok(tip) => {
+                self.tip = tip;
+                Ok(())
+            }
+            Err(Failed) => {
+                self.broken = true;
+                Err(Fault::DeviceFailed)
+            }
+        }
     }
 
-    /// Stores a program and what goes with it (own): the text takes the place of the program in force.
+    /// Stores a program and what goes with it (own): the text takes the place of the program in force, and the log begins anew.
     ///
     /// J5 for more than 131,072 bytes; J4 where the entry count or the epoch would be beyond its limit; then nothing
     /// is changed, and the device isn't called. J1 where the device failed: the journal is broken then, and the
@@ -184,6 +208,7 @@ impl<R: Rig, A: Allocator + Copy + Drop> Journal<R, A> {
             → Moves result self.new before (record { saved = stored.now; program = text.now }) (R.life self.old.rig) (R.life self.new.rig)) }
         ensures stores { Promises (R.honest self.old.rig) (R.honest self.new.rig) (StoresLoad result self.old.header (record { saved = stored.now; program = text.now }) (R.life self.old.rig) (R.life self.new.rig)) }
         ensures saved { OnOk result (self.new.saved ≡ stored.now) }
+        ensures end { OnOk result (self.new.end ≡ no_records) }
         ensures broken { IsBrokenBy result self.new.broken }
         ensures errors { IfErr result (λ e. (e ≡ ProgramTooLong) ⊎ ((e ≡ CountersUsed) ⊎ (e ≡ DeviceFailed))) }
         ensures too_long { IsErrOf result ProgramTooLong ↔ (131_072 < length text.now) }
@@ -199,15 +224,12 @@ impl<R: Rig, A: Allocator + Copy + Drop> Journal<R, A> {
         if self.is_used_up(stored.entries) {
             return Err(Fault::CountersUsed);
         }
-        let next = Header {
-            epoch: self.header.epoch + 1,
-            area: 1 - self.header.area,
-            length: text.len() as u64,
-        };
-        match load(&mut self.rig, self.header, text, stored) {
+        let header = self.tip.header;
+        let next = next_header(header, 1 - header.area, stored.length);
+        match load(&mut self.rig, header, text, stored) {
             Ok(()) => {
                 self.stored.take_over(stored);
-                self.header = next;
+                self.tip = Tip::beginning(next);
                 Ok(())
             }
             Err(Failed) => {
@@ -243,7 +265,15 @@ impl<R: Rig, A: Allocator + Copy + Drop> Journal<R, A> {
     fn is_used_up(&self, entries: u64) -> bool
         ensures { (result ≡ true) ↔ (greatest_count < entries ⊎ greatest_count ≤ self.now.header.epoch) }
     {
-        entries > GREATEST_COUNT || self.header.epoch >= GREATEST_COUNT
+        entries > GREATEST_COUNT || self.tip.header.epoch >= GREATEST_COUNT
+    }
+
+    /// Whether the log has no room for a record of so many changes, and the next epoch is beyond its limit.
+    fn is_used_up_by(&self, count: usize) -> bool
+        requires { count ≤ 5399 }
+        ensures { (result ≡ true) ↔ ((greatest_count ≤ self.now.header.epoch) × IsFullFor self.now.header self.now.end count) }
+    {
+        self.tip.header.epoch >= GREATEST_COUNT && self.tip.is_full_for(count)
     }
 
     /// The kind of the first line before a place of the program in force that isn't blank; blank where all are (own). It reads no
@@ -261,7 +291,7 @@ impl<R: Rig, A: Allocator + Copy + Drop> Journal<R, A> {
         ensures size { R.sectors self.new.rig ≡ R.sectors self.old.rig }
         ensures failures { Tells result (R.failed self.old.rig) (R.failed self.new.rig) }
     {
-        let start = program_first(self.header.area);
+        let start = program_first(self.tip.header.area);
         match read_first_kind(&mut self.rig, start, place as usize) {
             Ok(kind) => Ok(kind),
             Err(Failed) => {
@@ -287,35 +317,10 @@ impl<R: Rig, A: Allocator + Copy + Drop> Journal<R, A> {
         ensures size { R.sectors self.new.rig ≡ R.sectors self.old.rig }
         ensures failures { Tells result (R.failed self.old.rig) (R.failed self.new.rig) }
     {
-        let first = program_first(self.header.area);
-        let program_end = self.header.length as usize;
+        let first = program_first(self.tip.header.area);
+        let program_end = self.tip.header.length as usize;
         match read_line(&mut self.rig, first, place as usize, program_end) {
             Ok(line) => Ok(line),
-            Err(Failed) => {
-                self.broken = true;
-                Err(Fault::DeviceFailed)
-            }
-        }
-    }
-
-    /// Writes what is stored under the next epoch, in the same program area.
-    fn renew(&mut self) -> Result<(), Fault>
-        requires { self.old.header.epoch < 1_000_000_000_000 }
-        ensures stops { Promises (R.honest self.old.rig) (R.honest self.new.rig) (IsOwn (R.life self.old.rig) self.old.header
-            → Checkpoints result self.old.header self.old.header.area self.old.saved (R.life self.old.rig) (R.life self.new.rig)) }
-        ensures stores { Promises (R.honest self.old.rig) (R.honest self.new.rig) (StoresState result (next_header self.old.header self.old.header.area self.old.saved.length) self.old.saved (R.life self.old.rig) (R.life self.new.rig)) }
-        ensures saved { self.new.saved ≡ self.old.saved }
-        ensures ok { OnOk result (self.new.header ≡ next_header self.old.header self.old.header.area self.old.saved.length) }
-        ensures broken { MatchResult result (λ _. self.new.broken ≡ self.old.broken) (λ e. (e ≡ DeviceFailed) × (self.new.broken ≡ true)) }
-        ensures size { R.sectors self.new.rig ≡ R.sectors self.old.rig }
-        ensures failures { Counts result (R.failed self.old.rig) (R.failed self.new.rig) }
-    {
-        let area = self.header.area;
-        match checkpoint(&mut self.rig, self.header, area, &self.stored) {
-            Ok(()) => {
-                self.header.epoch += 1;
-                Ok(())
-            }
             Err(Failed) => {
                 self.broken = true;
                 Err(Fault::DeviceFailed)

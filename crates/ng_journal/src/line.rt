@@ -8,10 +8,10 @@ ghost use Rattle.ng_journal.specs.Reading.{Reads};
 ghost use Rattle.ng_layout.specs.Programs.{line_at};
 ghost use Rattle.ng_journal.specs.ProgramLines.{IsPart, TakesPart, IsEnd};
 
-use crate::reading::read_sector;
 use arrayvec::ArrayVec;
 use memchr::memchr;
 use ng_layout::BYTES;
+use ng_log::read_sector;
 use ng_rig::{Failed, Rig};
 use std::marker::Model;
 

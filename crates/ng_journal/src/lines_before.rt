@@ -8,8 +8,8 @@ ghost use Rattle.ng_journal.specs.FirstLines.{kind_in};
 
 use crate::first_line::FirstLine;
 use crate::line::part_of;
-use crate::reading::read_sector;
 use ng_layout::BYTES;
+use ng_log::read_sector;
 use ng_rig::{Failed, Rig};
 use ng_words::Kind;
 

@@ -6,7 +6,7 @@ ghost use Rattle.ng_layout.specs.Storable.{IsStorable};
 ghost use Rattle.ng_journal.specs.AtRest.{IsOwn};
 ghost use Rattle.ng_journal.specs.Loads.{WritesText, Loads, StoresLoad};
 
-use crate::checkpoint::checkpoint;
+use crate::checkpoint::{checkpoint, next_header};
 use crate::sectors::program_first;
 use ng_layout::{BYTES, Header, Stored, text_sector};
 use ng_rig::{Failed, Rig};
@@ -48,5 +48,5 @@ pub(crate) fn load<R: Rig, A: Allocator + Copy + Drop>(
     let area = 1 - header.area;
     write_program(rig, program_first(area), text)?;
     rig.sync()?;
-    checkpoint(rig, header, area, stored)
+    checkpoint(rig, next_header(header, area, stored.length), stored)
 }

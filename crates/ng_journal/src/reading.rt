@@ -8,25 +8,14 @@ ghost use Rattle.ng_layout.specs.StateField.{field_at};
 ghost use Rattle.ng_layout.specs.Sound.{IsSound};
 ghost use Rattle.ng_layout.specs.Stands.{in_force, newer, snapshot_first};
 ghost use Rattle.ng_layout.specs.Storable.{IsStorable};
-ghost use Rattle.ng_journal.specs.Reading.{Reads, IsTableOf, IsSnapshotOf, has_record};
+ghost use Rattle.ng_journal.specs.Reading.{Reads, IsTableOf, IsSnapshotOf};
 
-use crate::sectors::{LOG, SNAPSHOT, snapshot_first};
-use ng_layout::{BYTES, Header, Reported, StateField, Stored, epoch_of_part, take_values};
+use crate::sectors::{SNAPSHOT, snapshot_first};
+use ng_layout::{Header, Reported, StateField, Stored, take_values};
+use ng_log::read_sector;
 use ng_params::Params;
 use ng_rig::{Failed, Rig};
 use std::alloc::Allocator;
-
-/// A sector's bytes.
-pub(crate) fn read_sector<R: Rig>(rig: &mut R, sector: usize) -> Result<[u8; BYTES], Failed>
-    requires { sector < R.sectors rig.old }
-    ensures read { Promises (R.honest rig.old) (R.honest rig.new) (Reads result (λ image bytes. bytes ≡ image sector) (R.life rig.old) (R.life rig.new)) }
-    ensures size { R.sectors rig.new ≡ R.sectors rig.old }
-    ensures failures { Counts result (R.failed rig.old) (R.failed rig.new) }
-{
-    let mut bytes = [0; BYTES];
-    rig.read(sector, &mut bytes)?;
-    Ok(bytes)
-}
 
 /// The valid header of sector `k`.
 fn read_header<R: Rig>(rig: &mut R, k: u64) -> Result<Option<Header>, Failed>
@@ -67,17 +56,6 @@ pub(crate) fn header_in_force<R: Rig>(rig: &mut R) -> Result<Option<Header>, Fai
     let even = read_header(rig, 0)?;
     let odd = read_header(rig, 1)?;
     Ok(newer(even, odd))
-}
-
-/// Whether the log begins with a part of this epoch.
-pub(crate) fn log_has<R: Rig>(rig: &mut R, epoch: u64) -> Result<bool, Failed>
-    requires { 1710 ≤ R.sectors rig.old }
-    ensures read { Promises (R.honest rig.old) (R.honest rig.new) (Reads result (λ image has. has ≡ has_record epoch image) (R.life rig.old) (R.life rig.new)) }
-    ensures size { R.sectors rig.new ≡ R.sectors rig.old }
-    ensures failures { Counts result (R.failed rig.old) (R.failed rig.new) }
-{
-    let bytes = read_sector(rig, LOG)?;
-    Ok(epoch_of_part(&bytes) == epoch)
 }
 
 /// What the state field of a sector says.

@@ -6,9 +6,10 @@ ghost use Rattle.ng_layout.specs.Storable.{IsStorable};
 ghost use Rattle.ng_journal.specs.Reading.{Reads};
 ghost use Rattle.ng_journal.specs.Recovery.{IsRead, IsRefusal, Restores};
 
-use crate::checkpoint::checkpoint;
-use crate::reading::{header_in_force, log_has, read_snapshot};
+use crate::checkpoint::{checkpoint, next_header};
+use crate::reading::{header_in_force, read_snapshot};
 use ng_layout::{GREATEST_COUNT, Header, Stored};
+use ng_log::read_log;
 use ng_num::Fault;
 use ng_rig::{Failed, Rig};
 use std::alloc::Allocator;
@@ -33,15 +34,14 @@ fn found<R: Rig, A: Allocator + Copy + Drop>(
     match header_in_force(rig)? {
         None => Ok(Err(Fault::NotFormatted)),
         Some(header) => {
-            let has_log = log_has(rig, header.epoch)?;
-            if has_log {
-                return Ok(Err(Fault::Damaged));
-            }
             let is_whole = read_snapshot(rig, header, stored)?;
             if !is_whole {
                 return Ok(Err(Fault::Damaged));
             }
-            Ok(Ok(header))
+            match read_log(rig, header, stored)? {
+                None => Ok(Err(Fault::Damaged)),
+                Some(_) => Ok(Ok(header)),
+            }
         }
     }
 }
@@ -72,12 +72,9 @@ pub(crate) fn restore<R: Rig, A: Allocator + Copy + Drop>(
                 return Ok(Err(Fault::CountersUsed));
             }
             stored.close();
-            checkpoint(rig, header, header.area, stored)?;
-            Ok(Ok(Header {
-                epoch: header.epoch + 1,
-                area: header.area,
-                length: header.length,
-            }))
+            let next = next_header(header, header.area, header.length);
+            checkpoint(rig, next, stored)?;
+            Ok(Ok(next))
         }
     }
 }

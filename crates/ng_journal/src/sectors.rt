@@ -8,12 +8,6 @@ pub(crate) const LEAST: usize = 1710;
 /// How many sectors a snapshot area has.
 pub(crate) const SNAPSHOT: usize = 86;
 
-/// The first sector of the log.
-pub(crate) const LOG: usize = 686;
-
-/// How many sectors the log has.
-pub(crate) const LOG_SIZE: usize = 1024;
-
 /// The first sector of the snapshot area of an epoch.
 pub(crate) fn snapshot_first(epoch: u64) -> usize
     ensures is { result ≡ snapshot_first epoch }

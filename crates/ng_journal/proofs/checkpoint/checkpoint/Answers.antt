@@ -1,10 +1,7 @@
-use Rattle.std.proofs.Common.{◌+◌, Some, refl, ◌∙◌, ap, subst}
+use Rattle.std.proofs.Common.{◌+◌, refl, sym, ◌∙◌, ap}
 use Rattle.std.proofs.lemmas.Result.{err_from_is_err_and}
-use Rattle.ng_layout.specs.declared.header.Header.{Header}
-use Rattle.ng_layout.specs.Header.{HoldsHeader}
-use Rattle.ng_layout.specs.Stored.{Saved}
-use Rattle.ng_journal.specs.AtRest.{next_header}
-use Rattle.ng_journal.proofs.Framing.{state_area, state_sync, state_header, state_laid}
+use Rattle.ng_layout.specs.Stands.{snapshot_first}
+use Rattle.ng_journal.proofs.Framing.{state_area, state_sync, state_header, state_laid, synced_by}
 use Rattle.ng_journal.proofs.Renewing.{exit_area, exit_sync, exit_header, ready, finished}
 use Rattle.ng_journal.proofs.checkpoint.checkpoint.Goals as goal
 
@@ -15,7 +12,7 @@ returns-in_err-write_snapshot-clause-stops g c =
     rw p.1 (record {
       keeps = area.keeps;
       back = area.back;
-      holds = λ h w. exit_area p.0 c.write_snapshot.result _ _ c.snapshot_first.result c.args.header c.args.area c.args.stored.now w c.snapshot_first.ensures.is (area.holds h);
+      holds = λ h header w later. exit_area p.0 c.write_snapshot.result _ _ c.snapshot_first.result header c.args.next c.args.stored.now w (c.snapshot_first.ensures.is ∙ ap snapshot_first later) (area.holds h);
     })
 
 pub returns-in_err-sync-clause-stops : goal.returns-in_err-sync-clause-stops
@@ -26,7 +23,7 @@ returns-in_err-sync-clause-stops g c =
     rw p.1 (record {
       keeps = λ h. sync.keeps (area.keeps h);
       back = λ h. area.back (sync.back h);
-      holds = λ h w. exit_sync p.0 c.write_snapshot.result _ _ _ c.snapshot_first.result c.args.header c.args.area c.args.stored.now w c.snapshot_first.ensures.is (area.holds h) (sync.holds (area.keeps h));
+      holds = λ h header w later. exit_sync p.0 c.write_snapshot.result _ _ _ c.snapshot_first.result header c.args.next c.args.stored.now w (c.snapshot_first.ensures.is ∙ ap snapshot_first later) (area.holds h) (sync.holds (area.keeps h));
     })
 
 pub returns-in_err-write-clause-stops : goal.returns-in_err-write-clause-stops
@@ -36,14 +33,13 @@ returns-in_err-write-clause-stops g c =
     let sync = c.in_ok-sync.ensures.life in
     let write = c.write.ensures.life in
     let stored = c.args.stored.now in
-    let new : Header = record { epoch = c.args.header.epoch + 1; area = c.args.area; length = stored.length } in
-    let written = c.header_sector.ensures.read ∙ ap (λ (s : Saved). Some (record { epoch = c.args.header.epoch + 1; area = c.args.area; length = s.length })) c.stored.view_is in
+    let new = c.args.next in
     rw p.1 (record {
       keeps = λ h. write.keeps (sync.keeps (area.keeps h));
       back = λ h. area.back (sync.back (write.back h));
-      holds = λ h w.
-          let r = ready _ _ _ c.snapshot_first.result c.args.header new stored c.header_sector.result w c.snapshot_first.ensures.is (area.holds h) c.requires.storable.table written refl refl in
-          exit_header p.0 c.write.result _ _ _ _ c.args.header new stored c.header_sector.result r (sync.holds (area.keeps h)) (write.holds (sync.keeps (area.keeps h)));
+      holds = λ h header w later.
+          let r = ready _ _ _ c.snapshot_first.result header new stored c.header_sector.result w (c.snapshot_first.ensures.is ∙ ap snapshot_first later) (area.holds h) c.requires.storable.table c.header_sector.ensures.read later (sym c.requires.long) in
+          exit_header p.0 c.write.result _ _ _ _ header new stored c.header_sector.result r (sync.holds (area.keeps h)) (write.holds (sync.keeps (area.keeps h)));
     })
 
 pub returns-clause-stops : goal.returns-clause-stops
@@ -53,31 +49,29 @@ returns-clause-stops g c =
     let write = c.in_ok-write.ensures.life in
     let last = c.sync-2.ensures.life in
     let stored = c.args.stored.now in
-    let new : Header = record { epoch = c.args.header.epoch + 1; area = c.args.area; length = stored.length } in
-    let written = c.header_sector.ensures.read ∙ ap (λ (s : Saved). Some (record { epoch = c.args.header.epoch + 1; area = c.args.area; length = s.length })) c.stored.view_is in
+    let new = c.args.next in
     record {
       keeps = λ h. last.keeps (write.keeps (sync.keeps (area.keeps h)));
       back = λ h. area.back (sync.back (write.back (last.back h)));
-      holds = λ h w.
-          let r = ready _ _ _ c.snapshot_first.result c.args.header new stored c.header_sector.result w c.snapshot_first.ensures.is (area.holds h) c.requires.storable.table written refl refl in
-          finished c.sync-2.result _ _ _ _ _ c.args.header new stored c.header_sector.result r refl (sync.holds (area.keeps h)) (write.holds (sync.keeps (area.keeps h))) (last.holds (write.keeps (sync.keeps (area.keeps h))));
+      holds = λ h header w later.
+          let r = ready _ _ _ c.snapshot_first.result header new stored c.header_sector.result w (c.snapshot_first.ensures.is ∙ ap snapshot_first later) (area.holds h) c.requires.storable.table c.header_sector.ensures.read later (sym c.requires.long) in
+          finished c.sync-2.result _ _ _ _ _ header new stored c.header_sector.result r (sync.holds (area.keeps h)) (write.holds (sync.keeps (area.keeps h))) (last.holds (write.keeps (sync.keeps (area.keeps h))));
     }
 
 pub returns-in_err-write_snapshot-clause-stores : goal.returns-in_err-write_snapshot-clause-stores
 returns-in_err-write_snapshot-clause-stores g c =
     let p = err_from_is_err_and c.from_residual.result c.from_residual.ensures.1 in
-    let new = next_header c.args.header c.args.area c.args.stored.now.length in
     let area = c.write_snapshot.ensures.area in
     rw p.1 (record {
       keeps = area.keeps;
       back = area.back;
-      holds = λ h. record { writes = state_area c.write_snapshot.result c.snapshot_first.result new c.args.stored.now _ _ c.snapshot_first.ensures.is (area.holds h); laid = tt };
+      holds = λ h. record { writes = state_area c.write_snapshot.result c.snapshot_first.result c.args.next c.args.stored.now _ _ c.snapshot_first.ensures.is (area.holds h); laid = tt; synced = tt };
     })
 
 pub returns-in_err-sync-clause-stores : goal.returns-in_err-sync-clause-stores
 returns-in_err-sync-clause-stores g c =
     let p = err_from_is_err_and c.from_residual-in_err-sync.result c.from_residual-in_err-sync.ensures.1 in
-    let new = next_header c.args.header c.args.area c.args.stored.now.length in
+    let new = c.args.next in
     let area = c.write_snapshot.ensures.area in
     let sync = c.sync.ensures.life in
     rw p.1 (record {
@@ -85,14 +79,13 @@ returns-in_err-sync-clause-stores g c =
       back = λ h. area.back (sync.back h);
       holds = λ h.
           let one = state_area c.write_snapshot.result c.snapshot_first.result new c.args.stored.now _ _ c.snapshot_first.ensures.is (area.holds h) in
-          record { writes = state_sync c.sync.result new c.args.stored.now _ _ _ one (sync.holds (area.keeps h)); laid = tt };
+          record { writes = state_sync c.sync.result new c.args.stored.now _ _ _ one (sync.holds (area.keeps h)); laid = tt; synced = tt };
     })
 
 pub returns-in_err-write-clause-stores : goal.returns-in_err-write-clause-stores
 returns-in_err-write-clause-stores g c =
     let p = err_from_is_err_and c.from_residual-in_err-write.result c.from_residual-in_err-write.ensures.1 in
-    let new = next_header c.args.header c.args.area c.args.stored.now.length in
-    let held = subst (λ (s : Saved). HoldsHeader (next_header c.args.header c.args.area s.length) c.header_sector.result) c.stored.view_is c.header_sector.ensures.holds in
+    let new = c.args.next in
     let area = c.write_snapshot.ensures.area in
     let sync = c.sync.ensures.life in
     let write = c.write.ensures.life in
@@ -102,13 +95,13 @@ returns-in_err-write-clause-stores g c =
       holds = λ h.
           let one = state_area c.write_snapshot.result c.snapshot_first.result new c.args.stored.now _ _ c.snapshot_first.ensures.is (area.holds h) in
           let two = state_sync c.sync.result new c.args.stored.now _ _ _ one (sync.holds (area.keeps h)) in
-          record { writes = state_header c.write.result new c.args.stored.now c.header_sector.result _ _ _ held two (write.holds (sync.keeps (area.keeps h))); laid = tt };
+          record { writes = state_header c.write.result new c.args.stored.now c.header_sector.result _ _ _ c.header_sector.ensures.holds two (write.holds (sync.keeps (area.keeps h))); laid = tt; synced = tt };
     })
 
 pub returns-clause-stores : goal.returns-clause-stores
 returns-clause-stores g c =
-    let new = next_header c.args.header c.args.area c.args.stored.now.length in
-    let held = subst (λ (s : Saved). HoldsHeader (next_header c.args.header c.args.area s.length) c.header_sector.result) c.stored.view_is c.header_sector.ensures.holds in
+    let new = c.args.next in
+    let held = c.header_sector.ensures.holds in
     let area = c.write_snapshot.ensures.area in
     let sync = c.sync.ensures.life in
     let write = c.write.ensures.life in
@@ -123,8 +116,10 @@ returns-clause-stores g c =
           let done = c.in_ok-write_snapshot.ensures.area in
           let on = c.in_ok-sync.ensures.life in
           let put = c.in_ok-write.ensures.life in
+          let end = last.holds (write.keeps (sync.keeps (area.keeps h))) in
           record {
-            writes = state_sync c.sync-2.result new c.args.stored.now _ _ _ three (last.holds (write.keeps (sync.keeps (area.keeps h))));
-            laid = state_laid c.sync-2.result _ c.snapshot_first.result new c.args.stored.now c.header_sector.result _ _ _ _ _ c.snapshot_first.ensures.is (done.holds h) held (on.holds (area.keeps h)) (put.holds (sync.keeps (area.keeps h))) (last.holds (write.keeps (sync.keeps (area.keeps h))));
+            writes = state_sync c.sync-2.result new c.args.stored.now _ _ _ three end;
+            laid = state_laid c.sync-2.result _ c.snapshot_first.result new c.args.stored.now c.header_sector.result _ _ _ _ _ c.snapshot_first.ensures.is (done.holds h) held (on.holds (area.keeps h)) (put.holds (sync.keeps (area.keeps h))) end;
+            synced = synced_by c.sync-2.result _ _ end;
           };
     }

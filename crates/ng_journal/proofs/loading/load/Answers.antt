@@ -1,7 +1,9 @@
-use Rattle.std.proofs.Common.{◌≤◌, length, arith}
+use Rattle.std.proofs.Common.{◌≤◌, ◌-◌, length, ◌∙◌, ap, arith}
 use Rattle.std.proofs.lemmas.Result.{err_from_is_err_and}
-use Rattle.ng_journal.proofs.Framing.{among_text, load_text, load_sync, load_state, text_stays}
-use Rattle.ng_layout.specs.Stored.{Standing}
+use Rattle.ng_journal.proofs.Framing.{among_text, load_text, load_sync, load_state, text_stays, state_under}
+use Rattle.ng_layout.specs.declared.header.Header.{Header}
+use Rattle.ng_layout.specs.Stored.{Saved, Standing}
+use Rattle.ng_journal.specs.AtRest.{next_header}
 use Rattle.ng_journal.proofs.Overwriting.{own_again, exit_text, exit_sync, loaded_all}
 use Rattle.ng_journal.proofs.loading.load.Goals as goal
 
@@ -38,8 +40,10 @@ returns-clause-stops g c =
       holds = λ h at.
           let t = text.holds h in
           let s = sync.holds (text.keeps h) in
-          loaded_all c.checkpoint.result _ _ _ _ _ c.program_first.result c.args.header c.args.stored.now c.args.text.now at c.program_first.ensures.is c.requires.long short t s
-          (last.holds (sync.keeps (text.keeps h)) (own_again _ _ _ c.program_first.result c.args.header at c.program_first.ensures.is (among_text c.program_first.result c.args.text.now _ _ t.writes) s));
+          let next = c.next_header.result in
+          let next_is = c.next_header.ensures ∙ ap (λ (s : Saved). next_header c.args.header (1 - c.args.header.area) s.length) c.stored.view_is in
+          loaded_all c.checkpoint.result _ _ _ _ _ c.program_first.result c.args.header next c.args.stored.now c.args.text.now at c.program_first.ensures.is c.requires.long short t s next_is
+          (last.holds (sync.keeps (text.keeps h)) c.args.header (own_again _ _ _ c.program_first.result c.args.header at c.program_first.ensures.is (among_text c.program_first.result c.args.text.now _ _ t.writes) s) (ap (λ (x : Header). x.epoch) next_is));
     }
 
 pub returns-in_err-write_program-clause-stores : goal.returns-in_err-write_program-clause-stores
@@ -81,7 +85,8 @@ returns-clause-stores g c =
           let two = load_sync c.sync.result c.args.header loaded _ _ _ one (sync.holds (text.keeps h)) in
           let done = c.in_ok-write_program.ensures.text in
           let on = c.in_ok-sync.ensures.life in
-          let stored = last.holds (sync.keeps (text.keeps h)) in
+          let next_is = c.next_header.ensures ∙ ap (λ (s : Saved). next_header c.args.header (1 - c.args.header.area) s.length) c.stored.view_is in
+          let stored = state_under c.checkpoint.result c.next_header.result (next_header c.args.header (1 - c.args.header.area) c.args.stored.now.length) c.args.stored.now _ _ next_is (last.holds (sync.keeps (text.keeps h))) in
           record {
             writes = load_state c.args.header loaded _ _ _ two stored.writes;
             text = text_stays c.checkpoint.result _ c.program_first.result c.args.header loaded _ _ _ _ c.program_first.ensures.is (done.holds h) (on.holds (text.keeps h)) stored.writes;

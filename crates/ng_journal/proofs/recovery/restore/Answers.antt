@@ -44,7 +44,7 @@ returns-in_err-checkpoint-in-Ok-clause-restores g c =
     rw p.1 (record {
       keeps = λ h. last.keeps (found.keeps (sync.keeps h));
       back = λ h. sync.back (found.back (last.back h));
-      holds = λ h. let f = found.holds (sync.keeps h) in exit_within _ c.checkpoint.result c.in_ok-fault.field-0 c.in-Ok.header c.found.new.stored _ _ _ _ _ c.in-Ok.is (sync.holds h) f.same f.right c.close.ensures.value (stores.holds (found.keeps (sync.keeps h))).writes (last.holds (found.keeps (sync.keeps h)));
+      holds = λ h. let f = found.holds (sync.keeps h) in exit_within _ c.checkpoint.result c.in_ok-fault.field-0 c.in-Ok.header c.next_header-next.result c.found.new.stored _ _ _ _ _ c.in-Ok.is (sync.holds h) f.same f.right c.close.ensures.value c.next_header-next.ensures (stores.holds (found.keeps (sync.keeps h))).writes (last.holds (found.keeps (sync.keeps h)));
     })
 
 pub returns-in_ok-checkpoint-in-Ok-clause-restores : goal.returns-in_ok-checkpoint-in-Ok-clause-restores
@@ -56,5 +56,5 @@ returns-in_ok-checkpoint-in-Ok-clause-restores g c =
     record {
       keeps = λ h. last.keeps (found.keeps (sync.keeps h));
       back = λ h. sync.back (found.back (last.back h));
-      holds = λ h. let f = found.holds (sync.keeps h) in exit_restored _ c.in_ok-fault.field-0 c.in-Ok.header c.found.new.stored _ _ _ _ _ c.in-Ok.is (sync.holds h) f.same f.right c.close.ensures.value (stores.holds (found.keeps (sync.keeps h))).writes (last.holds (found.keeps (sync.keeps h)));
+      holds = λ h. let f = found.holds (sync.keeps h) in exit_restored _ c.in_ok-fault.field-0 c.in-Ok.header c.next_header-next.result c.found.new.stored _ _ _ _ _ c.in-Ok.is (sync.holds h) f.same f.right c.close.ensures.value c.next_header-next.ensures (stores.holds (found.keeps (sync.keeps h))).writes (last.holds (found.keeps (sync.keeps h)));
     }

@@ -1,15 +1,19 @@
-use Rattle.std.proofs.Common.{◌≡◌, sym, ◌∙◌, ap}
-use Rattle.ng_layout.specs.Stored.{Saved}
-use Rattle.ng_journal.specs.Journal.{Logbook}
-use Rattle.ng_journal.proofs.Moving.{own, moved}
+use Rattle.std.proofs.Common.{refl}
+use Rattle.ng_rig.proofs.Promise.{meaning}
+use Rattle.ng_journal.specs.Storing.{ledger_of}
+use Rattle.ng_journal.proofs.Moving.{moved, not_moved, stored_as, not_stored_as}
 use Rattle.ng_journal.proofs.journal.Journal.commit.Goals as goal
 
-pub returns-clause-stops : goal.returns-clause-stops
-returns-clause-stops g c =
-    let renew = c.renew.ensures in
-    let long : c.take_over.new.self.length ≡ c.self.inside.header.length = ap (λ (s : Saved). s.length) c.take_over.ensures ∙ c.requires.program ∙ sym (ap (λ (j : Logbook g.row.R.Denot). j.saved.length) c.self.view_is) ∙ c.self.invariant.long in
-    rw (← c.self.view_is, ← c.take_over.ensures) (record {
-      keeps = renew.stops.keeps;
-      back = renew.stops.back;
-      holds = λ h before rest. moved c.renew.result c.self.inside.header c.renew.new.self before c.take_over.new.self _ _ rest.at long renew.ok renew.saved (renew.stops.holds h (own rest.at));
-    })
+pub returns-in-Ok-clause-stops : goal.returns-in-Ok-clause-stops
+returns-in-Ok-clause-stops g c =
+    rw (← c.self.view_is) (meaning c.in-Ok.ensures.stops (λ f. λ before rest. moved _ c.in-Ok.tip _ before c.args.stored.now _ _ refl c.take_over.ensures (f before rest.at rest.saved_is)))
+
+pub returns-in-Ok-clause-stores : goal.returns-in-Ok-clause-stores
+returns-in-Ok-clause-stores g c = rw (← c.self.view_is) (meaning c.in-Ok.ensures.stores (λ s. stored_as _ c.in-Ok.tip _ c.args.stored.now _ _ s))
+
+pub returns-in-Err-clause-stops : goal.returns-in-Err-clause-stops
+returns-in-Err-clause-stops g c =
+    rw (← c.self.view_is) (meaning c.store.ensures.stops (λ f. λ before rest. not_moved _ c.store.result _ before c.args.stored.now _ _ (f before rest.at rest.saved_is)))
+
+pub returns-in-Err-clause-stores : goal.returns-in-Err-clause-stores
+returns-in-Err-clause-stores g c = rw (← c.self.view_is) (meaning c.store.ensures.stores (λ s. not_stored_as _ c.store.result _ c.args.stored.now _ _ s))

@@ -1,16 +1,16 @@
 use Rattle.std.proofs.Common.{◌≡◌, ◌≤◌, ◌∙◌, sym, ap, subst, arith}
 use Rattle.ng_rig.specs.Life.{Life}
 use Rattle.ng_rig.proofs.Promise.{meaning}
-use Rattle.ng_journal.specs.AtRest.{IsAt}
+use Rattle.ng_log.specs.AtEnd.{IsAtEnd}
 use Rattle.ng_journal.proofs.FirstLinesRead.{first_in_force}
 use Rattle.ng_journal.proofs.journal.Journal.first_kind.Goals as goal
 
 pub returns-in-Ok-clause-kind : goal.returns-in-Ok-clause-kind
 returns-in-Ok-clause-kind g c =
-    let long : c.args.self.now.saved.length ≡ c.self.inside.header.length = sym (ap (λ v. v.saved.length) c.self.view_is) ∙ c.self.invariant.long in
-    let within : c.args.place ≤ c.self.inside.header.length = omega (arith, c.requires.place, long) in
+    let long : c.args.self.now.saved.length ≡ c.self.inside.tip.header.length = sym (ap (λ v. v.saved.length) c.self.view_is) ∙ c.self.invariant.tip.long in
+    let within : c.args.place ≤ c.self.inside.tip.header.length = omega (arith, c.requires.place, long) in
     rw (← c.self.view_is) (meaning c.in-Ok.ensures.read (λ r. λ standing rest. record {
       same = r.same;
-      at = record { at = subst (λ (l : Life). IsAt l c.self.inside.header standing) (sym r.same) rest.at; saved_is = rest.saved_is };
-      kind = first_in_force _ c.self.inside.header standing c.program_first-start.result c.args.place c.in-Ok.kind rest.at c.program_first-start.ensures.is within r.right;
+      at = record { at = subst (λ (l : Life). IsAtEnd l c.self.inside.tip.header standing c.self.inside.tip.end) (sym r.same) rest.at; saved_is = rest.saved_is };
+      kind = first_in_force _ c.self.inside.tip.header standing c.program_first-start.result c.args.place c.in-Ok.kind rest.at c.program_first-start.ensures.is within r.right;
     }))

@@ -1,7 +1,7 @@
 use Rattle.std.proofs.Common.{sym, subst}
 use Rattle.ng_rig.specs.Life.{Life}
 use Rattle.ng_rig.proofs.Promise.{meaning}
-use Rattle.ng_journal.specs.AtRest.{IsAt}
+use Rattle.ng_log.specs.AtEnd.{IsAtEnd}
 use Rattle.ng_journal.proofs.LinesRead.{line_in_force}
 use Rattle.ng_journal.proofs.journal.Journal.program_line.Goals as goal
 
@@ -9,6 +9,6 @@ pub returns-in-Ok-clause-line : goal.returns-in-Ok-clause-line
 returns-in-Ok-clause-line g c =
     rw (← c.self.view_is) (meaning c.in-Ok.ensures.read (λ r. λ standing rest. record {
       same = r.same;
-      at = record { at = subst (λ (l : Life). IsAt l c.self.inside.header standing) (sym r.same) rest.at; saved_is = rest.saved_is };
-      line = line_in_force _ c.self.inside.header standing c.program_first-first.result c.args.place c.in-Ok.line rest.at c.program_first-first.ensures.is r.right;
+      at = record { at = subst (λ (l : Life). IsAtEnd l c.self.inside.tip.header standing c.self.inside.tip.end) (sym r.same) rest.at; saved_is = rest.saved_is };
+      line = line_in_force _ c.self.inside.tip.header standing c.program_first-first.result c.args.place c.in-Ok.line rest.at c.program_first-first.ensures.is r.right;
     }))

@@ -1,0 +1,179 @@
+//! What is stored, as a record; where the log has no room for it, what stands is checkpointed first.
+ghost use Rattle.std.specs.Prelude.{◌≡◌, ◌≤◌, ◌<◌, ◌+◌, ◌⊎◌, ◌↔◌, true, Some, length, OnOk, IfOk};
+ghost use Rattle.ng_rig.specs.Calls.{Promises, Counts};
+ghost use Rattle.ng_layout.specs.Log.{log_size_of};
+ghost use Rattle.ng_layout.specs.Storable.{CanWait, IsStorable};
+ghost use Rattle.ng_layout.specs.Stored.{Standing};
+ghost use Rattle.ng_log.specs.Appends.{WritesRecord};
+ghost use Rattle.ng_log.specs.AtEnd.{IsAtEnd, no_records};
+ghost use Rattle.ng_log.specs.Differences.{differences};
+ghost use Rattle.ng_journal.specs.Journal.{IsTip};
+ghost use Rattle.ng_journal.specs.Records.{IsRoom, MakesRoom, Stores, StoresRoom, ledger};
+ghost use Rattle.ng_journal.specs.Storing.{HasRoomFor, IsFullFor, StoresRecord, record_of};
+
+use crate::checkpoint::{checkpoint, next_header};
+use ng_layout::{Half, Header, Stored, parts_for};
+use ng_log::{LogEnd, append, difference_count};
+use ng_rig::{Failed, Rig};
+use std::alloc::Allocator;
+
+/// The header in force, and where its log ends.
+#[derive(Clone, Copy)]
+pub(crate) struct Tip {
+    pub(crate) header: Header,
+    pub(crate) end: LogEnd,
+}
+
+impl Tip {
+    /// Of a log without a record.
+    pub(crate) fn beginning(header: Header) -> Tip
+        ensures { result ≡ record { header = header; end = no_records } }
+    {
+        Tip {
+            header,
+            end: LogEnd::START,
+        }
+    }
+
+    /// Whether a record of so many changes would end past the log.
+    pub(crate) fn is_full_for(self, count: usize) -> bool
+        requires within { self.end.sector ≤ log_size_of self.header }
+        requires few { count ≤ 5399 }
+        ensures { (result ≡ true) ↔ IsFullFor self.header self.end count }
+    {
+        self.end.sector + parts_for(count) > self.header.log_size()
+    }
+}
+
+/// How many changes make the one of the other.
+pub(crate) fn changes_between<A: Allocator + Copy + Drop>(
+    old: &Stored<A>,
+    stored: &Stored<A>,
+) -> usize
+    ensures count { result ≡ length (differences old.now.setup.params stored.now.setup.params) }
+    ensures few { result ≤ 5399 }
+{
+    difference_count(&old.state.params, &stored.state.params)
+}
+
+/// Writes what stands under the next epoch, where the log has no room for a record of so many changes.
+fn make_room<R: Rig, A: Allocator + Copy + Drop>(
+    rig: &mut R,
+    tip: Tip,
+    stored: &Stored<A>,
+    count: usize,
+) -> Result<Tip, Failed>
+    requires sectors { 1710 ≤ R.sectors rig.old }
+    requires tip { IsTip stored.now.length tip.header tip.end }
+    requires few { count ≤ 5399 }
+    requires epoch { IsFullFor tip.header tip.end count → tip.header.epoch < 1_000_000_000_000 }
+    requires entries { stored.now.entries ≤ 1_000_000_000_000 }
+    requires storable { IsStorable stored.now }
+    ensures makes { Promises (R.honest rig.old) (R.honest rig.new) ((before : Standing) → IsAtEnd (R.life rig.old) tip.header before tip.end
+        → before.saved ≡ stored.now → MakesRoom result before (R.life rig.old) (R.life rig.new)) }
+    ensures stores { Promises (R.honest rig.old) (R.honest rig.new) (StoresRoom result (ledger tip stored.now) count (R.life rig.old) (R.life rig.new)) }
+    ensures room { IfOk result (IsRoom (ledger tip stored.now) count) }
+    // without honesty too
+    ensures tip { IfOk result (λ t. IsTip stored.now.length t.header t.end) }
+    ensures size { R.sectors rig.new ≡ R.sectors rig.old }
+    ensures failures { Counts result (R.failed rig.old) (R.failed rig.new) }
+{
+    if !tip.is_full_for(count) {
+        return Ok(tip);
+    }
+    let next = next_header(tip.header, tip.header.area, tip.header.length);
+    checkpoint(rig, next, stored)?;
+    Ok(Tip::beginning(next))
+}
+
+/// Writes a record of so many changes, for which the log has room.
+fn append_to<R: Rig, A: Allocator + Copy + Drop>(
+    rig: &mut R,
+    tip: Tip,
+    old: &Stored<A>,
+    stored: &Stored<A>,
+    count: usize,
+) -> Result<Tip, Failed>
+    requires sectors { 1710 ≤ R.sectors rig.old }
+    requires tip { IsTip stored.now.length tip.header tip.end }
+    requires table { length old.now.setup.params ≡ 5399 }
+    requires count { count ≡ length (differences old.now.setup.params stored.now.setup.params) }
+    requires few { count ≤ 5399 }
+    requires room { HasRoomFor tip.header tip.end count }
+    requires entries { stored.now.entries ≤ 1_000_000_000_000 }
+    requires storable { IsStorable stored.now }
+    ensures appends { Promises (R.honest rig.old) (R.honest rig.new) ((before : Standing) → IsAtEnd (R.life rig.old) tip.header before tip.end
+        → before.saved.setup.params ≡ old.now.setup.params → Stores result before stored.now (R.life rig.old) (R.life rig.new)) }
+    ensures writes { Promises (R.honest rig.old) (R.honest rig.new) (WritesRecord result (record_of (ledger tip old.now) stored.now) (R.life rig.old) (R.life rig.new)) }
+    // without honesty too
+    ensures tip { IfOk result (λ t. IsTip stored.now.length t.header t.end) }
+    ensures size { R.sectors rig.new ≡ R.sectors rig.old }
+    ensures failures { Counts result (R.failed rig.old) (R.failed rig.new) }
+{
+    let end = append(rig, tip.header, tip.end, &old.state.params, stored, count)?;
+    Ok(Tip {
+        header: tip.header,
+        end,
+    })
+}
+
+/// Writes what is stored as a record behind the end of the log, or of the next epoch's where this one has no room. The count is that
+/// of the changes that make it of the old. It takes no memory.
+pub(crate) fn store<R: Rig, A: Allocator + Copy + Drop>(
+    rig: &mut R,
+    tip: Tip,
+    old: &Stored<A>,
+    stored: &Stored<A>,
+    count: usize,
+) -> Result<Tip, Failed>
+    requires sectors { 1710 ≤ R.sectors rig.old }
+    requires tip { IsTip old.now.length tip.header tip.end }
+    requires count { count ≡ length (differences old.now.setup.params stored.now.setup.params) }
+    requires few { count ≤ 5399 }
+    requires epoch { IsFullFor tip.header tip.end count → tip.header.epoch < 1_000_000_000_000 }
+    requires old_entries { old.now.entries ≤ 1_000_000_000_000 }
+    requires old_storable { IsStorable old.now }
+    requires entries { stored.now.entries ≤ 1_000_000_000_000 }
+    requires storable { IsStorable stored.now }
+    requires long { stored.now.length ≡ old.now.length }
+    ensures stops { Promises (R.honest rig.old) (R.honest rig.new) ((before : Standing) → IsAtEnd (R.life rig.old) tip.header before tip.end
+        → before.saved ≡ old.now → Stores result before stored.now (R.life rig.old) (R.life rig.new)) }
+    ensures stores { Promises (R.honest rig.old) (R.honest rig.new) (StoresRecord result (ledger tip old.now) stored.now (R.life rig.old) (R.life rig.new)) }
+    // without honesty too
+    ensures tip { IfOk result (λ t. IsTip stored.now.length t.header t.end) }
+    ensures size { R.sectors rig.new ≡ R.sectors rig.old }
+    ensures failures { Counts result (R.failed rig.old) (R.failed rig.new) }
+{
+    let tip = make_room(rig, tip, old, count)?;
+    append_to(rig, tip, old, stored, count)
+}
+
+/// The same for another half-done block beside what is stored, which it takes over.
+pub(crate) fn store_half<R: Rig, A: Allocator + Copy + Drop>(
+    rig: &mut R,
+    tip: Tip,
+    stored: &mut Stored<A>,
+    half: &Half,
+) -> Result<Tip, Failed>
+    requires sectors { 1710 ≤ R.sectors rig.old }
+    requires tip { IsTip stored.old.length tip.header tip.end }
+    requires epoch { IsFullFor tip.header tip.end 0 → tip.header.epoch < 1_000_000_000_000 }
+    requires entries { stored.old.entries ≤ 1_000_000_000_000 }
+    requires storable { IsStorable stored.old }
+    requires half { CanWait half.now }
+    ensures stops { Promises (R.honest rig.old) (R.honest rig.new) ((before : Standing) → IsAtEnd (R.life rig.old) tip.header before tip.end
+        → before.saved ≡ stored.old → Stores result before (record stored.old { half = Some half.now }) (R.life rig.old) (R.life rig.new)) }
+    ensures stores { Promises (R.honest rig.old) (R.honest rig.new) (StoresRecord result (ledger tip stored.old) (record stored.old { half = Some half.now }) (R.life rig.old) (R.life rig.new)) }
+    ensures saved { OnOk result (stored.new ≡ record stored.old { half = Some half.now }) }
+    // without honesty, and after an error, too
+    ensures storable { IsStorable stored.new }
+    ensures entries { stored.new.entries ≡ stored.old.entries }
+    ensures length { stored.new.length ≡ stored.old.length }
+    ensures tip { IfOk result (λ t. IsTip stored.old.length t.header t.end) }
+    ensures size { R.sectors rig.new ≡ R.sectors rig.old }
+    ensures failures { Counts result (R.failed rig.old) (R.failed rig.new) }
+{
+    let tip = make_room(rig, tip, stored, 0)?;
+    stored.take_half(half);
+    append_to(rig, tip, stored, stored, 0)
+}

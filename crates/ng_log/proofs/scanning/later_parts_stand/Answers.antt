@@ -1,0 +1,41 @@
+use Rattle.std.proofs.Common.{◌+◌, refl, ◌∙◌, arith}
+use Rattle.ng_rig.proofs.Promise.{promised, onto, meaning}
+use Rattle.ng_rig.specs.Life.{reads}
+use Rattle.ng_layout.specs.Part.{label_of}
+use Rattle.ng_log.specs.Scanning.{from_log}
+use Rattle.ng_log.proofs.Scanned.{stand_none, stand_more, part_missing, sector_here}
+use Rattle.ng_log.proofs.scanning.later_parts_stand.Goals as goal
+
+pub loop-part-init : goal.loop-part-init
+loop-part-init g c = record {
+  read = promised (refl, stand_none c.args.at (label_of c.args.first) (reads (g.R.Rig.life c.args.rig.now)));
+  size = refl;
+  failures = refl;
+}
+
+pub returns-then-not-is_of-clause-read : goal.returns-then-not-is_of-clause-read
+returns-then-not-is_of-clause-read g c =
+    let old = g.R.Rig.life c.args.rig.now in
+    onto _ c.loop-part.invariant.read c.in_ok-sector.ensures.read (λ p q. record {
+      same = q.same ∙ p.0;
+      right =
+          let s = sector_here old _ _ (c.args.at + c.loop-part.part) c.in_ok-sector.sector (omega arith) p.0 q.right in
+          part_missing (from_log (reads old)) c.args.at (label_of c.args.first) c.args.first.parts c.loop-part.part c.in_ok-sector.sector c.is_of.result c.loop-part-test.true s c.is_of.ensures c.if-not-is_of.true;
+    })
+
+pub loop-part-preserved : goal.loop-part-preserved
+loop-part-preserved g c =
+    let old = g.R.Rig.life c.args.rig.now in
+    let inv = c.loop-part.invariant in
+    record {
+      read = onto _ inv.read c.in_ok-sector.ensures.read (λ p q. (
+        q.same ∙ p.0,
+        (let s = sector_here old _ _ (c.args.at + c.loop-part.part) c.in_ok-sector.sector (omega arith) p.0 q.right in
+            stand_more c.loop-part.part c.args.at (label_of c.args.first) (reads old) c.in_ok-sector.sector c.is_of.result s c.is_of.ensures c.if-not-is_of.false p.1),
+      ));
+      size = c.in_ok-sector.ensures.size ∙ inv.size;
+      failures = c.in_ok-sector.ensures.failures ∙ inv.failures;
+    }
+
+pub returns-clause-read : goal.returns-clause-read
+returns-clause-read g c = meaning c.loop-part.invariant.read (λ p. record { same = p.0; right = λ j some below. p.1 j some (omega (arith, below, c.loop-part-test.false)) })

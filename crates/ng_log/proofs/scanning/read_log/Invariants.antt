@@ -1,0 +1,22 @@
+use Rattle.std.proofs.Common.{◌≡◌, ◌≤◌}
+use Rattle.ng_rig.specs.Calls.{Promises}
+use Rattle.ng_rig.specs.Life.{reads}
+use Rattle.ng_layout.specs.Log.{log_size_of}
+use Rattle.ng_layout.specs.Storable.{IsStorable}
+use Rattle.ng_log.specs.AtEnd.{no_records, place_of}
+use Rattle.ng_log.specs.Runs.{log_of}
+use Rattle.ng_log.proofs.Runs.{RunsTo}
+use Rattle.ng_log.proofs.scanning.read_log.Given as goal
+
+abbrev pub invariant-records : goal.invariant-records
+invariant-records g l = record {
+  room : l.reached.sector ≤ log_size_of l.header;
+  on : l.counter ≤ l.reached.sector;
+  number : l.reached.number ≤ l.reached.sector;
+  storable : IsStorable l.stored;
+  count : l.stored.entries ≤ 1_000_000_000_000;
+  long : l.stored.length ≡ l.header.length;
+  run : Promises (g.R.Rig.honest l.fn.rig) (g.R.Rig.honest l.rig) ((g.R.Rig.life l.rig ≡ g.R.Rig.life l.fn.rig) × RunsTo (log_size_of l.header) l.header.length (log_of l.header (reads (g.R.Rig.life l.fn.rig))) l.header.epoch (place_of no_records l.fn.stored) (place_of l.reached l.stored));
+  size : g.R.Rig.sectors l.rig ≡ g.R.Rig.sectors l.fn.rig;
+  failures : g.R.Rig.failed l.rig ≡ g.R.Rig.failed l.fn.rig;
+}

@@ -1,0 +1,20 @@
+//! Sectors read.
+ghost use Rattle.std.specs.Prelude.{◌≡◌, ◌<◌};
+ghost use Rattle.ng_rig.specs.Calls.{Promises, Counts};
+ghost use Rattle.ng_log.specs.Reading.{Reads};
+
+use ng_layout::BYTES;
+use ng_rig::{Failed, Rig};
+
+/// The bytes of a sector (own). Fails where the read fails.
+pub fn read_sector<R: Rig>(rig: &mut R, sector: usize) -> Result<[u8; BYTES], Failed>
+    requires { sector < R.sectors rig.old }
+    ensures read { Promises (R.honest rig.old) (R.honest rig.new)
+        (Reads result (λ image bytes. bytes ≡ image sector) (R.life rig.old) (R.life rig.new)) }
+    ensures size { R.sectors rig.new ≡ R.sectors rig.old }
+    ensures failures { Counts result (R.failed rig.old) (R.failed rig.new) }
+{
+    let mut bytes = [0; BYTES];
+    rig.read(sector, &mut bytes)?;
+    Ok(bytes)
+}

@@ -1,0 +1,217 @@
+//! The longest run of complete records, read in the memory of one state.
+//!
+//! Of a record the labels of all its parts are read first, and then what they hold: one that isn't complete leaves what is stored alone.
+ghost use Rattle.std.specs.Prelude.{◌≡◌, ◌≤◌, ◌<◌, ◌+◌, length, IfOk, IfSome};
+ghost use Rattle.std.specs.Bool.{OnTrue};
+ghost use Rattle.ng_rig.specs.Calls.{Promises, Counts};
+ghost use Rattle.ng_layout.specs.Header.{IsLawful};
+ghost use Rattle.ng_layout.specs.Log.{parts_for, log_size_of};
+ghost use Rattle.ng_layout.specs.Part.{label_of};
+ghost use Rattle.ng_layout.specs.Storable.{IsStorable};
+ghost use Rattle.ng_log.specs.Reading.{Reads, IsRunOf};
+ghost use Rattle.ng_log.specs.Scanning.{begins, LaterPartsStand, MakesAllOrDamaged, TakesRecord, IsNextOf, IsOn, Goes};
+
+use crate::log_end::LogEnd;
+use crate::reading::read_sector;
+use ng_layout::{
+    BYTES, CHANGES, Header, LOG_FIRST, PartLabel, Stored, parts_for, report_of_part, take_changes,
+};
+use ng_params::Params;
+use ng_rig::{Failed, Rig};
+use std::alloc::Allocator;
+
+/// What stands at the end of a run of records.
+#[derive(Clone, Copy)]
+pub(crate) enum Next {
+    /// No complete record.
+    Last,
+    /// A complete record with a field that is out of its range.
+    Damaged,
+    /// A record, and behind it the log goes on here.
+    Behind(LogEnd),
+}
+
+/// Whether a part with this label begins a record at the end of a log: the next of its epoch, with as many parts as its changes need, and
+/// all of them within the log.
+fn begins_record(first: PartLabel, header: Header, end: LogEnd) -> bool
+    requires { end.sector ≤ 1024 }
+    ensures { result ≡ begins (label_of first) header end }
+{
+    first.epoch == header.epoch
+        && first.number == end.number
+        && first.part == 0
+        && first.parts as usize == parts_for(first.changes as usize)
+        && end.sector + first.parts as usize <= header.log_size()
+}
+
+/// Whether the parts of a record stand behind its first one, which is in this sector of the log.
+fn later_parts_stand<R: Rig>(rig: &mut R, at: usize, first: PartLabel) -> Result<bool, Failed>
+    requires sectors { 1710 ≤ R.sectors rig.old }
+    requires room { at + first.parts ≤ 1024 }
+    ensures read { Promises (R.honest rig.old) (R.honest rig.new)
+        (Reads result (LaterPartsStand at (label_of first)) (R.life rig.old) (R.life rig.new)) }
+    ensures size { R.sectors rig.new ≡ R.sectors rig.old }
+    ensures failures { Counts result (R.failed rig.old) (R.failed rig.new) }
+{
+    for part in 1..first.parts {
+        let sector = read_sector(rig, LOG_FIRST + at + part as usize)?;
+        let label = PartLabel { part, ..first };
+        if !label.is_of(&sector) {
+            return Ok(false);
+        }
+    }
+    Ok(true)
+}
+
+/// Makes the changes of a record that begins at a sector of the log; false where one is out of its range.
+fn take_all_changes<R: Rig, A: Allocator + Copy + Drop>(
+    rig: &mut R,
+    at: usize,
+    changes: usize,
+    table: &mut Params<A>,
+) -> Result<bool, Failed>
+    requires sectors { 1710 ≤ R.sectors rig.old }
+    requires few { changes ≤ 65_535 }
+    requires room { at + parts_for changes ≤ 1024 }
+    requires long { length table.old ≡ 5399 }
+    ensures read { Promises (R.honest rig.old) (R.honest rig.new)
+        (Reads result (MakesAllOrDamaged at changes table.old table.new) (R.life rig.old) (R.life rig.new)) }
+    // without honesty too
+    ensures long { IfOk result (λ whole. OnTrue whole (length table.new ≡ 5399)) }
+    ensures size { R.sectors rig.new ≡ R.sectors rig.old }
+    ensures failures { Counts result (R.failed rig.old) (R.failed rig.new) }
+{
+    for i in 0..parts_for(changes) - 1 {
+        let sector = read_sector(rig, LOG_FIRST + at + 1 + i)?;
+        let count = CHANGES.min(changes - CHANGES * i);
+        if !take_changes(table, &sector, count) {
+            return Ok(false);
+        }
+    }
+    Ok(true)
+}
+
+/// Takes over what a record says that begins at a sector of the log, whose content was read as `first`; false where it is damaged.
+fn take_record<R: Rig, A: Allocator + Copy + Drop>(
+    rig: &mut R,
+    first: &[u8; BYTES],
+    at: usize,
+    changes: usize,
+    program: u64,
+    stored: &mut Stored<A>,
+) -> Result<bool, Failed>
+    requires sectors { 1710 ≤ R.sectors rig.old }
+    requires few { changes ≤ 65_535 }
+    requires room { at + parts_for changes ≤ 1024 }
+    requires program { program ≤ 131_072 }
+    requires long { length stored.old.setup.params ≡ 5399 }
+    ensures read { Promises (R.honest rig.old) (R.honest rig.new)
+        (Reads result (TakesRecord program first.now at changes stored.old stored.new) (R.life rig.old) (R.life rig.new)) }
+    // without honesty too
+    ensures storable { IfOk result (λ whole. OnTrue whole (IsStorable stored.new)) }
+    ensures count { IfOk result (λ whole. OnTrue whole (stored.new.entries ≤ 1_000_000_000_000)) }
+    ensures long { IfOk result (λ whole. OnTrue whole (stored.new.length ≡ program)) }
+    ensures size { R.sectors rig.new ≡ R.sectors rig.old }
+    ensures failures { Counts result (R.failed rig.old) (R.failed rig.new) }
+{
+    match report_of_part(first, program) {
+        None => Ok(false),
+        Some(report) => {
+            let is_whole = take_all_changes(rig, at, changes, &mut stored.state.params)?;
+            if is_whole {
+                stored.take_report(report, program);
+            }
+            Ok(is_whole)
+        }
+    }
+}
+
+/// Whether a complete record begins where a log has been read to, and what is found with it.
+fn next_record<R: Rig, A: Allocator + Copy + Drop>(
+    rig: &mut R,
+    header: Header,
+    end: LogEnd,
+    stored: &mut Stored<A>,
+) -> Result<Next, Failed>
+    requires sectors { 1710 ≤ R.sectors rig.old }
+    requires lawful { IsLawful header }
+    requires room { end.sector ≤ log_size_of header }
+    requires number { end.number ≤ end.sector }
+    requires storable { IsStorable stored.old }
+    requires count { stored.old.entries ≤ 1_000_000_000_000 }
+    requires long { stored.old.length ≡ header.length }
+    ensures read { Promises (R.honest rig.old) (R.honest rig.new)
+        (Reads result (IsNextOf header end stored.old stored.new) (R.life rig.old) (R.life rig.new)) }
+    // without honesty too
+    ensures on { IfOk result (IsOn header end) }
+    ensures storable { IfOk result (λ next. Goes next (IsStorable stored.new)) }
+    ensures count { IfOk result (λ next. Goes next (stored.new.entries ≤ 1_000_000_000_000)) }
+    ensures long { IfOk result (λ next. Goes next (stored.new.length ≡ header.length)) }
+    ensures size { R.sectors rig.new ≡ R.sectors rig.old }
+    ensures failures { Counts result (R.failed rig.old) (R.failed rig.new) }
+{
+    if end.sector == header.log_size() {
+        return Ok(Next::Last);
+    }
+    let sector = read_sector(rig, LOG_FIRST + end.sector)?;
+    let first = PartLabel::read(&sector);
+    if !begins_record(first, header, end) {
+        return Ok(Next::Last);
+    }
+    let stand = later_parts_stand(rig, end.sector, first)?;
+    if !stand {
+        return Ok(Next::Last);
+    }
+    let is_whole = take_record(
+        rig,
+        &sector,
+        end.sector,
+        first.changes as usize,
+        header.length,
+        stored,
+    )?;
+    if !is_whole {
+        return Ok(Next::Damaged);
+    }
+    Ok(Next::Behind(LogEnd {
+        sector: end.sector + first.parts as usize,
+        number: end.number + 1,
+    }))
+}
+
+/// Takes over the longest run of complete records of a log, beside the snapshot of its header; where it ends, or none where what is
+/// found is damaged. It takes no memory (own).
+///
+/// Before the call `stored` is what the snapshot says. Fails where a read fails. Then, and where what is found is damaged, `stored` may
+/// hold parts of several records.
+pub fn read_log<R: Rig, A: Allocator + Copy + Drop>(
+    rig: &mut R,
+    header: Header,
+    stored: &mut Stored<A>,
+) -> Result<Option<LogEnd>, Failed>
+    requires sectors { 1710 ≤ R.sectors rig.old }
+    requires lawful { IsLawful header }
+    requires storable { IsStorable stored.old }
+    requires count { stored.old.entries ≤ 1_000_000_000_000 }
+    requires long { stored.old.length ≡ header.length }
+    ensures read { Promises (R.honest rig.old) (R.honest rig.new)
+        (Reads result (IsRunOf header stored.old stored.new) (R.life rig.old) (R.life rig.new)) }
+    // without honesty too
+    ensures room { IfOk result (λ end. IfSome end (λ e. e.sector ≤ log_size_of header)) }
+    ensures number { IfOk result (λ end. IfSome end (λ e. e.number ≤ e.sector)) }
+    ensures storable { IfOk result (λ end. IfSome end (λ e. IsStorable stored.new)) }
+    ensures count { IfOk result (λ end. IfSome end (λ e. stored.new.entries ≤ 1_000_000_000_000)) }
+    ensures long { IfOk result (λ end. IfSome end (λ e. stored.new.length ≡ header.length)) }
+    ensures size { R.sectors rig.new ≡ R.sectors rig.old }
+    ensures failures { Counts result (R.failed rig.old) (R.failed rig.new) }
+{
+    let mut reached = LogEnd::START;
+    'records: for _ in 0..header.log_size() {
+        match next_record(rig, header, reached, stored)? {
+            Next::Last => return Ok(Some(reached)),
+            Next::Damaged => return Ok(None),
+            Next::Behind(end) => reached = end,
+        }
+    }
+    Ok(Some(reached))
+}

@@ -1,0 +1,116 @@
+//! A record written behind the last one.
+ghost use Rattle.std.specs.Prelude.{◌≡◌, ◌≤◌, ◌+◌, length, IfOk};
+ghost use Rattle.ng_rig.specs.Calls.{Promises, Counts};
+ghost use Rattle.ng_layout.specs.Log.{parts_for, log_size_of};
+ghost use Rattle.ng_layout.specs.Storable.{IsStorable};
+ghost use Rattle.ng_layout.specs.Stored.{Standing};
+ghost use Rattle.ng_log.specs.Appends.{WritesRecord, Appends};
+ghost use Rattle.ng_log.specs.AtEnd.{end_behind, IsAtEnd};
+ghost use Rattle.ng_log.specs.Differences.{differences, TakesDifferences};
+ghost use Rattle.ng_log.specs.Records.{record_from};
+
+use crate::differences::next_differences;
+use crate::log_end::LogEnd;
+use arrayvec::ArrayVec;
+use ng_layout::{
+    CHANGES, Header, LOG_FIRST, PartLabel, Stored, changes_part, first_part, parts_for,
+};
+use ng_params::{Change, Params};
+use ng_rig::{Failed, Rig};
+use std::alloc::Allocator;
+
+/// The next changes that make what is stored of an older table.
+fn next_changes<A: Allocator + Copy + Drop>(
+    old: &Params<A>,
+    stored: &Stored<A>,
+    from: usize,
+) -> (ArrayVec<Change, CHANGES>, usize)
+    requires { from ≤ 5399 }
+    ensures { TakesDifferences old.now stored.now.setup.params from result.1 result.0.items }
+{
+    next_differences(old, &stored.state.params, from)
+}
+
+/// Writes the parts of the record that makes what is stored of an older table.
+fn write_parts<R: Rig, A: Allocator + Copy + Drop>(
+    rig: &mut R,
+    epoch: u64,
+    end: LogEnd,
+    old: &Params<A>,
+    stored: &Stored<A>,
+    count: usize,
+) -> Result<(), Failed>
+    requires sectors { 1710 ≤ R.sectors rig.old }
+    requires count { count ≡ length (differences old.now stored.now.setup.params) }
+    requires few { count ≤ 5399 }
+    requires room { end.sector + parts_for count ≤ 1024 }
+    requires entries { stored.now.entries ≤ 1_000_000_000_000 }
+    requires storable { IsStorable stored.now }
+    ensures writes { Promises (R.honest rig.old) (R.honest rig.new)
+        (WritesRecord result (record_from epoch end old.now stored.now) (R.life rig.old) (R.life rig.new)) }
+    ensures size { R.sectors rig.new ≡ R.sectors rig.old }
+    ensures failures { Counts result (R.failed rig.old) (R.failed rig.new) }
+{
+    let parts = parts_for(count);
+    let first = PartLabel {
+        epoch,
+        number: end.number,
+        part: 0,
+        parts: parts as u16,
+        changes: count as u16,
+    };
+    rig.write(LOG_FIRST + end.sector, &first_part(first, stored))?;
+    let mut from = 0;
+    for part in 1..parts {
+        let (changes, next) = next_changes(old, stored, from);
+        let label = PartLabel {
+            part: part as u16,
+            ..first
+        };
+        rig.write(
+            LOG_FIRST + end.sector + part,
+            &changes_part(label, changes.as_slice()),
+        )?;
+        from = next;
+    }
+    Ok(())
+}
+
+/// Writes what is stored as a record behind the end of a log, syncs it, and gives the log's end behind it. It takes no memory (own).
+///
+/// `old` is the table that stands, and `count` says in how many parameters that of `stored` differs from it (`difference_count`).
+/// Fails where a write or the sync fails. Then some of the record's parts may have been written, and a stop leaves what stood or the whole
+/// record.
+pub fn append<R: Rig, A: Allocator + Copy + Drop>(
+    rig: &mut R,
+    header: Header,
+    end: LogEnd,
+    old: &Params<A>,
+    stored: &Stored<A>,
+    count: usize,
+) -> Result<LogEnd, Failed>
+    requires sectors { 1710 ≤ R.sectors rig.old }
+    requires table { length old.now ≡ 5399 }
+    requires count { count ≡ length (differences old.now stored.now.setup.params) }
+    requires few { count ≤ 5399 }
+    requires room { end.sector + parts_for count ≤ log_size_of header }
+    requires number { end.number ≤ end.sector }
+    requires entries { stored.now.entries ≤ 1_000_000_000_000 }
+    requires storable { IsStorable stored.now }
+    requires long { stored.now.length ≡ header.length }
+    ensures appends { Promises (R.honest rig.old) (R.honest rig.new) ((before : Standing) → IsAtEnd (R.life rig.old) header before end
+        → before.saved.setup.params ≡ old.now → Appends result header before stored.now (R.life rig.old) (R.life rig.new)) }
+    // whatever stands on the device
+    ensures writes { Promises (R.honest rig.old) (R.honest rig.new)
+        (WritesRecord result (record_from header.epoch end old.now stored.now) (R.life rig.old) (R.life rig.new)) }
+    ensures end { IfOk result (λ behind. behind ≡ end_behind end count) }
+    ensures size { R.sectors rig.new ≡ R.sectors rig.old }
+    ensures failures { Counts result (R.failed rig.old) (R.failed rig.new) }
+{
+    write_parts(rig, header.epoch, end, old, stored, count)?;
+    rig.sync()?;
+    Ok(LogEnd {
+        sector: end.sector + parts_for(count),
+        number: end.number + 1,
+    })
+}
