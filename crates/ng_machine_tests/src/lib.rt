@@ -12,4 +12,8 @@ mod images;
 #[cfg(test)]
 mod journal;
 #[cfg(test)]
+mod log;
+#[cfg(test)]
+mod parts;
+#[cfg(test)]
 mod stepping;

@@ -10,7 +10,7 @@ use std::test::Fail;
 
 /// An event, as a table tells it.
 #[derive(Clone, Copy)]
-enum Order {
+pub enum Order {
     Load(&'static str),
     Start,
     Hold,
@@ -26,7 +26,7 @@ enum Order {
 
 /// A reply but that of a status.
 #[derive(Clone, Copy, Debug, PartialEq, Eq)]
-enum Told {
+pub enum Told {
     Done(u64),
     Going,
     Held,
@@ -51,10 +51,10 @@ enum Given {
 
 /// What the status shows: entries, place, X in nanometres (Y and Z stay 0), whether the machine is known to stand there, a half-done
 /// block, and what the controller is about.
-type Shown = (u64, u64, i64, bool, Option<HalfShown>, Condition);
+pub type Shown = (u64, u64, i64, bool, Option<HalfShown>, Condition);
 
 /// Which of some events is the first with another reply than the wanted one, and that reply; none where each reply is as wanted.
-type Astray = Option<(usize, Option<Told>)>;
+pub type Astray = Option<(usize, Option<Told>)>;
 
 /// Events with the replies to them, the status behind the last, and all items that were handed out.
 struct Job {
@@ -66,9 +66,9 @@ struct Job {
 
 const BEGUN: (Order, Told) = (Order::Tick, Told::Begun);
 
-const OPENED: (Order, Told) = (Order::Tick, Told::Opened(0));
+pub const OPENED: (Order, Told) = (Order::Tick, Told::Opened(0));
 
-const MOVED: (Order, Told) = (Order::Tick, Told::Moved);
+pub const MOVED: (Order, Told) = (Order::Tick, Told::Moved);
 
 const IDLE: (Order, Told) = (Order::Tick, Told::Idle);
 
@@ -76,9 +76,9 @@ const STOPPED: (Order, Told) = (Order::Tick, Told::Stopped);
 
 const HELD: (Order, Told) = (Order::Tick, Told::Held);
 
-const DONE_1: (Order, Told) = (Order::Tick, Told::Done(1));
+pub const DONE_1: (Order, Told) = (Order::Tick, Told::Done(1));
 
-const DONE_2: (Order, Told) = (Order::Tick, Told::Done(2));
+pub const DONE_2: (Order, Told) = (Order::Tick, Told::Done(2));
 
 const DONE_3: (Order, Told) = (Order::Tick, Told::Done(3));
 
@@ -254,7 +254,7 @@ fn shown<R: Rig, A: Allocator + Copy + Drop>(controller: &mut Controller<R, A>) 
 }
 
 /// A new device, formatted.
-fn formatted<A: Allocator + Copy + Drop>(alloc: A) -> Result<MemoryRig<A>, Fault> {
+pub fn formatted<A: Allocator + Copy + Drop>(alloc: A) -> Result<MemoryRig<A>, Fault> {
     let mut rig = MemoryRig::new(alloc, 1_710)?;
     format(&mut rig)?;
     Ok(rig)
@@ -266,7 +266,7 @@ fn fresh<A: Allocator + Copy + Drop>(alloc: A) -> Result<Controller<MemoryRig<A>
 }
 
 /// A controller over this device, powered on.
-fn started<R: Rig + Drop, A: Allocator + Copy + Drop>(
+pub fn started<R: Rig + Drop, A: Allocator + Copy + Drop>(
     alloc: A,
     rig: R,
 ) -> Result<Controller<R, A>, Fault> {
@@ -277,7 +277,7 @@ fn started<R: Rig + Drop, A: Allocator + Copy + Drop>(
 }
 
 /// Gives the events one by one: which of them is the first with another reply.
-fn first_astray<R: Rig, A: Allocator + Copy + Drop>(
+pub fn first_astray<R: Rig, A: Allocator + Copy + Drop>(
     alloc: A,
     controller: &mut Controller<R, A>,
     orders: &[(Order, Told)],
@@ -292,7 +292,7 @@ fn first_astray<R: Rig, A: Allocator + Copy + Drop>(
 }
 
 /// Gives the events one by one: the first with another reply, what the status shows behind the last, and the device then.
-fn behind<R: Rig, A: Allocator + Copy + Drop>(
+pub fn behind<R: Rig, A: Allocator + Copy + Drop>(
     alloc: A,
     controller: Controller<R, A>,
     orders: &[(Order, Told)],
@@ -386,7 +386,7 @@ fn jobs_as_a_list(rt: HostRuntime) -> Result<(), Fail> {
 const MOVE: &[(Order, Told)] = &[(Order::Mdi("G0 X0.005"), Told::Begun), OPENED];
 
 /// The device behind the first n of these events.
-fn device_behind<A: Allocator + Copy + Drop>(
+pub fn device_behind<A: Allocator + Copy + Drop>(
     alloc: A,
     orders: &[(Order, Told)],
 ) -> Result<MemoryRig<A>, Fault> {
@@ -399,7 +399,7 @@ fn device_behind<A: Allocator + Copy + Drop>(
 
 /// What the status shows once a device is powered on anew, after it was stopped behind so many of its calls with this many of the
 /// unsynced writes of each sector kept.
-fn shown_after<A: Allocator + Copy + Drop>(
+pub fn shown_after<A: Allocator + Copy + Drop>(
     alloc: A,
     rig: &MemoryRig<A>,
     calls: usize,
@@ -411,17 +411,14 @@ fn shown_after<A: Allocator + Copy + Drop>(
     Ok(shown)
 }
 
-/// Power is cut behind so many of the calls that a tick makes to open a segment (87 writes, 2 syncs), with none of the unsynced
-/// writes kept or with all of them: whether its block is then half-done, with nothing known of where the machine stands.
+/// Power is cut behind so many of the calls that a tick makes to open a segment (a write, a sync), with none of the unsynced writes kept
+/// or with all of them: whether its block is then half-done, with nothing known of where the machine stands.
 const CUTS: &[(usize, &[usize], bool)] = &[
     (0, &[], false),
     (0, &[1; 1_710], false),
     (1, &[], false),
-    (1, &[1; 1_710], false),
-    (87, &[1; 1_710], false),
-    (88, &[], false),
-    (88, &[1; 1_710], true),
-    (89, &[], true),
+    (1, &[1; 1_710], true),
+    (2, &[], true),
 ];
 
 #[test]
@@ -459,14 +456,27 @@ fn failed_once<A: Allocator + Copy + Drop>(
     rig: MemoryRig<A>,
     orders: &[(Order, Told)],
 ) -> Result<(Astray, Option<Shown>, Option<Shown>), Fault> {
-    let controller = started(alloc, FailRig::new(rig, POWER_ON))?;
+    let calls = calls_of_power_on(alloc, &rig)?;
+    let controller = started(alloc, FailRig::new(rig, calls))?;
     let (astray, broken, rig) = behind(alloc, controller, orders);
     let anew = shown_after(alloc, &rig.into_inner(), usize::MAX, &[])?;
     Ok((astray?, broken, anew))
 }
 
-/// How many calls of the device power on makes.
-const POWER_ON: u64 = 179;
+/// How many calls of this device power on makes, reads too: as many as there are before the first whose failure it doesn't meet.
+fn calls_of_power_on<A: Allocator + Copy + Drop>(
+    alloc: A,
+    rig: &MemoryRig<A>,
+) -> Result<u64, Fault> {
+    for calls in 0..400 {
+        let copy = rig.stopped(usize::MAX, &[usize::MAX; 1_710])?;
+        if let Ok(controller) = started(alloc, FailRig::new(copy, calls)) {
+            drop(controller.into_rig());
+            return Ok(calls);
+        }
+    }
+    Err(Fault::Broken)
+}
 
 const FAILING: &[(Order, Told)] = &[
     (Order::Mdi("G0 X0.005"), Told::Begun),
@@ -599,7 +609,7 @@ const GOING_ON: &[(Order, Told)] = &[
 ];
 
 /// The device that these events leave, where each is answered as wanted.
-fn left_by<A: Allocator + Copy + Drop>(
+pub fn left_by<A: Allocator + Copy + Drop>(
     alloc: A,
     rig: MemoryRig<A>,
     orders: &[(Order, Told)],

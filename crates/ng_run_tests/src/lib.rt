@@ -12,3 +12,5 @@ mod controller;
 mod ending;
 #[cfg(test)]
 mod flushing;
+#[cfg(test)]
+mod log;

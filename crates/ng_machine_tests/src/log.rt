@@ -1,0 +1,92 @@
+//! The log: which records are written of what is stored, and what is made of records that stand there.
+ghost use Rattle.std.specs.Prelude.{◌≡◌, false};
+ghost use Rattle.ng_layout.specs.Storable.{IsStorable};
+
+mod full;
+mod reading;
+mod twin;
+mod writing;
+
+use ng_journal::{Journal, recover};
+use ng_layout::Stored;
+use ng_num::{Fault, Num};
+use ng_params::{Index, Params};
+use ng_rig::Rig;
+use std::alloc::Global;
+
+/// A journal that isn't broken, and what is stored in it next.
+pub struct Mill<R: Rig> {
+    pub journal: Journal<R, Global>,
+    pub stored: Stored<Global>,
+    ghost whole: { journal.broken ≡ false },
+    ghost storable: { IsStorable stored },
+    ghost program: { stored.length ≡ journal.saved.length },
+}
+
+impl<R: Rig + Drop> Mill<R> {
+    /// Powers on.
+    pub fn on(alloc: Global, rig: R) -> Result<Mill<R>, Fault> {
+        match recover(alloc, rig) {
+            Ok((journal, stored)) => Ok(Mill { journal, stored }),
+            Err((fault, rig)) => {
+                drop(rig);
+                Err(fault)
+            }
+        }
+    }
+
+    /// The device.
+    pub fn off(self) -> R {
+        let Mill { journal, stored } = self;
+        drop(stored);
+        journal.into_rig()
+    }
+
+    /// So many parameters from this one on become this value, in millionths.
+    pub fn set(&mut self, first: i64, count: i64, value: i64) {
+        set_all(&mut self.stored.state.params, first, count, value);
+    }
+
+    /// Stores one entry more.
+    pub fn commit(self) -> Result<Mill<R>, Fault> {
+        let mut mill = self;
+        mill.stored.entries = mill.stored.entries.saturating_add(1);
+        mill.store()
+    }
+
+    /// Stores an entry, which is what is to be stored next.
+    pub fn store(self) -> Result<Mill<R>, Fault> {
+        let Mill {
+            mut journal,
+            stored,
+        } = self;
+        match journal.commit(&stored) {
+            Ok(()) => Ok(Mill { journal, stored }),
+            Err(fault) => {
+                drop(journal.into_rig());
+                Err(fault)
+            }
+        }
+    }
+}
+
+/// So many parameters of a table from this one on become this value.
+pub fn set_all(params: &mut Params<Global>, first: i64, count: i64, millionths: i64) {
+    let value = Num::of(i128::from(millionths)).unwrap_or_default();
+    for number in first..first.saturating_add(count) {
+        if let Some(index) = Index::of(number) {
+            params.set(index, value);
+        }
+    }
+}
+
+/// Whether so many parameters of a table from this one on have this value.
+pub fn are_all(params: &Params<Global>, first: i64, count: i64, millionths: i64) -> bool {
+    for number in first..first.saturating_add(count) {
+        match Index::of(number) {
+            Some(index) if params.get(index).count() == millionths => {}
+            _ => return false,
+        }
+    }
+    true
+}

@@ -1,0 +1,123 @@
+//! Where the log has no room for a record: what stands is written first, under the next epoch.
+use crate::images::{sector_of, store};
+use crate::journal::counting::Counting;
+use crate::journal::{formatted, header, open_half};
+use crate::log::{Mill, set_all};
+use ng_canon::Item;
+use ng_num::Fault;
+use ng_rig::{MemoryRig, Rig};
+use std::alloc::Global;
+use std::test::Fail;
+
+/// What is stored or handed out last.
+#[derive(Clone, Copy, Debug, PartialEq, Eq)]
+enum Last {
+    Nothing,
+    /// An entry that changes so many parameters.
+    Entry(i64),
+    /// A segment is open.
+    Open,
+    HandOut,
+}
+
+/// A journal in whose log eight entries stand that change each parameter, 114 sectors each, so that 112 are left; and perhaps a ninth that
+/// changes so many. Before power on this odd epoch was in force.
+fn filled(
+    alloc: Global,
+    epoch: i64,
+    ninth: Option<i64>,
+) -> Result<Mill<Counting<MemoryRig<Global>>>, Fail> {
+    let mut rig = formatted(alloc)?;
+    if !store(&mut rig, 1, &header(epoch, 0, 0)) {
+        return Err(Fail::from("a header isn't laid"));
+    }
+    let mut mill = Mill::on(alloc, Counting::new(rig))?;
+    for value in 2..10 {
+        mill.set(1, 5_399, value);
+        mill = mill.commit()?;
+    }
+    if let Some(changes) = ninth {
+        mill.set(1, changes, 10);
+        mill = mill.commit()?;
+    }
+    Ok(mill)
+}
+
+/// Does the last: what is answered, whether the journal is broken then, and the device.
+fn end<R: Rig + Drop>(mill: Mill<R>, last: Last) -> (Result<(), Fault>, bool, R) {
+    let Mill {
+        mut journal,
+        mut stored,
+    } = mill;
+    let done = match last {
+        Last::Nothing => Ok(()),
+        Last::Entry(changes) => {
+            stored.entries = stored.entries.saturating_add(1);
+            set_all(&mut stored.state.params, 1, changes, 11);
+            journal.commit(&stored)
+        }
+        Last::Open => journal.open_segment(&open_half()),
+        Last::HandOut => journal.hand_out(Item::Dwell { us: 7 }),
+    };
+    (done, journal.broken(), journal.into_rig())
+}
+
+/// What the last answers, whether the journal is broken then, how many reads, writes and syncs there are from power on, and the header of
+/// sector 1 then.
+type Ended = (Result<(), Fault>, bool, [u64; 3], [u8; 512]);
+
+fn ended(alloc: Global, epoch: i64, ninth: Option<i64>, last: Last) -> Result<Ended, Fail> {
+    let (done, is_broken, counting) = end(filled(alloc, epoch, ninth)?, last);
+    let (counts, mut rig) = counting.counted();
+    Ok((done, is_broken, counts, sector_of(&mut rig, 1)))
+}
+
+const USED_UP: Result<(), Fault> = Err(Fault::CountersUsed);
+
+/// The odd epoch before power on, the changes of a ninth entry, and what comes last: what that answers, how many writes and syncs it
+/// makes, and the odd epoch in sector 1 afterwards.
+///
+/// 112 sectors are left for the ninth, which a record of 5,328 changes takes, and one of 5,280 but for one. A checkpoint makes 87 writes
+/// and 2 syncs, and takes an epoch: the last one goes up to 1,000,000,000,000.
+type Row = (i64, Option<i64>, Last, Result<(), Fault>, u64, u64, i64);
+
+const ROWS: &[Row] = &[
+    (1, None, Last::Entry(5_328), Ok(()), 112, 1, 1),
+    (1, None, Last::Entry(5_329), Ok(()), 200, 3, 3),
+    (1, None, Last::Entry(5_399), Ok(()), 201, 3, 3),
+    (1, Some(5_328), Last::Entry(0), Ok(()), 88, 3, 3),
+    (1, Some(5_328), Last::Open, Ok(()), 88, 3, 3),
+    (1, Some(5_328), Last::HandOut, Ok(()), 0, 0, 1),
+    (1, Some(5_280), Last::Entry(0), Ok(()), 1, 1, 1),
+    (1, Some(5_280), Last::Open, Ok(()), 1, 1, 1),
+    (1, Some(5_280), Last::Entry(1), Ok(()), 89, 3, 3),
+    (LAST, None, Last::Entry(5_328), Ok(()), 112, 1, LAST),
+    (LAST, None, Last::Entry(5_329), USED_UP, 0, 0, LAST),
+    (LAST, Some(5_328), Last::Entry(0), USED_UP, 0, 0, LAST),
+    (LAST, Some(5_328), Last::Open, USED_UP, 0, 0, LAST),
+    (LAST, Some(5_328), Last::HandOut, Ok(()), 0, 0, LAST),
+    (LAST, Some(5_280), Last::Entry(0), Ok(()), 1, 1, LAST),
+    (LAST, Some(5_280), Last::Open, Ok(()), 1, 1, LAST),
+    (LAST, Some(5_280), Last::Entry(1), USED_UP, 0, 0, LAST),
+];
+
+/// The odd epoch before the last of all.
+const LAST: i64 = 999_999_999_999;
+
+#[test]
+fn a_record_that_finds_no_room(rt: HostRuntime) -> Result<(), Fail> {
+    for (epoch, ninth, last, answer, writes, syncs, odd) in ROWS {
+        let (_, _, before, _) = ended(rt.alloc(), *epoch, *ninth, Last::Nothing)?;
+        let wanted = [
+            before[0],
+            before[1].saturating_add(*writes),
+            before[2].saturating_add(*syncs),
+        ];
+        assert_eq!(rt;
+            ended(rt.alloc(), *epoch, *ninth, *last)?,
+            (*answer, false, wanted, header(*odd, 0, 0)),
+            "{epoch} {ninth:?} {last:?}"
+        );
+    }
+    Ok(())
+}

@@ -1,0 +1,366 @@
+//! The journal beside a plain one, which writes a whole snapshot for each entry and each opened segment: what both devices stand for.
+ghost use Rattle.std.specs.Prelude.{◌≡◌, IsSome, IsNone, IfSome};
+ghost use Rattle.ng_layout.specs.Storable.{CanWait, IsStorable};
+
+use crate::images::store;
+use crate::journal::formatted;
+use crate::log::{Mill, set_all};
+use ng_journal::{ProgramLine, recover};
+use ng_layout::{Half, Header, Opened, Source, Stored, text_of, text_sector};
+use ng_num::{Fault, Len, Point};
+use ng_rig::{MemoryRig, Rig};
+use std::alloc::{AllocError, Global};
+use std::test::Fail;
+
+/// What is stored next.
+#[derive(Clone, Copy)]
+enum Deed {
+    /// An entry: so many parameters from this one on become this value, the machine stands at X, the next line begins at this byte, and no
+    /// block is half-done.
+    Entry(i64, i64, i64, i64, u64),
+    /// The segment of this number is open.
+    Segment(u64),
+    /// The approach to it is open.
+    Approach(u64),
+    /// An entry: a block is half-done before the segment of this number, and the machine stands at X.
+    HalfDone(u64, i64),
+    /// An entry by which the program becomes this.
+    Load(&'static [u8; 13]),
+    /// Power is on anew.
+    PowerOn,
+}
+
+/// A point on the X axis.
+fn point_at(x: i64) -> Point {
+    let mut point = Point::zero();
+    point.x = Len::of_nm(i128::from(x)).unwrap_or_default();
+    point
+}
+
+/// A line of the operator's that is half-done before this segment, or within it where something is open.
+fn half_of(index: u64, at: Option<Point>, opened: Option<Opened>) -> Half
+    requires { IsSome opened → IsNone at }
+    ensures waits { CanWait result }
+    ensures opened { result.opened ≡ opened }
+{
+    Half {
+        text: text_of(b"G0 X5"),
+        source: Source::Mdi,
+        index,
+        at,
+        opened,
+    }
+}
+
+/// Makes an entry of what is stored.
+fn enter(stored: &mut Stored<Global>, entry: (i64, i64, i64, i64, u64), half: Option<Half>)
+    requires storable { IsStorable stored.old }
+    requires waits { IfSome half CanWait }
+    ensures storable { IsStorable stored.new }
+    ensures program { stored.new.length ≡ stored.old.length }
+{
+    let (first, count, value, x, place) = entry;
+    set_all(&mut stored.state.params, first, count, value);
+    stored.state.machine.point = point_at(x);
+    stored.entries = stored.entries.saturating_add(1);
+    stored.place = place.min(stored.length);
+    stored.half = half;
+}
+
+/// A plain journal: its device, the header in force, and what is stored.
+#[derive(Drop)]
+struct Plain {
+    rig: MemoryRig<Global>,
+    header: Header,
+    stored: Stored<Global>,
+    ghost storable: { IsStorable stored },
+}
+
+/// Writes what is stored as a snapshot under this header, and then the header.
+fn renew(rig: &mut MemoryRig<Global>, header: Header, stored: &Stored<Global>) -> bool
+    requires { IsStorable stored.now }
+{
+    if stored.entries > 1_000_000_000_000 {
+        return false;
+    }
+    let (sector, first) = if header.epoch % 2 == 0 {
+        (0, 2)
+    } else {
+        (1, 88)
+    };
+    let mut is_written = true;
+    for part in 0..86 {
+        is_written = is_written && store(rig, first + part, &stored.sector(part));
+    }
+    is_written && rig.sync().is_ok() && store(rig, sector, &header.write()) && rig.sync().is_ok()
+}
+
+impl Plain {
+    /// Over a device that is formatted.
+    fn on(alloc: Global) -> Result<Plain, Fail> {
+        Ok(Plain {
+            rig: formatted(alloc)?,
+            header: Header {
+                epoch: 1,
+                area: 0,
+                length: 0,
+            },
+            stored: Stored::fresh(alloc)?,
+        })
+    }
+
+    /// Writes what is stored under the next epoch.
+    fn renew(&mut self, area: u64) -> bool {
+        self.header = Header {
+            epoch: self.header.epoch.wrapping_add(1),
+            area,
+            length: self.stored.length,
+        };
+        renew(&mut self.rig, self.header, &self.stored)
+    }
+
+    /// Writes a text of one sector to the other program area, and then what is stored with it.
+    fn load(&mut self, text: &[u8; 13]) -> bool {
+        self.stored.place = 0;
+        self.stored.length = 13;
+        self.stored.entries = self.stored.entries.saturating_add(1);
+        self.stored.half = None;
+        let (area, first) = if self.header.area == 0 {
+            (1, 430)
+        } else {
+            (0, 174)
+        };
+        store(&mut self.rig, first, &text_sector(text, 0)) && self.renew(area)
+    }
+
+    fn make(&mut self, deed: Deed) -> bool {
+        match deed {
+            Deed::Entry(first, count, value, x, place) => {
+                enter(&mut self.stored, (first, count, value, x, place), None);
+            }
+            Deed::Segment(index) => {
+                self.stored.half = Some(half_of(index, None, Some(Opened::Segment)));
+            }
+            Deed::Approach(index) => {
+                self.stored.half = Some(half_of(index, None, Some(Opened::Approach)));
+            }
+            Deed::HalfDone(index, x) => {
+                let half = half_of(index, Some(point_at(x)), None);
+                enter(&mut self.stored, (1, 0, 0, x, 0), Some(half));
+            }
+            Deed::Load(text) => return self.load(text),
+            Deed::PowerOn => self.stored.close(),
+        }
+        self.renew(self.header.area)
+    }
+}
+
+impl Mill<MemoryRig<Global>> {
+    /// Stores that something is open.
+    fn open(self, half: Half) -> Result<Self, Fault>
+        requires waits { CanWait half }
+        requires is_open { IsSome half.opened }
+    {
+        let Mill {
+            mut journal,
+            mut stored,
+        } = self;
+        match journal.open_segment(&half) {
+            Ok(()) => {
+                stored.half = Some(half);
+                Ok(Mill { journal, stored })
+            }
+            Err(fault) => {
+                drop(journal.into_rig());
+                Err(fault)
+            }
+        }
+    }
+
+    fn load(self, text: &[u8; 13]) -> Result<Self, Fault> {
+        let Mill {
+            mut journal,
+            mut stored,
+        } = self;
+        stored.place = 0;
+        stored.length = 13;
+        stored.entries = stored.entries.saturating_add(1);
+        stored.half = None;
+        match journal.load_program(text, &stored) {
+            Ok(()) => Ok(Mill { journal, stored }),
+            Err(fault) => {
+                drop(journal.into_rig());
+                Err(fault)
+            }
+        }
+    }
+
+    fn make(self, alloc: Global, deed: Deed) -> Result<Self, Fault> {
+        let mut mill = self;
+        match deed {
+            Deed::Entry(first, count, value, x, place) => {
+                enter(&mut mill.stored, (first, count, value, x, place), None);
+                mill.store()
+            }
+            Deed::Segment(index) => mill.open(half_of(index, None, Some(Opened::Segment))),
+            Deed::Approach(index) => mill.open(half_of(index, None, Some(Opened::Approach))),
+            Deed::HalfDone(index, x) => {
+                let half = half_of(index, Some(point_at(x)), None);
+                enter(&mut mill.stored, (1, 0, 0, x, 0), Some(half));
+                mill.store()
+            }
+            Deed::Load(text) => mill.load(text),
+            Deed::PowerOn => Mill::on(alloc, mill.off()),
+        }
+    }
+}
+
+const TURN: &[u8; 13] = b"M3\nG1 X1\nM2\n\n";
+
+const MOVE: &[u8; 13] = b"G0 X0.002\nM2\n";
+
+/// The script. Records of 1, 2, 3, 8 and 114 parts; ten of the last kind, of which the log has room for eight.
+const DEEDS: &[Deed] = &[
+    Deed::Entry(1, 0, 0, 1_000, 0),
+    Deed::Entry(1, 1, 5_000_000, 0, 0),
+    Deed::Segment(0),
+    Deed::Entry(1, 49, 1_000_000, -7, 0),
+    Deed::Entry(1, 49, 1_000_000, -7, 0),
+    Deed::Load(TURN),
+    Deed::Segment(0),
+    Deed::Entry(5_220, 1, 2_000_000, 8, 3),
+    Deed::Segment(0),
+    Deed::PowerOn,
+    Deed::HalfDone(0, 3),
+    Deed::Approach(0),
+    Deed::Segment(0),
+    Deed::Entry(100, 300, -1, 9_999_999_999_999, 12),
+    Deed::Entry(1, 5_399, 2, 0, 13),
+    Deed::Entry(1, 5_399, 3, 0, 13),
+    Deed::Load(MOVE),
+    Deed::Entry(1, 5_399, 4, 0, 10),
+    Deed::Entry(1, 5_399, 5, 0, 10),
+    Deed::Entry(1, 5_399, 6, 0, 10),
+    Deed::Entry(1, 5_399, 7, 0, 10),
+    Deed::Entry(1, 5_399, 8, 0, 10),
+    Deed::Entry(1, 5_399, 9, 0, 10),
+    Deed::Entry(1, 5_399, 10, 0, 10),
+    Deed::Entry(1, 5_399, 11, 0, 10),
+    Deed::Segment(7),
+    Deed::Entry(1, 5_399, 12, 0, 10),
+    Deed::Entry(1, 48, 13, 1, 0),
+    Deed::Segment(1),
+    Deed::PowerOn,
+    Deed::Entry(2, 1, 14, 2, 0),
+];
+
+/// The device that the journal leaves behind these deeds.
+fn logged(alloc: Global, deeds: &[Deed]) -> Result<MemoryRig<Global>, Fail> {
+    let mut mill = Mill::on(alloc, formatted(alloc)?)?;
+    for deed in deeds {
+        mill = mill.make(alloc, *deed)?;
+    }
+    Ok(mill.off())
+}
+
+/// The device that the plain journal leaves, and what is stored on it, with nothing open.
+fn snapshotted(alloc: Global, deeds: &[Deed]) -> Result<(MemoryRig<Global>, Stored<Global>), Fail> {
+    let mut plain = Plain::on(alloc)?;
+    for deed in deeds {
+        if !plain.make(*deed) {
+            return Err(Fail::from("a sector isn't written"));
+        }
+    }
+    let Plain {
+        rig,
+        header: _,
+        mut stored,
+    } = plain;
+    stored.close();
+    Ok((rig, stored))
+}
+
+/// What a device stands for that power left with nothing unsynced, and the program's line at its place and at the beginning.
+type Found = (Stored<Global>, [Option<ProgramLine>; 2]);
+
+fn found(alloc: Global, rig: &MemoryRig<Global>) -> Result<Found, Fault> {
+    let (stored, next) = line_at(alloc, rig, false)?;
+    let (_, first) = line_at(alloc, rig, true)?;
+    Ok((stored, [next, first]))
+}
+
+/// What it stands for, and a line: the first, or that at the place.
+fn line_at(
+    alloc: Global,
+    rig: &MemoryRig<Global>,
+    is_first: bool,
+) -> Result<(Stored<Global>, Option<ProgramLine>), Fault> {
+    match recover(alloc, rig.stopped(usize::MAX, &[])?) {
+        Ok((mut journal, stored)) => {
+            let place = if is_first { 0 } else { stored.place };
+            let line = journal.program_line(place);
+            drop(journal.into_rig());
+            Ok((stored, line?))
+        }
+        Err((fault, rig)) => {
+            drop(rig);
+            Err(fault)
+        }
+    }
+}
+
+fn are_halves_alike(one: Option<&Half>, other: Option<&Half>) -> bool {
+    match (one, other) {
+        (None, None) => true,
+        (Some(one), Some(other)) => {
+            one.text.as_slice() == other.text.as_slice()
+                && one.source == other.source
+                && one.index == other.index
+                && one.at == other.at
+                && one.opened.is_some() == other.opened.is_some()
+        }
+        _ => false,
+    }
+}
+
+fn are_alike(one: &Stored<Global>, other: &Stored<Global>) -> Result<bool, AllocError> {
+    let changes = one.state.params.changes_from(&other.state.params)?;
+    Ok(
+        changes.is_empty()
+            && one.state.machine == other.state.machine
+            && (one.entries, one.place, one.length) == (other.entries, other.place, other.length)
+            && are_halves_alike(one.half.as_ref(), other.half.as_ref()),
+    )
+}
+
+fn are_lines_alike(one: &Option<ProgramLine>, other: &Option<ProgramLine>) -> bool {
+    match (one, other) {
+        (None, None) => true,
+        (Some(one), Some(other)) => {
+            one.text.as_slice() == other.text.as_slice() && one.next == other.next
+        }
+        _ => false,
+    }
+}
+
+/// Whether both journals stand for what is stored, and for the same lines of the program, behind these deeds.
+fn stand_for_the_same(alloc: Global, deeds: &[Deed]) -> Result<bool, Fail> {
+    let (rig, stored) = snapshotted(alloc, deeds)?;
+    let (wanted, wanted_lines) = found(alloc, &rig)?;
+    let (other, lines) = found(alloc, &logged(alloc, deeds)?)?;
+    Ok(
+        are_alike(&wanted, &stored)?
+            && are_alike(&other, &stored)?
+            && are_lines_alike(&lines[0], &wanted_lines[0])
+            && are_lines_alike(&lines[1], &wanted_lines[1]),
+    )
+}
+
+#[test]
+fn a_journal_of_snapshots_stands_for_the_same(rt: HostRuntime) -> Result<(), Fail> {
+    for n in 0..=DEEDS.len() {
+        let deeds = DEEDS.get(..n).unwrap_or_default();
+        assert!(rt; stand_for_the_same(rt.alloc(), deeds)?, "{n}");
+    }
+    Ok(())
+}

@@ -1,0 +1,145 @@
+//! What an entry writes: a record, a sector a part.
+use crate::images::{FRESH, put, sector_of};
+use crate::journal::counting::Counting;
+use crate::journal::formatted;
+use crate::log::{Mill, are_all};
+use crate::parts::{Label, part_with};
+use ng_rig::MemoryRig;
+use std::alloc::Global;
+use std::test::Fail;
+
+/// How many parameters an entry changes, and how many parts its record has: one with the state, and one for each 48 changes.
+const ENTRIES: &[(i64, u64)] = &[
+    (0, 1),
+    (1, 2),
+    (48, 2),
+    (49, 3),
+    (96, 3),
+    (97, 4),
+    (5_399, 114),
+];
+
+/// How many reads, writes and syncs there are from power on to an entry that changes so many parameters, if one is made; and the device.
+fn counted(alloc: Global, changes: Option<i64>) -> Result<([u64; 3], MemoryRig<Global>), Fail> {
+    let mut mill = Mill::on(alloc, Counting::new(formatted(alloc)?))?;
+    if let Some(changes) = changes {
+        mill.set(1, changes, 2_000_000);
+        mill = mill.commit()?;
+    }
+    Ok(mill.off().counted())
+}
+
+/// Whether the first so many parameters are 2 once power is on again, and the next one isn't; and the entries.
+fn stands(alloc: Global, rig: MemoryRig<Global>, changes: i64) -> Result<(bool, u64), Fail> {
+    let mill = Mill::on(alloc, rig)?;
+    let params = &mill.stored.state.params;
+    let is_so = are_all(params, 1, changes, 2_000_000)
+        && !are_all(params, changes.saturating_add(1), 1, 2_000_000);
+    let entries = mill.stored.entries;
+    drop(mill.off());
+    Ok((is_so, entries))
+}
+
+/// An entry makes a write a part and one sync, and reads nothing.
+#[test]
+fn an_entry_is_a_write_a_part_and_a_sync(rt: HostRuntime) -> Result<(), Fail> {
+    let ([reads, writes, syncs], _) = counted(rt.alloc(), None)?;
+    for (changes, parts) in ENTRIES {
+        let (found, rig) = counted(rt.alloc(), Some(*changes))?;
+        let wanted = [
+            reads,
+            writes.saturating_add(*parts),
+            syncs.saturating_add(1),
+        ];
+        assert_eq!(rt; found, wanted, "{changes}");
+        assert_eq!(rt; stands(rt.alloc(), rig, *changes)?, (true, 1), "{changes}");
+    }
+    Ok(())
+}
+
+/// How many parameters each of seven entries changes, one after the other from the first on; each becomes the number of its entry.
+const GROUPS: &[i64] = &[49, 49, 42, 42, 42, 42, 34];
+
+/// The parts of their seven records, by their sectors: the first part holds the entry count, another so many parameters from this one on.
+const PARTS: &[(usize, Label, i64, i64)] = &[
+    (686, (2, 0, 0, 3, 49), 0, 0),
+    (687, (2, 0, 1, 3, 49), 1, 48),
+    (688, (2, 0, 2, 3, 49), 49, 1),
+    (689, (2, 1, 0, 3, 49), 0, 0),
+    (690, (2, 1, 1, 3, 49), 50, 48),
+    (691, (2, 1, 2, 3, 49), 98, 1),
+    (692, (2, 2, 0, 2, 42), 0, 0),
+    (693, (2, 2, 1, 2, 42), 99, 42),
+    (694, (2, 3, 0, 2, 42), 0, 0),
+    (695, (2, 3, 1, 2, 42), 141, 42),
+    (696, (2, 4, 0, 2, 42), 0, 0),
+    (697, (2, 4, 1, 2, 42), 183, 42),
+    (698, (2, 5, 0, 2, 42), 0, 0),
+    (699, (2, 5, 1, 2, 42), 225, 42),
+    (700, (2, 6, 0, 2, 34), 0, 0),
+    (701, (2, 6, 1, 2, 34), 267, 34),
+];
+
+/// The device behind those entries.
+fn grouped(alloc: Global) -> Result<MemoryRig<Global>, Fail> {
+    let mut mill = Mill::on(alloc, formatted(alloc)?)?;
+    let mut first: i64 = 1;
+    let mut value: i64 = 0;
+    for count in GROUPS {
+        value = value.saturating_add(1_000_000);
+        mill.set(first, *count, value);
+        mill = mill.commit()?;
+        first = first.saturating_add(*count);
+    }
+    Ok(mill.off())
+}
+
+/// A part of such a record, as the format has it.
+fn wanted_part(label: Label, first: i64, count: i64) -> [u8; 512] {
+    let entry = label.1.saturating_add(1);
+    if label.2 == 0 {
+        let mut sector = part_with(label, &FRESH);
+        put(&mut sector, 32, 8, entry);
+        return sector;
+    }
+    let mut sector = part_with(label, &[]);
+    for (k, number) in (first..first.saturating_add(count)).enumerate() {
+        let at = k.saturating_mul(10).saturating_add(32);
+        put(&mut sector, at, 2, number);
+        put(
+            &mut sector,
+            at.saturating_add(2),
+            8,
+            entry.saturating_mul(1_000_000),
+        );
+    }
+    sector
+}
+
+#[test]
+fn seven_entries_are_seven_records(rt: HostRuntime) -> Result<(), Fail> {
+    let mut rig = grouped(rt.alloc())?;
+    for (sector, label, first, count) in PARTS {
+        let wanted = wanted_part(*label, *first, *count);
+        assert!(rt; sector_of(&mut rig, *sector) == wanted, "{sector}");
+    }
+    assert!(rt; sector_of(&mut rig, 702) == [0; 512]);
+    Ok(())
+}
+
+#[test]
+fn what_seven_records_change_stands(rt: HostRuntime) -> Result<(), Fail> {
+    let mill = Mill::on(rt.alloc(), grouped(rt.alloc())?)?;
+    let mut first: i64 = 1;
+    let mut value: i64 = 0;
+    let mut are_right = mill.stored.entries == 7;
+    for count in GROUPS {
+        value = value.saturating_add(1_000_000);
+        are_right = are_right && are_all(&mill.stored.state.params, first, *count, value);
+        first = first.saturating_add(*count);
+    }
+    are_right = are_right && are_all(&mill.stored.state.params, 301, 4_919, 0);
+    drop(mill.off());
+    assert!(rt; are_right);
+    Ok(())
+}
