@@ -4,34 +4,42 @@
 usage, at the top of the repository: bench/cut.py [JOBS [SEED]] [--ngc PATH] [--folder FOLDER] [--cuts N]
 
 Each job (100 where JOBS isn't given; made by jobs.py, by chance from SEED) is run to its end once, a tick and a status at a time: that
-gives the segments of each block with their lines of OUT, and the status behind each entry. Then it is run again over another device, and
-its process is ended at a moment taken by chance, up to N times (4) over the job. Each time `ngc run` is started again with a new OUT, asked
-for its status, told where the machine stands (by the pulses of all OUTs; now and then the axes were moved by hand besides), and goes on:
-`resume` where a block is half done, then the rest of the job.
+gives the segments of each block with their lines of OUT, and the status after each entry. Then it is run again over another device, and
+its process is ended at a moment taken by chance, up to N times (4) over the job: right before its n-th write to the device, its n-th sync, or its n-th line of
+OUT, by strace, and now and then, or where strace isn't there, by the clock. Each time the device is read by examples/read_device.py, and
+`ngc run` is started again with a new OUT, asked for its status, told where the machine stands (by the pulses of all OUTs; now and then the
+axes were moved by hand besides), and goes on: `resume` where a block is half done, then the rest of the job.
 
-For each cut there has to be one moment of the session at which all of these were so: the lines of OUT, to the byte; the status of the next
-power on; and the entries, of which the last `done N` that was written is the last or the one before. At the end the machine has to stand,
-and the device has to hold all but the number of entries, as behind the run that wasn't cut. Status 0 where that holds for each job.
+For each cut there has to be one moment of the session at which all of these were so: the lines of OUT, to the byte; what the device stands for,
+with the number of records in its log since it was last written anew as a whole; and the entries, of which the last `done N` that was written is the
+last or the one before. Power on has to show what the device stood for, under the next epoch, with an empty log. At the end the machine has to stand,
+and the device has to stand for all but the number of entries, as after the run that wasn't cut. Status 0 where that holds for each job.
 
 It builds ngc by rt where that is needed and no PATH is given."""
-import argparse, collections, contextlib, math, os, random, re, struct, subprocess, sys, tempfile, threading, time
-import jobs
+import argparse, collections, contextlib, functools, math, os, random, re, shutil, subprocess, sys, tempfile, threading, time
 
 here = os.path.dirname(os.path.dirname(os.path.abspath(__file__)))
+sys.dont_write_bytecode = True
+sys.path.insert(0, os.path.join(here, "examples"))
+import jobs
+import read_device
+
 STATUS = re.compile(r"status entries (\d+) place (\d+) at (\S+ \S+ \S+) (known|unknown) half (none|\S+ \d+) (\w+)\n")
 OFF = "S 0 0.000000 0 0 0 0\n"
 
-# An entry of the job: "load", "mdi" or "line" of a program, its text (none of a line), its segments as lines of OUT, and behind it
+# An entry of the job: "load", "mdi" or "line" of a program, its text (none of a line), its segments as lines of OUT, and after it
 # the place, the point and what the controller does.
 Step = collections.namedtuple("Step", "kind text segments place point activity")
 # What a device stands for: the entries, the number of steps that are done, the segment of a half-done block, where the machine
-# stands if that is told of it, in steps; and what that is called in the table of cuts.
-State = collections.namedtuple("State", "entries done half at kind")
+# stands if that is told of it, in steps; the records of its log; and what that is called in the table of cuts.
+State = collections.namedtuple("State", "entries done half at records kind")
 NOTHING, SEGMENT, TOLD, APPROACH, APPROACHED = (
     "nothing half done", "a segment open", "a reference told", "an approach open", "an approach done")
-# The seconds of power on, and of what works() counts once.
-Pace = collections.namedtuple("Pace", "power_on work")
-POWER_ON, MORE, LATE = "in power on", "one entry more than told done", "behind the job's end"
+POWER_ON, MORE, LATE, TORN = "in power on", "one entry more than told done", "after the job's end", "a part of a record"
+# The seconds of power on, and of a call that works() counts.
+Pace = collections.namedtuple("Pace", "power_on call")
+# What a session that is cut by its calls counts: writes to the device, syncs, or lines of OUT; and how many of them power on makes.
+CALLS = (("write", 87), ("fsync", 3), ("line", 0))
 
 
 class Wrong(Exception):
@@ -69,15 +77,19 @@ class Mill:
     """A device, its settings and the program that drives it."""
 
     def __init__(self, ngc, folder):
-        self.ngc, self.folder, self.outs = ngc, folder, 0
+        self.ngc, self.folder, self.outs = ngc, os.path.realpath(folder), 0
         with open(f"{folder}/mill.toml", "w") as file:
             file.write(jobs.SETTINGS)
         subprocess.run([ngc, "format", f"{folder}/mill.dev"], check=True)
 
-    def start(self):
-        """A session, which hands out to a file of its own."""
+    def start(self, call=None, number=0):
+        """A session, which hands out to a file of its own; cut right before its n-th call of a kind, if one is named."""
         self.outs += 1
-        words = [self.ngc, "run", f"{self.folder}/mill.dev", f"{self.folder}/mill.toml", f"{self.folder}/out{self.outs}"]
+        device, out = f"{self.folder}/mill.dev", f"{self.folder}/out{self.outs}"
+        words = [self.ngc, "run", device, f"{self.folder}/mill.toml", out]
+        if call:
+            name, path = ("write", out) if call == "line" else (call, device)
+            words = traced(name, path, number, words)
         return subprocess.Popen(words, stdin=subprocess.PIPE, stdout=subprocess.PIPE)
 
     def handed_out(self):
@@ -88,19 +100,37 @@ class Mill:
         except FileNotFoundError:
             return []
 
-    def stored(self):
-        """What the device holds but for the number of entries: the snapshot in force and the program."""
+    def stands(self):
+        """What the device stands for, as docs/DEVICE.md has it."""
         with open(f"{self.folder}/mill.dev", "rb") as file:
-            device = file.read()
-        headers = [struct.unpack_from("<QQQ", device, 512 * k + 16) for k in (0, 1) if device[512 * k:512 * k + 8] == b"RS274NGC"]
-        epoch, area, size = max(headers)
-        snapshot = 512 * (2 + 86 * (epoch % 2))
-        text = 512 * (174 + 256 * area)
-        return device[snapshot + 8:snapshot + 512 * 86], device[text:text + size]
+            device = read_device.Device(file.read())
+        if device.damage:
+            raise Wrong(f"the device is damaged: {device.damage}")
+        return device
+
+
+def stored(device):
+    """All that a device stands for but the number of entries."""
+    fields = device.fields()
+    del fields["entry count"]
+    return fields, device.text(), device.params, device.program
+
+
+def shown(device):
+    """What the status shows after power on over a device."""
+    fields = {name: numbers if len(numbers) > 1 else numbers[0] for name, numbers in device.fields().items()}
+    point, known, half = fields["machine point, nm"], fields["machine point known"], "none"
+    if source := fields["half-done block"]:
+        half = f"{('', 'program', 'mdi')[source]} {fields['its segment']}"
+        # with a segment or an approach open it isn't known where the machine stands, and byte 164 is 0
+        known = fields["its point known"]
+        point = fields["its point, nm"] if known else point
+    place = " ".join(map(millimetres, point))
+    return f"status entries {fields['entry count']} place {fields['place']} at {place} {'known' if known else 'unknown'} half {half} idle\n"
 
 
 def asked(child, text):
-    """The lines that are answered up to the status, which is asked behind the text."""
+    """The lines that are answered up to the status, which is asked after the text."""
     child.stdin.write(text + b"status\n")
     child.stdin.flush()
     lines = []
@@ -123,7 +153,7 @@ def whole_run(mill, does):
     half = "none"
 
     def tick():
-        """A tick: what it answered, and the status behind it. What it handed out comes behind its segment."""
+        """A tick: what it answered, and the status after it. What it handed out comes after what its segment has."""
         nonlocal half, handed
         told = asked(child, b"tick 1\n")
         _, place, point, _, now, activity = STATUS.fullmatch(told[-1]).groups()
@@ -144,17 +174,17 @@ def whole_run(mill, does):
             asked(child, f"mdi {text}\n".encode())
             first = ""
             while not first.startswith("done"):
-                first, behind = tick()
-            steps.append(Step("mdi", text, segments, *behind))
+                first, after = tick()
+            steps.append(Step("mdi", text, segments, *after))
             segments = []
         else:
             asked(child, b"continue\n" if steps and steps[-1].activity == "stopped" else b"start\n")
             activity = "running"
             while activity == "running":
-                first, behind = tick()
-                activity = behind[2]
+                first, after = tick()
+                activity = after[2]
                 if first.startswith("done"):
-                    steps.append(Step("line", None, segments, *behind))
+                    steps.append(Step("line", None, segments, *after))
                     segments = []
     child.stdin.close()
     if child.wait() != 0:
@@ -188,7 +218,8 @@ class Session:
     """What a session does from a state to the job's end: its commands, and the state at each moment with the number of lines handed out."""
 
     def __init__(self, steps, state, reference):
-        self.steps, self.lines, self.moments, self.commands = steps, [], [(state, 0)], []
+        # power on leaves an empty log
+        self.steps, self.lines, self.moments, self.commands = steps, [], [(state._replace(records=0), 0)], []
         going = stopped = False
         first = state.done
         if state.half is not None:
@@ -203,13 +234,21 @@ class Session:
                 self.commands.append(b"continue\ntick 1000000\n" if stopped else b"start\ntick 1000000\n")
             if step.kind != "mdi":
                 going, stopped = step.activity == "running", step.activity == "stopped"
-            self.work(0)
+            if step.kind == "load":
+                # which writes the device anew as a whole
+                self.comes(entries=self.state().entries + 1, done=self.state().done + 1, half=None, at=None, records=0, kind=NOTHING)
+            else:
+                self.work(0)
 
     def state(self):
         return self.moments[-1][0]
 
     def comes(self, **changes):
         self.moments.append((self.state()._replace(**changes), len(self.lines)))
+
+    def records(self, **changes):
+        """A record more."""
+        self.comes(records=self.state().records + 1, **changes)
 
     def hands_out(self, lines):
         for line in lines:
@@ -219,21 +258,21 @@ class Session:
     def work(self, first):
         """The block's segments from the first one on, and its entry."""
         for n, segment in enumerate(self.steps[self.state().done].segments[first:], first):
-            self.comes(half=n, at=None, kind=SEGMENT)
+            self.records(half=n, at=None, kind=SEGMENT)
             self.hands_out(segment)
-        self.comes(entries=self.state().entries + 1, done=self.state().done + 1, half=None, at=None, kind=NOTHING)
+        self.records(entries=self.state().entries + 1, done=self.state().done + 1, half=None, at=None, kind=NOTHING)
 
     def go_on(self, state, reference):
         """A reference if one is told, the approach, and the rest of the block. Whether the program then goes, and whether it waits."""
         if reference:
             self.commands.append(f"reference {point_text(reference)}\n".encode())
-            self.comes(entries=self.state().entries + 1, at=reference, kind=TOLD)
+            self.records(entries=self.state().entries + 1, at=reference, kind=TOLD)
         self.commands.append(b"resume\ntick 1000000\n")
         start, outputs = before(self.steps, state)
         way = straight(self.state().at, start)
-        self.comes(at=None, kind=APPROACH)
+        self.records(at=None, kind=APPROACH)
         self.hands_out([outputs, *way])
-        self.comes(entries=self.state().entries + 1, at=start, kind=APPROACHED)
+        self.records(entries=self.state().entries + 1, at=start, kind=APPROACHED)
         self.work(state.half)
         step = self.steps[state.done]
         return (step.activity == "running", step.activity == "stopped") if step.kind == "line" else (False, False)
@@ -245,17 +284,22 @@ class Cutting:
     def __init__(self, mill, steps, chance, counts):
         self.mill, self.steps, self.chance, self.counts = mill, steps, chance, counts
         self.at, self.handed, self.told, self.was_cut = (0, 0, 0), [], 0, False
-        self.moments = [(State(0, 0, None, None, NOTHING), 0)]
+        self.moments = [(State(0, 0, None, None, 0, NOTHING), 0)]
 
-    def found(self, status):
+    def found(self, device, status):
         """The state of the one moment at which the last session can have ended."""
-        fits = [state for state, lines in self.moments if lines == len(self.handed) and status_of(self.steps, state) == status]
+        fits = [state for state, lines in self.moments
+                if (lines, state.records) == (len(self.handed), device.records) and status_of(self.steps, state) == status]
         if len(fits) != 1 or fits[0].entries - self.told not in (0, 1):
-            raise Wrong(f"{len(fits)} moments fit: {status!r}, {len(self.handed)} lines of OUT, {self.told} told done")
-        if self.was_cut:
-            self.counts[fits[0].kind] += 1
-            self.counts[MORE] += fits[0].entries > self.told
+            raise Wrong(f"{len(fits)} moments fit: {status!r}, {device.records} records, {len(self.handed)} lines of OUT, {self.told} told done")
         return fits[0]
+
+    def counted(self, device, state):
+        """Counts what the last cut left."""
+        if self.was_cut:
+            self.counts[state.kind] += 1
+            self.counts[MORE] += state.entries > self.told
+            self.counts[TORN] += bool(device.torn)
 
     def reference(self, state):
         """Where the machine stands, if that is to be told."""
@@ -265,32 +309,44 @@ class Cutting:
             self.at = tuple(at + self.chance.randint(-6, 6) for at in self.at)
         return None if state.at == self.at and self.chance.random() < 0.5 else self.at
 
-    def moment(self, state, pace):
-        """The seconds behind the commands at which the session is cut: in half of the cuts of a half-done block early, about its approach."""
-        if state.half is not None and self.chance.random() < 0.5:
-            return self.chance.uniform(0, 6 * pace.work)
-        return self.chance.uniform(0, pace.work * works(self.steps[state.done:]))
+    def moment(self, state, calls):
+        """How many of so many calls come before the cut: in two of three cuts of a half-done block few, so that it falls about its approach, which
+        takes the record of a reference, two of its own, and then that of the segment."""
+        return self.chance.uniform(0, min(4, calls) if state.half is not None and self.chance.random() < 2 / 3 else calls)
+
+    def cut(self, state, pace):
+        """How a session is cut, one in ten times in power on: before a call with its number, or after so many seconds in power on or of the work."""
+        rest, early = self.steps[state.done:], self.chance.random() < 0.1
+        if self.chance.random() < 0.2 or not can_trace():
+            return None, 0, self.chance.uniform(0, pace.power_on) if early else None, pace.call * self.moment(state, sum(works(rest)))
+        kind = self.chance.randrange(2 if early else 3)
+        call, first = CALLS[kind]
+        number = self.chance.uniform(1, first + 1) if early else first + 1 + self.moment(state, works(rest)[kind] + 1)
+        return call, int(number), None, None
 
     def session(self, pace=None):
-        """A session, cut somewhere if a pace is given, one in ten times in power on. Whether it came to the job's end."""
-        child = self.mill.start()
-        timer = threading.Timer(self.chance.uniform(0, pace.power_on), child.kill) if pace and self.chance.random() < 0.1 else None
+        """A session, cut somewhere if a pace is given. Whether it came to the job's end."""
+        device = self.mill.stands()
+        state = self.found(device, shown(device))
+        call, number, in_power_on, later = self.cut(state, pace) if pace else (None, 0, None, None)
+        child = self.mill.start(call, number)
+        timer = None if in_power_on is None else threading.Timer(in_power_on, child.kill)
         if timer:
             timer.start()
         try:
             status = written(child, b"status\n") and child.stdout.readline().decode()
             if status and status.endswith("\n"):
-                state = self.found(status)
+                self.powered_on(device, status)
+                self.counted(device, state)
                 begins = lambda: None
-                if pace and not timer:
-                    timer = threading.Timer(self.moment(state, pace), child.kill)
+                if later is not None and not timer:
+                    timer = threading.Timer(later, child.kill)
                     begins = timer.start
                 self.goes_on(child, state, begins)
             elif child.wait() != -9 or self.mill.handed_out():
                 raise Wrong(f"power on ended with status {child.returncode} and handed out {self.mill.handed_out()}")
             else:
-                # it left what the session before left
-                self.counts[POWER_ON] += 1
+                self.cut_in_power_on(device)
         finally:
             if timer:
                 timer.cancel()
@@ -300,6 +356,24 @@ class Cutting:
             with contextlib.suppress(BrokenPipeError):
                 child.stdin.close()
         return child.returncode == 0
+
+    def powered_on(self, before, status):
+        """Power on shows what stood, and has written it under the next epoch."""
+        if status != shown(before):
+            raise Wrong(f"power on shows {status!r}, and the device stood for {shown(before)!r}")
+        device = self.mill.stands()
+        if (device.epoch, device.records, device.torn) != (before.epoch + 1, 0, []):
+            raise Wrong(f"over epoch {before.epoch} power on left epoch {device.epoch} with {device.records} records, and parts in {device.torn}")
+
+    def cut_in_power_on(self, before):
+        """It left what the session before left, or its recovered under the next epoch."""
+        device = self.mill.stands()
+        if shown(device) != shown(before) or (device.epoch, device.records) not in ((before.epoch, before.records), (before.epoch + 1, 0)):
+            left, stood = ((shown(it), it.epoch, it.records) for it in (device, before))
+            raise Wrong(f"power on that was cut left {left}, and {stood} stood")
+        # what it wrote anew as a whole has no record
+        self.moments = [(state._replace(records=device.records), lines) for state, lines in self.moments if state.records == before.records]
+        self.counts[POWER_ON] += 1
 
     def goes_on(self, child, state, begins):
         """Gives all commands up to the job's end, and looks at what was told and handed out until the session ended."""
@@ -323,8 +397,26 @@ class Cutting:
 
 
 def works(steps):
-    """How often the device is written: for each segment that is opened, and for each entry."""
-    return sum(1 + len(step.segments) for step in steps)
+    """How many writes to the device, syncs and lines of OUT these steps take, about: a record of one part for each segment that is opened and
+    for each entry but a load, which writes its text and the device anew as a whole."""
+    loads = [step for step in steps if step.kind == "load"]
+    records = sum(1 + len(step.segments) for step in steps) - len(loads)
+    writes = records + sum(87 + (len(step.text) + 511) // 512 for step in loads)
+    return writes, records + 3 * len(loads), sum(len(segment) for step in steps for segment in step.segments)
+
+
+def traced(call, path, number, words):
+    """A command that is ended right before its n-th call of this kind on a file."""
+    return ["strace", "-f", "-qq", "-o", "/dev/null", "-e", f"trace={call}", "-P", path, "-e", f"inject={call}:signal=KILL:when={number}", *words]
+
+
+@functools.cache
+def can_trace():
+    """Whether strace is there, and may do that here."""
+    with tempfile.TemporaryDirectory() as folder:
+        path = os.path.realpath(folder) + "/file"
+        writes = ["sh", "-c", 'echo a > "$1"; echo b >> "$1"', "sh", path]
+        return bool(shutil.which("strace")) and subprocess.run(traced("write", path, 2, writes), stderr=subprocess.DEVNULL).returncode == -9
 
 
 def written(child, commands, last=False):
@@ -339,11 +431,11 @@ def written(child, commands, last=False):
         return False
 
 
-def left_behind(cutting):
-    """What the device holds once it was powered on again, which writes all that stands as a snapshot; and where the machine stands."""
+def left(cutting):
+    """What the device stands for once it was powered on again, and where the machine stands."""
     if not cutting.session():
-        raise Wrong("power on behind the job's end failed")
-    return cutting.mill.stored(), cutting.at
+        raise Wrong("power on after the job's end failed")
+    return stored(cutting.mill.stands()), cutting.at
 
 
 def try_job(ngc, folder, chance, counts, cuts):
@@ -356,9 +448,9 @@ def try_job(ngc, folder, chance, counts, cuts):
     if not whole.session():
         raise Wrong("the whole run didn't come to its end")
     took = time.monotonic() - began
-    behind = left_behind(whole)
+    wanted = left(whole)
     power_on = time.monotonic() - began - took
-    pace = Pace(power_on, max(0.0, took - power_on) / works(steps))
+    pace = Pace(power_on, max(0.0, took - power_on) / sum(works(steps)))
     cutting = Cutting(third, steps, chance, counts)
     for _ in range(chance.randint(1, cuts)):
         if cutting.session(pace):
@@ -366,8 +458,8 @@ def try_job(ngc, folder, chance, counts, cuts):
             break
     if not cutting.session():
         raise Wrong("the last session didn't come to its end")
-    if left_behind(cutting) != behind:
-        raise Wrong("behind the job that was cut the machine or the device is in another state")
+    if left(cutting) != wanted:
+        raise Wrong("after the job that was cut the machine or the device is in another state")
     return sum(len(step.segments) for step in steps), sum(len(segment) for step in steps for segment in step.segments)
 
 
@@ -397,8 +489,9 @@ def main():
         lines += handed
     kinds = (NOTHING, SEGMENT, TOLD, APPROACH, APPROACHED)
     print(f"{given.jobs} jobs of {segments} segments and {lines} lines of OUT, {counts[LATE]} of them to their end before the next cut")
-    print(f"cut {sum(counts[kind] for kind in (*kinds, POWER_ON))} times: {counts[POWER_ON]} in power on, behind which stood what had stood before;")
-    print("then stood " + ", ".join(f"{kind} {counts[kind]}" for kind in kinds) + f"; {counts[MORE]} times {MORE}")
+    print(f"cut {sum(counts[kind] for kind in (*kinds, POWER_ON))} times: {counts[POWER_ON]} in power on, after which stood what had stood before;")
+    print("then stood " + ", ".join(f"{kind} {counts[kind]}" for kind in kinds))
+    print(f"{counts[MORE]} times {MORE}, {counts[TORN]} times {TORN}, which counted for nothing")
 
 
 if __name__ == "__main__":

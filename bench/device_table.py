@@ -1,6 +1,6 @@
 #!/usr/bin/env python3
 """Compares the tables of docs/DEVICE.md with the definitions, the reader and the writer of crates/ng_layout, and with
-examples/read_device.py: that all have the same numbers at the same bytes, in the same widths, with the same codes.
+examples/read_device.py: that all have the same numbers at the same bytes, in the same widths, with the same codes and ranges.
 
     bench/device_table.py
 
@@ -11,6 +11,10 @@ import sys
 from pathlib import Path
 
 root = Path(__file__).resolve().parent.parent
+sys.dont_write_bytecode = True
+sys.path.insert(0, str(root / "examples"))
+import read_device
+
 layout = root / "crates/ng_layout"
 document = (root / "docs/DEVICE.md").read_text()
 differences = []
@@ -67,12 +71,28 @@ def coded(path, verb):
 def scripted():
     """The places that the script for a stranger reads in a state field."""
     text = (root / "examples/read_device.py").read_text()
-    found = [(200, 256, False)] if '"256s", state, 200' in text else []
-    found += [(int(byte), 2, False) for byte in re.findall(r'number\("H", state, (\d+)\)', text)]
-    for byte, times, kind in re.findall(r'", (\d+), "(\d?)([QqHB])"\)', text):
-        size = struct.calcsize(kind)
-        found += [(int(byte) + size * k, size, kind == "q") for k in range(int(times or 1))]
+    found = [(200, 256, False)] if "self.state + 200:self.state + 456" in text else []
+    found += [(int(byte), 2, False) for byte in set(re.findall(r'number\("H", self.state \+ (\d+)\)', text))]
+    for _, byte, kind, _ in read_device.FIELDS + read_device.HALF:
+        size = struct.calcsize(kind[-1])
+        found += [(byte + size * k, size, kind[-1] == "q") for k in range(int(kind[:-1] or 1))]
     return sorted(set(found))
+
+
+def is_valid(epoch, area, length):
+    """Whether the script takes the header for a valid one."""
+    device = bytearray(read_device.SIZE)
+    struct.pack_into("<8sIxxxxQQQ", device, 512 * (epoch % 2), b"RS274NGC", 1, epoch, area, length)
+    try:
+        return read_device.Device(bytes(device)).epoch == epoch
+    except read_device.NoDevice:
+        return False
+
+
+def extremes(limits, program):
+    """The codes of a field of the script, or the least and the greatest of its range."""
+    limits = range(program + 1) if limits == "program" else limits
+    return list(limits) if isinstance(limits, tuple) else [limits[0], limits[-1]]
 
 
 header = [row + [""] * (4 - len(row)) for row in rows("Header")]
@@ -82,7 +102,9 @@ same("header", ("docs", places(header)), ("definition", defined("specs/Header.an
 same("state field", ("docs", places(fields)), ("definition", defined("specs/StateField.antt")),
      ("reader", coded("src/field.rt", "get")), ("writer", coded("src/field.rt", "put")), ("script", scripted()))
 labels = [(byte, width, False) for byte, width, _ in places(rows("Log")) if byte < 32]
-same("part of a record", ("docs", labels), ("definition", [place for place in defined("specs/Log.antt") if place[0] < 32]))
+same("part of a record", ("docs", labels), ("definition", [place for place in defined("specs/Log.antt") if place[0] < 32]),
+     ("reader", coded("src/part.rt", "get")), ("writer", coded("src/part.rt", "put")),
+     ("script", [place for byte, kind in zip((0, 8, 16, 18, 20), "QQHHH") for place in [(byte, struct.calcsize(kind), False)]]))
 
 # What each number is called in the definitions, and the word that the document and the script have for it.
 NAMES = {
@@ -103,7 +125,7 @@ same("names", ("this script", {byte: names[0] for byte, names in NAMES.items()})
 same("kept words", ("this script", ["z", "p", "q"]),
      ("definition", re.findall(r"(\w) = signed_at 1(?:20|28|36) ", (layout / "specs/StateField.antt").read_text())))
 words = {numbers(row[0])[0]: row[2] for row in fields}
-script_words = {int(byte): word for word, byte in re.findall(r'\("([^"]+)", (\d+), "', (root / "examples/read_device.py").read_text())}
+script_words = {byte: word for word, byte, _, _ in read_device.FIELDS + read_device.HALF}
 for byte, (_, word) in NAMES.items():
     same(f"word for byte {byte}", ("this script", True), ("docs", word in words[byte]))
     if byte in script_words and byte != 176:
@@ -118,6 +140,12 @@ for byte, name in [(144, "motion"), (145, "plane"), (146, "distance"), (147, "fe
                    (162, "source"), (163, "opened"), (164, "truth")]:
     same(f"codes of byte {byte}", ("docs", numbers(ranges[byte])), ("definition", known[name]))
 
+# The ranges of the script.
+for name, byte, kind, limits in read_device.FIELDS + read_device.HALF:
+    text = ranges[byte]
+    wanted = {"count": [-9_999_999_999_999, 9_999_999_999_999], "any": [0, 2**64 - 1]}.get(text) or numbers(text.replace("the program length", "131,072"))
+    same(f"range of byte {byte}", ("docs", wanted), ("script", extremes(limits, 131_072)))
+
 # Limits, and where the areas lie.
 limits = dict(re.findall(r"\n(greatest_\w+|longest_\w+) = ([\d_]+)", (layout / "specs/Limits.antt").read_text()))
 stands = (layout / "specs/Stands.antt").read_text()
@@ -127,6 +155,12 @@ for row, name in [(header[2], "greatest_count"), (header[4], "longest_program"),
     same(row[2], ("docs", bound(row)), ("definition", numbers(limits[name])[0]))
 for byte, name in [(158, "greatest_slot"), (160, "greatest_slot"), (166, "longest_text")]:
     same(f"limit of byte {byte}", ("docs", numbers(ranges[byte])[-1]), ("definition", numbers(limits[name])[0]))
+bounds = [bound(row) for row in header[2:5]]
+for n, least in enumerate((1, 0, 0)):
+    given = [2, 1, 0]
+    for number, valid in ((least, True), (bounds[n], True), (bounds[n] + 1, False)) + (((0, False),) if least else ()):
+        given[n] = number
+        same(f"header with {header[2 + n][2]} {number}", ("docs", valid), ("script", is_valid(*given)))
 value = lambda name, text: numbers(re.search(rf"\n{name}[^\n=]* = (.*)", text)[1])
 first, step, _ = value("snapshot_first", stands)
 area, size = value("program_first", stands)
@@ -134,7 +168,12 @@ end, count = value("log_first", stands)[0], value("log_size", log)[0]
 same("sectors", ("docs", [numbers(row[0]) for row in rows("What the journal keeps")]),
      ("definition", [[0, 1], [first, first + step - 1, first + step, first + 2 * step - 1],
                      [area, area + size - 1, area + size, area + 2 * size - 1], [end, end + count - 1]]))
-same("least size", ("sectors", end + count), ("definition", value("least_size", stands)[0]))
+same("least size", ("sectors", end + count), ("definition", value("least_size", stands)[0]), ("script", read_device.SIZE // 512))
+# How many changes a part has room for, and where the first one stands.
+row = rows("Log")[-1]
+most, index, _, _, value_bits = numbers(row[2])
+in_part = re.search(r"change_at \(row \(at \+ 1 \+ n / (\d+)\)\) \((\d+) \+ (\d+) \*", log)
+same("changes of a part", ("docs", [most, numbers(row[0])[0], (index + value_bits) // 8]), ("definition", [int(n) for n in in_part.groups()]))
 
 if differences:
     sys.exit("\n".join(differences))

@@ -83,6 +83,8 @@ def setting(chance):
         f"G10 L2 P{chance.randint(1, 3)} {axes(chance, 6)}",
         f"{chance.choice(('G54', 'G55', 'G56'))} G90 G0 {axes(chance, 9)}",
         f"{chance.choice(('G43 H1', 'G43 H2', 'G43 H0', 'G49'))} G90 G0 Z{length(chance, 9)}",
+        # 49 parameters, which are one more than a part of a record has room for
+        "".join(f"#{parameter}={chance.randint(1, 9)}" for parameter in range(50, 99)),
     ))
 
 

@@ -1,28 +1,77 @@
 #!/bin/sh
-# Makes a device file of the rows in examples/device.hex, over which a case of crates/ngc_cases powers on, and reads it by
-# examples/read_device.py: whether that finds the state in examples/device.txt.
+# Reads devices by examples/read_device.py: that of the rows in examples/device.hex, over which a case of crates/ngc_cases powers on, which has
+# to give the state in examples/device.txt; and that of the worked log in docs/DEVICE.md, which has to give what the page says, and less where
+# parts of it are missing.
 set -e
-examples=$(cd "$(dirname "$0")/../crates/ngc_cases/data/examples" && pwd)
+top=$(cd "$(dirname "$0")/.." && pwd)
+examples=$top/crates/ngc_cases/data/examples
 work=$(mktemp -d)
 trap 'rm -rf "$work"' EXIT
-python3 - "$examples/device.hex" "$work/device" <<'END'
+# a device file of rows of a sector, a place in it, and the bytes there
+cat > "$work/make.py" <<'END'
 import sys
 device = bytearray(512 * 1710)
-for line in open(sys.argv[1]):
-    sector, place, digits = line.split()
+for line in sys.stdin:
+    sector, place, digits = line.split(None, 2)
     content = bytes.fromhex(digits)
     start = 512 * int(sector) + int(place)
     device[start:start + len(content)] = content
-open(sys.argv[2], "wb").write(device)
+open(sys.argv[1], "wb").write(device)
 END
+python3 "$work/make.py" "$work/device" < "$examples/device.hex"
 python3 "$examples/read_device.py" "$work/device" > "$work/state"
-diff "$examples/device.txt" "$work/state"
-echo "read_device.py: the state of examples/device.txt"
-# a device that isn't formatted, and one whose header in force is lost: the state before it, a fresh controller
+grep -q "^header in sector 0: epoch 2, program area 0, 0 bytes$" "$work/state"
+grep -q "^header in sector 1: epoch 3, program area 1, 13 bytes, in force$" "$work/state"
+grep -q "^log: 0 records; it ends at sector 686$" "$work/state"
+for text in "$examples/device.txt" "$work/state"; do grep -v "^header in sector [01]: \|^log: " "$text" > "$work/${text##*/}.rest"; done
+diff "$work/device.txt.rest" "$work/state.rest"
+echo "read_device.py: the state of examples/device.txt, and an empty log"
+
+# the worked log: its rows, and the lines that are printed of it
+awk '/^#/ { on = /^## A worked log/ } on' "$top/docs/DEVICE.md" > "$work/page"
+sed -n 's/^ \{4,\}\([0-9]\+ \+[0-9]\+\)   \(\([0-9a-f]\{2\} \)*[0-9a-f]\{2\}\)   .*/\1 \2/p' "$work/page" > "$work/rows"
+sed -n 's/^    \([a-z#][^:]*: .*\)/\1/p' "$work/page" > "$work/lines"
+test "$(wc -l < "$work/rows")" = "$(grep -c '^ \{4,\}[0-9]\+ \+[0-9]\+ ' "$work/page")"
+test "$(wc -l < "$work/rows")" -ge 40
+test "$(wc -l < "$work/lines")" -ge 8
+python3 "$work/make.py" "$work/device" < "$work/rows"
+python3 "$examples/read_device.py" "$work/device" > "$work/state"
+while read -r line; do
+    grep -qxF "$line" "$work/state" || { echo "read_device.py doesn't print of the worked log: $line"; exit 1; }
+done < "$work/lines"
+# without one sector of the log or another: the log as it is behind that many records, and the sectors that are left over
+lose() {
+    cp "$work/device" "$work/torn"
+    for sector in $1; do dd if=/dev/zero of="$work/torn" bs=512 seek="$sector" count=1 conv=notrunc 2> "$work/dd"; done
+    python3 "$examples/read_device.py" "$work/torn" > "$work/state"
+    grep -qx "log: $2 records; it ends at sector $3" "$work/state"
+    grep -qx "entry count: $4" "$work/state"
+    sed -n "s/^log: parts of a record that isn't complete in sectors //p" "$work/state" > "$work/left"
+    test "$(cat "$work/left")" = "$5"
+}
+lose "" 2 689 1 ""
+lose 688 1 688 1 ""
+lose 687 0 686 0 "686 688"
+lose 686 0 686 0 "687 688"
+lose "687 688" 0 686 0 "686"
+lose "686 687 688" 0 686 0 ""
+echo "read_device.py: the worked log of docs/DEVICE.md, whole and in parts"
+
+# files that are no device, and a device whose header in force is lost: the state before it, a fresh controller
 head -c 875520 /dev/zero > "$work/zeros"
-! python3 "$examples/read_device.py" "$work/zeros" 2> "$work/refusal"
-grep -q J2 "$work/refusal"
-dd if=/dev/zero of="$work/device" bs=512 seek=1 count=1 conv=notrunc 2> "$work/log"
+head -c 875519 "$work/device" > "$work/short"
+for file in zeros short; do
+    if python3 "$examples/read_device.py" "$work/$file" > "$work/state" 2> "$work/refusal"; then exit 1; fi
+    grep -q "is no device (J2)" "$work/refusal"
+    test ! -s "$work/state"
+done
+python3 "$work/make.py" "$work/device" < "$examples/device.hex"
+dd if=/dev/zero of="$work/device" bs=512 seek=1 count=1 conv=notrunc 2> "$work/dd"
 python3 "$examples/read_device.py" "$work/device" > "$work/state"
 grep -q "^epoch: 2$" "$work/state"
-echo "read_device.py: refuses zeros, and finds the older header"
+# a field out of its range: all is printed, and the status says so
+printf '\005' | dd of="$work/device" bs=1 seek=$((512 * 2 + 152)) conv=notrunc 2> "$work/dd"
+if python3 "$examples/read_device.py" "$work/device" > "$work/state" 2> "$work/refusal"; then exit 1; fi
+grep -qx "damaged (J3): sector 2: spindle 5" "$work/refusal"
+grep -qx "spindle: 5" "$work/state"
+echo "read_device.py: refuses what is no device, finds the older header, and says what is damaged"
