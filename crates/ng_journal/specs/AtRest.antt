@@ -12,7 +12,6 @@ use Rattle.ng_layout.specs.Stands.{snapshot_first, snapshot_size, program_first,
 use Rattle.ng_layout.specs.Stored.{Saved, Standing}
 use Rattle.ng_journal.specs.Area.{BelongsIn}
 use Rattle.ng_log.specs.AtEnd.{no_records, IsAtEnd}
-
 pub use Rattle.ng_log.specs.AtEnd.{IsEither}
 
 -- one image, under this header, with no record of an epoch to come

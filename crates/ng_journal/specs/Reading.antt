@@ -5,7 +5,6 @@ use Rattle.ng_layout.specs.Sectors.{values}
 use Rattle.ng_layout.specs.Snapshot.{report_in}
 use Rattle.ng_layout.specs.Stands.{all_counts, snapshot, snapshot_size, stretch}
 use Rattle.ng_layout.specs.Stored.{Saved}
-
 pub use Rattle.ng_log.specs.Reading.{Reads}
 
 -- the table is that of the area's parameters, or one of those is beyond the range

@@ -1,5 +1,6 @@
 //! The log: which records are written of what is stored, and what is made of records that stand there.
-ghost use Rattle.std.specs.Prelude.{◌≡◌, false};
+ghost use Rattle.std.specs.Prelude.{◌≡◌, false, length};
+ghost use Rattle.std.proofs.Props.{props};
 ghost use Rattle.ng_layout.specs.Storable.{IsStorable};
 
 mod full;
@@ -19,7 +20,7 @@ pub struct Mill<R: Rig> {
     pub journal: Journal<R, Global>,
     pub stored: Stored<Global>,
     ghost whole: { journal.broken ≡ false },
-    ghost storable: { IsStorable stored },
+    ghost storable: { IsStorable stored } by { Prim.hlevel props },
     ghost program: { stored.length ≡ journal.saved.length },
 }
 
@@ -71,7 +72,10 @@ impl<R: Rig + Drop> Mill<R> {
 }
 
 /// So many parameters of a table from this one on become this value.
-pub fn set_all(params: &mut Params<Global>, first: i64, count: i64, millionths: i64) {
+pub fn set_all(params: &mut Params<Global>, first: i64, count: i64, millionths: i64)
+    requires { length params.old ≡ 5399 }
+    ensures { length params.new ≡ 5399 }
+{
     let value = Num::of(i128::from(millionths)).unwrap_or_default();
     for number in first..first.saturating_add(count) {
         if let Some(index) = Index::of(number) {

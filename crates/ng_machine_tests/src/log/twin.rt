@@ -1,5 +1,6 @@
 //! The journal beside a plain one, which writes a whole snapshot for each entry and each opened segment: what both devices stand for.
 ghost use Rattle.std.specs.Prelude.{◌≡◌, IsSome, IsNone, IfSome};
+ghost use Rattle.std.proofs.Props.{props};
 ghost use Rattle.ng_layout.specs.Storable.{CanWait, IsStorable};
 
 use crate::images::store;
@@ -73,7 +74,7 @@ struct Plain {
     rig: MemoryRig<Global>,
     header: Header,
     stored: Stored<Global>,
-    ghost storable: { IsStorable stored },
+    ghost storable: { IsStorable stored } by { Prim.hlevel props },
 }
 
 /// Writes what is stored as a snapshot under this header, and then the header.
