@@ -14,7 +14,7 @@ use Rattle.ng_layout.specs.Log.{log_size}
 use Rattle.ng_layout.specs.Sectors.{text_of}
 use Rattle.ng_layout.specs.Snapshot.{HoldsPart}
 use Rattle.ng_layout.specs.Spare.{IsAmong}
-use Rattle.ng_layout.specs.Stands.{snapshot_first, snapshot_size, program_first, program_size, log_first, stretch, newer, in_force, snapshot, standing, stands, IsWritten}
+use Rattle.ng_layout.specs.Stands.{snapshot_first, snapshot_size, program_first, program_size, log_first, stretch, newer, in_force, snapshot, IsWritten}
 use Rattle.ng_layout.specs.Stored.{Saved}
 use Rattle.ng_layout.proofs.Rows.{number-zeros}
 use Rattle.ng_layout.proofs.Images.{stretch-at}

@@ -1,5 +1,5 @@
 -- What was read, and what it says of what the image stands for.
-use Rattle.std.proofs.Common.{◌≡◌, ◌≤◌, ⊎_elim, inl, inr, ◌⊎◌, ℕ, zero, suc, Bool, true, false, Option, Some, None, Ok, Err, refl, sym, ◌∙◌, ap, subst}
+use Rattle.std.proofs.Common.{◌≡◌, ◌≤◌, inl, inr, ◌⊎◌, ℕ, zero, suc, Bool, true, false, Option, Some, None, Ok, Err, refl, sym, ◌∙◌, ap, subst}
 use Rattle.ng_num.specs.declared.fault.Fault.TheVariants.{NotFormatted, Damaged}
 use Rattle.ng_rig.specs.Life.{Image}
 use Rattle.ng_layout.specs.declared.header.Header.{Header}

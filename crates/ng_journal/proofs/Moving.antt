@@ -1,12 +1,10 @@
 -- What is stored moves a journal at rest from what stood to the new.
-use Rattle.std.proofs.Common.{◌≡◌, ◌≤◌, ◌∙◌, inl, inr, ⊎_elim, ℕ, Result, Ok, Err, sym, subst}
+use Rattle.std.proofs.Common.{◌≡◌, ◌∙◌, inl, inr, ⊎_elim, Result, Ok, Err, sym, subst}
 use Rattle.ng_rig.specs.Life.{Life, reads, items}
 use Rattle.ng_rig.specs.Onward.{Onward}
 use Rattle.ng_rig.proofs.Running.{weaker}
 use Rattle.ng_layout.specs.declared.header.Header.{Header}
-use Rattle.ng_layout.specs.Limits.{greatest_count}
-use Rattle.ng_layout.specs.Stands.{least_size, stands}
-use Rattle.ng_layout.specs.Storable.{IsStorable}
+use Rattle.ng_layout.specs.Stands.{stands}
 use Rattle.ng_layout.specs.Stored.{Saved, Standing}
 use Rattle.ng_log.specs.declared.log_end.LogEnd.{LogEnd}
 use Rattle.ng_log.specs.AtEnd.{no_records, IsAtEnd}
@@ -14,7 +12,7 @@ use Rattle.ng_log.proofs.Ending.{ends-stand}
 use Rattle.ng_journal.specs.declared.storing.Tip.{Tip}
 use Rattle.ng_journal.specs.AtRest.{IsEither, next_header}
 use Rattle.ng_journal.specs.Loads.{Loads, other_area}
-use Rattle.ng_journal.specs.Journal.{Logbook, IsTip, IsSteady, Moves}
+use Rattle.ng_journal.specs.Journal.{Logbook, Moves}
 use Rattle.ng_journal.specs.Records.{tip_of, Stores}
 use Rattle.ng_journal.specs.Storing.{Ledger, StoresRecord, ledger_of}
 
@@ -35,10 +33,6 @@ stored_as t u l saved old new s = record { writes = s.writes; laid = s.laid }
 
 pub not_stored_as : {T U E F : Type 0} (e : E) (result : Result U F) (l : Ledger) (saved : Saved) (old new : Life) → StoresRecord result l saved old new → StoresRecord {T = T} (Err e) l saved old new
 not_stored_as e result l saved old new s = record { writes = s.writes; laid = tt }
-
--- what holds of a journal, with what was stored
-pub steady_with : (sectors : ℕ) (tip : Tip) (saved stored : Saved) → saved ≡ stored → least_size ≤ sectors → IsTip stored.length tip.header tip.end → IsStorable stored → stored.entries ≤ greatest_count → IsSteady sectors tip.header tip.end saved
-steady_with sectors tip saved stored is room t storable count = subst (λ (s : Saved). IsSteady sectors tip.header tip.end s) (sym is) (record { room = room; tip = t; storable = storable; count = count })
 
 -- A load that is done moves it too.
 as_moved : (old new : Life) (header : Header) (end : LogEnd) (before loaded : Standing) → IsAtEnd old header before end → Onward old new (IsEither (stands (reads old)) (Ok loaded) (items old)) → Onward old new (IsEither (Ok before) (Ok loaded) (items old))

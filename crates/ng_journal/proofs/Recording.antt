@@ -1,9 +1,8 @@
 -- Room made for a record, and then the record.
-use Rattle.std.proofs.Common.{◌≡◌, ◌⊎◌, inl, inr, ⊎_elim, ℕ, ◌+◌, ◌%◌, ◌*◌, ◌<◌, ◌≤◌, ◌↔◌, Bool, true, false, List, ℤ, Result, Ok, Err, length, refl, sym, ◌∙◌, ap, subst, arith}
+use Rattle.std.proofs.Common.{◌≡◌, inl, inr, ⊎_elim, ℕ, ◌+◌, ◌<◌, ◌≤◌, ◌↔◌, Bool, true, false, List, ℤ, Result, Ok, Err, length, refl, sym, ◌∙◌, ap, subst, arith}
 use Rattle.std.specs.Prelude.{OnOk}
 use Rattle.std.proofs.lemmas.Bool.{cases_lt}
-use Rattle.ng_canon.specs.declared.item.Item.{Item}
-use Rattle.ng_rig.specs.Life.{Image, Life, reads, items}
+use Rattle.ng_rig.specs.Life.{Life, reads, items}
 use Rattle.ng_rig.specs.Onward.{Onward}
 use Rattle.ng_rig.specs.Only.{WritesOnly}
 use Rattle.ng_rig.proofs.Running.{stays, joined, weaker}
@@ -11,7 +10,7 @@ use Rattle.ng_rig.proofs.Writes_only.{only_none, only_more, only_wider, reads_bl
 use Rattle.ng_layout.specs.declared.header.Header.{Header}
 use Rattle.ng_layout.specs.Log.{parts_for, log_size_of}
 use Rattle.ng_layout.specs.Sectors.{text_of}
-use Rattle.ng_layout.specs.Stands.{program_first, program_size, snapshot_first, snapshot_size, stands, stretch}
+use Rattle.ng_layout.specs.Stands.{program_first, program_size, stands, stretch}
 use Rattle.ng_layout.specs.Stored.{Saved, Standing}
 use Rattle.ng_log.specs.declared.log_end.LogEnd.{LogEnd}
 use Rattle.ng_log.specs.AtEnd.{no_records, IsAtEnd}
@@ -21,11 +20,10 @@ use Rattle.ng_log.specs.Records.{LogRecord, BelongsToRecord, record_from}
 use Rattle.ng_log.proofs.Differing.{differences-none}
 use Rattle.ng_log.proofs.Ending.{ends-stand}
 use Rattle.ng_journal.specs.declared.storing.Tip.{Tip}
-use Rattle.ng_journal.specs.AtRest.{IsOwn, IsEither, IsOfEpoch, BelongsTo, IsLaidOut, StoresState, beside, next_header, Checkpoints}
+use Rattle.ng_journal.specs.AtRest.{IsOwn, IsEither, IsOfEpoch, BelongsTo, IsLaidOut, StoresState, beside, Checkpoints}
 use Rattle.ng_journal.specs.Journal.{IsTip, StandsFor}
 use Rattle.ng_journal.specs.Records.{ledger, tip_of, IsRoom, MakesRoom, IsRenewed, StoresRoom, Stores}
 use Rattle.ng_journal.specs.Storing.{Ledger, changes_to, HasRoomFor, IsFullFor, renewed, record_of, BelongsToStoring, IsRecorded, IsStoredIn, StoresRecord}
-use Rattle.ng_journal.proofs.Framing.{of_epoch}
 
 pub own : {life : Life} {header : Header} {standing : Standing} {end : LogEnd} → IsAtEnd life header standing end → IsOwn life header
 own at = record { synced = at.synced; force = at.image.force; written = at.image.written }

@@ -11,20 +11,19 @@ use Rattle.ng_rig.proofs.Running.{stays, joined, weaker, on_write, on_perhaps, o
 use Rattle.ng_rig.proofs.Writes_only.{reads_blend, only_sync}
 use Rattle.ng_layout.specs.declared.header.Header.{Header}
 use Rattle.ng_layout.specs.Header.{header_in}
-use Rattle.ng_layout.specs.Fields.{number_at}
 use Rattle.ng_layout.specs.Sectors.{text_of}
 use Rattle.ng_layout.specs.Snapshot.{HoldsPart}
 use Rattle.ng_layout.specs.Spare.{IsAmong, SameButSpare}
-use Rattle.ng_layout.specs.Stands.{snapshot_first, snapshot_size, program_first, program_size, log_first, stretch, in_force, snapshot, standing, stands, IsWritten}
+use Rattle.ng_layout.specs.Stands.{snapshot_first, snapshot_size, program_first, program_size, log_first, stretch, in_force, snapshot, stands}
 use Rattle.ng_layout.specs.Log.{log_size}
 use Rattle.ng_layout.specs.Stored.{Saved, Standing}
-use Rattle.ng_layout.proofs.Images.{force-same, force-next, stretch-same, stretch-at, stands-frame, written-frame, stands-snapshot, none-of-new, written-new}
+use Rattle.ng_layout.proofs.Images.{force-same, force-next, stretch-same, stretch-at, stands-frame, written-frame}
 use Rattle.ng_layout.proofs.Snapshots.{snapshot-new}
-use Rattle.ng_log.specs.AtEnd.{no_records, EndsIn, IsAtEnd}
+use Rattle.ng_log.specs.AtEnd.{no_records, EndsIn}
 use Rattle.ng_log.proofs.Ending.{ends-stand}
 use Rattle.ng_log.proofs.Epochs.{ends-new}
 use Rattle.ng_journal.specs.Area.{WritesArea}
-use Rattle.ng_journal.specs.AtRest.{IsOwn, IsEither, beside, next_header, Checkpoints}
+use Rattle.ng_journal.specs.AtRest.{IsOwn, IsEither, beside, Checkpoints}
 use Rattle.ng_journal.proofs.Framing.{among}
 
 abbrev In : ℕ → ℕ → List ℕ → Type 0

@@ -24,7 +24,7 @@ pub record Logbook (R : Type 0) : Type 0 where
   pub saved : Saved
   pub broken : Bool
 
--- The header is within its limits and names a program of this length, and its log ends here within its sectors, of which each record has one.
+-- The header is within its limits and names a program of this length; its log ends here, within its sectors, of which each record has one at least.
 pub record IsTip (length : ℕ) (header : Header) (end : LogEnd) : Type 0 where
   pub lawful : IsLawful header
   pub long : length ≡ header.length

@@ -1,5 +1,5 @@
 -- How a record is stored: room for it, and then the record (own).
-use Rattle.std.specs.Prelude.{◌≡◌, ◌⊎◌, ℕ, List, Result, Ok, OnOk, IfOk}
+use Rattle.std.specs.Prelude.{◌≡◌, ◌⊎◌, ℕ, Result, Ok, OnOk, IfOk}
 use Rattle.ng_rig.specs.Life.{Life, reads, items}
 use Rattle.ng_rig.specs.Onward.{Onward, IsSynced}
 use Rattle.ng_rig.specs.Only.{WritesOnly}

@@ -1,5 +1,5 @@
 -- What a journal keeps, what is stored in it, what of that uses up a counter, and what is written for it (own).
-use Rattle.std.specs.Prelude.{◌≡◌, ◌≤◌, ◌<◌, ◌+◌, ◌⊎◌, ℕ, List, length, Result, OnOk}
+use Rattle.std.specs.Prelude.{◌≤◌, ◌<◌, ◌+◌, ◌⊎◌, ℕ, List, length, Result, OnOk}
 use Rattle.ng_rig.specs.Life.{Image, Life, reads}
 use Rattle.ng_rig.specs.Only.{WritesOnly}
 use Rattle.ng_layout.specs.declared.header.Header.{Header}

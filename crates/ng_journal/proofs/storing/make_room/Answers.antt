@@ -1,4 +1,4 @@
-use Rattle.std.proofs.Common.{◌≡◌, refl, ap, inl, inr}
+use Rattle.std.proofs.Common.{refl, ap, inl}
 use Rattle.std.proofs.lemmas.Result.{err_from_is_err_and}
 use Rattle.ng_rig.proofs.Promise.{promised, meaning}
 use Rattle.ng_layout.specs.declared.header.Header.{Header}

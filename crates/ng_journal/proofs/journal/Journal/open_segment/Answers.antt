@@ -1,6 +1,5 @@
 use Rattle.std.proofs.Common.{refl}
 use Rattle.ng_rig.proofs.Promise.{meaning}
-use Rattle.ng_journal.specs.Storing.{ledger_of}
 use Rattle.ng_journal.proofs.Moving.{moved, not_moved, stored_as, not_stored_as}
 use Rattle.ng_journal.proofs.journal.Journal.open_segment.Goals as goal
 
