@@ -20,11 +20,7 @@ open(sys.argv[1], "wb").write(device)
 END
 python3 "$work/make.py" "$work/device" < "$examples/device.hex"
 python3 "$examples/read_device.py" "$work/device" > "$work/state"
-grep -q "^header in sector 0: epoch 2, program area 0, 0 bytes$" "$work/state"
-grep -q "^header in sector 1: epoch 3, program area 1, 13 bytes, in force$" "$work/state"
-grep -q "^log: 0 records; it ends at sector 686$" "$work/state"
-for text in "$examples/device.txt" "$work/state"; do grep -v "^header in sector [01]: \|^log: " "$text" > "$work/${text##*/}.rest"; done
-diff "$work/device.txt.rest" "$work/state.rest"
+diff "$examples/device.txt" "$work/state"
 echo "read_device.py: the state of examples/device.txt, and an empty log"
 
 # the worked log: its rows, and the lines that are printed of it
