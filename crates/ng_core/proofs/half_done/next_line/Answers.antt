@@ -1,5 +1,7 @@
 use Rattle.std.proofs.Common.{◌≡◌, ℕ, Option, Some, None, Ok, ◌∙◌, ap, subst}
+use Rattle.std.proofs.lemmas.Result.{err_from_is_err_and}
 use Rattle.ng_num.specs.declared.fault.Fault.{Fault}
+use Rattle.ng_rig.proofs.Promise.{meaning}
 use Rattle.ng_layout.specs.Programs.{Line}
 use Rattle.ng_core.proofs.Beginning.{Reading}
 use Rattle.ng_core.proofs.Resuming.{finds_next, behind_found, behind_end}
@@ -24,3 +26,8 @@ returns-in-None-clause-next g c =
     finds_next {E = Fault} {F = Fault} g.R.Rig.honest g.R.Rig.life None place c.args.session.now c.args.journal.now c.program_line.new.self
     (c.is_programs_line.ensures.yes c.if-not-is_programs_line.false)
     (λ program end. at ∙ behind_end program c.args.session.now.stored.place end) reading
+
+pub returns-in_err-line-clause-next : goal.returns-in_err-line-clause-next
+returns-in_err-line-clause-next g c =
+    let p = err_from_is_err_and c.from_residual.result c.from_residual.ensures.1 in
+    rw p.1 (meaning c.program_line.ensures.line (λ f. λ standing rest. let r = f standing rest in record { same = r.same; at = r.at; next = tt }))
