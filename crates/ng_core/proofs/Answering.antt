@@ -29,12 +29,6 @@ does_answer honest life event r old new quiet same lines replied next =
 
 -- ---- a program
 
-pub does_refuse : {R : Type 0} (honest : R → Type 0) (life : R → Life) (fault : Fault) (text : List ℕ) (c : Station R)
-    → load_refusal c.session text ≡ Some fault → Does honest life (Ok (reply.Refused fault)) (λ program. load program c.session text) c c
-does_refuse honest life fault text c is =
-    does_on honest life (Ok (reply.Refused fault)) (λ program. refuses program fault c.session) _ c c c refl (λ program. sym (ap (λ (o : Option Fault). load_unless program c.session text o) is))
-    (does_still honest life (reply.Refused fault) (λ program. refuses program fault c.session) c c (λ program. still refl refl refl) refl refl (λ program. refl) (λ program. refl))
-
 -- what `load_program` promises
 abbrev pub StoresProgram : {R T : Type 0} → (R → Type 0) → (R → Life) → Result T Fault → Saved → List ℕ → Logbook R → Logbook R → Type 0
 StoresProgram honest life result saved text old new =

@@ -12,9 +12,9 @@ use Rattle.ng_session.specs.Session.{Underway, Sitting, Outcome, IsBetweenLines,
 use Rattle.ng_session.specs.declared.reply.Reply.{Reply}
 use Rattle.ng_session.specs.declared.reply.Reply.TheVariants as reply
 use Rattle.ng_core.specs.Station.{Station}
-use Rattle.ng_core.specs.Acts.{ComesAnyway, Stays}
+use Rattle.ng_core.specs.Acts.{ComesAnyway, Stays, handing}
 use Rattle.ng_core.proofs.Choosing.{with_session}
-use Rattle.ng_core.proofs.Ticks.{IsDue, moving, opening, tick_held, tick_item, tick_none, rests_there}
+use Rattle.ng_core.proofs.Ticks.{IsDue, opening, tick_held, tick_item, tick_none, rests_there}
 
 -- nothing was asked of the device, or it failed
 pub stays_same : {R : Type 0} (reads : Type 0) (fault : Fault) (old new : Station R) → new.session ≡ old.session → (fault ≢ DeviceFailed → new.journal ≡ old.journal) → Stays reads fault old new
@@ -24,10 +24,6 @@ stays_same {R} reads fault old new same journal = record {
   ledger = λ other. ap (λ (j : Logbook R). ledger_of j) (journal other);
   journal = λ other none. journal other;
 }
-
--- a line was read, or the device failed in that
-pub stays_read : {R : Type 0} (fault : Fault) (old new : Station R) → new.session ≡ old.session → ledger_of new.journal ≡ ledger_of old.journal → Stays (Unit {0}) fault old new
-stays_read fault old new same ledger = record { status = ap shown same; session = λ other. same; ledger = λ other. ledger; journal = λ other none. absurd (none tt) }
 
 -- it may be read where it is
 stays_wider : {R : Type 0} (reads wider : Type 0) (fault : Fault) (old new : Station R) → (reads → wider) → Stays reads fault old new → Stays wider fault old new
@@ -41,11 +37,6 @@ unless_lost fault old new (inr lost) same other = absurd (other lost)
 pub comes_by : {R : Type 0} (reads : Type 0) (r : Reply) (out : List ℕ → Outcome) (old new : Station R)
     → ((program : List ℕ) → r ≡ (out program).reply) → ((program : List ℕ) → new.session ≡ (out program).next) → ComesAnyway reads (Ok r) out old new
 comes_by reads r out old new replied next = λ read program. (replied program, next program)
-
--- the same of an equal controller
-pub comes_as : {R : Type 0} (reads : Station R → Type 0) (answer : Result Reply Fault) (out : Station R → List ℕ → Outcome) (old mid new : Station R)
-    → mid ≡ old → ComesAnyway (reads mid) answer (out mid) mid new → ComesAnyway (reads old) answer (out old) old new
-comes_as reads answer out old mid new same comes = subst (λ (c : Station _). ComesAnyway (reads c) answer (out c) c new) same comes
 
 -- the same of an equal outcome, and where more may be read
 pub comes_to : {R : Type 0} (reads wider : Type 0) (answer : Result Reply Fault) (out wanted : List ℕ → Outcome) (old new : Station R)
@@ -70,37 +61,13 @@ comes_before (Err fault) out old new errors stays = record { status = stays.stat
 
 pub comes_item : {R : Type 0} (reads : Type 0) (answer : Result Reply Fault) (item : Item) (old new : Station R) (taken : Sitting)
     → old.session.held ≡ false → Some item ≡ item_of old.session.current → taken ≡ handed old.session → IfErr answer (λ e. e ≡ DeviceFailed)
-    → ComesAnyway ⊥ answer (λ program. moving item program taken) (with_session old taken) new
+    → ComesAnyway ⊥ answer (λ program. handing item program taken) (with_session old taken) new
     → ComesAnyway reads answer (λ program. tick old.equipment program old.session) old new
 comes_item reads answer item old new taken held is next errors comes =
-    comes_to ⊥ reads answer (λ program. moving item program (handed old.session)) (λ program. tick old.equipment program old.session) old new (λ none. absurd none)
+    comes_to ⊥ reads answer (λ program. handing item program (handed old.session)) (λ program. tick old.equipment program old.session) old new (λ none. absurd none)
     (λ program. sym (tick_item old.equipment program old.session item held (sym is)))
-    (comes_before answer (λ program. moving item program (handed old.session)) old new errors
-    (subst (λ (s : Sitting). ComesAnyway ⊥ answer (λ program. moving item program s) (with_session old s) new) next comes))
-
-pub comes_further : {R : Type 0} (answer : Result Reply Fault) (old new : Station R) (left : Sitting)
-    → old.session.held ≡ false → None ≡ item_of old.session.current → left ≡ old.session
-    → ComesAnyway (IsBetweenLines left) answer (λ program. open_next old.equipment program left (opening_of left.current)) (with_session old left) new
-    → ComesAnyway ((old.session.held ≡ false) × IsBetweenLines old.session) answer (λ program. tick old.equipment program old.session) old new
-comes_further answer old new left held none same comes =
-    comes_to (IsBetweenLines old.session) ((old.session.held ≡ false) × IsBetweenLines old.session) answer
-    (λ program. open_next old.equipment program old.session (opening_of old.session.current)) (λ program. tick old.equipment program old.session) old new (λ p. (held, p))
-    (λ program. sym (tick_none old.equipment program old.session held (sym none)))
-    (subst (λ (s : Sitting). ComesAnyway (IsBetweenLines s) answer (λ program. open_next old.equipment program s (opening_of s.current)) (with_session old s) new) same comes)
-
-pub comes_open : {R : Type 0} (reads : Type 0) (answer : Result Reply Fault) (half : HalfDone) (old new : Station R)
-    → Some half ≡ opening_of old.session.current → ComesAnyway ⊥ answer (λ program. opening half program old.equipment old.session) old new
-    → ComesAnyway reads answer (λ program. open_next old.equipment program old.session (opening_of old.session.current)) old new
-comes_open reads answer half old new is comes =
-    comes_to ⊥ reads answer (λ program. opening half program old.equipment old.session) (λ program. open_next old.equipment program old.session (opening_of old.session.current)) old new (λ none. absurd none)
-    (λ program. ap (λ (o : Option HalfDone). open_next old.equipment program old.session o) is) comes
-
-pub comes_end : {R : Type 0} (reads : Type 0) (answer : Result Reply Fault) (old new : Station R)
-    → None ≡ opening_of old.session.current → ComesAnyway reads answer (λ program. end old.equipment program old.session old.session.current) old new
-    → ComesAnyway reads answer (λ program. open_next old.equipment program old.session (opening_of old.session.current)) old new
-comes_end reads answer old new is comes =
-    comes_to reads reads answer (λ program. end old.equipment program old.session old.session.current) (λ program. open_next old.equipment program old.session (opening_of old.session.current)) old new (λ p. p)
-    (λ program. ap (λ (o : Option HalfDone). open_next old.equipment program old.session o) is) comes
+    (comes_before answer (λ program. handing item program (handed old.session)) old new errors
+    (subst (λ (s : Sitting). ComesAnyway ⊥ answer (λ program. handing item program s) (with_session old s) new) next comes))
 
 pub comes_commit : {R : Type 0} (reads : Type 0) (r : Reply) (saved : Saved) (old new : Station R) (due : IsDue old.session saved)
     → r ≡ reply.Done (committed old.session due.block).stored.entries → new.session ≡ committed old.session due.block
@@ -109,12 +76,6 @@ comes_commit reads r saved old new due replied next =
     comes_to reads reads (Ok r) (λ program. end old.equipment program old.session (Some due.block)) (λ program. end old.equipment program old.session old.session.current) old new (λ p. p)
     (λ program. sym (ap (λ (o : Option Underway). end old.equipment program old.session o) due.current))
     (comes_by reads r (λ program. end old.equipment program old.session (Some due.block)) old new (λ program. replied) (λ program. next))
-
-pub comes_line : {R : Type 0} (answer : Result Reply Fault) (old new : Station R)
-    → old.session.current ≡ None → is_running old.session.activity ≡ true → IfErr answer (λ fault. Stays (Unit {0}) fault old new)
-    → ComesAnyway (IsBetweenLines old.session) answer (λ program. end old.equipment program old.session old.session.current) old new
-comes_line (Ok r) old new none runs stays = λ read program. absurd (read (none, runs))
-comes_line (Err fault) old new none runs stays = stays_wider (Unit {0}) (IsBetweenLines old.session) fault old new (λ read. (none, runs)) stays
 
 pub comes_rest : {R : Type 0} (reads : Type 0) (r : Reply) (c : Station R) → c.session.current ≡ None → is_running c.session.activity ≡ false
     → ((program : List ℕ) → r ≡ (rest program c.session).reply)
@@ -125,13 +86,6 @@ comes_rest reads r c none idle replied =
     (comes_by reads r (λ program. rest program c.session) c c replied (λ program. refl))
 
 -- ---- a program
-
-pub comes_refuse : {R : Type 0} (reads : Type 0) (fault : Fault) (text : List ℕ) (c : Station R)
-    → load_refusal c.session text ≡ Some fault → ComesAnyway reads (Ok (reply.Refused fault)) (λ program. load program c.session text) c c
-comes_refuse reads fault text c is =
-    comes_to reads reads (Ok (reply.Refused fault)) (λ program. refuses program fault c.session) (λ program. load program c.session text) c c (λ p. p)
-    (λ program. sym (ap (λ (o : Option Fault). load_unless program c.session text o) is))
-    (comes_by reads (reply.Refused fault) (λ program. refuses program fault c.session) c c (λ program. refl) (λ program. refl))
 
 pub comes_load : {R : Type 0} (reads : Type 0) (r : Reply) (saved : Saved) (text : List ℕ) (old new : Station R)
     → load_refusal old.session text ≡ None → saved ≡ after_load old.session.stored (length text) → r ≡ reply.Done saved.entries → new.session ≡ loaded old.session saved

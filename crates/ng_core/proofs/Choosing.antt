@@ -16,17 +16,12 @@ use Rattle.ng_session.specs.declared.reply.Reply.{Reply}
 use Rattle.ng_session.specs.declared.stage.Stage.{Stage}
 use Rattle.ng_session.specs.declared.stage.Stage.TheVariants as stage
 use Rattle.ng_core.specs.Station.{Station}
-use Rattle.ng_core.specs.Acts.{Acts, Does}
-use Rattle.ng_core.proofs.Ticks.{does_on, moving, tick_item, tick_none, opening}
+use Rattle.ng_core.specs.Acts.{Acts, Does, handing}
+use Rattle.ng_core.proofs.Ticks.{does_on, tick_item, tick_none, opening}
 
 -- the same controller with this session
 abbrev pub with_session : {R : Type 0} → Station R → Sitting → Station R
 with_session c s = record { journal = c.journal; session = s; lines = c.lines; equipment = c.equipment }
-
--- what is so of a controller is so of an equal one
-pub does_as : {R : Type 0} (honest : R → Type 0) (life : R → Life) (answer : Result Reply Fault) (out : Station R → List ℕ → Outcome) (old mid new : Station R)
-    → mid ≡ old → Does honest life answer (out mid) mid new → Does honest life answer (out old) old new
-does_as honest life answer out old mid new same does = subst (λ (c : Station _). Does honest life answer (out c) c new) same does
 
 -- ---- an item
 
@@ -47,24 +42,15 @@ does_before honest life answer out old new errors does =
 
 pub does_item : {R : Type 0} (honest : R → Type 0) (life : R → Life) (answer : Result Reply Fault) (item : Item) (old new : Station R) (taken : Sitting)
     → old.session.held ≡ false → Some item ≡ item_of old.session.current → taken ≡ handed old.session → IfErr answer (λ e. e ≡ DeviceFailed)
-    → Does honest life answer (λ program. moving item program taken) (with_session old taken) new
+    → Does honest life answer (λ program. handing item program taken) (with_session old taken) new
     → Does honest life answer (λ program. tick old.equipment program old.session) old new
 does_item honest life answer item old new taken held is next errors does =
-    does_on honest life answer (λ program. moving item program (handed old.session)) (λ program. tick old.equipment program old.session) old old new refl
+    does_on honest life answer (λ program. handing item program (handed old.session)) (λ program. tick old.equipment program old.session) old old new refl
     (λ program. sym (tick_item old.equipment program old.session item held (sym is)))
-    (does_before honest life answer (λ program. moving item program (handed old.session)) old new errors
-    (subst (λ (s : Sitting). Does honest life answer (λ program. moving item program s) (with_session old s) new) next does))
+    (does_before honest life answer (λ program. handing item program (handed old.session)) old new errors
+    (subst (λ (s : Sitting). Does honest life answer (λ program. handing item program s) (with_session old s) new) next does))
 
 -- ---- none
-
-pub does_further : {R : Type 0} (honest : R → Type 0) (life : R → Life) (answer : Result Reply Fault) (old new : Station R) (left : Sitting)
-    → old.session.held ≡ false → None ≡ item_of old.session.current → left ≡ old.session
-    → Does honest life answer (λ program. open_next old.equipment program left (opening_of left.current)) (with_session old left) new
-    → Does honest life answer (λ program. tick old.equipment program old.session) old new
-does_further honest life answer old new left held none same does =
-    does_on honest life answer (λ program. open_next old.equipment program old.session (opening_of old.session.current)) (λ program. tick old.equipment program old.session) old old new refl
-    (λ program. sym (tick_none old.equipment program old.session held (sym none)))
-    (subst (λ (s : Sitting). Does honest life answer (λ program. open_next old.equipment program s (opening_of s.current)) (with_session old s) new) same does)
 
 -- ---- an approach or a segment, or none
 
@@ -85,32 +71,10 @@ opens_of (Some c) = opens_on c c.stage
 pub segment_opens : (o : Option Underway) (half : HalfDone) → Some half ≡ opening_of o → IsSome half.opened
 segment_opens o half is = subst (λ (x : Option HalfDone). IfSome x (λ h. IsSome h.opened)) (sym is) (opens_of o)
 
-pub does_open : {R : Type 0} (honest : R → Type 0) (life : R → Life) (answer : Result Reply Fault) (half : HalfDone) (old new : Station R)
-    → Some half ≡ opening_of old.session.current → Does honest life answer (λ program. opening half program old.equipment old.session) old new
-    → Does honest life answer (λ program. open_next old.equipment program old.session (opening_of old.session.current)) old new
-does_open honest life answer half old new is does =
-    does_on honest life answer (λ program. opening half program old.equipment old.session) _ old old new refl
-    (λ program. ap (λ (o : Option HalfDone). open_next old.equipment program old.session o) is) does
-
-pub does_end : {R : Type 0} (honest : R → Type 0) (life : R → Life) (answer : Result Reply Fault) (old new : Station R)
-    → None ≡ opening_of old.session.current → Does honest life answer (λ program. end old.equipment program old.session old.session.current) old new
-    → Does honest life answer (λ program. open_next old.equipment program old.session (opening_of old.session.current)) old new
-does_end honest life answer old new is does =
-    does_on honest life answer (λ program. end old.equipment program old.session old.session.current) _ old old new refl
-    (λ program. ap (λ (o : Option HalfDone). open_next old.equipment program old.session o) is) does
-
 -- ---- no block, and the program runs
 
 pub begins_there : (q : Equipment) (P : List ℕ) (s : Sitting) → s.current ≡ None → is_running s.activity ≡ true → end q P s s.current ≡ begin q P s (line_at P s.stored.place)
 begins_there q P s none runs = ap (λ (o : Option Underway). end q P s o) none ∙ rw runs refl
-
-pub does_next_line : {R : Type 0} (honest : R → Type 0) (life : R → Life) (answer : Result Reply Fault) (old new : Station R)
-    → old.session.current ≡ None → is_running old.session.activity ≡ true
-    → Does honest life answer (λ program. begin old.equipment program old.session (line_at program old.session.stored.place)) old new
-    → Does honest life answer (λ program. end old.equipment program old.session old.session.current) old new
-does_next_line honest life answer old new none runs does =
-    does_on honest life answer (λ program. begin old.equipment program old.session (line_at program old.session.stored.place)) _ old old new refl
-    (λ program. sym (begins_there old.equipment program old.session none runs)) does
 
 -- what holds where there is none
 pub by_none : {T P : Type 0} (Q : T → Type 0) (o : Option T) → false ≡ is_some o → MatchOption o P Q → P

@@ -52,16 +52,16 @@ rests_behind {A} {R} life event (Err fault) here now next s rests whole =
     goal s
 
 -- an event of a whole controller
-goes_whole : {A R : Type 0} (honest : R → Type 0) (life : R → Life) (failed : R → ℕ) (events : List (Event A)) (event : Event A) (rest : List (Event A)) (done : List Reply) (r : Reply) (old now next : Station R)
-    → now.journal.broken ≡ false → Serves honest life failed event r now next → next.equipment ≡ now.equipment
+goes_whole : {A R : Type 0} (honest : R → Type 0) (life : R → Life) (failed sectors : R → ℕ) (events : List (Event A)) (event : Event A) (rest : List (Event A)) (done : List Reply) (r : Reply) (old now next : Station R)
+    → now.journal.broken ≡ false → Serves honest life failed sectors event r now next → next.equipment ≡ now.equipment
     → Promises (honest old.journal.rig) (honest now.journal.rig) (GoesFrom life events (event ∷ rest) done old now)
     → Promises (honest old.journal.rig) (honest next.journal.rig) (GoesFrom life events rest (done ++ r ∷ []) old next)
-goes_whole honest life failed events event rest done r old now next whole s equipment p = record {
-  keeps = λ h. s.does.keeps (p.keeps h);
-  back = λ h. p.back (s.does.back h);
+goes_whole honest life failed sectors events event rest done r old now next whole s equipment p = record {
+  keeps = λ h. s.carried.does.keeps (p.keeps h);
+  back = λ h. p.back (s.carried.does.back h);
   holds = λ h program rests.
       let g = p.holds h program rests in
-      let serving : Serving life s.answer event g.here now next = record { acts = s.does.holds (p.keeps h) g.here (g.rests whole); hindered = s.hindered; broken = s.broken; equipment = equipment } in
+      let serving : Serving life s.answer event g.here now next = record { acts = s.carried.does.holds (p.keeps h) g.here (g.rests whole); hindered = s.carried.hindered; broken = s.carried.broken; equipment = equipment } in
       goes_more life events event rest done r s.answer program old now next g
       (record { told_is = s.told_is; stepping = subst (λ (b : Bool). Stepping life b s.answer event g.here now next) (sym whole) serving })
       (rests_behind life event s.answer g.here now next serving (g.rests whole));
@@ -82,13 +82,13 @@ goes_broken {A} {R} honest life events event rest done r old now next broken sam
       (λ whole. absurd (let b : true ≡ false = sym broken ∙ sym (ap (λ (c : Station R). c.journal.broken) same) ∙ whole in cc));
 }
 
-pub goes_next : {A R : Type 0} (honest : R → Type 0) (life : R → Life) (failed : R → ℕ) (events : List (Event A)) (event : Event A) (rest : List (Event A)) (done : List Reply) (r : Reply) (b : Bool) (old now next : Station R)
+pub goes_next : {A R : Type 0} (honest : R → Type 0) (life : R → Life) (failed sectors : R → ℕ) (events : List (Event A)) (event : Event A) (rest : List (Event A)) (done : List Reply) (r : Reply) (b : Bool) (old now next : Station R)
     → now.journal.broken ≡ b
-    → (now.journal.broken ≡ false → Serves honest life failed event r now next) → next.equipment ≡ now.equipment
+    → (now.journal.broken ≡ false → Serves honest life failed sectors event r now next) → next.equipment ≡ now.equipment
     → (now.journal.broken ≡ true → (next ≡ now) × (r ≡ reply_to (broken_answer now.session event)))
     → Promises (honest old.journal.rig) (honest now.journal.rig) (GoesFrom life events (event ∷ rest) done old now)
     → Promises (honest old.journal.rig) (honest next.journal.rig) (GoesFrom life events rest (done ++ r ∷ []) old next)
-goes_next honest life failed events event rest done r false old now next is serves equipment broken p =
-    goes_whole honest life failed events event rest done r old now next is (serves is) equipment p
-goes_next honest life failed events event rest done r true old now next is serves equipment broken p =
+goes_next honest life failed sectors events event rest done r false old now next is serves equipment broken p =
+    goes_whole honest life failed sectors events event rest done r old now next is (serves is) equipment p
+goes_next honest life failed sectors events event rest done r true old now next is serves equipment broken p =
     goes_broken honest life events event rest done r old now next is (broken is).0 (broken is).1 p

@@ -1,8 +1,9 @@
 -- What hinders an event, by what hinders the calls that it makes.
-use Rattle.std.proofs.Common.{◌≡◌, ◌≤◌, ◌⊎◌, ◌↔◌, inl, inr, ℕ, Bool, true, false, ◌||◌, List, length, Option, Some, None, Result, Ok, Err, refl, sym, ◌∙◌, ap, subst, IsSomeAnd}
+use Rattle.std.proofs.Common.{◌≡◌, ◌≤◌, ◌⊎◌, ◌↔◌, inl, inr, ℕ, Bool, true, false, not, if◌then◌else◌, ◌||◌, List, length, Option, Some, None, Result, Ok, Err, refl, sym, ◌∙◌, ap, subst, IsSomeAnd}
 use Rattle.std.specs.Option.{is_some, option_map}
 use Rattle.std.specs.Prelude.{IsErrOf}
 use Rattle.ng_num.specs.declared.fault.Fault.{Fault}
+use Rattle.ng_num.specs.declared.fault.Fault.TheVariants as fault
 use Rattle.ng_num.specs.declared.fault.Fault.TheVariants.{DeviceFailed, CountersUsed, OutOfMemory}
 use Rattle.ng_layout.specs.Programs.{Line, line_at}
 use Rattle.ng_layout.specs.Stored.{HalfDone, Saved}
@@ -12,8 +13,8 @@ use Rattle.ng_layout.specs.declared.half.Opened.TheVariants as open_part
 use Rattle.ng_block.specs.Effects.{Done}
 use Rattle.ng_journal.specs.Storing.{Ledger, Storing, Commit, Open, Load, UsesUp}
 use Rattle.ng_num.specs.declared.point.Point.{Point}
-use Rattle.ng_session.specs.Entries.{Equipment, done_of, after_load, after_reference, after_abandon}
-use Rattle.ng_session.specs.Session.{Underway, Sitting, Outcome, open_next, end, begin, begin_by, load, load_unless, load_refusal, reference, reference_unless, reference_refusal, abandon, abandon_unless, abandon_refusal, opening_of, opening_reply, entry_on, committed, is_running, is_busy, IsBetweenLines}
+use Rattle.ng_session.specs.Entries.{Equipment, done_of, done_again, after_load, after_reference, after_abandon}
+use Rattle.ng_session.specs.Session.{Underway, Sitting, Outcome, open_next, end, begin, begin_by, load, load_unless, load_refusal, reference, reference_unless, reference_refusal, abandon, abandon_unless, abandon_refusal, refuses, resume, resume_half, resume_from, resume_by, is_at_rest, opening_of, opening_reply, entry_on, committed, is_running, is_busy, IsBetweenLines}
 use Rattle.ng_session.specs.declared.stage.Stage.{Stage}
 use Rattle.ng_session.specs.declared.stage.Stage.TheVariants as stage
 use Rattle.ng_core.specs.Causes.{IsUsedUp, IsHinderedBy, stored_for, with_entry}
@@ -93,15 +94,15 @@ hindered_count ledger told x device used stores = inr (inl (refl, λ program. su
 
 -- ---- a session that is busy
 
-busy_block : (b : Bool) (o : Option Underway) → is_some o ≡ true → (b || is_some o) ≡ true
+pub busy_block : (b : Bool) (o : Option Underway) → is_some o ≡ true → (b || is_some o) ≡ true
 busy_block true o block = refl
 busy_block false o block = block
 
-busy_running : (b c : Bool) → b ≡ true → (b || c) ≡ true
+pub busy_running : (b c : Bool) → b ≡ true → (b || c) ≡ true
 busy_running true c runs = refl
 busy_running false c runs = absurd (let z : false ≡ true = runs in cc)
 
-some_half : (o : Option Underway) (half : HalfDone) → opening_of o ≡ Some half → is_some o ≡ true
+pub some_half : (o : Option Underway) (half : HalfDone) → opening_of o ≡ Some half → is_some o ≡ true
 some_half None half is = absurd (let none : Option HalfDone = None in let z : none ≡ Some half = is in cc)
 some_half (Some c) half is = refl
 
@@ -111,27 +112,26 @@ unused_by : (P : List ℕ) (s : Sitting) (line : Line) (done : Result Done Fault
 unused_by P s line (Ok done) ledger used = used
 unused_by P s line (Err fault) ledger used = used
 
-unused_begin : (q : Equipment) (P : List ℕ) (s : Sitting) (line : Option Line) (ledger : Ledger) → IsUsedUp ledger (begin q P s line) → ⊥
+pub unused_begin : (q : Equipment) (P : List ℕ) (s : Sitting) (line : Option Line) (ledger : Ledger) → IsUsedUp ledger (begin q P s line) → ⊥
 unused_begin q P s None ledger used = used
 unused_begin q P s (Some line) ledger used = unused_by P s line (done_of q P s.stored source.Program line.text s.block_delete) ledger used
 
-pub hindered_line : (q : Equipment) (s : Sitting) (ledger : Ledger) → s.current ≡ None → is_running s.activity ≡ true
-    → (fault : Fault) → (fault ≡ OutOfMemory) ⊎ (fault ≡ DeviceFailed)
-    → IsHinderedBy (IsBetweenLines s) (is_busy s ≡ true) ledger (λ program. end q program s s.current) fault
-hindered_line q s ledger none runs fault (inl short) = inl (short, (none, runs))
-hindered_line q s ledger none runs fault (inr lost) = inr (inr (
-  lost,
-  busy_running (is_running s.activity) (is_some s.current) runs,
-  λ program used.
-      unused_begin q program s (line_at program s.stored.place) ledger (subst (λ (o : Outcome). IsUsedUp ledger o) (begins_there q program s none runs) used),
-))
+-- nor does a half-done block that goes on
+unused_again : (P : List ℕ) (s : Sitting) (half : HalfDone) (from : Point) (done : Result Done Fault) (ledger : Ledger) → IsUsedUp ledger (resume_by P s half from done) → ⊥
+unused_again P s half from (Ok done) ledger used = used
+unused_again P s half from (Err fault) ledger used = used
 
--- ---- what is opened by a Tick
+unused_from : (q : Equipment) (P : List ℕ) (s : Sitting) (half : HalfDone) (from : Option Point) (ledger : Ledger) → IsUsedUp ledger (resume_from q P s half from) → ⊥
+unused_from q P s half None ledger used = used
+unused_from q P s half (Some from) ledger used = unused_again P s half from (done_again q s.stored half.text) ledger used
 
-pub hindered_open : (q : Equipment) (s : Sitting) (ledger : Ledger) (half : HalfDone) → Some half ≡ opening_of s.current
-    → (fault : Fault) → IsHinderedBy ⊥ (Unit {0}) ledger (λ program. opening half program q s) fault
-    → IsHinderedBy (IsBetweenLines s) (is_busy s ≡ true) ledger (λ program. open_next q program s (opening_of s.current)) fault
-hindered_open q s ledger half is fault p =
-    hindered_as ledger (λ program. opening half program q s) (λ program. open_next q program s (opening_of s.current)) (λ none. absurd none)
-    (λ u. busy_block (is_running s.activity) s.current (some_half s.current half (sym is)))
-    (λ program. ap (λ (o : Option HalfDone). open_next q program s o) is) fault p
+unused_half : (q : Equipment) (P : List ℕ) (s : Sitting) (half : Option HalfDone) (ledger : Ledger) → IsUsedUp ledger (resume_half q P s half) → ⊥
+unused_half q P s None ledger used = used
+unused_half q P s (Some half) ledger used = unused_from q P s half half.at ledger used
+
+pub unused_resume : (q : Equipment) (P : List ℕ) (s : Sitting) (ledger : Ledger) → IsUsedUp ledger (resume q P s) → ⊥
+unused_resume q P s ledger used = by (not (is_at_rest s)) used
+  where
+    by : (b : Bool) → IsUsedUp ledger (if b then refuses P fault.Busy s else resume_half q P s s.stored.half) → ⊥
+    by true used = used
+    by false used = unused_half q P s s.stored.half ledger used

@@ -15,5 +15,6 @@ pub mod Beginning
 pub mod Choosing
 pub mod Anyway
 pub mod Hindering
+pub mod Carrying
 pub mod Answering
 pub mod Powering

@@ -17,7 +17,7 @@ use Rattle.ng_session.specs.declared.lines_before.LinesBefore.{LinesBefore}
 use Rattle.ng_session.specs.declared.reply.Reply.{Reply}
 use Rattle.ng_session.specs.declared.reply.Reply.TheVariants as reply
 use Rattle.ng_core.specs.Station.{Station, standing_of}
-use Rattle.ng_core.specs.Acts.{Does, TouchesNothing}
+use Rattle.ng_core.specs.Acts.{Does, TouchesNothing, handing}
 use Rattle.ng_core.proofs.Acting.{known_as}
 use Rattle.ng_core.proofs.Quiet.{still}
 use Rattle.ng_core.proofs.Doing.{does_still, does_moved, does_unmoved, does_handed, does_unhanded, Storing}
@@ -46,9 +46,6 @@ kept k l same program known = known_as program program k l refl same known
 
 -- ---- an item
 
-abbrev pub moving : Item → List ℕ → Sitting → Outcome
-moving item P s = record { reply = reply.Moved; items = item ∷ []; entries = []; program = P; next = s }
-
 -- what `hand_out` promises
 abbrev pub HandsIt : {R T : Type 0} → (R → Type 0) → (R → Life) → Result T Fault → Item → Logbook R → Logbook R → Type 0
 HandsIt honest life result item old new =
@@ -56,19 +53,19 @@ HandsIt honest life result item old new =
 
 pub hands_item : {R T : Type 0} (honest : R → Type 0) (life : R → Life) (v : T) (item : Item) (old new : Station R)
     → new.session ≡ old.session → HandsIt honest life (Ok v) item old.journal new.journal → new.lines ≡ old.lines
-    → Does honest life (Ok reply.Moved) (λ program. moving item program old.session) old new
+    → Does honest life (Ok reply.Moved) (λ program. handing item program old.session) old new
 hands_item honest life v item old new next p lines =
-    does_handed honest life reply.Moved v item (λ program. moving item program old.session) old new (meaning p (λ f program rests. f (standing_of program old.session) rests.0)) lines
+    does_handed honest life reply.Moved v item (λ program. handing item program old.session) old new (meaning p (λ f program rests. f (standing_of program old.session) rests.0)) lines
     (λ program. refl) (λ program. next) (λ program. record { items = refl; program_is = refl; stored_is = refl }) (λ z. z)
 
 pub hands_none : {R T : Type 0} (honest : R → Type 0) (life : R → Life) (fault e : Fault) (item : Item) (old new : Station R)
     → new.session ≡ old.session → fault ≡ DeviceFailed → HandsIt {T = T} honest life (Err e) item old.journal new.journal
-    → Does honest life (Err fault) (λ program. moving item program old.session) old new
+    → Does honest life (Err fault) (λ program. handing item program old.session) old new
 hands_none {R} {T} honest life fault e item old new next lost p =
-    does_unhanded {T = T} honest life fault e item (λ program. moving item program old.session) old new (meaning p (λ f program rests. f (standing_of program old.session) rests.0))
+    does_unhanded {T = T} honest life fault e item (λ program. handing item program old.session) old new (meaning p (λ f program rests. f (standing_of program old.session) rests.0))
     lost (ap shown next) (λ program. record { items = refl; program_is = refl; stored_is = refl })
 
-pub tick_item : (q : Equipment) (P : List ℕ) (s : Sitting) (item : Item) → s.held ≡ false → item_of s.current ≡ Some item → tick q P s ≡ moving item P (handed s)
+pub tick_item : (q : Equipment) (P : List ℕ) (s : Sitting) (item : Item) → s.held ≡ false → item_of s.current ≡ Some item → tick q P s ≡ handing item P (handed s)
 tick_item q P s item held is = rw (held, is) refl
 
 pub tick_none : (q : Equipment) (P : List ℕ) (s : Sitting) → s.held ≡ false → item_of s.current ≡ None → tick q P s ≡ open_next q P s (opening_of s.current)

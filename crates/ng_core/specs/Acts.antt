@@ -1,5 +1,5 @@
 -- What an event does to a controller and to its device (own).
-use Rattle.std.specs.Prelude.{◌≡◌, ◌≢◌, ◌⊎◌, ℕ, List, ◌++◌, Result, Ok, Err, IfOk, IfErr, MatchResult}
+use Rattle.std.specs.Prelude.{◌≡◌, ◌≢◌, ◌⊎◌, ℕ, List, [], ◌∷◌, ◌++◌, Result, Ok, Err, IfOk, IfErr, MatchResult}
 use Rattle.ng_num.specs.declared.fault.Fault.{Fault}
 use Rattle.ng_num.specs.declared.fault.Fault.TheVariants.{DeviceFailed, Broken}
 use Rattle.ng_canon.specs.declared.item.Item.{Item}
@@ -8,7 +8,7 @@ use Rattle.ng_rig.specs.Calls.{Promises}
 use Rattle.ng_rig.specs.Onward.{Onward}
 use Rattle.ng_journal.specs.Journal.{StandsFor, IsBrokenBy, Tells}
 use Rattle.ng_journal.specs.Storing.{ledger_of}
-use Rattle.ng_session.specs.Session.{Sitting, Outcome, shown, ReadsLine}
+use Rattle.ng_session.specs.Session.{Sitting, Outcome, shown, TakesMemory, AsksDevice, ReadsLine}
 use Rattle.ng_session.specs.Runs.{Scene, Left, left_in, scene_after}
 use Rattle.ng_session.specs.declared.event.Event.{Event}
 use Rattle.ng_session.specs.declared.event.Event.TheVariants as event
@@ -16,7 +16,7 @@ use Rattle.ng_session.specs.declared.reply.Reply.{Reply}
 use Rattle.ng_session.specs.declared.reply.Reply.TheVariants as reply
 use Rattle.ng_session.specs.declared.reply.Status.{Status}
 use Rattle.ng_session.specs.declared.reply.Condition.TheVariants as condition
-use Rattle.ng_core.specs.Causes.{Hinders, outcome_of}
+use Rattle.ng_core.specs.Causes.{IsHinderedBy, outcome_of}
 use Rattle.ng_core.specs.Station.{Station, Rests}
 
 -- the reply to an event that the session answered, or why it didn't
@@ -88,16 +88,33 @@ Does honest life answer out old new =
     Promises (honest old.journal.rig) (honest new.journal.rig) ((program : List ℕ) → Rests (life old.journal.rig) old program
     → Acts answer (out program) program old new (life old.journal.rig) (life new.journal.rig))
 
--- A reply and what became of its event, or what hindered it; the device counted a failure exactly where that did. But for what is read of
--- the program, reply and session are the session's own whatever the device is.
-pub record Serves {A R : Type 0} (honest : R → Type 0) (life : R → Life) (failed : R → ℕ) (event : Event A) (told : Reply) (old new : Station R) : Type 0 where
+-- an item of the open segment is handed out, which this session took from it
+abbrev pub handing : Item → List ℕ → Sitting → Outcome
+handing item program s = record { reply = reply.Moved; items = item ∷ []; entries = []; program = program; next = s }
+
+-- An answer to what leads to this, and what it leaves: of an honest device, and of any. An error has its cause: memory is taken, the device is
+-- asked, and a line of the program is read, where these say so. The journal is broken, and the device counted a failure, exactly where that
+-- failed; the device keeps its size.
+pub record CarriesOut {R : Type 0} (honest : R → Type 0) (life : R → Life) (failed sectors : R → ℕ) (memory device reads : Type 0) (out : List ℕ → Outcome) (answer : Result Reply Fault) (old new : Station R) : Type 0 where
+  pub does : Does honest life answer out old new
+  pub comes : ComesAnyway reads answer out old new
+  pub hindered : IfErr answer (IsHinderedBy memory device (ledger_of old.journal) out)
+  pub broken : IsBrokenBy answer new.journal.broken
+  pub equipment : new.equipment ≡ old.equipment
+  pub size : sectors new.journal.rig ≡ sectors old.journal.rig
+  pub failures : Tells answer (failed old.journal.rig) (failed new.journal.rig)
+
+-- the same of an event, by its own lines
+abbrev pub CarriesOutEvent : {A R : Type 0} → (R → Type 0) → (R → Life) → (failed sectors : R → ℕ) → Event A → Result Reply Fault → Station R → Station R → Type 0
+CarriesOutEvent honest life failed sectors event answer old new =
+    CarriesOut honest life failed sectors (TakesMemory old.equipment old.session event) (AsksDevice old.equipment old.session event) (ReadsLine old.equipment old.session event)
+    (λ program. outcome_of old program event) answer old new
+
+-- A reply to an event, and what became of that.
+pub record Serves {A R : Type 0} (honest : R → Type 0) (life : R → Life) (failed sectors : R → ℕ) (event : Event A) (told : Reply) (old new : Station R) : Type 0 where
   pub answer : Result Reply Fault
   pub told_is : told ≡ reply_to answer
-  pub comes : ComesAnyway (ReadsLine old.equipment old.session event) answer (λ program. outcome_of old program event) old new
-  pub does : Does honest life answer (λ program. outcome_of old program event) old new
-  pub hindered : IfErr answer (Hinders old event)
-  pub broken : IsBrokenBy answer new.journal.broken
-  pub failures : Tells answer (failed old.journal.rig) (failed new.journal.rig)
+  pub carried : CarriesOutEvent honest life failed sectors event answer old new
 
 -- Each event but Status is refused once the device failed; the status then says so.
 abbrev pub shown_broken : Sitting → Status

@@ -48,6 +48,10 @@ stored_for out (reply.Refused fault) = None
 abbrev pub IsUsedUp : Ledger → Outcome → Type 0
 IsUsedUp ledger out = IsSomeAnd (stored_for out out.reply) (UsesUp ledger)
 
+-- an entry that is committed, and not loaded
+abbrev pub IsCommitted : Entry → Type 0
+IsCommitted entry = (saved : Saved) → with_entry saved entry ≡ Commit saved
+
 -- Memory is wanting where it is taken, a counter where the outcome uses one up; the device failed where it is asked and no counter is
 -- used up. The outcome is by the program that the device has.
 abbrev pub IsHinderedBy : (memory device : Type 0) → Ledger → (List ℕ → Outcome) → Fault → Type 0

@@ -7,15 +7,15 @@ use Rattle.ng_core.specs.Acts.{Serves, reply_to, broken_answer}
 use Rattle.ng_core.specs.Station.{Station}
 
 -- An event with its reply: a whole controller serves it, a broken one refuses it.
-pub record Turn {A R : Type 0} (honest : R → Type 0) (life : R → Life) (failed : R → ℕ) (event : Event A) (r : Reply) (old new : Station R) : Type 0 where
-  pub serves : old.journal.broken ≡ false → Serves honest life failed event r old new
+pub record Turn {A R : Type 0} (honest : R → Type 0) (life : R → Life) (failed sectors : R → ℕ) (event : Event A) (r : Reply) (old new : Station R) : Type 0 where
+  pub serves : old.journal.broken ≡ false → Serves honest life failed sectors event r old new
   pub refuses : old.journal.broken ≡ true → (new ≡ old) × (r ≡ reply_to (broken_answer old.session event))
   pub equipment : new.equipment ≡ old.equipment
 
 -- events with their replies, each from where the one before left controller and device
-abbrev pub Turns : {A R : Type 0} → (R → Type 0) → (R → Life) → (R → ℕ) → List (Event A) → List Reply → Station R → Station R → Type 0
-Turns honest life failed [] [] old new = new ≡ old
-Turns honest life failed [] (r ∷ replies) old new = ⊥
-Turns honest life failed (event ∷ events) [] old new = ⊥
-Turns {A} {R} honest life failed (event ∷ events) (r ∷ replies) old new =
-    (between : Station R) × (Turn honest life failed event r old between × Turns honest life failed events replies between new)
+abbrev pub Turns : {A R : Type 0} → (R → Type 0) → (R → Life) → (failed sectors : R → ℕ) → List (Event A) → List Reply → Station R → Station R → Type 0
+Turns honest life failed sectors [] [] old new = new ≡ old
+Turns honest life failed sectors [] (r ∷ replies) old new = ⊥
+Turns honest life failed sectors (event ∷ events) [] old new = ⊥
+Turns {A} {R} honest life failed sectors (event ∷ events) (r ∷ replies) old new =
+    (between : Station R) × (Turn honest life failed sectors event r old between × Turns honest life failed sectors events replies between new)

@@ -1,10 +1,7 @@
 //! A controller, and how it answers events.
-ghost use Rattle.std.specs.Prelude.{◌≡◌, ℕ, true, false, None, IfErr, [], ◌∷◌};
-ghost use Rattle.ng_num.specs.declared.fault.Fault.{Fault};
+ghost use Rattle.std.specs.Prelude.{◌≡◌, true, false, None, IfErr, [], ◌∷◌};
 ghost use Rattle.ng_num.specs.declared.fault.Fault.TheVariants.{OutOfMemory};
 ghost use Rattle.ng_rig.specs.Calls.{Promises};
-ghost use Rattle.ng_journal.specs.Journal.{Tells, IsBrokenBy};
-ghost use Rattle.ng_journal.specs.Storing.{ledger_of};
 
 use ng_canon::Geometry;
 use ng_journal::Journal;
@@ -39,9 +36,8 @@ impl<R: Rig, A: Allocator + Copy + Drop> Model for Controller<R, A> {
 }
 
 impl<R: Rig, A: Allocator + Copy + Drop> Controller<R, A> {
-    ghost use Rattle.ng_session.specs.Session.{step, load, load_refusal, ReadsLine, IsQuiet, TakesMemory};
-    ghost use Rattle.ng_core.specs.Acts.{ComesAnyway, Does, Serves, reply_to, broken_answer};
-    ghost use Rattle.ng_core.specs.Causes.{Hinders, IsHinderedBy};
+    ghost use Rattle.ng_session.specs.Session.{load, load_refusal, IsQuiet};
+    ghost use Rattle.ng_core.specs.Acts.{CarriesOut, CarriesOutEvent, Serves, reply_to, broken_answer};
     ghost use Rattle.ng_core.specs.Headline.{AddsToPast};
 
     /// The device as it is, with no call to it.
@@ -77,7 +73,7 @@ impl<R: Rig, A: Allocator + Copy + Drop> Controller<R, A> {
     /// device keeps its size. Over an honest device all that came since power on, with this event, is accounted for by the plain
     /// interpreter, whenever power is cut.
     pub fn on(&mut self, event: Event<A>) -> Reply
-        ensures serves { self.old.journal.broken ≡ false → Serves R.honest R.life R.failed event result self.old self.new }
+        ensures serves { self.old.journal.broken ≡ false → Serves R.honest R.life R.failed R.sectors event result self.old self.new }
         ensures broken { self.old.journal.broken ≡ true → (self.new ≡ self.old) × (result ≡ reply_to (broken_answer self.old.session event)) }
         ensures equipment { self.new.equipment ≡ self.old.equipment }
         ensures size { R.sectors self.new.journal.rig ≡ R.sectors self.old.journal.rig }
@@ -88,7 +84,7 @@ impl<R: Rig, A: Allocator + Copy + Drop> Controller<R, A> {
 
     /// Answers an event that stays the caller's as `on` does: the same is refused, and the same is left.
     pub(crate) fn reply(&mut self, event: &Event<A>) -> Reply
-        ensures serves { self.old.journal.broken ≡ false → Serves R.honest R.life R.failed event.now result self.old self.new }
+        ensures serves { self.old.journal.broken ≡ false → Serves R.honest R.life R.failed R.sectors event.now result self.old self.new }
         ensures broken { self.old.journal.broken ≡ true → (self.new ≡ self.old) × (result ≡ reply_to (broken_answer self.old.session event.now)) }
         ensures equipment { self.new.equipment ≡ self.old.equipment }
         ensures size { R.sectors self.new.journal.rig ≡ R.sectors self.old.journal.rig }
@@ -101,14 +97,10 @@ impl<R: Rig, A: Allocator + Copy + Drop> Controller<R, A> {
 
     /// What the session answers, or why it doesn't answer: M1, J4, J1 or K5.
     fn handle(&mut self, event: &Event<A>) -> Result<Reply, Fault>
-        ensures does { self.old.journal.broken ≡ false → Does R.honest R.life result (λ program. step self.old.equipment program self.old.session event.now) self.old self.new }
-        ensures comes { self.old.journal.broken ≡ false → ComesAnyway (ReadsLine self.old.equipment self.old.session event.now) result (λ program. step self.old.equipment program self.old.session event.now) self.old self.new }
-        ensures hindered { self.old.journal.broken ≡ false → IfErr result (Hinders self.old event.now) }
-        ensures fails { self.old.journal.broken ≡ false → IsBrokenBy result self.new.journal.broken }
+        ensures carried { self.old.journal.broken ≡ false → CarriesOutEvent R.honest R.life R.failed R.sectors event.now result self.old self.new }
         ensures broken { self.old.journal.broken ≡ true → (self.new ≡ self.old) × (result ≡ broken_answer self.old.session event.now) }
-        ensures size { R.sectors self.new.journal.rig ≡ R.sectors self.old.journal.rig }
-        ensures failures { Tells result (R.failed self.old.journal.rig) (R.failed self.new.journal.rig) }
         ensures equipment { self.new.equipment ≡ self.old.equipment }
+        ensures size { R.sectors self.new.journal.rig ≡ R.sectors self.old.journal.rig }
     {
         if self.broken() {
             return self.answer_broken(event);
@@ -155,13 +147,7 @@ impl<R: Rig, A: Allocator + Copy + Drop> Controller<R, A> {
     /// Loads a program, once that is stored.
     fn load(&mut self, text: &[u8]) -> Result<Reply, Fault>
         requires { self.old.journal.broken ≡ false }
-        ensures does { Does R.honest R.life result (λ program. load program self.old.session text.now) self.old self.new }
-        ensures comes { ComesAnyway ⊥ result (λ program. load program self.old.session text.now) self.old self.new }
-        ensures equipment { self.new.equipment ≡ self.old.equipment }
-        ensures broken { IsBrokenBy result self.new.journal.broken }
-        ensures hindered { IfErr result (IsHinderedBy (load_refusal self.old.session text.now ≡ None) (load_refusal self.old.session text.now ≡ None) (ledger_of self.old.journal) (λ program. load program self.old.session text.now)) }
-        ensures size { R.sectors self.new.journal.rig ≡ R.sectors self.old.journal.rig }
-        ensures failures { Tells result (R.failed self.old.journal.rig) (R.failed self.new.journal.rig) }
+        ensures { CarriesOut R.honest R.life R.failed R.sectors (load_refusal self.old.session text.now ≡ None) (load_refusal self.old.session text.now ≡ None) ⊥ (λ program. load program self.old.session text.now) result self.old self.new }
     {
         if let Some(fault) = self.session.load_refusal(text) {
             return Ok(Reply::Refused(fault));
@@ -176,13 +162,8 @@ impl<R: Rig, A: Allocator + Copy + Drop> Controller<R, A> {
     fn answer(&mut self, event: &Event<A>) -> Result<Reply, Fault>
         requires whole { self.old.journal.broken ≡ false }
         requires quiet { IsQuiet event.now }
-        ensures does { Does R.honest R.life result (λ program. step self.old.equipment program self.old.session event.now) self.old self.new }
-        ensures comes { ComesAnyway (ReadsLine self.old.equipment self.old.session event.now) result (λ program. step self.old.equipment program self.old.session event.now) self.old self.new }
-        ensures equipment { self.new.equipment ≡ self.old.equipment }
-        ensures broken { IsBrokenBy result self.new.journal.broken }
-        ensures hindered { IfErr result (λ fault. (fault ≡ OutOfMemory) × TakesMemory self.old.equipment self.old.session event.now) }
-        ensures size { R.sectors self.new.journal.rig ≡ R.sectors self.old.journal.rig }
-        ensures failures { Tells result (R.failed self.old.journal.rig) (R.failed self.new.journal.rig) }
+        ensures carried { CarriesOutEvent R.honest R.life R.failed R.sectors event.now result self.old self.new }
+        ensures memory { IfErr result (λ fault. fault ≡ OutOfMemory) }
     {
         Ok(self.session.answer(event, &self.tools, &self.geometry)?)
     }

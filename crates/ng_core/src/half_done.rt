@@ -1,11 +1,11 @@
 //! A half-done block: where its machine stands is told, it goes on, or it is given up.
-ghost use Rattle.std.specs.Prelude.{◌≡◌, ◌≤◌, ℕ, List, false, Some, IfOk, IfErr};
+ghost use Rattle.std.specs.Prelude.{◌≡◌, ◌≤◌, ℕ, List, false, IfOk, IfErr};
 ghost use Rattle.ng_num.specs.declared.fault.Fault.TheVariants.{DeviceFailed};
 ghost use Rattle.ng_rig.specs.Calls.{Promises};
 ghost use Rattle.ng_layout.specs.Storable.{IsStorable};
 ghost use Rattle.ng_layout.specs.Stored.{Standing, with_report};
 ghost use Rattle.ng_journal.specs.Journal.{RestsAt, Tells, IsBrokenBy};
-ghost use Rattle.ng_journal.specs.Storing.{Commit, ledger_of};
+ghost use Rattle.ng_journal.specs.Storing.{ledger_of};
 ghost use Rattle.ng_session.specs.Session.{IsProgramsLine};
 ghost use Rattle.ng_core.specs.NextLines.{IsNext, FindsNext};
 
@@ -47,10 +47,10 @@ fn next_line<R: Rig, A: Allocator + Copy + Drop>(
 
 impl<R: Rig, A: Allocator + Copy + Drop> Controller<R, A> {
     ghost use Rattle.std.specs.Prelude.{None};
-    ghost use Rattle.ng_session.specs.Session.{reference, reference_refusal, abandon, abandon_refusal, resume, resume_refusal, IsProgramsLine, Outcome, commits};
+    ghost use Rattle.ng_session.specs.Session.{reference, reference_refusal, abandon, abandon_refusal, resume, resume_refusal, IsProgramsLine, commits};
     ghost use Rattle.ng_session.specs.Entries.{Entry};
-    ghost use Rattle.ng_core.specs.Acts.{ComesAnyway, Does};
-    ghost use Rattle.ng_core.specs.Causes.{IsHinderedBy, stored_for};
+    ghost use Rattle.ng_core.specs.Acts.{CarriesOut};
+    ghost use Rattle.ng_core.specs.Causes.{IsCommitted};
 
     /// Commits a report: it takes the place of what is stored of it. J4 where a counter is used up, J1 where the device failed: the
     /// session is as it was then.
@@ -59,14 +59,8 @@ impl<R: Rig, A: Allocator + Copy + Drop> Controller<R, A> {
         requires free { self.old.session.current ≡ None }
         requires count { report.entries ≤ 1_000_000_000_000 }
         requires storable { IsStorable (with_report self.old.session.stored report self.old.session.stored.length) }
-        ensures does { (entry : Entry) → Does R.honest R.life result (λ program. commits program entry (record self.old.session { stored = with_report self.old.session.stored report self.old.session.stored.length })) self.old self.new }
-        ensures comes { (entry : Entry) → ComesAnyway ⊥ result (λ program. commits program entry (record self.old.session { stored = with_report self.old.session.stored report self.old.session.stored.length })) self.old self.new }
-        ensures hindered { (told : List ℕ → Outcome) → ((program : List ℕ) → stored_for (told program) (told program).reply ≡ Some (Commit (with_report self.old.session.stored report self.old.session.stored.length)))
-            → IfErr result (IsHinderedBy ⊥ (Unit {0}) (ledger_of self.old.journal) told) }
-        ensures equipment { self.new.equipment ≡ self.old.equipment }
-        ensures broken { IsBrokenBy result self.new.journal.broken }
-        ensures size { R.sectors self.new.journal.rig ≡ R.sectors self.old.journal.rig }
-        ensures failures { Tells result (R.failed self.old.journal.rig) (R.failed self.new.journal.rig) }
+        ensures { (entry : Entry) → IsCommitted entry → CarriesOut R.honest R.life R.failed R.sectors ⊥ (Unit {0}) ⊥
+            (λ program. commits program entry (record self.old.session { stored = with_report self.old.session.stored report self.old.session.stored.length })) result self.old self.new }
     {
         // called for its contract: what is stored can be stored again
         let _ = self.session.stored();
@@ -84,13 +78,7 @@ impl<R: Rig, A: Allocator + Copy + Drop> Controller<R, A> {
     /// counter is used up: nothing is changed then. J1 where the device failed: the journal is broken then, and the session is as it was.
     pub(crate) fn reference(&mut self, point: &Point) -> Result<Reply, Fault>
         requires { self.old.journal.broken ≡ false }
-        ensures does { Does R.honest R.life result (λ program. reference self.old.equipment program self.old.session point.now) self.old self.new }
-        ensures comes { ComesAnyway ⊥ result (λ program. reference self.old.equipment program self.old.session point.now) self.old self.new }
-        ensures equipment { self.new.equipment ≡ self.old.equipment }
-        ensures broken { IsBrokenBy result self.new.journal.broken }
-        ensures hindered { IfErr result (IsHinderedBy ⊥ (reference_refusal self.old.equipment.geometry self.old.session point.now ≡ None) (ledger_of self.old.journal) (λ program. reference self.old.equipment program self.old.session point.now)) }
-        ensures size { R.sectors self.new.journal.rig ≡ R.sectors self.old.journal.rig }
-        ensures failures { Tells result (R.failed self.old.journal.rig) (R.failed self.new.journal.rig) }
+        ensures { CarriesOut R.honest R.life R.failed R.sectors ⊥ (reference_refusal self.old.equipment.geometry self.old.session point.now ≡ None) ⊥ (λ program. reference self.old.equipment program self.old.session point.now) result self.old self.new }
     {
         if let Some(fault) = self.session.reference_refusal(*point, &self.geometry) {
             return Ok(Reply::Refused(fault));
@@ -107,13 +95,7 @@ impl<R: Rig, A: Allocator + Copy + Drop> Controller<R, A> {
     /// changed then. J1 where the device failed: the journal is broken then, and the session is as it was.
     pub(crate) fn abandon(&mut self) -> Result<Reply, Fault>
         requires { self.old.journal.broken ≡ false }
-        ensures does { Does R.honest R.life result (λ program. abandon program self.old.session) self.old self.new }
-        ensures comes { ComesAnyway ⊥ result (λ program. abandon program self.old.session) self.old self.new }
-        ensures equipment { self.new.equipment ≡ self.old.equipment }
-        ensures broken { IsBrokenBy result self.new.journal.broken }
-        ensures hindered { IfErr result (IsHinderedBy ⊥ (abandon_refusal self.old.session ≡ None) (ledger_of self.old.journal) (λ program. abandon program self.old.session)) }
-        ensures size { R.sectors self.new.journal.rig ≡ R.sectors self.old.journal.rig }
-        ensures failures { Tells result (R.failed self.old.journal.rig) (R.failed self.new.journal.rig) }
+        ensures { CarriesOut R.honest R.life R.failed R.sectors ⊥ (abandon_refusal self.old.session ≡ None) ⊥ (λ program. abandon program self.old.session) result self.old self.new }
     {
         if let Some(fault) = self.session.abandon_refusal() {
             return Ok(Reply::Refused(fault));
@@ -133,13 +115,8 @@ impl<R: Rig, A: Allocator + Copy + Drop> Controller<R, A> {
     /// where memory is wanting. The session is as it was then.
     pub(crate) fn resume(&mut self) -> Result<Reply, Fault>
         requires { self.old.journal.broken ≡ false }
-        ensures does { Does R.honest R.life result (λ program. resume self.old.equipment program self.old.session) self.old self.new }
-        ensures comes { ComesAnyway ((resume_refusal self.old.equipment self.old.session ≡ None) × IsProgramsLine self.old.session.stored.half) result (λ program. resume self.old.equipment program self.old.session) self.old self.new }
-        ensures equipment { self.new.equipment ≡ self.old.equipment }
-        ensures broken { IsBrokenBy result self.new.journal.broken }
-        ensures hindered { IfErr result (IsHinderedBy (resume_refusal self.old.equipment self.old.session ≡ None) ((resume_refusal self.old.equipment self.old.session ≡ None) × IsProgramsLine self.old.session.stored.half) (ledger_of self.old.journal) (λ program. resume self.old.equipment program self.old.session)) }
-        ensures size { R.sectors self.new.journal.rig ≡ R.sectors self.old.journal.rig }
-        ensures failures { Tells result (R.failed self.old.journal.rig) (R.failed self.new.journal.rig) }
+        ensures { CarriesOut R.honest R.life R.failed R.sectors (resume_refusal self.old.equipment self.old.session ≡ None) ((resume_refusal self.old.equipment self.old.session ≡ None) × IsProgramsLine self.old.session.stored.half) ((resume_refusal self.old.equipment self.old.session ≡ None) × IsProgramsLine self.old.session.stored.half)
+            (λ program. resume self.old.equipment program self.old.session) result self.old self.new }
     {
         if let Some(fault) = self.session.resume_refusal(&self.tools, &self.geometry) {
             return Ok(Reply::Refused(fault));

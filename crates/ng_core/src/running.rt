@@ -21,7 +21,7 @@ impl<R: Rig, A: Allocator + Copy + Drop> Controller<R, A> {
     /// then, or behind the one under way too; and all that came since power on, in this call and before it, is accounted for by the plain
     /// interpreter, whenever power is cut.
     pub fn run(&mut self, events: &[Event<A>]) -> Result<Vec<Reply, A>, Fault>
-        ensures turns { IfOk result (λ replies. Turns R.honest R.life R.failed events.now replies.items self.old self.new) }
+        ensures turns { IfOk result (λ replies. Turns R.honest R.life R.failed R.sectors events.now replies.items self.old self.new) }
         ensures ran { IfOk result (λ replies. Promises (R.honest self.old.journal.rig) (R.honest self.new.journal.rig) (Ran R.life events.now replies.items self.old self.new)) }
         ensures past { IfOk result (λ replies. Promises (R.honest self.old.journal.rig) (R.honest self.new.journal.rig) (AddsToPast R.life events.now replies.items self.old self.new)) }
         ensures each { IfOk result (λ replies. length replies.items ≡ length events.now) }

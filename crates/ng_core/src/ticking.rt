@@ -1,7 +1,7 @@
 //! A Tick: held, or the first of these that applies. An item is handed out, an approach or a segment is opened, an entry is committed, a
 //! line is begun.
-ghost use Rattle.std.specs.Prelude.{◌≡◌, ◌≤◌, ◌⊎◌, [], ◌∷◌, ℕ, List, true, false, Ok, IfErr, IsSome};
-ghost use Rattle.ng_num.specs.declared.fault.Fault.TheVariants.{DeviceFailed, OutOfMemory};
+ghost use Rattle.std.specs.Prelude.{◌≡◌, ◌≤◌, ℕ, List, true, false, IfErr, IsSome};
+ghost use Rattle.ng_num.specs.declared.fault.Fault.TheVariants.{DeviceFailed};
 ghost use Rattle.ng_rig.specs.Calls.{Promises};
 ghost use Rattle.ng_layout.specs.Storable.{CanWait};
 ghost use Rattle.ng_layout.specs.Stored.{Standing};
@@ -56,19 +56,13 @@ fn lines_behind(known: &LinesBefore, place: u64, first: Kind, text: &[u8], next:
 impl<R: Rig, A: Allocator + Copy + Drop> Controller<R, A> {
     ghost use Rattle.ng_session.specs.Session.{open_part_of, tick, open_next, end, begin, opening_of, is_busy, IsBetweenLines};
     ghost use Rattle.ng_layout.specs.Programs.{line_at};
-    ghost use Rattle.ng_core.specs.Acts.{ComesAnyway, Does, Stays};
-    ghost use Rattle.ng_core.specs.Causes.{IsHinderedBy};
+    ghost use Rattle.ng_core.specs.Acts.{CarriesOut, handing};
 
     /// Does the next thing that is to do, of those above the first that applies.
     pub(crate) fn tick(&mut self) -> Result<Reply, Fault>
         requires { self.old.journal.broken ≡ false }
-        ensures does { Does R.honest R.life result (λ program. tick self.old.equipment program self.old.session) self.old self.new }
-        ensures comes { ComesAnyway ((self.old.session.held ≡ false) × IsBetweenLines self.old.session) result (λ program. tick self.old.equipment program self.old.session) self.old self.new }
-        ensures equipment { self.new.equipment ≡ self.old.equipment }
-        ensures broken { IsBrokenBy result self.new.journal.broken }
-        ensures hindered { IfErr result (IsHinderedBy ((self.old.session.held ≡ false) × IsBetweenLines self.old.session) ((self.old.session.held ≡ false) × (is_busy self.old.session ≡ true)) (ledger_of self.old.journal) (λ program. tick self.old.equipment program self.old.session)) }
-        ensures size { R.sectors self.new.journal.rig ≡ R.sectors self.old.journal.rig }
-        ensures failures { Tells result (R.failed self.old.journal.rig) (R.failed self.new.journal.rig) }
+        ensures { CarriesOut R.honest R.life R.failed R.sectors ((self.old.session.held ≡ false) × IsBetweenLines self.old.session) ((self.old.session.held ≡ false) × (is_busy self.old.session ≡ true)) ((self.old.session.held ≡ false) × IsBetweenLines self.old.session)
+            (λ program. tick self.old.equipment program self.old.session) result self.old self.new }
     {
         if self.session.is_held() {
             return Ok(Reply::Held);
@@ -82,13 +76,8 @@ impl<R: Rig, A: Allocator + Copy + Drop> Controller<R, A> {
     /// With no item left: opens the approach or the next segment of the current block, or else ends what is open of it.
     fn go_further(&mut self) -> Result<Reply, Fault>
         requires { self.old.journal.broken ≡ false }
-        ensures does { Does R.honest R.life result (λ program. open_next self.old.equipment program self.old.session (opening_of self.old.session.current)) self.old self.new }
-        ensures comes { ComesAnyway (IsBetweenLines self.old.session) result (λ program. open_next self.old.equipment program self.old.session (opening_of self.old.session.current)) self.old self.new }
-        ensures equipment { self.new.equipment ≡ self.old.equipment }
-        ensures broken { IsBrokenBy result self.new.journal.broken }
-        ensures hindered { IfErr result (IsHinderedBy (IsBetweenLines self.old.session) (is_busy self.old.session ≡ true) (ledger_of self.old.journal) (λ program. open_next self.old.equipment program self.old.session (opening_of self.old.session.current))) }
-        ensures size { R.sectors self.new.journal.rig ≡ R.sectors self.old.journal.rig }
-        ensures failures { Tells result (R.failed self.old.journal.rig) (R.failed self.new.journal.rig) }
+        ensures { CarriesOut R.honest R.life R.failed R.sectors (IsBetweenLines self.old.session) (is_busy self.old.session ≡ true) (IsBetweenLines self.old.session)
+            (λ program. open_next self.old.equipment program self.old.session (opening_of self.old.session.current)) result self.old self.new }
     {
         match self.session.opening() {
             Some(half) => self.open(half),
@@ -99,13 +88,8 @@ impl<R: Rig, A: Allocator + Copy + Drop> Controller<R, A> {
     /// With nothing left to open: commits the approach or the current block; with none, begins the program's next line, if it runs.
     fn end(&mut self) -> Result<Reply, Fault>
         requires { self.old.journal.broken ≡ false }
-        ensures does { Does R.honest R.life result (λ program. end self.old.equipment program self.old.session self.old.session.current) self.old self.new }
-        ensures comes { ComesAnyway (IsBetweenLines self.old.session) result (λ program. end self.old.equipment program self.old.session self.old.session.current) self.old self.new }
-        ensures equipment { self.new.equipment ≡ self.old.equipment }
-        ensures broken { IsBrokenBy result self.new.journal.broken }
-        ensures hindered { IfErr result (IsHinderedBy (IsBetweenLines self.old.session) (is_busy self.old.session ≡ true) (ledger_of self.old.journal) (λ program. end self.old.equipment program self.old.session self.old.session.current)) }
-        ensures size { R.sectors self.new.journal.rig ≡ R.sectors self.old.journal.rig }
-        ensures failures { Tells result (R.failed self.old.journal.rig) (R.failed self.new.journal.rig) }
+        ensures { CarriesOut R.honest R.life R.failed R.sectors (IsBetweenLines self.old.session) (is_busy self.old.session ≡ true) (IsBetweenLines self.old.session)
+            (λ program. end self.old.equipment program self.old.session self.old.session.current) result self.old self.new }
     {
         if self.session.after().is_some() {
             return self.commit();
@@ -119,13 +103,7 @@ impl<R: Rig, A: Allocator + Copy + Drop> Controller<R, A> {
     /// Hands out an item of the open segment, which the session took from it.
     fn hand_out(&mut self, item: Item) -> Result<Reply, Fault>
         requires { self.old.journal.broken ≡ false }
-        ensures does { Does R.honest R.life result (λ program. record { reply = Reply.Moved; items = item ∷ []; entries = []; program = program; next = self.old.session }) self.old self.new }
-        ensures comes { ComesAnyway ⊥ result (λ program. record { reply = Reply.Moved; items = item ∷ []; entries = []; program = program; next = self.old.session }) self.old self.new }
-        ensures equipment { self.new.equipment ≡ self.old.equipment }
-        ensures broken { IsBrokenBy result self.new.journal.broken }
-        ensures errors { IfErr result (λ e. e ≡ DeviceFailed) }
-        ensures size { R.sectors self.new.journal.rig ≡ R.sectors self.old.journal.rig }
-        ensures failures { Tells result (R.failed self.old.journal.rig) (R.failed self.new.journal.rig) }
+        ensures { CarriesOut R.honest R.life R.failed R.sectors ⊥ (Unit {0}) ⊥ (λ program. handing item program self.old.session) result self.old self.new }
     {
         self.journal.hand_out(item)?;
         Ok(Reply::Moved)
@@ -136,13 +114,7 @@ impl<R: Rig, A: Allocator + Copy + Drop> Controller<R, A> {
         requires whole { self.old.journal.broken ≡ false }
         requires half { CanWait half }
         requires is_open { IsSome half.opened }
-        ensures does { Does R.honest R.life result (λ program. open_part_of self.old.equipment program self.old.session half) self.old self.new }
-        ensures comes { ComesAnyway ⊥ result (λ program. open_part_of self.old.equipment program self.old.session half) self.old self.new }
-        ensures equipment { self.new.equipment ≡ self.old.equipment }
-        ensures broken { IsBrokenBy result self.new.journal.broken }
-        ensures hindered { IfErr result (IsHinderedBy ⊥ (Unit {0}) (ledger_of self.old.journal) (λ program. open_part_of self.old.equipment program self.old.session half)) }
-        ensures size { R.sectors self.new.journal.rig ≡ R.sectors self.old.journal.rig }
-        ensures failures { Tells result (R.failed self.old.journal.rig) (R.failed self.new.journal.rig) }
+        ensures { CarriesOut R.honest R.life R.failed R.sectors ⊥ (Unit {0}) ⊥ (λ program. open_part_of self.old.equipment program self.old.session half) result self.old self.new }
     {
         self.journal.open_segment(&half)?;
         Ok(self.session.open(half, &self.geometry))
@@ -152,13 +124,7 @@ impl<R: Rig, A: Allocator + Copy + Drop> Controller<R, A> {
     fn commit(&mut self) -> Result<Reply, Fault>
         requires whole { self.old.journal.broken ≡ false }
         requires block { IsSome self.old.session.current }
-        ensures does { Does R.honest R.life result (λ program. end self.old.equipment program self.old.session self.old.session.current) self.old self.new }
-        ensures comes { ComesAnyway (IsBetweenLines self.old.session) result (λ program. end self.old.equipment program self.old.session self.old.session.current) self.old self.new }
-        ensures equipment { self.new.equipment ≡ self.old.equipment }
-        ensures broken { IsBrokenBy result self.new.journal.broken }
-        ensures hindered { IfErr result (IsHinderedBy ⊥ (Unit {0}) (ledger_of self.old.journal) (λ program. end self.old.equipment program self.old.session self.old.session.current)) }
-        ensures size { R.sectors self.new.journal.rig ≡ R.sectors self.old.journal.rig }
-        ensures failures { Tells result (R.failed self.old.journal.rig) (R.failed self.new.journal.rig) }
+        ensures { CarriesOut R.honest R.life R.failed R.sectors ⊥ (Unit {0}) ⊥ (λ program. end self.old.equipment program self.old.session self.old.session.current) result self.old self.new }
     {
         let Some(after) = self.session.after() else {
             unreachable!()
@@ -170,13 +136,8 @@ impl<R: Rig, A: Allocator + Copy + Drop> Controller<R, A> {
     /// Begins the program's line at its place, or stops the program at the end of its text.
     fn begin(&mut self) -> Result<Reply, Fault>
         requires { self.old.journal.broken ≡ false }
-        ensures does { Does R.honest R.life result (λ program. begin self.old.equipment program self.old.session (line_at program self.old.session.stored.place)) self.old self.new }
-        ensures stays { IfErr result (λ fault. Stays (Unit {0}) fault self.old self.new) }
-        ensures equipment { self.new.equipment ≡ self.old.equipment }
-        ensures broken { IsBrokenBy result self.new.journal.broken }
-        ensures hindered { IfErr result (λ fault. (fault ≡ OutOfMemory) ⊎ (fault ≡ DeviceFailed)) }
-        ensures size { R.sectors self.new.journal.rig ≡ R.sectors self.old.journal.rig }
-        ensures failures { Tells result (R.failed self.old.journal.rig) (R.failed self.new.journal.rig) }
+        ensures { CarriesOut R.honest R.life R.failed R.sectors (Unit {0}) (Unit {0}) (Unit {0})
+            (λ program. begin self.old.equipment program self.old.session (line_at program self.old.session.stored.place)) result self.old self.new }
     {
         let place = self.session.place();
         let first = first_kind_before(&mut self.journal, &self.lines, place)?;

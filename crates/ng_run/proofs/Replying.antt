@@ -25,36 +25,36 @@ told_behind x (Err fault) old mid new answered p q =
     let line = take q.0 (last_line x.order x.replies) in
     (lines ++ line, inl (answered, (q.0, refl)), Appends-trans old mid new lines line p q.1)
 
-pub answers_event : {A R T : Type 0} (honest : R → Type 0) (life : R → Life) (failed : R → ℕ) (event : Event A) (r : Reply) (result : Result T Unsent) (old new : Option (List ℕ)) (before after : Station R)
-    → Turn honest life failed event r before after → Sends old new (reply_line r) result → Answers honest life failed (Give event) result old new before after
-answers_event {A} honest life failed event r result old new before after t p = record {
+pub answers_event : {A R T : Type 0} (honest : R → Type 0) (life : R → Life) (failed sectors : R → ℕ) (event : Event A) (r : Reply) (result : Result T Unsent) (old new : Option (List ℕ)) (before after : Station R)
+    → Turn honest life failed sectors event r before after → Sends old new (reply_line r) result → Answers honest life failed sectors (Give event) result old new before after
+answers_event {A} honest life failed sectors event r result old new before after t p = record {
   replies = r ∷ [];
-  given = turns_one honest life failed event r before after t;
+  given = turns_one honest life failed sectors event r before after t;
   tells = told_behind {A = A} (record { order = Give event; replies = r ∷ [] }) result old old new refl (Appends-nil old)
       (subst (λ (l : List ℕ). Sends old new l result) (sym (append-nil (reply_line r))) p);
 }
 
-pub answers_refusal : {A R T : Type 0} (honest : R → Type 0) (life : R → Life) (failed : R → ℕ) (fault : Fault) (result : Result T Unsent) (old new : Option (List ℕ)) (c : Station R)
-    → Sends old new (refused_line fault) result → Answers {A = A} honest life failed (Refuse fault) result old new c c
-answers_refusal {A} honest life failed fault result old new c p = record {
+pub answers_refusal : {A R T : Type 0} (honest : R → Type 0) (life : R → Life) (failed sectors : R → ℕ) (fault : Fault) (result : Result T Unsent) (old new : Option (List ℕ)) (c : Station R)
+    → Sends old new (refused_line fault) result → Answers {A = A} honest life failed sectors (Refuse fault) result old new c c
+answers_refusal {A} honest life failed sectors fault result old new c p = record {
   replies = [];
   given = refl;
   tells = told_behind {A = A} (record { order = Refuse fault; replies = [] }) result old old new refl (Appends-nil old) p;
 }
 
 -- behind the lines of ticks, how many were made
-pub answers_ticks : {A R T : Type 0} (honest : R → Type 0) (life : R → Life) (failed : R → ℕ) (most made : ℕ) (result : Result T Unsent) (old mid new : Option (List ℕ)) (before after : Station R)
-    → TicksOn A honest life failed most (Ok made) old mid before after → Sends mid new (ticks_line made) result → Answers {A = A} honest life failed (Ticks most) result old new before after
-answers_ticks {A} honest life failed most made result old mid new before after p q = record {
+pub answers_ticks : {A R T : Type 0} (honest : R → Type 0) (life : R → Life) (failed sectors : R → ℕ) (most made : ℕ) (result : Result T Unsent) (old mid new : Option (List ℕ)) (before after : Station R)
+    → TicksOn A honest life failed sectors most (Ok made) old mid before after → Sends mid new (ticks_line made) result → Answers {A = A} honest life failed sectors (Ticks most) result old new before after
+answers_ticks {A} honest life failed sectors most made result old mid new before after p q = record {
   replies = p.replies;
   given = p.given;
   tells = told_behind {A = A} (record { order = Ticks most; replies = p.replies }) result old mid new p.makes.0 p.makes.2
       (subst (λ (n : ℕ). Sends mid new (ticks_line n) result) p.makes.1 q);
 }
 
-pub answers_ticks_broken : {A R T : Type 0} (honest : R → Type 0) (life : R → Life) (failed : R → ℕ) (most : ℕ) (fault told : Unsent) (old new : Option (List ℕ)) (before after : Station R)
-    → TicksOn A honest life failed most (Err fault) old new before after → Answers {A = A} {T = T} honest life failed (Ticks most) (Err told) old new before after
-answers_ticks_broken {A} honest life failed most fault told old new before after p = record {
+pub answers_ticks_broken : {A R T : Type 0} (honest : R → Type 0) (life : R → Life) (failed sectors : R → ℕ) (most : ℕ) (fault told : Unsent) (old new : Option (List ℕ)) (before after : Station R)
+    → TicksOn A honest life failed sectors most (Err fault) old new before after → Answers {A = A} {T = T} honest life failed sectors (Ticks most) (Err told) old new before after
+answers_ticks_broken {A} honest life failed sectors most fault told old new before after p = record {
   replies = p.replies;
   given = p.given;
   tells = (p.makes.0, inr (most, refl, p.makes.1), p.makes.2);

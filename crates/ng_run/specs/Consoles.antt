@@ -35,9 +35,9 @@ Makes most (Ok made) replies old new = AreTicks most replies × (made ≡ length
 Makes most (Err fault) replies old new = (written : List ℕ) × AreBrokenOff most replies written × Appends old new written
 
 -- The controller is given ticks, and the lines of their replies are written, or they are broken off in the last.
-pub record TicksOn {R : Type 0} (A : Type 0) (honest : R → Type 0) (life : R → Life) (failed : R → ℕ) (most : ℕ) (made : Result ℕ Unsent) (old new : Option (List ℕ)) (before after : Station R) : Type 0 where
+pub record TicksOn {R : Type 0} (A : Type 0) (honest : R → Type 0) (life : R → Life) (failed sectors : R → ℕ) (most : ℕ) (made : Result ℕ Unsent) (old new : Option (List ℕ)) (before after : Station R) : Type 0 where
   pub replies : List Reply
-  pub given : Turns honest life failed (events_of {A = A} (Ticks most) replies) replies before after
+  pub given : Turns honest life failed sectors (events_of {A = A} (Ticks most) replies) replies before after
   pub makes : Makes most made replies old new
 
 -- an answer is written, or a beginning of it
@@ -46,9 +46,9 @@ Told x (Ok done) old new = IsAnswered x × Appends old new (words_of x.order x.r
 Told x (Err fault) old new = (written : List ℕ) × IsBegun x written × Appends old new written
 
 -- The controller is given what an order asks, and the answer is written.
-pub record Answers {A R T : Type 0} (honest : R → Type 0) (life : R → Life) (failed : R → ℕ) (order : Order A) (result : Result T Unsent) (old new : Option (List ℕ)) (before after : Station R) : Type 0 where
+pub record Answers {A R T : Type 0} (honest : R → Type 0) (life : R → Life) (failed sectors : R → ℕ) (order : Order A) (result : Result T Unsent) (old new : Option (List ℕ)) (before after : Station R) : Type 0 where
   pub replies : List Reply
-  pub given : Turns honest life failed (events_of order replies) replies before after
+  pub given : Turns honest life failed sectors (events_of order replies) replies before after
   pub tells : Told (record { order = order; replies = replies }) result old new
 
 -- ---- the text
@@ -61,14 +61,14 @@ Closes {A} (Err Mute) broken rest begun written = (last : Exchange A) × (begun 
 
 -- A text is heard and answered in turn: the events that it asks are given, and the words of the answers are written. Over an honest
 -- device each stop leaves what stands behind some of these events, and the items handed out are the session's.
-pub record Conversation {R : Type 0} (A : Type 0) (honest : R → Type 0) (life : R → Life) (failed : R → ℕ) (ended : Result Ended Stop) (text old new : Option (List ℕ)) (before after : Station R) : Type 0 where
+pub record Conversation {R : Type 0} (A : Type 0) (honest : R → Type 0) (life : R → Life) (failed sectors : R → ℕ) (ended : Result Ended Stop) (text old new : Option (List ℕ)) (before after : Station R) : Type 0 where
   pub answered : List (Exchange A)
   pub begun : List (Exchange A)
   pub rest : Option (List ℕ)
   pub written : List ℕ
   pub each : All IsAnswered answered
   pub hears : Hears text (answered ++ begun) rest
-  pub given : Turns honest life failed (events_in (answered ++ begun)) (replies_in (answered ++ begun)) before after
+  pub given : Turns honest life failed sectors (events_in (answered ++ begun)) (replies_in (answered ++ begun)) before after
   pub tells : Appends old new (words_in answered ++ written)
   pub closes : Closes ended after.journal.broken rest begun written
   pub passes : before.journal.broken ≡ false → Promises (honest before.journal.rig) (honest after.journal.rig) ((program : List ℕ) → Rests (life before.journal.rig) before program
@@ -91,15 +91,15 @@ Refuses fault (Ok ended) old new = (ended ≡ Unpowered) × Appends old new (ref
 Refuses fault (Err stop) old new = (stop ≡ Mute) × ((n : ℕ) × Appends old new (take n (refused_line fault)))
 
 -- what comes of power on, and the device that is left
-abbrev pub GoesOn : {R : Type 0} → Type 0 → (R → Type 0) → (R → Life) → (R → ℕ) → Answer R → Result Ended Stop → R → Option (List ℕ) → Option (List ℕ) → Option (List ℕ) → Type 0
-GoesOn {R} A honest life failed (Ok c) ended left text old new = (after : Station R) × Conversation A honest life failed ended text old new c after × (left ≡ after.journal.rig)
-GoesOn {R} A honest life failed (Err e) ended left text old new = (left ≡ e.1) × Refuses e.0 ended old new
+abbrev pub GoesOn : {R : Type 0} → Type 0 → (R → Type 0) → (R → Life) → (failed sectors : R → ℕ) → Answer R → Result Ended Stop → R → Option (List ℕ) → Option (List ℕ) → Option (List ℕ) → Type 0
+GoesOn {R} A honest life failed sectors (Ok c) ended left text old new = (after : Station R) × Conversation A honest life failed sectors ended text old new c after × (left ≡ after.journal.rig)
+GoesOn {R} A honest life failed sectors (Err e) ended left text old new = (left ≡ e.1) × Refuses e.0 ended old new
 
 -- A console over a device: power on, and what comes of it.
 pub record Runs {R : Type 0} (A : Type 0) (sectors failed : R → ℕ) (honest : R → Type 0) (life : R → Life) (settings : Settings) (rig : R) (text old new : Option (List ℕ)) (result : Result Ended Stop × R) : Type 0 where
   pub powered : Answer R
   pub starts : PowersOn sectors failed honest life settings rig powered
-  pub goes_on : GoesOn A honest life failed powered result.0 result.1 text old new
+  pub goes_on : GoesOn A honest life failed sectors powered result.0 result.1 text old new
 
 -- the same, with the exit status
 abbrev pub Consoles : {R : Type 0} → Type 0 → (R → ℕ) → (R → ℕ) → (R → Type 0) → (R → Life) → Settings → R → Option (List ℕ) → Option (List ℕ) → Option (List ℕ) → ℕ × R → Type 0

@@ -15,7 +15,7 @@ pub(crate) fn answer<W: Write, R: Rig, A: Allocator + Copy + Drop>(
     controller: &mut Controller<R, A>,
     order: Order<A>,
 ) -> Result<(), Unsent>
-    ensures { Answers R.honest R.life R.failed order result (W.contents writer.old) (W.contents writer.new) controller.old controller.new }
+    ensures { Answers R.honest R.life R.failed R.sectors order result (W.contents writer.old) (W.contents writer.new) controller.old controller.new }
 {
     match order {
         Order::Give(event) => {
@@ -37,7 +37,7 @@ fn tick_on<W: Write, R: Rig, A: Allocator + Copy + Drop>(
     controller: &mut Controller<R, A>,
     most: u32,
 ) -> Result<u32, Unsent>
-    ensures { TicksOn A R.honest R.life R.failed most result (W.contents writer.old) (W.contents writer.new) controller.old controller.new }
+    ensures { TicksOn A R.honest R.life R.failed R.sectors most result (W.contents writer.old) (W.contents writer.new) controller.old controller.new }
 {
     for made in 0..most {
         let reply = controller.on(Event::Tick);

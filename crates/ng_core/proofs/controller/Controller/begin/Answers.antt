@@ -2,48 +2,16 @@ use Rattle.std.proofs.Common.{◌≡◌, ℕ, List, [], Option, Some, None, Ok, 
 use Rattle.std.proofs.lemmas.Result.{err_from_is_err_and}
 use Rattle.ng_num.specs.declared.fault.Fault.{Fault}
 use Rattle.ng_layout.specs.Programs.{Line, line_at}
-use Rattle.ng_journal.specs.Storing.{Ledger}
+use Rattle.ng_journal.specs.Journal.{Tells}
+use Rattle.ng_journal.specs.Storing.{Ledger, ledger_of}
 use Rattle.ng_session.specs.Entries.{Equipment}
 use Rattle.ng_session.specs.Session.{Sitting, begin}
+use Rattle.ng_session.specs.declared.reply.Reply.{Reply}
 use Rattle.ng_core.specs.Station.{Station}
-use Rattle.ng_core.proofs.Choosing.{does_as}
 use Rattle.ng_core.proofs.Beginning.{Reading, finding_both, does_begin, does_begin_short, does_begin_unfound, does_begin_unread, known_behind}
-use Rattle.ng_core.proofs.Anyway.{stays_read}
+use Rattle.ng_core.proofs.Carrying.{carried_as, carried_lost, carried_read}
+use Rattle.ng_core.proofs.Hindering.{unused_begin}
 use Rattle.ng_core.proofs.controller.Controller.begin.Goals as goal
-
-pub returns-in_err-first-clause-does : goal.returns-in_err-first-clause-does
-returns-in_err-first-clause-does g c =
-    let p = err_from_is_err_and c.from_residual.result c.from_residual.ensures.1 in
-    let equipment : Equipment = record { tools = c.self.inside.tools; geometry = c.self.inside.geometry } in
-    let old : Station g.row.R.Denot = record { journal = c.self.inside.journal; session = c.self.inside.session; lines = c.self.inside.lines; equipment = equipment } in
-    let new : Station g.row.R.Denot = record { journal = c.first_kind_before.new.journal; session = c.self.inside.session; lines = c.self.inside.lines; equipment = equipment } in
-    rw (p.1) (does_as g.R.Rig.honest g.R.Rig.life (Err p.0) (λ (x : Station g.row.R.Denot) (program : List ℕ). begin x.equipment program x.session (line_at program x.session.stored.place)) c.args.self.now old new c.self.view_is
-    (does_begin_unfound {E = Fault} g.R.Rig.honest g.R.Rig.life p.0 c.in_err-first.field-0.0 c.place-place.result
-    (λ (program : List ℕ). begin equipment program old.session (line_at program old.session.stored.place)) old new
-    c.in_err-first.ensures.kind (p.2 ∙ c.in_err-first.ensures.errors) refl))
-
-pub returns-in_err-line-clause-does : goal.returns-in_err-line-clause-does
-returns-in_err-line-clause-does g c =
-    let p = err_from_is_err_and c.from_residual-in_err-line.result c.from_residual-in_err-line.ensures.1 in
-    let equipment : Equipment = record { tools = c.self.inside.tools; geometry = c.self.inside.geometry } in
-    let old : Station g.row.R.Denot = record { journal = c.self.inside.journal; session = c.self.inside.session; lines = c.self.inside.lines; equipment = equipment } in
-    let new : Station g.row.R.Denot = record { journal = c.program_line.new.self; session = c.self.inside.session; lines = c.self.inside.lines; equipment = equipment } in
-    rw (p.1) (does_as g.R.Rig.honest g.R.Rig.life (Err p.0) (λ (x : Station g.row.R.Denot) (program : List ℕ). begin x.equipment program x.session (line_at program x.session.stored.place)) c.args.self.now old new c.self.view_is
-    (does_begin_unread {E = Fault} {F = Fault} g.R.Rig.honest g.R.Rig.life p.0 c.in_ok-first.first c.in_err-line.field-0.0 c.place-place.result
-    (λ (program : List ℕ). begin equipment program old.session (line_at program old.session.stored.place)) old new c.first_kind_before.new.journal
-    c.in_ok-first.ensures.kind c.in_err-line.ensures.line (p.2 ∙ c.in_err-line.ensures.errors) refl))
-
-pub returns-in_err-reply-in-Some-clause-does : goal.returns-in_err-reply-in-Some-clause-does
-returns-in_err-reply-in-Some-clause-does g c =
-    let p = err_from_is_err_and c.from_residual-in_err-reply-in-Some.result c.from_residual-in_err-reply-in-Some.ensures.1 in
-    let equipment : Equipment = record { tools = c.self.inside.tools; geometry = c.self.inside.geometry } in
-    let old : Station g.row.R.Denot = record { journal = c.self.inside.journal; session = c.self.inside.session; lines = c.self.inside.lines; equipment = equipment } in
-    let new : Station g.row.R.Denot = record { journal = c.program_line.new.self; session = c.begin.new.self; lines = c.self.inside.lines; equipment = equipment } in
-    rw (p.1) (does_as g.R.Rig.honest g.R.Rig.life (Err p.0) (λ (x : Station g.row.R.Denot) (program : List ℕ). begin x.equipment program x.session (line_at program x.session.stored.place)) c.args.self.now old new c.self.view_is
-    (does_begin_short g.R.Rig.honest g.R.Rig.life p.0 c.in_ok-first.first c.in_ok-line.field-0 c.place-place.result
-    (λ (program : List ℕ). begin equipment program old.session (line_at program old.session.stored.place)) old new
-    (finding_both {E = Fault} {F = Fault} g.R.Rig.honest g.R.Rig.life c.in_ok-first.first c.in_ok-line.field-0 c.self.inside.lines c.place-place.result c.self.inside.journal c.first_kind_before.new.journal c.program_line.new.self
-    c.in_ok-first.ensures.kind c.in_ok-line.ensures.line) p.2 c.in_err-reply-in-Some.ensures.err refl))
 
 pub invariant_of-self-in-Some : goal.invariant_of-self-in-Some
 invariant_of-self-in-Some g c =
@@ -56,8 +24,48 @@ invariant_of-self-in-None g c =
     let whole = ap (λ (x : Station g.row.R.Denot). x.journal.broken) c.self.view_is ∙ c.requires in
     λ _. same ∙ c.self.invariant whole ∙ sym (ap (λ (l : Ledger). l.saved) (c.in_ok-line.ensures.ledger ∙ c.in_ok-first.ensures.ledger))
 
-pub returns-in_ok-reply-in-Some-clause-does : goal.returns-in_ok-reply-in-Some-clause-does
-returns-in_ok-reply-in-Some-clause-does g c =
+pub returns-in_err-first : goal.returns-in_err-first
+returns-in_err-first g c =
+    let p = err_from_is_err_and c.from_residual.result c.from_residual.ensures.1 in
+    let e = c.in_err-first.field-0.0 in
+    let equipment : Equipment = record { tools = c.self.inside.tools; geometry = c.self.inside.geometry } in
+    let old : Station g.row.R.Denot = record { journal = c.self.inside.journal; session = c.self.inside.session; lines = c.self.inside.lines; equipment = equipment } in
+    let new : Station g.row.R.Denot = record { journal = c.first_kind_before.new.journal; session = c.self.inside.session; lines = c.self.inside.lines; equipment = equipment } in
+    rw (p.1) (carried_as g.R.Rig.honest g.R.Rig.life g.R.Rig.failed g.R.Rig.sectors (λ (x : Station g.row.R.Denot). Unit {0}) (λ (x : Station g.row.R.Denot). Unit {0}) (λ (x : Station g.row.R.Denot). Unit {0}) (λ (x : Station g.row.R.Denot) (program : List ℕ). begin x.equipment program x.session (line_at program x.session.stored.place)) (Err p.0) c.args.self.now old new c.self.view_is
+    (carried_lost g.R.Rig.honest g.R.Rig.life g.R.Rig.failed g.R.Rig.sectors (Unit {0}) (Unit {0}) (Unit {0}) p.0 e (λ (program : List ℕ). begin equipment program old.session (line_at program old.session.stored.place)) old new p.2
+    (does_begin_unfound {E = Fault} g.R.Rig.honest g.R.Rig.life e e c.place-place.result (λ (program : List ℕ). begin equipment program old.session (line_at program old.session.stored.place)) old new c.in_err-first.ensures.kind c.in_err-first.ensures.errors refl)
+    c.in_err-first.ensures.errors tt (λ program used. unused_begin equipment program old.session (line_at program old.session.stored.place) (ledger_of old.journal) used) refl refl c.in_err-first.ensures.broken c.in_err-first.ensures.size c.in_err-first.ensures.failures))
+
+pub returns-in_err-line : goal.returns-in_err-line
+returns-in_err-line g c =
+    let p = err_from_is_err_and c.from_residual-in_err-line.result c.from_residual-in_err-line.ensures.1 in
+    let e = c.in_err-line.field-0.0 in
+    let equipment : Equipment = record { tools = c.self.inside.tools; geometry = c.self.inside.geometry } in
+    let old : Station g.row.R.Denot = record { journal = c.self.inside.journal; session = c.self.inside.session; lines = c.self.inside.lines; equipment = equipment } in
+    let new : Station g.row.R.Denot = record { journal = c.program_line.new.self; session = c.self.inside.session; lines = c.self.inside.lines; equipment = equipment } in
+    rw (p.1) (carried_as g.R.Rig.honest g.R.Rig.life g.R.Rig.failed g.R.Rig.sectors (λ (x : Station g.row.R.Denot). Unit {0}) (λ (x : Station g.row.R.Denot). Unit {0}) (λ (x : Station g.row.R.Denot). Unit {0}) (λ (x : Station g.row.R.Denot) (program : List ℕ). begin x.equipment program x.session (line_at program x.session.stored.place)) (Err p.0) c.args.self.now old new c.self.view_is
+    (carried_lost g.R.Rig.honest g.R.Rig.life g.R.Rig.failed g.R.Rig.sectors (Unit {0}) (Unit {0}) (Unit {0}) p.0 e (λ (program : List ℕ). begin equipment program old.session (line_at program old.session.stored.place)) old new p.2
+    (does_begin_unread {E = Fault} {F = Fault} g.R.Rig.honest g.R.Rig.life e c.in_ok-first.first e c.place-place.result (λ (program : List ℕ). begin equipment program old.session (line_at program old.session.stored.place)) old new c.first_kind_before.new.journal
+    c.in_ok-first.ensures.kind c.in_err-line.ensures.line c.in_err-line.ensures.errors refl)
+    c.in_err-line.ensures.errors tt (λ program used. unused_begin equipment program old.session (line_at program old.session.stored.place) (ledger_of old.journal) used) refl refl c.in_err-line.ensures.broken (c.in_err-line.ensures.size ∙ c.in_ok-first.ensures.size)
+    (subst (λ (n : ℕ). Tells {T = Reply} (Err e) n (g.R.Rig.failed c.program_line.new.self.rig)) c.in_ok-first.ensures.failures c.in_err-line.ensures.failures)))
+
+pub returns-in_err-reply-in-Some : goal.returns-in_err-reply-in-Some
+returns-in_err-reply-in-Some g c =
+    let p = err_from_is_err_and c.from_residual-in_err-reply-in-Some.result c.from_residual-in_err-reply-in-Some.ensures.1 in
+    let equipment : Equipment = record { tools = c.self.inside.tools; geometry = c.self.inside.geometry } in
+    let old : Station g.row.R.Denot = record { journal = c.self.inside.journal; session = c.self.inside.session; lines = c.self.inside.lines; equipment = equipment } in
+    let new : Station g.row.R.Denot = record { journal = c.program_line.new.self; session = c.begin.new.self; lines = c.self.inside.lines; equipment = equipment } in
+    rw (p.1) (carried_as g.R.Rig.honest g.R.Rig.life g.R.Rig.failed g.R.Rig.sectors (λ (x : Station g.row.R.Denot). Unit {0}) (λ (x : Station g.row.R.Denot). Unit {0}) (λ (x : Station g.row.R.Denot). Unit {0}) (λ (x : Station g.row.R.Denot) (program : List ℕ). begin x.equipment program x.session (line_at program x.session.stored.place)) (Err p.0) c.args.self.now old new c.self.view_is
+    (carried_read g.R.Rig.honest g.R.Rig.life g.R.Rig.failed g.R.Rig.sectors (Unit {0}) (Unit {0}) (Unit {0}) p.0 (λ (program : List ℕ). begin equipment program old.session (line_at program old.session.stored.place)) old new p.2 tt
+    (does_begin_short g.R.Rig.honest g.R.Rig.life p.0 c.in_ok-first.first c.in_ok-line.field-0 c.place-place.result (λ (program : List ℕ). begin equipment program old.session (line_at program old.session.stored.place)) old new
+    (finding_both {E = Fault} {F = Fault} g.R.Rig.honest g.R.Rig.life c.in_ok-first.first c.in_ok-line.field-0 c.self.inside.lines c.place-place.result c.self.inside.journal c.first_kind_before.new.journal c.program_line.new.self
+    c.in_ok-first.ensures.kind c.in_ok-line.ensures.line) p.2 c.in_err-reply-in-Some.ensures.err refl)
+    refl c.in_err-reply-in-Some.ensures.err (c.in_ok-line.ensures.ledger ∙ c.in_ok-first.ensures.ledger) (λ none. absurd (none tt))
+    c.in_ok-line.ensures.broken (c.in_ok-line.ensures.size ∙ c.in_ok-first.ensures.size) (c.in_ok-line.ensures.failures ∙ c.in_ok-first.ensures.failures)))
+
+pub returns-in_ok-reply-in-Some : goal.returns-in_ok-reply-in-Some
+returns-in_ok-reply-in-Some g c =
     let equipment : Equipment = record { tools = c.self.inside.tools; geometry = c.self.inside.geometry } in
     let old : Station g.row.R.Denot = record { journal = c.self.inside.journal; session = c.self.inside.session; lines = c.self.inside.lines; equipment = equipment } in
     let new : Station g.row.R.Denot = record { journal = c.program_line.new.self; session = c.begin.new.self; lines = c.lines_behind-self-inside.result; equipment = equipment } in
@@ -65,43 +73,33 @@ returns-in_ok-reply-in-Some-clause-does g c =
     let read : line ≡ c.in-Some.line = (λ i. record { text = c.as_slice-text.ensures.value i; next = c.line.inside.next }) ∙ c.line.view_is in
     let reading = subst (λ (l : Option Line). Reading {E = Fault} g.R.Rig.honest g.R.Rig.life (Ok l) c.place-place.result c.first_kind_before.new.journal c.program_line.new.self)
     (c.in-Some.is ∙ ap (λ (l : Line). Some l) (sym read)) c.in_ok-line.ensures.line in
-    does_as g.R.Rig.honest g.R.Rig.life (Ok c.in_ok-reply-in-Some.reply) (λ (x : Station g.row.R.Denot) (program : List ℕ). begin x.equipment program x.session (line_at program x.session.stored.place)) c.args.self.now old new c.self.view_is
-    (does_begin g.R.Rig.honest g.R.Rig.life c.in_ok-reply-in-Some.reply c.in_ok-first.first (Some line) c.place-place.result old new c.place-place.ensures.value
-    (finding_both {E = Fault} {F = Fault} g.R.Rig.honest g.R.Rig.life c.in_ok-first.first (Some line) c.self.inside.lines c.place-place.result c.self.inside.journal c.first_kind_before.new.journal c.program_line.new.self
-    c.in_ok-first.ensures.kind reading)
-    (known_behind c.self.inside.lines c.lines_behind-self-inside.result c.place-place.result c.in_ok-first.first line c.lines_behind-self-inside.ensures) c.in_ok-reply-in-Some.ensures.reply c.in_ok-reply-in-Some.ensures.next)
+    carried_as g.R.Rig.honest g.R.Rig.life g.R.Rig.failed g.R.Rig.sectors (λ (x : Station g.row.R.Denot). Unit {0}) (λ (x : Station g.row.R.Denot). Unit {0}) (λ (x : Station g.row.R.Denot). Unit {0}) (λ (x : Station g.row.R.Denot) (program : List ℕ). begin x.equipment program x.session (line_at program x.session.stored.place)) (Ok c.in_ok-reply-in-Some.reply) c.args.self.now old new c.self.view_is (record {
+      does = does_begin g.R.Rig.honest g.R.Rig.life c.in_ok-reply-in-Some.reply c.in_ok-first.first (Some line) c.place-place.result old new c.place-place.ensures.value
+          (finding_both {E = Fault} {F = Fault} g.R.Rig.honest g.R.Rig.life c.in_ok-first.first (Some line) c.self.inside.lines c.place-place.result c.self.inside.journal c.first_kind_before.new.journal c.program_line.new.self
+          c.in_ok-first.ensures.kind reading)
+          (known_behind c.self.inside.lines c.lines_behind-self-inside.result c.place-place.result c.in_ok-first.first line c.lines_behind-self-inside.ensures) c.in_ok-reply-in-Some.ensures.reply c.in_ok-reply-in-Some.ensures.next;
+      comes = λ none. absurd (none tt);
+      hindered = tt;
+      broken = c.in_ok-line.ensures.broken;
+      equipment = refl;
+      size = c.in_ok-line.ensures.size ∙ c.in_ok-first.ensures.size;
+      failures = c.in_ok-line.ensures.failures ∙ c.in_ok-first.ensures.failures;
+    })
 
-pub returns-in-None-clause-does : goal.returns-in-None-clause-does
-returns-in-None-clause-does g c =
+pub returns-in-None : goal.returns-in-None
+returns-in-None g c =
     let equipment : Equipment = record { tools = c.self.inside.tools; geometry = c.self.inside.geometry } in
     let old : Station g.row.R.Denot = record { journal = c.self.inside.journal; session = c.self.inside.session; lines = c.self.inside.lines; equipment = equipment } in
     let new : Station g.row.R.Denot = record { journal = c.program_line.new.self; session = c.break_off.new.self; lines = c.self.inside.lines; equipment = equipment } in
     let reading = subst (λ (l : Option Line). Reading {E = Fault} g.R.Rig.honest g.R.Rig.life (Ok l) c.place-place.result c.first_kind_before.new.journal c.program_line.new.self) c.in-None.is c.in_ok-line.ensures.line in
-    does_as g.R.Rig.honest g.R.Rig.life (Ok c.break_off.result) (λ (x : Station g.row.R.Denot) (program : List ℕ). begin x.equipment program x.session (line_at program x.session.stored.place)) c.args.self.now old new c.self.view_is
-    (does_begin g.R.Rig.honest g.R.Rig.life c.break_off.result c.in_ok-first.first None c.place-place.result old new c.place-place.ensures.value
-    (finding_both {E = Fault} {F = Fault} g.R.Rig.honest g.R.Rig.life c.in_ok-first.first None c.self.inside.lines c.place-place.result c.self.inside.journal c.first_kind_before.new.journal c.program_line.new.self
-    c.in_ok-first.ensures.kind reading) (λ program true_of _ _. true_of) c.break_off.ensures.reply (λ program _. c.break_off.ensures.next program))
-
-pub returns-in_err-first-clause-stays : goal.returns-in_err-first-clause-stays
-returns-in_err-first-clause-stays g c =
-    let p = err_from_is_err_and c.from_residual.result c.from_residual.ensures.1 in
-    let equipment : Equipment = record { tools = c.self.inside.tools; geometry = c.self.inside.geometry } in
-    let old : Station g.row.R.Denot = record { journal = c.self.inside.journal; session = c.self.inside.session; lines = c.self.inside.lines; equipment = equipment } in
-    let new : Station g.row.R.Denot = record { journal = c.first_kind_before.new.journal; session = c.self.inside.session; lines = c.self.inside.lines; equipment = equipment } in
-    rw (p.1, ← c.self.view_is) (stays_read p.0 old new refl c.in_err-first.ensures.ledger)
-
-pub returns-in_err-line-clause-stays : goal.returns-in_err-line-clause-stays
-returns-in_err-line-clause-stays g c =
-    let p = err_from_is_err_and c.from_residual-in_err-line.result c.from_residual-in_err-line.ensures.1 in
-    let equipment : Equipment = record { tools = c.self.inside.tools; geometry = c.self.inside.geometry } in
-    let old : Station g.row.R.Denot = record { journal = c.self.inside.journal; session = c.self.inside.session; lines = c.self.inside.lines; equipment = equipment } in
-    let new : Station g.row.R.Denot = record { journal = c.program_line.new.self; session = c.self.inside.session; lines = c.self.inside.lines; equipment = equipment } in
-    rw (p.1, ← c.self.view_is) (stays_read p.0 old new refl (c.in_err-line.ensures.ledger ∙ c.in_ok-first.ensures.ledger))
-
-pub returns-in_err-reply-in-Some-clause-stays : goal.returns-in_err-reply-in-Some-clause-stays
-returns-in_err-reply-in-Some-clause-stays g c =
-    let p = err_from_is_err_and c.from_residual-in_err-reply-in-Some.result c.from_residual-in_err-reply-in-Some.ensures.1 in
-    let equipment : Equipment = record { tools = c.self.inside.tools; geometry = c.self.inside.geometry } in
-    let old : Station g.row.R.Denot = record { journal = c.self.inside.journal; session = c.self.inside.session; lines = c.self.inside.lines; equipment = equipment } in
-    let new : Station g.row.R.Denot = record { journal = c.program_line.new.self; session = c.begin.new.self; lines = c.self.inside.lines; equipment = equipment } in
-    rw (p.1, ← c.self.view_is) (stays_read p.0 old new c.in_err-reply-in-Some.ensures.err (c.in_ok-line.ensures.ledger ∙ c.in_ok-first.ensures.ledger))
+    carried_as g.R.Rig.honest g.R.Rig.life g.R.Rig.failed g.R.Rig.sectors (λ (x : Station g.row.R.Denot). Unit {0}) (λ (x : Station g.row.R.Denot). Unit {0}) (λ (x : Station g.row.R.Denot). Unit {0}) (λ (x : Station g.row.R.Denot) (program : List ℕ). begin x.equipment program x.session (line_at program x.session.stored.place)) (Ok c.break_off.result) c.args.self.now old new c.self.view_is (record {
+      does = does_begin g.R.Rig.honest g.R.Rig.life c.break_off.result c.in_ok-first.first None c.place-place.result old new c.place-place.ensures.value
+          (finding_both {E = Fault} {F = Fault} g.R.Rig.honest g.R.Rig.life c.in_ok-first.first None c.self.inside.lines c.place-place.result c.self.inside.journal c.first_kind_before.new.journal c.program_line.new.self
+          c.in_ok-first.ensures.kind reading) (λ program true_of _ _. true_of) c.break_off.ensures.reply (λ program _. c.break_off.ensures.next program);
+      comes = λ none. absurd (none tt);
+      hindered = tt;
+      broken = c.in_ok-line.ensures.broken;
+      equipment = refl;
+      size = c.in_ok-line.ensures.size ∙ c.in_ok-first.ensures.size;
+      failures = c.in_ok-line.ensures.failures ∙ c.in_ok-first.ensures.failures;
+    })

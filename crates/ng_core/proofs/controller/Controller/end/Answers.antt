@@ -1,55 +1,48 @@
-use Rattle.std.proofs.Common.{◌≡◌, ◌⊎◌, ℕ, true, List, Ok, sym, ◌∙◌, ap, subst}
-use Rattle.std.proofs.lemmas.Result.{IfErr-weaker}
-use Rattle.ng_num.specs.declared.fault.Fault.{Fault}
-use Rattle.ng_num.specs.declared.fault.Fault.TheVariants.{DeviceFailed, OutOfMemory}
-use Rattle.ng_journal.specs.Storing.{ledger_of}
+use Rattle.std.proofs.Common.{◌≡◌, ℕ, true, List, Option, Ok, refl, sym, ◌∙◌, ap, subst}
+use Rattle.std.specs.Option.{is_some}
+use Rattle.ng_layout.specs.Programs.{line_at}
 use Rattle.ng_session.specs.Entries.{Equipment}
-use Rattle.ng_session.specs.Session.{end, is_running, is_busy, IsBetweenLines}
+use Rattle.ng_session.specs.Session.{Underway, end, begin, is_running, is_busy, IsBetweenLines}
 use Rattle.ng_core.specs.Station.{Station}
-use Rattle.ng_core.specs.Acts.{ComesAnyway, Does}
-use Rattle.ng_core.specs.Causes.{IsHinderedBy}
-use Rattle.ng_core.proofs.Choosing.{does_next_line, by_none}
-use Rattle.ng_core.proofs.Hindering.{hindered_line}
+use Rattle.ng_core.specs.Acts.{CarriesOut}
+use Rattle.ng_core.proofs.Anyway.{comes_rest}
+use Rattle.ng_core.proofs.Carrying.{carried_to, by_some}
+use Rattle.ng_core.proofs.Choosing.{begins_there, by_none}
+use Rattle.ng_core.proofs.Hindering.{busy_block, busy_running}
 use Rattle.ng_core.proofs.Ticks.{does_rest}
-use Rattle.ng_core.proofs.Anyway.{comes_line, comes_rest}
 use Rattle.ng_core.proofs.controller.Controller.end.Goals as goal
 
-pub returns-then-is_running-clause-does : goal.returns-then-is_running-clause-does
-returns-then-is_running-clause-does g c =
-    let none = by_none _ c.after.result c.if-is_some.ensures c.after.ensures.after in
-    does_next_line g.R.Rig.honest g.R.Rig.life c.begin.result c.args.self.now c.begin.new.self
-    (sym (ap (λ (x : Station g.row.R.Denot). x.session.current) c.self.view_is) ∙ none)
-    (sym (ap (λ (x : Station g.row.R.Denot). is_running x.session.activity) c.self.view_is) ∙ sym c.if-is_running.ensures) c.begin.ensures.does
-
-pub returns-then-is_running-clause-hindered : goal.returns-then-is_running-clause-hindered
-returns-then-is_running-clause-hindered g c =
-    let none = by_none _ c.after.result c.if-is_some.ensures c.after.ensures.after in
+pub returns-then-is_some : goal.returns-then-is_some
+returns-then-is_some g c =
     let old : Station g.row.R.Denot = c.args.self.now in
-    IfErr-weaker c.begin.result (λ (fault : Fault). (fault ≡ OutOfMemory) ⊎ (fault ≡ DeviceFailed))
-    (IsHinderedBy (IsBetweenLines old.session) (is_busy old.session ≡ true) (ledger_of old.journal) (λ (program : List ℕ). end old.equipment program old.session old.session.current))
-    (hindered_line old.equipment old.session (ledger_of old.journal)
-    (sym (ap (λ (x : Station g.row.R.Denot). x.session.current) c.self.view_is) ∙ none)
-    (sym (ap (λ (x : Station g.row.R.Denot). is_running x.session.activity) c.self.view_is) ∙ sym c.if-is_running.ensures)) c.begin.ensures.hindered
+    let found = by_some _ _ c.after.result c.if-is_some.ensures c.after.ensures.after in
+    let block : is_some old.session.current ≡ true = sym (ap (λ (x : Station g.row.R.Denot). is_some x.session.current) c.self.view_is) ∙ ap (λ (o : Option Underway). is_some o) found.1.1 in
+    carried_to g.R.Rig.honest g.R.Rig.life g.R.Rig.failed g.R.Rig.sectors ⊥ (IsBetweenLines old.session) (Unit {0}) (is_busy old.session ≡ true) ⊥ (IsBetweenLines old.session) (λ (program : List ℕ). end old.equipment program old.session old.session.current) (λ (program : List ℕ). end old.equipment program old.session old.session.current) c.commit.result old c.commit.new.self
+    (λ none. absurd none) (λ u. busy_block (is_running old.session.activity) old.session.current block) (λ none. absurd none) (λ program. refl) c.commit.ensures
 
-pub returns-clause-does : goal.returns-clause-does
-returns-clause-does g c =
+pub returns-then-is_running : goal.returns-then-is_running
+returns-then-is_running g c =
+    let old : Station g.row.R.Denot = c.args.self.now in
+    let none = sym (ap (λ (x : Station g.row.R.Denot). x.session.current) c.self.view_is) ∙ by_none _ c.after.result c.if-is_some.ensures c.after.ensures.after in
+    let runs = sym (ap (λ (x : Station g.row.R.Denot). is_running x.session.activity) c.self.view_is) ∙ sym c.if-is_running.ensures in
+    carried_to g.R.Rig.honest g.R.Rig.life g.R.Rig.failed g.R.Rig.sectors (Unit {0}) (IsBetweenLines old.session) (Unit {0}) (is_busy old.session ≡ true) (Unit {0}) (IsBetweenLines old.session)
+    (λ (program : List ℕ). begin old.equipment program old.session (line_at program old.session.stored.place)) (λ (program : List ℕ). end old.equipment program old.session old.session.current) c.begin.result old c.begin.new.self
+    (λ u. (none, runs)) (λ u. busy_running (is_running old.session.activity) (is_some old.session.current) runs) (λ u. (none, runs))
+    (λ program. sym (begins_there old.equipment program old.session none runs)) c.begin.ensures
+
+pub returns : goal.returns
+returns g c =
     let equipment : Equipment = record { tools = c.self.inside.tools; geometry = c.self.inside.geometry } in
     let old : Station g.row.R.Denot = record { journal = c.self.inside.journal; session = c.self.inside.session; lines = c.self.inside.lines; equipment = equipment } in
+    let whole = ap (λ (x : Station g.row.R.Denot). x.journal.broken) c.self.view_is ∙ c.requires in
     let none = by_none _ c.after.result c.if-is_some.ensures c.after.ensures.after in
-    subst (λ (x : Station g.row.R.Denot). Does g.R.Rig.honest g.R.Rig.life (Ok c.rest.result) (λ program. end x.equipment program x.session x.session.current) x x) c.self.view_is
-    (does_rest g.R.Rig.honest g.R.Rig.life c.rest.result old none (sym c.if-is_running.ensures) c.rest.ensures)
-
-pub returns-then-is_running-clause-comes : goal.returns-then-is_running-clause-comes
-returns-then-is_running-clause-comes g c =
-    let none = by_none _ c.after.result c.if-is_some.ensures c.after.ensures.after in
-    comes_line c.begin.result c.args.self.now c.begin.new.self
-    (sym (ap (λ (x : Station g.row.R.Denot). x.session.current) c.self.view_is) ∙ none)
-    (sym (ap (λ (x : Station g.row.R.Denot). is_running x.session.activity) c.self.view_is) ∙ sym c.if-is_running.ensures) c.begin.ensures.stays
-
-pub returns-clause-comes : goal.returns-clause-comes
-returns-clause-comes g c =
-    let equipment : Equipment = record { tools = c.self.inside.tools; geometry = c.self.inside.geometry } in
-    let old : Station g.row.R.Denot = record { journal = c.self.inside.journal; session = c.self.inside.session; lines = c.self.inside.lines; equipment = equipment } in
-    let none = by_none _ c.after.result c.if-is_some.ensures c.after.ensures.after in
-    subst (λ (x : Station g.row.R.Denot). ComesAnyway (IsBetweenLines x.session) (Ok c.rest.result) (λ program. end x.equipment program x.session x.session.current) x x) c.self.view_is
-    (comes_rest (IsBetweenLines old.session) c.rest.result old none (sym c.if-is_running.ensures) c.rest.ensures)
+    subst (λ (x : Station g.row.R.Denot). CarriesOut g.R.Rig.honest g.R.Rig.life g.R.Rig.failed g.R.Rig.sectors (IsBetweenLines x.session) (is_busy x.session ≡ true) (IsBetweenLines x.session) (λ (program : List ℕ). end x.equipment program x.session x.session.current) (Ok c.rest.result) x x) c.self.view_is
+    (record {
+      does = does_rest g.R.Rig.honest g.R.Rig.life c.rest.result old none (sym c.if-is_running.ensures) c.rest.ensures;
+      comes = comes_rest (IsBetweenLines old.session) c.rest.result old none (sym c.if-is_running.ensures) c.rest.ensures;
+      hindered = tt;
+      broken = whole;
+      equipment = refl;
+      size = refl;
+      failures = refl;
+    })

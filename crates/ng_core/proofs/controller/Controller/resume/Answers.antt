@@ -1,65 +1,73 @@
-use Rattle.std.proofs.Common.{◌≡◌, ℕ, List, None, Ok, Err, refl, ◌∙◌}
+use Rattle.std.proofs.Common.{◌≡◌, ℕ, List, None, Ok, Err, refl, sym, ◌∙◌, ap, subst}
 use Rattle.std.proofs.lemmas.Result.{err_from_is_err_and}
 use Rattle.ng_num.specs.declared.fault.Fault.{Fault}
+use Rattle.ng_journal.specs.Storing.{ledger_of}
 use Rattle.ng_session.specs.Entries.{Equipment}
-use Rattle.ng_session.specs.Session.{resume, resume_refusal, IsProgramsLine}
+use Rattle.ng_session.specs.Session.{Sitting, resume, resume_refusal, IsProgramsLine}
 use Rattle.ng_session.specs.declared.reply.Reply.TheVariants as reply
 use Rattle.ng_core.specs.Station.{Station}
-use Rattle.ng_core.proofs.Choosing.{does_as}
-use Rattle.ng_core.proofs.Anyway.{comes_as}
+use Rattle.ng_core.proofs.Carrying.{carried_as, carried_lost, carried_read}
+use Rattle.ng_core.proofs.Hindering.{unused_resume}
 use Rattle.ng_core.proofs.Resuming.{does_not_resume, comes_not_resumed, does_resume, comes_resume, does_resume_short, does_resume_unread}
 use Rattle.ng_core.proofs.controller.Controller.resume.Goals as goal
 
-pub returns-in-Some-clause-does : goal.returns-in-Some-clause-does
-returns-in-Some-clause-does g c =
+pub returns-in-Some : goal.returns-in-Some
+returns-in-Some g c =
     let equipment : Equipment = record { tools = c.self.inside.tools; geometry = c.self.inside.geometry } in
     let old : Station g.row.R.Denot = record { journal = c.self.inside.journal; session = c.self.inside.session; lines = c.self.inside.lines; equipment = equipment } in
     let new : Station g.row.R.Denot = record { journal = c.self.inside.journal; session = c.resume_refusal.new.self; lines = c.self.inside.lines; equipment = equipment } in
-    does_as g.R.Rig.honest g.R.Rig.life (Ok (reply.Refused c.in-Some.fault)) (λ (x : Station g.row.R.Denot) (program : List ℕ). resume x.equipment program x.session) c.args.self.now old new c.self.view_is
-    (does_not_resume g.R.Rig.honest g.R.Rig.life c.in-Some.fault old new c.in-Some.ensures.refusal refl refl c.in-Some.ensures.same)
+    let whole = ap (λ (x : Station g.row.R.Denot). x.journal.broken) c.self.view_is ∙ c.requires in
+    carried_as g.R.Rig.honest g.R.Rig.life g.R.Rig.failed g.R.Rig.sectors (λ (x : Station g.row.R.Denot). resume_refusal x.equipment x.session ≡ None) (λ (x : Station g.row.R.Denot). (resume_refusal x.equipment x.session ≡ None) × IsProgramsLine x.session.stored.half) (λ (x : Station g.row.R.Denot). (resume_refusal x.equipment x.session ≡ None) × IsProgramsLine x.session.stored.half) (λ (x : Station g.row.R.Denot) (program : List ℕ). resume x.equipment program x.session) (Ok (reply.Refused c.in-Some.fault)) c.args.self.now old new c.self.view_is (record {
+      does = does_not_resume g.R.Rig.honest g.R.Rig.life c.in-Some.fault old new c.in-Some.ensures.refusal refl refl c.in-Some.ensures.same;
+      comes = comes_not_resumed ((resume_refusal equipment old.session ≡ None) × IsProgramsLine old.session.stored.half) c.in-Some.fault old new c.in-Some.ensures.refusal c.in-Some.ensures.same;
+      hindered = tt;
+      broken = whole;
+      equipment = refl;
+      size = refl;
+      failures = refl;
+    })
 
-pub returns-in-Some-clause-comes : goal.returns-in-Some-clause-comes
-returns-in-Some-clause-comes g c =
-    let equipment : Equipment = record { tools = c.self.inside.tools; geometry = c.self.inside.geometry } in
-    let old : Station g.row.R.Denot = record { journal = c.self.inside.journal; session = c.self.inside.session; lines = c.self.inside.lines; equipment = equipment } in
-    let new : Station g.row.R.Denot = record { journal = c.self.inside.journal; session = c.resume_refusal.new.self; lines = c.self.inside.lines; equipment = equipment } in
-    comes_as (λ (x : Station g.row.R.Denot). (resume_refusal x.equipment x.session ≡ None) × IsProgramsLine x.session.stored.half) (Ok (reply.Refused c.in-Some.fault)) (λ (x : Station g.row.R.Denot) (program : List ℕ). resume x.equipment program x.session) c.args.self.now old new c.self.view_is
-    (comes_not_resumed ((resume_refusal equipment old.session ≡ None) × IsProgramsLine old.session.stored.half) c.in-Some.fault old new c.in-Some.ensures.refusal c.in-Some.ensures.same)
-
-pub returns-in_err-next-clause-does : goal.returns-in_err-next-clause-does
-returns-in_err-next-clause-does g c =
+pub returns-in_err-next : goal.returns-in_err-next
+returns-in_err-next g c =
     let p = err_from_is_err_and c.from_residual.result c.from_residual.ensures.1 in
+    let e = c.in_err-next.field-0.0 in
     let equipment : Equipment = record { tools = c.self.inside.tools; geometry = c.self.inside.geometry } in
     let old : Station g.row.R.Denot = record { journal = c.self.inside.journal; session = c.self.inside.session; lines = c.self.inside.lines; equipment = equipment } in
     let new : Station g.row.R.Denot = record { journal = c.next_line.new.journal; session = c.resume_refusal.new.self; lines = c.self.inside.lines; equipment = equipment } in
-    rw (p.1) (does_as g.R.Rig.honest g.R.Rig.life (Err p.0) (λ (x : Station g.row.R.Denot) (program : List ℕ). resume x.equipment program x.session) c.args.self.now old new c.self.view_is
-    (does_resume_unread {E = Fault} g.R.Rig.honest g.R.Rig.life p.0 c.in_err-next.field-0.0 c.resume_refusal.new.self (λ (program : List ℕ). resume equipment program old.session) old new
-    c.in_err-next.ensures.next (p.2 ∙ c.in_err-next.ensures.errors.0) c.in_default.ensures.same))
+    let line : IsProgramsLine old.session.stored.half = subst (λ (s : Sitting). IsProgramsLine s.stored.half) c.in_default.ensures.same c.in_err-next.ensures.errors.1 in
+    rw (p.1) (carried_as g.R.Rig.honest g.R.Rig.life g.R.Rig.failed g.R.Rig.sectors (λ (x : Station g.row.R.Denot). resume_refusal x.equipment x.session ≡ None) (λ (x : Station g.row.R.Denot). (resume_refusal x.equipment x.session ≡ None) × IsProgramsLine x.session.stored.half) (λ (x : Station g.row.R.Denot). (resume_refusal x.equipment x.session ≡ None) × IsProgramsLine x.session.stored.half) (λ (x : Station g.row.R.Denot) (program : List ℕ). resume x.equipment program x.session) (Err p.0) c.args.self.now old new c.self.view_is
+    (carried_lost g.R.Rig.honest g.R.Rig.life g.R.Rig.failed g.R.Rig.sectors (resume_refusal equipment old.session ≡ None) ((resume_refusal equipment old.session ≡ None) × IsProgramsLine old.session.stored.half) ((resume_refusal equipment old.session ≡ None) × IsProgramsLine old.session.stored.half) p.0 e (λ (program : List ℕ). resume equipment program old.session) old new p.2
+    (does_resume_unread {E = Fault} g.R.Rig.honest g.R.Rig.life e e c.resume_refusal.new.self (λ (program : List ℕ). resume equipment program old.session) old new c.in_err-next.ensures.next c.in_err-next.ensures.errors.0 c.in_default.ensures.same)
+    c.in_err-next.ensures.errors.0 (sym c.in_default.ensures.refusal, line) (λ program used. unused_resume equipment program old.session (ledger_of old.journal) used)
+    refl c.in_default.ensures.same c.in_err-next.ensures.broken c.in_err-next.ensures.size c.in_err-next.ensures.failures))
 
-pub returns-in_err-resume-clause-does : goal.returns-in_err-resume-clause-does
-returns-in_err-resume-clause-does g c =
+pub returns-in_err-resume : goal.returns-in_err-resume
+returns-in_err-resume g c =
     let p = err_from_is_err_and c.from_residual-in_err-resume.result c.from_residual-in_err-resume.ensures.1 in
     let equipment : Equipment = record { tools = c.self.inside.tools; geometry = c.self.inside.geometry } in
     let old : Station g.row.R.Denot = record { journal = c.self.inside.journal; session = c.self.inside.session; lines = c.self.inside.lines; equipment = equipment } in
     let new : Station g.row.R.Denot = record { journal = c.next_line.new.journal; session = c.resume.new.self; lines = c.self.inside.lines; equipment = equipment } in
-    rw (p.1) (does_as g.R.Rig.honest g.R.Rig.life (Err p.0) (λ (x : Station g.row.R.Denot) (program : List ℕ). resume x.equipment program x.session) c.args.self.now old new c.self.view_is
-    (does_resume_short {E = Fault} g.R.Rig.honest g.R.Rig.life p.0 c.in_ok-next.next c.resume_refusal.new.self (λ (program : List ℕ). resume equipment program old.session) old new
-    c.in_ok-next.ensures.next p.2 (c.in_err-resume.ensures.err ∙ c.in_default.ensures.same) refl))
+    let same = c.in_err-resume.ensures.err ∙ c.in_default.ensures.same in
+    rw (p.1) (carried_as g.R.Rig.honest g.R.Rig.life g.R.Rig.failed g.R.Rig.sectors (λ (x : Station g.row.R.Denot). resume_refusal x.equipment x.session ≡ None) (λ (x : Station g.row.R.Denot). (resume_refusal x.equipment x.session ≡ None) × IsProgramsLine x.session.stored.half) (λ (x : Station g.row.R.Denot). (resume_refusal x.equipment x.session ≡ None) × IsProgramsLine x.session.stored.half) (λ (x : Station g.row.R.Denot) (program : List ℕ). resume x.equipment program x.session) (Err p.0) c.args.self.now old new c.self.view_is
+    (carried_read g.R.Rig.honest g.R.Rig.life g.R.Rig.failed g.R.Rig.sectors (resume_refusal equipment old.session ≡ None) ((resume_refusal equipment old.session ≡ None) × IsProgramsLine old.session.stored.half) ((resume_refusal equipment old.session ≡ None) × IsProgramsLine old.session.stored.half) p.0 (λ (program : List ℕ). resume equipment program old.session) old new p.2 (sym c.in_default.ensures.refusal)
+    (does_resume_short {E = Fault} g.R.Rig.honest g.R.Rig.life p.0 c.in_ok-next.next c.resume_refusal.new.self (λ (program : List ℕ). resume equipment program old.session) old new c.in_ok-next.ensures.next p.2 same refl)
+    refl same c.in_ok-next.ensures.ledger
+    (λ none. (c.in_ok-next.ensures.unread (λ line. none (sym c.in_default.ensures.refusal, subst (λ (s : Sitting). IsProgramsLine s.stored.half) c.in_default.ensures.same line))).0)
+    c.in_ok-next.ensures.broken c.in_ok-next.ensures.size c.in_ok-next.ensures.failures))
 
-pub returns-clause-does : goal.returns-clause-does
-returns-clause-does g c =
+pub returns : goal.returns
+returns g c =
     let equipment : Equipment = record { tools = c.self.inside.tools; geometry = c.self.inside.geometry } in
     let old : Station g.row.R.Denot = record { journal = c.self.inside.journal; session = c.self.inside.session; lines = c.self.inside.lines; equipment = equipment } in
     let new : Station g.row.R.Denot = record { journal = c.next_line.new.journal; session = c.resume.new.self; lines = c.self.inside.lines; equipment = equipment } in
-    does_as g.R.Rig.honest g.R.Rig.life (Ok c.in_ok-resume.field-0) (λ (x : Station g.row.R.Denot) (program : List ℕ). resume x.equipment program x.session) c.args.self.now old new c.self.view_is
-    (does_resume {E = Fault} g.R.Rig.honest g.R.Rig.life c.in_ok-resume.field-0 c.in_ok-next.next old new c.resume_refusal.new.self c.in_default.ensures.same c.in_ok-next.ensures.next refl
-    (λ program is. (c.in_ok-resume.ensures.reply program is, c.in_ok-resume.ensures.next program is)))
-
-pub returns-clause-comes : goal.returns-clause-comes
-returns-clause-comes g c =
-    let equipment : Equipment = record { tools = c.self.inside.tools; geometry = c.self.inside.geometry } in
-    let old : Station g.row.R.Denot = record { journal = c.self.inside.journal; session = c.self.inside.session; lines = c.self.inside.lines; equipment = equipment } in
-    let new : Station g.row.R.Denot = record { journal = c.next_line.new.journal; session = c.resume.new.self; lines = c.self.inside.lines; equipment = equipment } in
-    comes_as (λ (x : Station g.row.R.Denot). (resume_refusal x.equipment x.session ≡ None) × IsProgramsLine x.session.stored.half) (Ok c.in_ok-resume.field-0) (λ (x : Station g.row.R.Denot) (program : List ℕ). resume x.equipment program x.session) c.args.self.now old new c.self.view_is
-    (comes_resume c.in_ok-resume.field-0 c.in_ok-next.next old new c.resume_refusal.new.self c.in_default.ensures.same c.in_default.ensures.refusal (λ other. (c.in_ok-next.ensures.unread other).1)
-    (λ program is. (c.in_ok-resume.ensures.reply program is, c.in_ok-resume.ensures.next program is)))
+    carried_as g.R.Rig.honest g.R.Rig.life g.R.Rig.failed g.R.Rig.sectors (λ (x : Station g.row.R.Denot). resume_refusal x.equipment x.session ≡ None) (λ (x : Station g.row.R.Denot). (resume_refusal x.equipment x.session ≡ None) × IsProgramsLine x.session.stored.half) (λ (x : Station g.row.R.Denot). (resume_refusal x.equipment x.session ≡ None) × IsProgramsLine x.session.stored.half) (λ (x : Station g.row.R.Denot) (program : List ℕ). resume x.equipment program x.session) (Ok c.in_ok-resume.field-0) c.args.self.now old new c.self.view_is (record {
+      does = does_resume {E = Fault} g.R.Rig.honest g.R.Rig.life c.in_ok-resume.field-0 c.in_ok-next.next old new c.resume_refusal.new.self c.in_default.ensures.same c.in_ok-next.ensures.next refl
+          (λ program is. (c.in_ok-resume.ensures.reply program is, c.in_ok-resume.ensures.next program is));
+      comes = comes_resume c.in_ok-resume.field-0 c.in_ok-next.next old new c.resume_refusal.new.self c.in_default.ensures.same c.in_default.ensures.refusal (λ other. (c.in_ok-next.ensures.unread other).1)
+          (λ program is. (c.in_ok-resume.ensures.reply program is, c.in_ok-resume.ensures.next program is));
+      hindered = tt;
+      broken = c.in_ok-next.ensures.broken;
+      equipment = refl;
+      size = c.in_ok-next.ensures.size;
+      failures = c.in_ok-next.ensures.failures;
+    })

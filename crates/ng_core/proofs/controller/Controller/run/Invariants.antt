@@ -8,5 +8,5 @@ invariant-loop-event g l = record {
   room : length l.events ≤ vec_capacity l.replies;
   count : vec_len l.replies ≡ l.event-index;
   size : g.R.Rig.sectors l.self.journal.rig ≡ g.R.Rig.sectors l.fn.self.journal.rig;
-  turns : Turns g.R.Rig.honest g.R.Rig.life g.R.Rig.failed (take l.event-index l.events) l.replies.items l.fn.self l.self;
+  turns : Turns g.R.Rig.honest g.R.Rig.life g.R.Rig.failed g.R.Rig.sectors (take l.event-index l.events) l.replies.items l.fn.self l.self;
 }
