@@ -23,6 +23,7 @@ use Rattle.ng_core.specs.Station.{Station}
 use Rattle.ng_core.specs.Moments.{answered_by}
 use Rattle.ng_core.specs.Runs.{tried}
 use Rattle.ng_core.specs.Headline.{IsAccounted, IsPast, Accounts}
+use Rattle.ng_core.proofs.InTurn.{turns_history}
 use Rattle.ng_core.proofs.Histories.{Leads, IsLeftBy, leads, passed}
 use Rattle.ng_core.proofs.Timing.{weaker_said}
 
@@ -155,8 +156,10 @@ from_rest life x events replies first now p = record {
       (λ t image handed from l. accounted first.equipment x (items (life first.journal.rig)) events p.answers replies (answered_by t p.moments) image handed l);
 }
 
-pub accounts : {A R : Type 0} (life : R → Life) (x : Standing) (events : List (Event A)) (replies : List Reply) (first now : Station R) → IsPast life x events replies first now → Accounts life x events replies first now
-accounts life x events replies first now p =
+pub accounts : {A R : Type 0} (honest : R → Type 0) (life : R → Life) (failed sectors : R → ℕ) (x : Standing) (events : List (Event A)) (replies : List Reply) (first now : Station R)
+    → honest first.journal.rig → IsPast honest life failed sectors x events replies first now → Accounts life x events replies first now
+accounts honest life failed sectors x events replies first now h p =
+    let history = (turns_history honest life failed sectors events replies first now p.turns).holds h x.program (λ _. p.began.rests) in
     from_rest life x events replies first now
     (subst (λ (s : Sitting). Leads life events replies first.equipment (record { program = x.program; session = s }) (life first.journal.rig) now) p.began.session
-    (leads life events replies x.program first now p.history p.began.whole p.began.rests))
+    (leads life events replies x.program first now history p.began.whole p.began.rests))

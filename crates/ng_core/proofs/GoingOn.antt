@@ -10,7 +10,7 @@ use Rattle.ng_session.specs.declared.reply.Reply.{Reply}
 use Rattle.ng_core.specs.Station.{Station, Rests}
 use Rattle.ng_core.specs.Acts.{Serves, reply_to, broken_answer}
 use Rattle.ng_core.specs.Causes.{outcome_of}
-use Rattle.ng_core.specs.Runs.{History, Step, Serving, Stepping, program_behind}
+use Rattle.ng_core.proofs.History.{History, Step, Serving, Stepping, program_behind}
 
 -- So many of these events were answered: whatever comes of the rest makes a history of all.
 pub record GoesOn {A R : Type 0} (life : R → Life) (events rest : List (Event A)) (done : List Reply) (program : List ℕ) (old now : Station R) : Type 0 where
@@ -53,15 +53,15 @@ rests_behind {A} {R} life event (Err fault) here now next s rests whole =
 
 -- an event of a whole controller
 goes_whole : {A R : Type 0} (honest : R → Type 0) (life : R → Life) (failed sectors : R → ℕ) (events : List (Event A)) (event : Event A) (rest : List (Event A)) (done : List Reply) (r : Reply) (old now next : Station R)
-    → now.journal.broken ≡ false → Serves honest life failed sectors event r now next → next.equipment ≡ now.equipment
+    → now.journal.broken ≡ false → Serves honest life failed sectors event r now next
     → Promises (honest old.journal.rig) (honest now.journal.rig) (GoesFrom life events (event ∷ rest) done old now)
     → Promises (honest old.journal.rig) (honest next.journal.rig) (GoesFrom life events rest (done ++ r ∷ []) old next)
-goes_whole honest life failed sectors events event rest done r old now next whole s equipment p = record {
+goes_whole honest life failed sectors events event rest done r old now next whole s p = record {
   keeps = λ h. s.carried.does.keeps (p.keeps h);
   back = λ h. p.back (s.carried.does.back h);
   holds = λ h program rests.
       let g = p.holds h program rests in
-      let serving : Serving life s.answer event g.here now next = record { acts = s.carried.does.holds (p.keeps h) g.here (g.rests whole); hindered = s.carried.hindered; broken = s.carried.broken; equipment = equipment } in
+      let serving : Serving life s.answer event g.here now next = record { acts = s.carried.does.holds (p.keeps h) g.here (g.rests whole); hindered = s.carried.hindered; broken = s.carried.broken; equipment = s.carried.equipment } in
       goes_more life events event rest done r s.answer program old now next g
       (record { told_is = s.told_is; stepping = subst (λ (b : Bool). Stepping life b s.answer event g.here now next) (sym whole) serving })
       (rests_behind life event s.answer g.here now next serving (g.rests whole));
@@ -84,11 +84,11 @@ goes_broken {A} {R} honest life events event rest done r old now next broken sam
 
 pub goes_next : {A R : Type 0} (honest : R → Type 0) (life : R → Life) (failed sectors : R → ℕ) (events : List (Event A)) (event : Event A) (rest : List (Event A)) (done : List Reply) (r : Reply) (b : Bool) (old now next : Station R)
     → now.journal.broken ≡ b
-    → (now.journal.broken ≡ false → Serves honest life failed sectors event r now next) → next.equipment ≡ now.equipment
+    → (now.journal.broken ≡ false → Serves honest life failed sectors event r now next)
     → (now.journal.broken ≡ true → (next ≡ now) × (r ≡ reply_to (broken_answer now.session event)))
     → Promises (honest old.journal.rig) (honest now.journal.rig) (GoesFrom life events (event ∷ rest) done old now)
     → Promises (honest old.journal.rig) (honest next.journal.rig) (GoesFrom life events rest (done ++ r ∷ []) old next)
-goes_next honest life failed sectors events event rest done r false old now next is serves equipment broken p =
-    goes_whole honest life failed sectors events event rest done r old now next is (serves is) equipment p
-goes_next honest life failed sectors events event rest done r true old now next is serves equipment broken p =
+goes_next honest life failed sectors events event rest done r false old now next is serves broken p =
+    goes_whole honest life failed sectors events event rest done r old now next is (serves is) p
+goes_next honest life failed sectors events event rest done r true old now next is serves broken p =
     goes_broken honest life events event rest done r old now next is (broken is).0 (broken is).1 p

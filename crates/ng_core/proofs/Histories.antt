@@ -18,8 +18,9 @@ use Rattle.ng_session.specs.declared.reply.Reply.TheVariants as reply
 use Rattle.ng_core.specs.Station.{Station, Rests}
 use Rattle.ng_core.specs.Acts.{IsEitherLeft, reply_to, broken_answer, scene_of}
 use Rattle.ng_core.specs.Moments.{AtEachStop, IsRising, answered_by}
-use Rattle.ng_core.specs.Runs.{History, Step, Serving, Stepping, IsLeftBehind, Passes, came, came_by, told, told_by, tried, tried_by, program_behind}
+use Rattle.ng_core.specs.Runs.{IsLeftBehind, Passes, came, came_by, told, told_by, tried, tried_by}
 use Rattle.ng_core.specs.Causes.{outcome_of}
+use Rattle.ng_core.proofs.History.{History, Step, Serving, Stepping, program_behind}
 use Rattle.ng_core.proofs.Timing.{none_by, one_by, same_moment, same_each, same_rising, no_call, one_call, more_calls, weaker_said}
 
 -- ---- what a stop leaves, and how much of it was acknowledged

@@ -11,9 +11,9 @@ use Rattle.ng_session.specs.declared.event.Event.{Event}
 use Rattle.ng_session.specs.declared.reply.Reply.{Reply}
 use Rattle.ng_core.specs.Station.{Station, Rests}
 use Rattle.ng_core.specs.Acts.{Serves, reply_to, broken_answer, scene_of}
-use Rattle.ng_core.specs.Causes.{Hinders}
 use Rattle.ng_core.specs.Turns.{Turn, Turns}
 use Rattle.ng_core.specs.Runs.{Passes, Ran, FailsOnce}
+use Rattle.ng_core.proofs.History.{Hinders, History}
 use Rattle.ng_core.proofs.GoingOn.{GoesFrom, begins, ends, goes_next}
 use Rattle.ng_core.proofs.Histories.{passes}
 
@@ -60,26 +60,42 @@ turned honest life failed sectors all (event ∷ events) done [] old now new t p
 turned honest life failed sectors all (event ∷ events) done (r ∷ replies) old now new t p =
     subst (λ (l : List Reply). Promises (honest old.journal.rig) (honest new.journal.rig) (GoesFrom life all [] l old new)) (append_assoc done (r ∷ []) replies)
     (turned honest life failed sectors all events (done ++ r ∷ []) replies old t.0 new t.1.1
-    (goes_next honest life failed sectors all event events done r now.journal.broken old now t.0 refl t.1.0.serves t.1.0.equipment t.1.0.refuses p))
+    (goes_next honest life failed sectors all event events done r now.journal.broken old now t.0 refl t.1.0.serves t.1.0.refuses p))
+
+-- they have a history, whatever program rests there
+pub turns_history : {A R : Type 0} (honest : R → Type 0) (life : R → Life) (failed sectors : R → ℕ) (events : List (Event A)) (replies : List Reply) (old new : Station R)
+    → Turns honest life failed sectors events replies old new
+    → Promises (honest old.journal.rig) (honest new.journal.rig) ((program : List ℕ) → (old.journal.broken ≡ false → Rests (life old.journal.rig) old program) → History life events replies program old new)
+turns_history honest life failed sectors events replies old new t =
+    meaning (turned honest life failed sectors events events [] replies old old new t (promised (begins life events old)))
+    (λ g program rests. ends life events replies program old new (g program rests))
 
 pub turns_ran : {A R : Type 0} (honest : R → Type 0) (life : R → Life) (failed sectors : R → ℕ) (events : List (Event A)) (replies : List Reply) (old new : Station R)
     → Turns honest life failed sectors events replies old new
     → Promises (honest old.journal.rig) (honest new.journal.rig) (Ran life events replies old new)
 turns_ran honest life failed sectors events replies old new t =
-    meaning (turned honest life failed sectors events events [] replies old old new t (promised (begins life events old)))
-    (λ g. record {
-      history = λ program rests. ends life events replies program old new (g program rests);
-      passes = λ program whole rests. passes life events replies program old new (ends life events replies program old new (g program (λ _. rests))) whole rests;
-    })
+    meaning (turns_history honest life failed sectors events replies old new t)
+    (λ h program whole rests. passes life events replies program old new (h program (λ _. rests)) whole rests)
+
+-- the same of a device that is known to be honest
+pub turns_lead : {A R : Type 0} (honest : R → Type 0) (life : R → Life) (failed sectors : R → ℕ) (events : List (Event A)) (replies : List Reply) (program : List ℕ) (old new : Station R)
+    → honest old.journal.rig → Turns honest life failed sectors events replies old new → old.journal.broken ≡ false → Rests (life old.journal.rig) old program
+    → Passes life events replies old.equipment (scene_of program old) (life old.journal.rig) new
+turns_lead honest life failed sectors events replies program old new h t whole rests = (turns_ran honest life failed sectors events replies old new t).holds h program whole rests
 
 pub turns_pass : {A R : Type 0} (honest : R → Type 0) (life : R → Life) (failed sectors : R → ℕ) (events : List (Event A)) (replies : List Reply) (old new : Station R)
     → Turns honest life failed sectors events replies old new → old.journal.broken ≡ false
     → Promises (honest old.journal.rig) (honest new.journal.rig) ((program : List ℕ) → Rests (life old.journal.rig) old program
     → Passes life events replies old.equipment (scene_of program old) (life old.journal.rig) new)
 turns_pass honest life failed sectors events replies old new t whole =
-    meaning (turns_ran honest life failed sectors events replies old new t) (λ ran program rests. ran.passes program whole rests)
+    meaning (turns_ran honest life failed sectors events replies old new t) (λ ran program rests. ran program whole rests)
 
 -- ---- what they leave of any
+
+turn_equipment : {A R : Type 0} (honest : R → Type 0) (life : R → Life) (failed sectors : R → ℕ) (event : Event A) (r : Reply) (b : Bool) (old new : Station R)
+    → old.journal.broken ≡ b → Turn honest life failed sectors event r old new → new.equipment ≡ old.equipment
+turn_equipment honest life failed sectors event r false old new is t = (t.serves is).carried.equipment
+turn_equipment {A} {R} honest life failed sectors event r true old new is t = ap (λ (c : Station R). c.equipment) (t.refuses is).0
 
 pub turns_equipment : {A R : Type 0} (honest : R → Type 0) (life : R → Life) (failed sectors : R → ℕ) (events : List (Event A)) (replies : List Reply) (old new : Station R)
     → Turns honest life failed sectors events replies old new → new.equipment ≡ old.equipment
@@ -87,7 +103,7 @@ turns_equipment {A} {R} honest life failed sectors [] [] old new t = ap (λ (c :
 turns_equipment honest life failed sectors [] (r ∷ replies) old new t = absurd t
 turns_equipment honest life failed sectors (event ∷ events) [] old new t = absurd t
 turns_equipment honest life failed sectors (event ∷ events) (r ∷ replies) old new t =
-    turns_equipment honest life failed sectors events replies t.0 new t.1.1 ∙ t.1.0.equipment
+    turns_equipment honest life failed sectors events replies t.0 new t.1.1 ∙ turn_equipment honest life failed sectors event r old.journal.broken old t.0 refl t.1.0
 
 -- ---- the failures of the device
 

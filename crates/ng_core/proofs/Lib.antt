@@ -1,6 +1,7 @@
 pub mod Acting
 pub mod Quiet
 pub mod Timing
+pub mod History
 pub mod Histories
 pub mod Accounting
 pub mod GoingOn

@@ -4,9 +4,9 @@ use Rattle.std.specs.Option.{option_map}
 use Rattle.ng_num.specs.declared.fault.Fault.{Fault}
 use Rattle.ng_num.specs.declared.fault.Fault.TheVariants.{DeviceFailed, CountersUsed, OutOfMemory}
 use Rattle.ng_layout.specs.Stored.{Saved}
-use Rattle.ng_journal.specs.Storing.{Ledger, Storing, Commit, Open, Load, UsesUp, ledger_of}
+use Rattle.ng_journal.specs.Storing.{Ledger, Storing, Commit, Open, Load, UsesUp}
 use Rattle.ng_session.specs.Entries.{Entry, Block, Loaded, Referenced, Approached, Abandoned}
-use Rattle.ng_session.specs.Session.{Outcome, step, TakesMemory, AsksDevice}
+use Rattle.ng_session.specs.Session.{Outcome, step}
 use Rattle.ng_session.specs.declared.event.Event.{Event}
 use Rattle.ng_session.specs.declared.reply.Reply.{Reply}
 use Rattle.ng_session.specs.declared.reply.Reply.TheVariants as reply
@@ -59,6 +59,3 @@ IsHinderedBy memory device ledger told fault =
     ((fault ≡ OutOfMemory) × memory)
     ⊎ (((fault ≡ CountersUsed) × ((program : List ℕ) → IsUsedUp ledger (told program)))
     ⊎ ((fault ≡ DeviceFailed) × device × ((program : List ℕ) → IsUsedUp ledger (told program) → ⊥)))
-
-abbrev pub Hinders : {A R : Type 0} → Station R → Event A → Fault → Type 0
-Hinders c event fault = IsHinderedBy (TakesMemory c.equipment c.session event) (AsksDevice c.equipment c.session event) (ledger_of c.journal) (λ program. outcome_of c program event) fault

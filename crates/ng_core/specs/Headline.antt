@@ -15,7 +15,8 @@ use Rattle.ng_session.specs.declared.reply.Reply.{Reply}
 use Rattle.ng_core.specs.Station.{Station, Rests}
 use Rattle.ng_core.specs.Moments.{AtEachStop, answered_by}
 use Rattle.ng_core.specs.Powers.{Answer}
-use Rattle.ng_core.specs.Runs.{History, Passes, tried}
+use Rattle.ng_core.specs.Runs.{Passes, tried}
+use Rattle.ng_core.specs.Turns.{Turns}
 
 -- ---- what came since power on
 
@@ -26,9 +27,9 @@ pub record IsPoweredOn {R : Type 0} (life : R → Life) (x : Standing) (c : Stat
   pub rests : Rests (life c.journal.rig) c x.program
 
 -- What came from there until now: these events, each with its reply.
-pub record IsPast {A R : Type 0} (life : R → Life) (x : Standing) (events : List (Event A)) (replies : List Reply) (first now : Station R) : Type 0 where
+pub record IsPast {A R : Type 0} (honest : R → Type 0) (life : R → Life) (failed sectors : R → ℕ) (x : Standing) (events : List (Event A)) (replies : List Reply) (first now : Station R) : Type 0 where
   pub began : IsPoweredOn life x first
-  pub history : History life events replies x.program first now
+  pub turns : Turns honest life failed sectors events replies first now
 
 -- ---- what a stop leaves of it
 
@@ -53,10 +54,11 @@ pub record Accounts {A R : Type 0} (life : R → Life) (x : Standing) (events : 
 -- ---- what the calls promise of it
 
 -- Power on gives the first past, of no event: over the recovered of what stood, where only such a controller wrote it.
-abbrev pub BeginsPast : {R : Type 0} → Type 0 → (R → Life) → Answer R → Life → Type 0
-BeginsPast {R} A life result old = IsWritten (reads old) → IfOk result (λ c. (x : Standing) → recovered_of (stands (reads old)) ≡ Ok x → IsPast {A = A} life x [] [] c c)
+abbrev pub BeginsPast : {R : Type 0} → Type 0 → (R → Type 0) → (R → Life) → (failed sectors : R → ℕ) → Answer R → Life → Type 0
+BeginsPast {R} A honest life failed sectors result old =
+    IsWritten (reads old) → IfOk result (λ c. (x : Standing) → recovered_of (stands (reads old)) ≡ Ok x → IsPast {A = A} honest life failed sectors x [] [] c c)
 
 -- Each past has these events and replies behind it now, and all of it is accounted for.
-abbrev pub AddsToPast : {A R : Type 0} → (R → Life) → List (Event A) → List Reply → Station R → Station R → Type 0
-AddsToPast {A} {R} life events replies old new = (x : Standing) (past : List (Event A)) (told : List Reply) (first : Station R) → IsPast life x past told first old
-    → IsPast life x (past ++ events) (told ++ replies) first new × Accounts life x (past ++ events) (told ++ replies) first new
+abbrev pub AddsToPast : {A R : Type 0} → (R → Type 0) → (R → Life) → (failed sectors : R → ℕ) → List (Event A) → List Reply → Station R → Station R → Type 0
+AddsToPast {A} {R} honest life failed sectors events replies old new = (x : Standing) (past : List (Event A)) (told : List Reply) (first : Station R) → IsPast honest life failed sectors x past told first old
+    → IsPast honest life failed sectors x (past ++ events) (told ++ replies) first new × Accounts life x (past ++ events) (told ++ replies) first new

@@ -1,10 +1,16 @@
 -- What power on gives (own).
-use Rattle.std.specs.Prelude.{◌≡◌, ℕ, List, Result, Ok, Err, IfOk}
+use Rattle.std.specs.Prelude.{◌≡◌, ◌≤◌, ◌<◌, ℕ, false, List, Result, Ok, Err, IfOk, IfErr, IsErrAnd}
 use Rattle.ng_num.specs.declared.fault.Fault.{Fault}
+use Rattle.ng_num.specs.declared.fault.Fault.TheVariants.{NotFormatted, OutOfMemory}
+use Rattle.ng_rig.specs.Calls.{Promises}
 use Rattle.ng_rig.specs.Life.{Life, reads}
+use Rattle.ng_settings.specs.declared.standard.Settings.{Settings}
 use Rattle.ng_layout.specs.Stands.{stands, IsWritten}
+use Rattle.ng_layout.specs.Storable.{IsStorable}
+use Rattle.ng_journal.specs.Journal.{Tells}
 use Rattle.ng_journal.specs.Recover.{Answer as JournalAnswer, Recovers, rig_of as journal_rig_of, fault_of as journal_fault_of}
 use Rattle.ng_journal.specs.Recovery.{recovered_of}
+use Rattle.ng_session.specs.Session.{resting}
 use Rattle.ng_core.specs.Station.{Station, Rests}
 
 -- a controller; or a fault, and the device
@@ -34,3 +40,13 @@ pub record IsRecovered {R : Type 0} (c : Station R) (old new : Life) : Type 0 wh
 pub record Powers {R : Type 0} (result : Answer R) (old new : Life) : Type 0 where
   pub recovers : Recovers (journal_answer result) old new
   pub rests : IsWritten (reads old) → IfOk result (λ c. IsRecovered c old new)
+
+-- What power on gives, of any device: a whole controller at rest with what stands, or a fault and the device.
+pub record PowersOn {R : Type 0} (honest : R → Type 0) (life : R → Life) (failed sectors : R → ℕ) (settings : Settings) (rig : R) (answer : Answer R) : Type 0 where
+  pub powers : 1710 ≤ sectors rig → Promises (honest rig) (honest (rig_of answer)) (Powers answer (life rig) (life (rig_of answer)))
+  pub rests : IfOk answer (λ c. (c.journal.broken ≡ false) × (c.session ≡ resting c.journal.saved) × IsStorable c.session.stored)
+  pub equipment : IfOk answer (λ c. c.equipment ≡ record { tools = settings.tools; geometry = settings.geometry })
+  pub small : sectors rig < 1710 → IsErrAnd answer (λ e. (e.0 ≡ NotFormatted) × (e.1 ≡ rig))
+  pub memory : IfErr answer (λ e. e.0 ≡ OutOfMemory → e.1 ≡ rig)
+  pub size : sectors (rig_of answer) ≡ sectors rig
+  pub failures : Tells (fault_of answer) (failed rig) (failed (rig_of answer))

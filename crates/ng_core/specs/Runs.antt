@@ -1,52 +1,19 @@
 -- What a list of events does (own).
-use Rattle.std.specs.Prelude.{◌≡◌, ◌≤◌, ◌+◌, ◌%◌, ◌^◌, ℕ, suc, Bool, true, false, List, [], ◌∷◌, ◌++◌, length, map, take, Result, Ok, Err, IfErr}
+use Rattle.std.specs.Prelude.{◌≡◌, ◌≤◌, ◌+◌, ◌%◌, ◌^◌, ℕ, suc, Bool, true, false, List, [], ◌∷◌, ◌++◌, length, map, take, Result, Ok, Err}
 use Rattle.ng_num.specs.declared.fault.Fault.{Fault}
 use Rattle.ng_num.specs.declared.fault.Fault.TheVariants.{DeviceFailed}
 use Rattle.ng_canon.specs.declared.item.Item.{Item}
 use Rattle.ng_rig.specs.Life.{Image, Life, items, moment}
-use Rattle.ng_journal.specs.Journal.{StandsFor, IsBrokenBy}
+use Rattle.ng_journal.specs.Journal.{StandsFor}
 use Rattle.ng_session.specs.Entries.{Equipment}
-use Rattle.ng_session.specs.Session.{Outcome}
 use Rattle.ng_session.specs.Runs.{Scene, left_behind, replies_of, items_of, scene_behind}
 use Rattle.ng_session.specs.declared.event.Event.{Event}
 use Rattle.ng_session.specs.declared.reply.Reply.{Reply}
 use Rattle.ng_core.specs.Station.{Station, Rests}
-use Rattle.ng_core.specs.Causes.{Hinders, outcome_of}
-use Rattle.ng_core.specs.Acts.{Acts, reply_to, broken_answer, scene_of}
+use Rattle.ng_core.specs.Acts.{reply_to, scene_of}
 use Rattle.ng_core.specs.Moments.{AtEachStop, IsRising, answered_by}
 
--- the program that the device has behind an event: that of its outcome, where it was answered
-abbrev pub program_behind : Result Reply Fault → Outcome → List ℕ → List ℕ
-program_behind (Ok r) out program = out.program
-program_behind (Err fault) out program = program
-
--- An event came to its outcome in a whole controller, or was hindered; the controller is broken then where the device failed.
-pub record Serving {A R : Type 0} (life : R → Life) (answer : Result Reply Fault) (event : Event A) (program : List ℕ) (old new : Station R) : Type 0 where
-  pub acts : Acts answer (outcome_of old program event) program old new (life old.journal.rig) (life new.journal.rig)
-  pub hindered : IfErr answer (Hinders old event)
-  pub broken : IsBrokenBy answer new.journal.broken
-  pub equipment : new.equipment ≡ old.equipment
-
--- what an event does to a controller, broken or whole
-abbrev pub Stepping : {A R : Type 0} → (R → Life) → Bool → Result Reply Fault → Event A → List ℕ → Station R → Station R → Type 0
-Stepping life true answer event program old new = (answer ≡ broken_answer old.session event) × (new ≡ old)
-Stepping life false answer event program old new = Serving life answer event program old new
-
--- an event with its reply
-pub record Step {A R : Type 0} (life : R → Life) (event : Event A) (r : Reply) (answer : Result Reply Fault) (program : List ℕ) (old new : Station R) : Type 0 where
-  pub told_is : r ≡ reply_to answer
-  pub stepping : Stepping life old.journal.broken answer event program old new
-
--- One event after the other, each with its reply, from where the one before left controller and device.
-abbrev pub History : {A R : Type 0} → (R → Life) → List (Event A) → List Reply → List ℕ → Station R → Station R → Type 0
-History life [] [] program old new = new ≡ old
-History life [] (r ∷ replies) program old new = ⊥
-History life (event ∷ events) [] program old new = ⊥
-History {A} {R} life (event ∷ events) (r ∷ replies) program old new =
-    (answer : Result Reply Fault) × ((between : Station R) × (Step life event r answer program old between
-    × History life events replies (program_behind answer (outcome_of old program event) program) between new))
-
--- ---- what a history leaves, by the session alone
+-- ---- what came of them, by the session alone
 
 -- the events that the session answered, until the device failed
 abbrev pub came_by : {A : Type 0} → Result Reply Fault → Event A → List (Event A) → List (Event A)
@@ -103,13 +70,10 @@ pub record Passes {A R : Type 0} (life : R → Life) (events : List (Event A)) (
   pub rests : new.journal.broken ≡ false → Rests (life new.journal.rig) new (scene_behind equipment scene (came events answers)).program
   pub items_are : new.journal.broken ≡ false → items (life new.journal.rig) ≡ items lived ++ items_of equipment scene (came events answers)
 
--- ---- what a list of events did, by both
-
--- For whatever program rests there beside the session: the history, and what it is by the session alone.
-pub record Ran {A R : Type 0} (life : R → Life) (events : List (Event A)) (replies : List Reply) (old new : Station R) : Type 0 where
-  pub history : (program : List ℕ) → (old.journal.broken ≡ false → Rests (life old.journal.rig) old program) → History life events replies program old new
-  pub passes : (program : List ℕ) → old.journal.broken ≡ false → Rests (life old.journal.rig) old program
-      → Passes life events replies old.equipment (scene_of program old) (life old.journal.rig) new
+-- whatever program rests there beside the session, they pass as the session does
+abbrev pub Ran : {A R : Type 0} → (R → Life) → List (Event A) → List Reply → Station R → Station R → Type 0
+Ran life events replies old new = (program : List ℕ) → old.journal.broken ≡ false → Rests (life old.journal.rig) old program
+    → Passes life events replies old.equipment (scene_of program old) (life old.journal.rig) new
 
 -- The device counted one failure where the controller broke, and else none; once broken it stays so.
 abbrev pub FailsOnce : Bool → Bool → ℕ → ℕ → Type 0

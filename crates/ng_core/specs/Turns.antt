@@ -10,7 +10,6 @@ use Rattle.ng_core.specs.Station.{Station}
 pub record Turn {A R : Type 0} (honest : R → Type 0) (life : R → Life) (failed sectors : R → ℕ) (event : Event A) (r : Reply) (old new : Station R) : Type 0 where
   pub serves : old.journal.broken ≡ false → Serves honest life failed sectors event r old new
   pub refuses : old.journal.broken ≡ true → (new ≡ old) × (r ≡ reply_to (broken_answer old.session event))
-  pub equipment : new.equipment ≡ old.equipment
 
 -- events with their replies, each from where the one before left controller and device
 abbrev pub Turns : {A R : Type 0} → (R → Type 0) → (R → Life) → (failed sectors : R → ℕ) → List (Event A) → List Reply → Station R → Station R → Type 0

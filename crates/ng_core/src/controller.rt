@@ -77,7 +77,7 @@ impl<R: Rig, A: Allocator + Copy + Drop> Controller<R, A> {
         ensures broken { self.old.journal.broken ≡ true → (self.new ≡ self.old) × (result ≡ reply_to (broken_answer self.old.session event)) }
         ensures equipment { self.new.equipment ≡ self.old.equipment }
         ensures size { R.sectors self.new.journal.rig ≡ R.sectors self.old.journal.rig }
-        ensures past { Promises (R.honest self.old.journal.rig) (R.honest self.new.journal.rig) (AddsToPast R.life (event ∷ []) (result ∷ []) self.old self.new) }
+        ensures past { Promises (R.honest self.old.journal.rig) (R.honest self.new.journal.rig) (AddsToPast R.honest R.life R.failed R.sectors (event ∷ []) (result ∷ []) self.old self.new) }
     {
         self.reply(&event)
     }

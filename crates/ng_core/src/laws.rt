@@ -4,24 +4,25 @@ ghost use Rattle.ng_session.specs.declared.event.Event.{Event};
 ghost use Rattle.ng_session.specs.declared.reply.Reply.{Reply};
 ghost use Rattle.ng_core.specs.Station.{Station, Rests};
 ghost use Rattle.ng_core.specs.Acts.{scene_of};
-ghost use Rattle.ng_core.specs.Runs.{History, Passes};
+ghost use Rattle.ng_core.specs.Runs.{Passes};
+ghost use Rattle.ng_core.specs.Turns.{Turns};
 ghost use Rattle.ng_layout.specs.Stored.{Standing};
 ghost use Rattle.ng_core.specs.Headline.{IsPast, Accounts};
 
 use ng_rig::Rig;
 use std::alloc::Allocator;
 
-/// What a history leaves: one event after the other, each with its reply, is what the session makes of those events that came, and
-/// each stop since its beginning leaves what stands behind those that came until then, or behind the one under way too.
+/// What events leave of an honest device, one after the other, each with its reply: what the session makes of those that came, and
+/// each stop since their beginning leaves what stands behind those that came until then, or behind the one under way too.
 pub fn histories<R: Rig, A: Allocator>()
     ensures { (events : List (Event A)) (replies : List Reply) (program : List ℕ) (old new : Station R)
-        → History R.life events replies program old new → old.journal.broken ≡ false → Rests (R.life old.journal.rig) old program
+        → R.honest old.journal.rig → Turns R.honest R.life R.failed R.sectors events replies old new → old.journal.broken ≡ false → Rests (R.life old.journal.rig) old program
         → Passes R.life events replies old.equipment (scene_of program old) (R.life old.journal.rig) new }
 {}
 
-/// Whenever power is cut since power on, the plain interpreter accounts for what is left: by as many entries as were acknowledged until
+/// Whenever power of an honest device is cut since power on, the plain interpreter accounts for what is left: by as many entries as were acknowledged until
 /// then, or one more.
 pub fn accounts<R: Rig, A: Allocator>()
     ensures { (x : Standing) (events : List (Event A)) (replies : List Reply) (first now : Station R)
-        → IsPast R.life x events replies first now → Accounts R.life x events replies first now }
+        → R.honest first.journal.rig → IsPast R.honest R.life R.failed R.sectors x events replies first now → Accounts R.life x events replies first now }
 {}

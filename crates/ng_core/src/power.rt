@@ -1,12 +1,8 @@
 //! Power on: what a device stands for, and a session over it.
-ghost use Rattle.std.specs.Prelude.{◌≡◌, ◌≤◌, ◌<◌, false, IfOk, IfErr, IsErrAnd};
-ghost use Rattle.ng_num.specs.declared.fault.Fault.TheVariants.{NotFormatted, OutOfMemory};
+ghost use Rattle.std.specs.Prelude.{◌≤◌};
 ghost use Rattle.ng_rig.specs.Calls.{Promises};
-ghost use Rattle.ng_layout.specs.Storable.{IsStorable};
-ghost use Rattle.ng_session.specs.Session.{resting};
-ghost use Rattle.ng_journal.specs.Journal.{Tells};
 ghost use Rattle.ng_core.specs.Headline.{BeginsPast};
-ghost use Rattle.ng_core.specs.Powers.{Powers, rig_of, fault_of};
+ghost use Rattle.ng_core.specs.Powers.{PowersOn, rig_of};
 
 use crate::controller::Controller;
 use ng_journal::recover;
@@ -27,14 +23,8 @@ pub fn power_on<R: Rig, A: Allocator + Copy + Drop>(
     rig: R,
     settings: Settings,
 ) -> Result<Controller<R, A>, (Fault, R)>
-    ensures powers { let after = rig_of result in 1710 ≤ R.sectors rig → Promises (R.honest rig) (R.honest after) (Powers result (R.life rig) (R.life after)) }
-    ensures rests { IfOk result (λ c. (c.journal.broken ≡ false) × (c.session ≡ resting c.journal.saved) × IsStorable c.session.stored) }
-    ensures past { let after = rig_of result in 1710 ≤ R.sectors rig → Promises (R.honest rig) (R.honest after) (BeginsPast A R.life result (R.life rig)) }
-    ensures equipment { IfOk result (λ c. c.equipment ≡ record { tools = settings.tools; geometry = settings.geometry }) }
-    ensures small { R.sectors rig < 1710 → IsErrAnd result (λ e. (e.0 ≡ NotFormatted) × (e.1 ≡ rig)) }
-    ensures memory { IfErr result (λ e. e.0 ≡ OutOfMemory → e.1 ≡ rig) }
-    ensures size { let after = rig_of result in R.sectors after ≡ R.sectors rig }
-    ensures failures { let after = rig_of result in Tells (fault_of result) (R.failed rig) (R.failed after) }
+    ensures gives { PowersOn R.honest R.life R.failed R.sectors settings rig result }
+    ensures past { let after = rig_of result in 1710 ≤ R.sectors rig → Promises (R.honest rig) (R.honest after) (BeginsPast A R.honest R.life R.failed R.sectors result (R.life rig)) }
 {
     let Settings { geometry, tools } = settings;
     let (journal, stored) = recover(alloc, rig)?;

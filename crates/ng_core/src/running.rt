@@ -23,7 +23,7 @@ impl<R: Rig, A: Allocator + Copy + Drop> Controller<R, A> {
     pub fn run(&mut self, events: &[Event<A>]) -> Result<Vec<Reply, A>, Fault>
         ensures turns { IfOk result (λ replies. Turns R.honest R.life R.failed R.sectors events.now replies.items self.old self.new) }
         ensures ran { IfOk result (λ replies. Promises (R.honest self.old.journal.rig) (R.honest self.new.journal.rig) (Ran R.life events.now replies.items self.old self.new)) }
-        ensures past { IfOk result (λ replies. Promises (R.honest self.old.journal.rig) (R.honest self.new.journal.rig) (AddsToPast R.life events.now replies.items self.old self.new)) }
+        ensures past { IfOk result (λ replies. Promises (R.honest self.old.journal.rig) (R.honest self.new.journal.rig) (AddsToPast R.honest R.life R.failed R.sectors events.now replies.items self.old self.new)) }
         ensures each { IfOk result (λ replies. length replies.items ≡ length events.now) }
         ensures failures { IfOk result (λ replies. FailsOnce self.old.journal.broken self.new.journal.broken (R.failed self.old.journal.rig) (R.failed self.new.journal.rig)) }
         ensures equipment { self.new.equipment ≡ self.old.equipment }

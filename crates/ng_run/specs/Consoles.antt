@@ -16,7 +16,7 @@ use Rattle.ng_dialogue.specs.declared.order.Order.{Order}
 use Rattle.ng_dialogue.specs.declared.order.Order.TheVariants.{Ticks}
 use Rattle.ng_dialogue.specs.declared.telling.Unsent.{Unsent}
 use Rattle.ng_core.specs.Acts.{scene_of}
-use Rattle.ng_core.specs.Powers.{Answer, Powers, rig_of, fault_of}
+use Rattle.ng_core.specs.Powers.{Answer, PowersOn}
 use Rattle.ng_core.specs.Runs.{Passes}
 use Rattle.ng_core.specs.Station.{Station, Rests}
 use Rattle.ng_run.specs.Endings.{ended_by, status_of}
@@ -76,15 +76,6 @@ pub record Conversation {R : Type 0} (A : Type 0) (honest : R → Type 0) (life 
 
 -- ---- the console
 
--- What power on gives: a whole controller at rest with what stands, or a fault and the device.
-pub record PowersOn {R : Type 0} (sectors failed : R → ℕ) (honest : R → Type 0) (life : R → Life) (settings : Settings) (rig : R) (answer : Answer R) : Type 0 where
-  pub powers : 1710 ≤ sectors rig → Promises (honest rig) (honest (rig_of answer)) (Powers answer (life rig) (life (rig_of answer)))
-  pub rests : IfOk answer (λ c. (c.journal.broken ≡ false) × (c.session ≡ resting c.journal.saved) × IsStorable c.session.stored)
-  pub equipment : IfOk answer (λ c. c.equipment ≡ record { tools = settings.tools; geometry = settings.geometry })
-  pub small : sectors rig < 1710 → IsErrAnd answer (λ e. (e.0 ≡ NotFormatted) × (e.1 ≡ rig))
-  pub memory : IfErr answer (λ e. e.0 ≡ OutOfMemory → e.1 ≡ rig)
-  pub failures : Tells (fault_of answer) (failed rig) (failed (rig_of answer))
-
 -- a fault of power on is told, or a beginning of it
 abbrev pub Refuses : Fault → Result Ended Stop → Option (List ℕ) → Option (List ℕ) → Type 0
 Refuses fault (Ok ended) old new = (ended ≡ Unpowered) × Appends old new (refused_line fault)
@@ -98,7 +89,7 @@ GoesOn {R} A honest life failed sectors (Err e) ended left text old new = (left 
 -- A console over a device: power on, and what comes of it.
 pub record Runs {R : Type 0} (A : Type 0) (sectors failed : R → ℕ) (honest : R → Type 0) (life : R → Life) (settings : Settings) (rig : R) (text old new : Option (List ℕ)) (result : Result Ended Stop × R) : Type 0 where
   pub powered : Answer R
-  pub starts : PowersOn sectors failed honest life settings rig powered
+  pub starts : PowersOn honest life failed sectors settings rig powered
   pub goes_on : GoesOn A honest life failed sectors powered result.0 result.1 text old new
 
 -- the same, with the exit status

@@ -1,5 +1,5 @@
-use Rattle.ng_core.proofs.Histories.{passes}
+use Rattle.ng_core.proofs.InTurn.{turns_lead}
 use Rattle.ng_core.proofs.laws.histories.Goals as goal
 
 pub returns : goal.returns
-returns g c = passes g.R.Rig.life
+returns g c = turns_lead g.R.Rig.honest g.R.Rig.life g.R.Rig.failed g.R.Rig.sectors
