@@ -19,9 +19,9 @@ use Rattle.ng_session.specs.Cuts.{Follows, Nothing_open, Approach_open, Segment_
 use Rattle.ng_session.specs.declared.event.Event.{Event}
 use Rattle.ng_session.specs.declared.reply.Reply.{Reply}
 use Rattle.ng_session.proofs.Cutting.{cuts_behind_events}
-use Rattle.ng_core.specs.Station.{Station}
+use Rattle.ng_core.specs.Model.{ControllerModel}
 use Rattle.ng_core.specs.Moments.{answered_by}
-use Rattle.ng_core.specs.Runs.{tried}
+use Rattle.ng_core.specs.Runs.{tried_events}
 use Rattle.ng_core.specs.Headline.{IsAccounted, IsPast, Accounts}
 use Rattle.ng_core.proofs.InTurn.{turns_history}
 use Rattle.ng_core.proofs.Histories.{Leads, IsLeftBy, leads, passed}
@@ -75,10 +75,10 @@ taken_lines (suc n) [] text there = there
 taken_lines (suc n) (event ∷ events) text there = either_line (given_by event) (lines_given (take n events)) (lines_given events) (taken_lines n events) text there
 
 -- those that were tried
-tried_lines : {A : Type 0} (events : List (Event A)) (answers : List (Result Reply Fault)) → AreAmong (lines_given (tried events answers)) (lines_given events)
+tried_lines : {A : Type 0} (events : List (Event A)) (answers : List (Result Reply Fault)) → AreAmong (lines_given (tried_events events answers)) (lines_given events)
 tried_lines [] answers text there = there
 tried_lines (event ∷ events) [] text there = absurd (let few = there.1 in omega (arith, few))
-tried_lines (event ∷ events) (Ok r ∷ answers) text there = either_line (given_by event) (lines_given (tried events answers)) (lines_given events) (tried_lines events answers) text there
+tried_lines (event ∷ events) (Ok r ∷ answers) text there = either_line (given_by event) (lines_given (tried_events events answers)) (lines_given events) (tried_lines events answers) text there
 tried_lines (event ∷ events) (Err DeviceFailed ∷ answers) text there =
     either_line (given_by event) [] (lines_given events) (λ t c. absurd (let few = c.1 in omega (arith, few))) text there
 tried_lines (event ∷ events) (Err fault ∷ answers) text there = Contains-append_right (given_by event) (lines_given events) text (tried_lines events answers text there)
@@ -99,8 +99,8 @@ take_begun : {X : Type 0} (some rest : List X) → take (length some) (some ++ r
 take_begun [] rest = refl
 take_begun {X} (x ∷ some) rest = ap (λ (l : List X). x ∷ l) (take_begun some rest)
 
-begins_tried : {A : Type 0} (n : ℕ) (events : List (Event A)) (answers : List (Result Reply Fault)) → Begins (tried events answers) (tried (take n events) answers)
-begins_tried zero events answers = (tried events answers, refl)
+begins_tried : {A : Type 0} (n : ℕ) (events : List (Event A)) (answers : List (Result Reply Fault)) → Begins (tried_events events answers) (tried_events (take n events) answers)
+begins_tried zero events answers = (tried_events events answers, refl)
 begins_tried (suc n) [] answers = ([], refl)
 begins_tried (suc n) (event ∷ events) [] = ([], refl)
 begins_tried {A} (suc n) (event ∷ events) (Ok r ∷ answers) =
@@ -124,16 +124,16 @@ begins_executed {A} equipment scene all some p =
 
 accounted : {A : Type 0} (equipment : Equipment) (x : Standing) (given : List Item) (events : List (Event A)) (answers : List (Result Reply Fault)) (replies : List Reply) (n : ℕ) (image : Image) (handed : List Item)
     → IsLeftBy equipment (resting_scene x) given events answers replies n image handed
-    → IsAccounted equipment (lines_given (take (suc n) events)) x given (entries_of equipment (resting_scene x) (tried events answers)) (dones (take n replies)) image handed
+    → IsAccounted equipment (lines_given (take (suc n) events)) x given (entries_of equipment (resting_scene x) (tried_events events answers)) (dones (take n replies)) image handed
 accounted {A} equipment x given events answers replies n image handed p =
     let scene = resting_scene x in
-    let begun = tried (take (suc n) events) answers in
-    let some = take p.behind.count begun in
+    let begun = tried_events (take (suc n) events) answers in
+    let some = take p.after.count begun in
     let entries = entries_of equipment scene some in
-    let executed = entries_of equipment scene (tried events answers) in
+    let executed = entries_of equipment scene (tried_events events answers) in
     let cut = cuts_behind_events A equipment x given some in
     let left = left_behind equipment scene given some in
-    let first = begins_executed equipment scene (tried events answers) some (begins_on (tried events answers) begun some (begins_tried (suc n) events answers) (begins_taken p.behind.count begun)) in
+    let first = begins_executed equipment scene (tried_events events answers) some (begins_on (tried_events events answers) begun some (begins_tried (suc n) events answers) (begins_taken p.after.count begun)) in
     let same : take (length entries) executed ≡ entries = ap (λ (l : List Entry). take (length entries) l) first.1 ∙ take_begun entries first.0 in
     let long : length executed ≡ length (entries ++ first.0) = ap (λ (l : List Entry). length l) first.1 in
     record {
@@ -144,11 +144,11 @@ accounted {A} equipment x given events answers replies n image handed p =
       left = left;
       cut = subst (λ (l : List Entry). IsCut equipment (lines_given (take (suc n) events)) x given l left) (sym same)
           (more_cut equipment (lines_given some) (lines_given (take (suc n) events))
-          (λ text there. tried_lines (take (suc n) events) answers text (taken_lines p.behind.count begun text there)) x given entries left cut.0);
-      stands_for = p.behind.stands_for;
+          (λ text there. tried_lines (take (suc n) events) answers text (taken_lines p.after.count begun text there)) x given entries left cut.0);
+      stands_for = p.after.stands_for;
     }
 
-from_rest : {A R : Type 0} (life : R → Life) (x : Standing) (events : List (Event A)) (replies : List Reply) (first now : Station R)
+from_rest : {A R : Type 0} (life : R → Life) (x : Standing) (events : List (Event A)) (replies : List Reply) (first now : ControllerModel R)
     → Leads life events replies first.equipment (resting_scene x) (life first.journal.rig) now → Accounts life x events replies first now
 from_rest life x events replies first now p = record {
   passes = passed life events replies first.equipment (resting_scene x) (life first.journal.rig) now p;
@@ -156,7 +156,7 @@ from_rest life x events replies first now p = record {
       (λ t image handed from l. accounted first.equipment x (items (life first.journal.rig)) events p.answers replies (answered_by t p.moments) image handed l);
 }
 
-pub accounts : {A R : Type 0} (honest : R → Type 0) (life : R → Life) (failed sectors : R → ℕ) (x : Standing) (events : List (Event A)) (replies : List Reply) (first now : Station R)
+pub accounts : {A R : Type 0} (honest : R → Type 0) (life : R → Life) (failed sectors : R → ℕ) (x : Standing) (events : List (Event A)) (replies : List Reply) (first now : ControllerModel R)
     → honest first.journal.rig → IsPast honest life failed sectors x events replies first now → Accounts life x events replies first now
 accounts honest life failed sectors x events replies first now h p =
     let history = (turns_history honest life failed sectors events replies first now p.turns).holds h x.program (λ _. p.began.rests) in

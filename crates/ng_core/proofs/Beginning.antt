@@ -15,8 +15,8 @@ use Rattle.ng_session.specs.LinesBefore.{IsTrueOf, Next}
 use Rattle.ng_session.specs.Session.{Outcome, begin, shown}
 use Rattle.ng_session.specs.declared.lines_before.LinesBefore.{LinesBefore}
 use Rattle.ng_session.specs.declared.reply.Reply.{Reply}
-use Rattle.ng_core.specs.Station.{Station, standing_of}
-use Rattle.ng_core.specs.Acts.{Does}
+use Rattle.ng_core.specs.Model.{ControllerModel, standing_of_session}
+use Rattle.ng_core.specs.Events.{IsCarriedOutIfHonest}
 use Rattle.ng_core.proofs.Acting.{known_as, acts_read, acts_aside, acts_unread}
 use Rattle.ng_core.proofs.Quiet.{still_begin}
 
@@ -66,20 +66,20 @@ finding_both honest life first line known place old mid new p q = record {
       record { same = l.same ∙ f.same; at = l.at; first_is = f.kind; line_is = l.line };
 }
 
-abbrev begins : {R : Type 0} → Station R → List ℕ → Outcome
+abbrev begins : {R : Type 0} → ControllerModel R → List ℕ → Outcome
 begins c program = begin c.equipment program c.session (line_at program c.session.stored.place)
 
-pub does_begin : {R : Type 0} (honest : R → Type 0) (life : R → Life) (r : Reply) (first : Kind) (line : Option Line) (place : ℕ) (old new : Station R)
+pub does_begin : {R : Type 0} (honest : R → Type 0) (life : R → Life) (r : Reply) (first : Kind) (line : Option Line) (place : ℕ) (old new : ControllerModel R)
     → place ≡ old.session.stored.place → FindingBoth honest life first line old.lines place old.journal new.journal
     → ((program : List ℕ) → IsTrueOf program old.lines → line ≡ line_at program place → first ≡ first_kind (lines_before program place) → IsTrueOf program new.lines)
     → ((program : List ℕ) → first ≡ first_kind (lines_before program old.session.stored.place) → r ≡ (begin old.equipment program old.session line).reply)
     → ((program : List ℕ) → first ≡ first_kind (lines_before program old.session.stored.place) → new.session ≡ (begin old.equipment program old.session line).next)
-    → Does honest life (Ok r) (λ program. begin old.equipment program old.session (line_at program old.session.stored.place)) old new
+    → IsCarriedOutIfHonest honest life (Ok r) (λ program. begin old.equipment program old.session (line_at program old.session.stored.place)) old new
 does_begin honest life r first line place old new at p known replied next = record {
   keeps = p.keeps;
   back = p.back;
   holds = λ h program rests.
-      let f = p.holds h (standing_of program old.session) rests.0 rests.1 in
+      let f = p.holds h (standing_of_session program old.session) rests.0 rests.1 in
       let kind = f.first_is ∙ ap (λ (n : ℕ). first_kind (lines_before program n)) at in
       let there = f.line_is ∙ ap (λ (n : ℕ). line_at program n) at in
       let quiet = still_begin old.equipment program old.session (line_at program old.session.stored.place) in
@@ -91,43 +91,43 @@ does_begin honest life r first line place old new at p known replied next = reco
 }
 
 -- memory was wanting for the state after the line
-pub does_begin_short : {R : Type 0} (honest : R → Type 0) (life : R → Life) (fault : Fault) (first : Kind) (line : Option Line) (place : ℕ) (out : List ℕ → Outcome) (old new : Station R)
+pub does_begin_short : {R : Type 0} (honest : R → Type 0) (life : R → Life) (fault : Fault) (first : Kind) (line : Option Line) (place : ℕ) (out : List ℕ → Outcome) (old new : ControllerModel R)
     → FindingBoth honest life first line old.lines place old.journal new.journal → fault ≡ OutOfMemory → new.session ≡ old.session → new.lines ≡ old.lines
-    → Does honest life (Err fault) out old new
+    → IsCarriedOutIfHonest honest life (Err fault) out old new
 does_begin_short honest life fault first line place out old new p is same lines = record {
   keeps = p.keeps;
   back = p.back;
   holds = λ h program rests.
-      let f = p.holds h (standing_of program old.session) rests.0 rests.1 in
+      let f = p.holds h (standing_of_session program old.session) rests.0 rests.1 in
       acts_aside fault (out program) program old new (life old.journal.rig) (life new.journal.rig) (inl is) f.same same f.at (known_as program program old.lines new.lines refl lines rests.1);
 }
 
 -- the device failed in the first read, or in the second
-pub does_begin_unfound : {R E : Type 0} (honest : R → Type 0) (life : R → Life) (fault : Fault) (e : E) (place : ℕ) (out : List ℕ → Outcome) (old new : Station R)
+pub does_begin_unfound : {R E : Type 0} (honest : R → Type 0) (life : R → Life) (fault : Fault) (e : E) (place : ℕ) (out : List ℕ → Outcome) (old new : ControllerModel R)
     → Finding honest life (Err e) old.lines place old.journal new.journal → fault ≡ DeviceFailed → new.session ≡ old.session
-    → Does honest life (Err fault) out old new
+    → IsCarriedOutIfHonest honest life (Err fault) out old new
 does_begin_unfound honest life fault e place out old new p is same = record {
   keeps = p.keeps;
   back = p.back;
   holds = λ h program rests.
-      let f = p.holds h (standing_of program old.session) rests.0 rests.1 in
+      let f = p.holds h (standing_of_session program old.session) rests.0 rests.1 in
       acts_unread fault (out program) program old new (life old.journal.rig) (life new.journal.rig) is f.same (ap shown same);
 }
 
-pub does_begin_unread : {R E F : Type 0} (honest : R → Type 0) (life : R → Life) (fault : Fault) (first : Kind) (e : E) (place : ℕ) (out : List ℕ → Outcome) (old new : Station R) (mid : Logbook R)
+pub does_begin_unread : {R E F : Type 0} (honest : R → Type 0) (life : R → Life) (fault : Fault) (first : Kind) (e : E) (place : ℕ) (out : List ℕ → Outcome) (old new : ControllerModel R) (mid : Logbook R)
     → Finding {E = F} honest life (Ok first) old.lines place old.journal mid → Reading honest life (Err e) place mid new.journal → fault ≡ DeviceFailed → new.session ≡ old.session
-    → Does honest life (Err fault) out old new
+    → IsCarriedOutIfHonest honest life (Err fault) out old new
 does_begin_unread honest life fault first e place out old new mid p q is same = record {
   keeps = λ h. q.keeps (p.keeps h);
   back = λ h. p.back (q.back h);
   holds = λ h program rests.
-      let f = p.holds h (standing_of program old.session) rests.0 rests.1 in
-      let l = q.holds (p.keeps h) (standing_of program old.session) f.at in
+      let f = p.holds h (standing_of_session program old.session) rests.0 rests.1 in
+      let l = q.holds (p.keeps h) (standing_of_session program old.session) f.at in
       acts_unread fault (out program) program old new (life old.journal.rig) (life new.journal.rig) is (l.same ∙ f.same) (ap shown same);
 }
 
--- what is known behind a line
-pub known_behind : (known behind : LinesBefore) (place : ℕ) (first : Kind) (line : Line)
+-- what is known after a line
+pub known_after : (known behind : LinesBefore) (place : ℕ) (first : Kind) (line : Line)
     → ((program : List ℕ) → IsTrueOf program known → Next program place first line.text line.next → IsTrueOf program behind)
     → (program : List ℕ) → IsTrueOf program known → Some line ≡ line_at program place → first ≡ first_kind (lines_before program place) → IsTrueOf program behind
-known_behind known behind place first line goes program true_of at kind = goes program true_of (record { line = sym at; kind = kind })
+known_after known behind place first line goes program true_of at kind = goes program true_of (record { line = sym at; kind = kind })

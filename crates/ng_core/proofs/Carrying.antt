@@ -13,9 +13,9 @@ use Rattle.ng_session.specs.Session.{Underway, Sitting, Outcome, IsBetweenLines,
 use Rattle.ng_session.specs.declared.event.Event.{Event}
 use Rattle.ng_session.specs.declared.reply.Reply.{Reply}
 use Rattle.ng_session.specs.declared.reply.Reply.TheVariants as reply
-use Rattle.ng_core.specs.Station.{Station}
-use Rattle.ng_core.specs.Acts.{CarriesOut, CarriesOutEvent, Does, handing}
-use Rattle.ng_core.specs.Causes.{IsUsedUp, IsHinderedBy}
+use Rattle.ng_core.specs.Model.{ControllerModel}
+use Rattle.ng_core.specs.Events.{CarriesOut, CarriesOutEvent, IsCarriedOutIfHonest, handing}
+use Rattle.ng_core.specs.Causes.{UsesUpCounter, IsHinderedBy}
 use Rattle.ng_core.proofs.Anyway.{stays_same, unless_lost, comes_by, comes_to, comes_held, comes_item}
 use Rattle.ng_core.proofs.Choosing.{with_session, does_item}
 use Rattle.ng_core.proofs.Doing.{does_still, does_aside}
@@ -27,14 +27,14 @@ module _ {R : Type 0} (honest : R → Type 0) (life : R → Life) (failed sector
   -- ---- the same by other words
 
   -- from an equal controller
-  pub carried_as : (memory device reads : Station R → Type 0) (out : Station R → List ℕ → Outcome) (answer : Result Reply Fault) (old mid new : Station R)
+  pub carried_as : (memory device reads : ControllerModel R → Type 0) (out : ControllerModel R → List ℕ → Outcome) (answer : Result Reply Fault) (old mid new : ControllerModel R)
       → mid ≡ old → CarriesOut honest life failed sectors (memory mid) (device mid) (reads mid) (out mid) answer mid new
       → CarriesOut honest life failed sectors (memory old) (device old) (reads old) (out old) answer old new
   carried_as memory device reads out answer old mid new same c =
-      subst (λ (x : Station R). CarriesOut honest life failed sectors (memory x) (device x) (reads x) (out x) answer x new) same c
+      subst (λ (x : ControllerModel R). CarriesOut honest life failed sectors (memory x) (device x) (reads x) (out x) answer x new) same c
 
   -- of an equal outcome, and where memory is taken, the device is asked and a line is read in more cases
-  pub carried_to : (memory m device d reads e : Type 0) (out wanted : List ℕ → Outcome) (answer : Result Reply Fault) (old new : Station R)
+  pub carried_to : (memory m device d reads e : Type 0) (out wanted : List ℕ → Outcome) (answer : Result Reply Fault) (old new : ControllerModel R)
       → (memory → m) → (device → d) → (reads → e) → ((program : List ℕ) → out program ≡ wanted program)
       → CarriesOut honest life failed sectors memory device reads out answer old new → CarriesOut honest life failed sectors m d e wanted answer old new
   carried_to memory m device d reads e out wanted answer old new f g h equal c = record {
@@ -51,7 +51,7 @@ module _ {R : Type 0} (honest : R → Type 0) (life : R → Life) (failed sector
   -- ---- the device isn't asked
 
   -- the session answered
-  pub carried_still : (memory device reads : Type 0) (r : Reply) (out : List ℕ → Outcome) (old new : Station R)
+  pub carried_still : (memory device reads : Type 0) (r : Reply) (out : List ℕ → Outcome) (old new : ControllerModel R)
       → old.journal.broken ≡ false → ((program : List ℕ) → IsStill program old.session.stored (out program))
       → new.journal ≡ old.journal → new.lines ≡ old.lines → new.equipment ≡ old.equipment
       → ((program : List ℕ) → r ≡ (out program).reply) → ((program : List ℕ) → new.session ≡ (out program).next)
@@ -67,7 +67,7 @@ module _ {R : Type 0} (honest : R → Type 0) (life : R → Life) (failed sector
   }
 
   -- it refused
-  pub carried_refused : (memory device reads : Type 0) (fault : Fault) (out : List ℕ → Outcome) (c : Station R)
+  pub carried_refused : (memory device reads : Type 0) (fault : Fault) (out : List ℕ → Outcome) (c : ControllerModel R)
       → c.journal.broken ≡ false → ((program : List ℕ) → refuses program fault c.session ≡ out program)
       → CarriesOut honest life failed sectors memory device reads out (Ok (reply.Refused fault)) c c
   carried_refused memory device reads fault out c whole equal =
@@ -75,7 +75,7 @@ module _ {R : Type 0} (honest : R → Type 0) (life : R → Life) (failed sector
       (carried_still memory device reads (reply.Refused fault) (λ program. refuses program fault c.session) c c whole (λ program. still refl refl refl) refl refl refl (λ program. refl) (λ program. refl))
 
   -- memory was wanting
-  pub carried_short : (memory device reads : Type 0) (fault : Fault) (out : List ℕ → Outcome) (old new : Station R)
+  pub carried_short : (memory device reads : Type 0) (fault : Fault) (out : List ℕ → Outcome) (old new : ControllerModel R)
       → old.journal.broken ≡ false → fault ≡ OutOfMemory → memory
       → new.journal ≡ old.journal → new.lines ≡ old.lines → new.equipment ≡ old.equipment → new.session ≡ old.session
       → CarriesOut honest life failed sectors memory device reads out (Err fault) old new
@@ -92,7 +92,7 @@ module _ {R : Type 0} (honest : R → Type 0) (life : R → Life) (failed sector
       subst (λ (f : Fault). CarriesOut honest life failed sectors memory device reads out (Err f) old new) (sym is) short
 
   -- a counter is used up, as was seen before
-  pub carried_used : (memory device reads : Type 0) (out : List ℕ → Outcome) (c : Station R)
+  pub carried_used : (memory device reads : Type 0) (out : List ℕ → Outcome) (c : ControllerModel R)
       → c.journal.broken ≡ false → IsHinderedBy memory device (ledger_of c.journal) out CountersUsed
       → CarriesOut honest life failed sectors memory device reads out (Err CountersUsed) c c
   carried_used memory device reads out c whole hindered = record {
@@ -108,8 +108,8 @@ module _ {R : Type 0} (honest : R → Type 0) (life : R → Life) (failed sector
   -- ---- the device is asked
 
   -- for what is stored: a counter is used up, or it failed
-  pub carried_failed : (memory device reads : Type 0) (fault e : Fault) (out : List ℕ → Outcome) (old new : Station R)
-      → fault ≡ e → Does honest life (Err e) out old new → (e ≡ CountersUsed) ⊎ (e ≡ DeviceFailed) → (e ≡ CountersUsed → new.journal ≡ old.journal)
+  pub carried_failed : (memory device reads : Type 0) (fault e : Fault) (out : List ℕ → Outcome) (old new : ControllerModel R)
+      → fault ≡ e → IsCarriedOutIfHonest honest life (Err e) out old new → (e ≡ CountersUsed) ⊎ (e ≡ DeviceFailed) → (e ≡ CountersUsed → new.journal ≡ old.journal)
       → new.equipment ≡ old.equipment → new.session ≡ old.session → IsHinderedBy memory device (ledger_of old.journal) out e
       → IsBrokenBy {T = Reply} (Err e) new.journal.broken → sectors new.journal.rig ≡ sectors old.journal.rig → Tells {T = Reply} (Err e) (failed old.journal.rig) (failed new.journal.rig)
       → CarriesOut honest life failed sectors memory device reads out (Err fault) old new
@@ -126,8 +126,8 @@ module _ {R : Type 0} (honest : R → Type 0) (life : R → Life) (failed sector
       subst (λ (f : Fault). CarriesOut honest life failed sectors memory device reads out (Err f) old new) (sym is) there
 
   -- for what uses up no counter, and it failed
-  pub carried_lost : (memory device reads : Type 0) (fault e : Fault) (out : List ℕ → Outcome) (old new : Station R)
-      → fault ≡ e → Does honest life (Err e) out old new → e ≡ DeviceFailed → device → ((program : List ℕ) → IsUsedUp (ledger_of old.journal) (out program) → ⊥)
+  pub carried_lost : (memory device reads : Type 0) (fault e : Fault) (out : List ℕ → Outcome) (old new : ControllerModel R)
+      → fault ≡ e → IsCarriedOutIfHonest honest life (Err e) out old new → e ≡ DeviceFailed → device → ((program : List ℕ) → UsesUpCounter (ledger_of old.journal) (out program) → ⊥)
       → new.equipment ≡ old.equipment → new.session ≡ old.session
       → IsBrokenBy {T = Reply} (Err e) new.journal.broken → sectors new.journal.rig ≡ sectors old.journal.rig → Tells {T = Reply} (Err e) (failed old.journal.rig) (failed new.journal.rig)
       → CarriesOut honest life failed sectors memory device reads out (Err fault) old new
@@ -144,8 +144,8 @@ module _ {R : Type 0} (honest : R → Type 0) (life : R → Life) (failed sector
       subst (λ (f : Fault). CarriesOut honest life failed sectors memory device reads out (Err f) old new) (sym is) there
 
   -- for a line of the program, and then memory was wanting
-  pub carried_read : (memory device reads : Type 0) (fault : Fault) (out : List ℕ → Outcome) (old new : Station R)
-      → fault ≡ OutOfMemory → memory → Does honest life (Err fault) out old new
+  pub carried_read : (memory device reads : Type 0) (fault : Fault) (out : List ℕ → Outcome) (old new : ControllerModel R)
+      → fault ≡ OutOfMemory → memory → IsCarriedOutIfHonest honest life (Err fault) out old new
       → new.equipment ≡ old.equipment → new.session ≡ old.session → ledger_of new.journal ≡ ledger_of old.journal → ((reads → ⊥) → new.journal ≡ old.journal)
       → new.journal.broken ≡ false → sectors new.journal.rig ≡ sectors old.journal.rig → failed new.journal.rig ≡ failed old.journal.rig
       → CarriesOut honest life failed sectors memory device reads out (Err fault) old new
@@ -161,7 +161,7 @@ module _ {R : Type 0} (honest : R → Type 0) (life : R → Life) (failed sector
 
   -- ---- a Tick
 
-  pub carried_held : (memory device reads : Type 0) (c : Station R) → c.journal.broken ≡ false → c.session.held ≡ true
+  pub carried_held : (memory device reads : Type 0) (c : ControllerModel R) → c.journal.broken ≡ false → c.session.held ≡ true
       → CarriesOut honest life failed sectors memory device reads (λ program. tick c.equipment program c.session) (Ok reply.Held) c c
   carried_held memory device reads c whole held = record {
     does = does_held honest life c held;
@@ -183,7 +183,7 @@ module _ {R : Type 0} (honest : R → Type 0) (life : R → Life) (failed sector
   lost_alone ledger item s fault (inr (inl used)) = absurd (used.1 [])
   lost_alone ledger item s fault (inr (inr lost)) = lost.0
 
-  pub carried_item : (answer : Result Reply Fault) (item : Item) (old new : Station R) (taken : Sitting)
+  pub carried_item : (answer : Result Reply Fault) (item : Item) (old new : ControllerModel R) (taken : Sitting)
       → old.session.held ≡ false → Some item ≡ item_of old.session.current → taken ≡ handed old.session
       → CarriesOut honest life failed sectors ⊥ (Unit {0}) ⊥ (λ program. handing item program taken) answer (with_session old taken) new
       → CarriesOut honest life failed sectors ((old.session.held ≡ false) × IsBetweenLines old.session) ((old.session.held ≡ false) × (is_busy old.session ≡ true))
@@ -200,7 +200,7 @@ module _ {R : Type 0} (honest : R → Type 0) (life : R → Life) (failed sector
             (λ e lost. inr (inr (
               lost,
               (held, busy_block (is_running old.session.activity) old.session.current (some_item old.session.current item is)),
-              λ program used. subst (λ (o : Outcome). IsUsedUp ledger o) (tick_item old.equipment program old.session item held (sym is)) used,
+              λ program used. subst (λ (o : Outcome). UsesUpCounter ledger o) (tick_item old.equipment program old.session item held (sym is)) used,
             ))) errors;
         broken = c.broken;
         equipment = c.equipment;
@@ -208,7 +208,7 @@ module _ {R : Type 0} (honest : R → Type 0) (life : R → Life) (failed sector
         failures = c.failures;
       }
 
-  pub carried_further : (answer : Result Reply Fault) (old new : Station R) (left : Sitting)
+  pub carried_further : (answer : Result Reply Fault) (old new : ControllerModel R) (left : Sitting)
       → old.session.held ≡ false → None ≡ item_of old.session.current → left ≡ old.session
       → CarriesOut honest life failed sectors (IsBetweenLines left) (is_busy left ≡ true) (IsBetweenLines left) (λ program. open_next old.equipment program left (opening_of left.current)) answer (with_session old left) new
       → CarriesOut honest life failed sectors ((old.session.held ≡ false) × IsBetweenLines old.session) ((old.session.held ≡ false) × (is_busy old.session ≡ true))

@@ -15,40 +15,40 @@ use Rattle.ng_session.specs.Session.{Underway, Sitting, Outcome, tick, open_next
 use Rattle.ng_session.specs.declared.reply.Reply.{Reply}
 use Rattle.ng_session.specs.declared.stage.Stage.{Stage}
 use Rattle.ng_session.specs.declared.stage.Stage.TheVariants as stage
-use Rattle.ng_core.specs.Station.{Station}
-use Rattle.ng_core.specs.Acts.{Acts, Does, handing}
+use Rattle.ng_core.specs.Model.{ControllerModel}
+use Rattle.ng_core.specs.Events.{IsCarriedOut, IsCarriedOutIfHonest, handing}
 use Rattle.ng_core.proofs.Ticks.{does_on, tick_item, tick_none, opening}
 
 -- the same controller with this session
-abbrev pub with_session : {R : Type 0} → Station R → Sitting → Station R
+abbrev pub with_session : {R : Type 0} → ControllerModel R → Sitting → ControllerModel R
 with_session c s = record { journal = c.journal; session = s; lines = c.lines; equipment = c.equipment }
 
 -- ---- an item
 
 -- what became of the item counts as what became of the Tick: the session took it before, and shows the same
-acts_before : {R : Type 0} (answer : Result Reply Fault) (out : Outcome) (program : List ℕ) (old new : Station R) (lived living : Life)
-    → IfErr answer (λ e. e ≡ DeviceFailed) → Acts answer out program (with_session old (handed old.session)) new lived living → Acts answer out program old new lived living
+acts_before : {R : Type 0} (answer : Result Reply Fault) (out : Outcome) (program : List ℕ) (old new : ControllerModel R) (lived living : Life)
+    → IfErr answer (λ e. e ≡ DeviceFailed) → IsCarriedOut answer out program (with_session old (handed old.session)) new lived living → IsCarriedOut answer out program old new lived living
 acts_before (Ok r) out program old new lived living errors acts = record { comes = acts.comes; stops = acts.stops; leaves = acts.leaves; untouched = acts.untouched }
 acts_before {R} (Err fault) out program old new lived living errors acts =
-    let Goal : Fault → Type 0 = λ f. Acts (Err f) out program (with_session old (handed old.session)) new lived living → Acts (Err f) out program old new lived living in
+    let Goal : Fault → Type 0 = λ f. IsCarriedOut (Err f) out program (with_session old (handed old.session)) new lived living → IsCarriedOut (Err f) out program old new lived living in
     let lost : Goal DeviceFailed = λ z. record { comes = z.comes; stops = z.stops; leaves = z.leaves; untouched = tt } in
     let goal : Goal fault = subst Goal (sym errors) lost in
     goal acts
 
-does_before : {R : Type 0} (honest : R → Type 0) (life : R → Life) (answer : Result Reply Fault) (out : List ℕ → Outcome) (old new : Station R)
-    → IfErr answer (λ e. e ≡ DeviceFailed) → Does honest life answer out (with_session old (handed old.session)) new → Does honest life answer out old new
+does_before : {R : Type 0} (honest : R → Type 0) (life : R → Life) (answer : Result Reply Fault) (out : List ℕ → Outcome) (old new : ControllerModel R)
+    → IfErr answer (λ e. e ≡ DeviceFailed) → IsCarriedOutIfHonest honest life answer out (with_session old (handed old.session)) new → IsCarriedOutIfHonest honest life answer out old new
 does_before honest life answer out old new errors does =
     meaning does (λ f program rests. acts_before answer (out program) program old new (life old.journal.rig) (life new.journal.rig) errors (f program rests))
 
-pub does_item : {R : Type 0} (honest : R → Type 0) (life : R → Life) (answer : Result Reply Fault) (item : Item) (old new : Station R) (taken : Sitting)
+pub does_item : {R : Type 0} (honest : R → Type 0) (life : R → Life) (answer : Result Reply Fault) (item : Item) (old new : ControllerModel R) (taken : Sitting)
     → old.session.held ≡ false → Some item ≡ item_of old.session.current → taken ≡ handed old.session → IfErr answer (λ e. e ≡ DeviceFailed)
-    → Does honest life answer (λ program. handing item program taken) (with_session old taken) new
-    → Does honest life answer (λ program. tick old.equipment program old.session) old new
+    → IsCarriedOutIfHonest honest life answer (λ program. handing item program taken) (with_session old taken) new
+    → IsCarriedOutIfHonest honest life answer (λ program. tick old.equipment program old.session) old new
 does_item honest life answer item old new taken held is next errors does =
     does_on honest life answer (λ program. handing item program (handed old.session)) (λ program. tick old.equipment program old.session) old old new refl
     (λ program. sym (tick_item old.equipment program old.session item held (sym is)))
     (does_before honest life answer (λ program. handing item program (handed old.session)) old new errors
-    (subst (λ (s : Sitting). Does honest life answer (λ program. handing item program s) (with_session old s) new) next does))
+    (subst (λ (s : Sitting). IsCarriedOutIfHonest honest life answer (λ program. handing item program s) (with_session old s) new) next does))
 
 -- ---- none
 

@@ -17,7 +17,7 @@ use Rattle.ng_session.specs.Entries.{Equipment, done_of, done_again, after_load,
 use Rattle.ng_session.specs.Session.{Underway, Sitting, Outcome, open_next, end, begin, begin_by, load, load_unless, load_refusal, reference, reference_unless, reference_refusal, abandon, abandon_unless, abandon_refusal, refuses, resume, resume_half, resume_from, resume_by, is_at_rest, opening_of, opening_reply, entry_on, committed, is_running, is_busy, IsBetweenLines}
 use Rattle.ng_session.specs.declared.stage.Stage.{Stage}
 use Rattle.ng_session.specs.declared.stage.Stage.TheVariants as stage
-use Rattle.ng_core.specs.Causes.{IsUsedUp, IsHinderedBy, stored_for, with_entry}
+use Rattle.ng_core.specs.Causes.{UsesUpCounter, IsHinderedBy, stored_for, with_entry}
 use Rattle.ng_core.proofs.Ticks.{IsDue, opening}
 use Rattle.ng_core.proofs.Choosing.{begins_there}
 
@@ -25,8 +25,8 @@ use Rattle.ng_core.proofs.Choosing.{begins_there}
 pub hindered_as : {m n d e : Type 0} (ledger : Ledger) (told wanted : List ℕ → Outcome) → (m → n) → (d → e) → ((program : List ℕ) → told program ≡ wanted program)
     → (fault : Fault) → IsHinderedBy m d ledger told fault → IsHinderedBy n e ledger wanted fault
 hindered_as ledger told wanted f g same fault (inl short) = inl (short.0, f short.1)
-hindered_as ledger told wanted f g same fault (inr (inl used)) = inr (inl (used.0, λ program. subst (λ (o : Outcome). IsUsedUp ledger o) (same program) (used.1 program)))
-hindered_as ledger told wanted f g same fault (inr (inr lost)) = inr (inr (lost.0, g lost.1, λ program used. lost.2 program (subst (λ (o : Outcome). IsUsedUp ledger o) (sym (same program)) used)))
+hindered_as ledger told wanted f g same fault (inr (inl used)) = inr (inl (used.0, λ program. subst (λ (o : Outcome). UsesUpCounter ledger o) (same program) (used.1 program)))
+hindered_as ledger told wanted f g same fault (inr (inr lost)) = inr (inr (lost.0, g lost.1, λ program used. lost.2 program (subst (λ (o : Outcome). UsesUpCounter ledger o) (sym (same program)) used)))
 
 -- ---- a call of the journal that stores
 
@@ -108,30 +108,30 @@ some_half (Some c) half is = refl
 
 -- ---- a line that is begun uses up no counter
 
-unused_by : (P : List ℕ) (s : Sitting) (line : Line) (done : Result Done Fault) (ledger : Ledger) → IsUsedUp ledger (begin_by P s line done) → ⊥
+unused_by : (P : List ℕ) (s : Sitting) (line : Line) (done : Result Done Fault) (ledger : Ledger) → UsesUpCounter ledger (begin_by P s line done) → ⊥
 unused_by P s line (Ok done) ledger used = used
 unused_by P s line (Err fault) ledger used = used
 
-pub unused_begin : (q : Equipment) (P : List ℕ) (s : Sitting) (line : Option Line) (ledger : Ledger) → IsUsedUp ledger (begin q P s line) → ⊥
+pub unused_begin : (q : Equipment) (P : List ℕ) (s : Sitting) (line : Option Line) (ledger : Ledger) → UsesUpCounter ledger (begin q P s line) → ⊥
 unused_begin q P s None ledger used = used
 unused_begin q P s (Some line) ledger used = unused_by P s line (done_of q P s.stored source.Program line.text s.block_delete) ledger used
 
 -- nor does a half-done block that goes on
-unused_again : (P : List ℕ) (s : Sitting) (half : HalfDone) (from : Point) (done : Result Done Fault) (ledger : Ledger) → IsUsedUp ledger (resume_by P s half from done) → ⊥
+unused_again : (P : List ℕ) (s : Sitting) (half : HalfDone) (from : Point) (done : Result Done Fault) (ledger : Ledger) → UsesUpCounter ledger (resume_by P s half from done) → ⊥
 unused_again P s half from (Ok done) ledger used = used
 unused_again P s half from (Err fault) ledger used = used
 
-unused_from : (q : Equipment) (P : List ℕ) (s : Sitting) (half : HalfDone) (from : Option Point) (ledger : Ledger) → IsUsedUp ledger (resume_from q P s half from) → ⊥
+unused_from : (q : Equipment) (P : List ℕ) (s : Sitting) (half : HalfDone) (from : Option Point) (ledger : Ledger) → UsesUpCounter ledger (resume_from q P s half from) → ⊥
 unused_from q P s half None ledger used = used
 unused_from q P s half (Some from) ledger used = unused_again P s half from (done_again q s.stored half.text) ledger used
 
-unused_half : (q : Equipment) (P : List ℕ) (s : Sitting) (half : Option HalfDone) (ledger : Ledger) → IsUsedUp ledger (resume_half q P s half) → ⊥
+unused_half : (q : Equipment) (P : List ℕ) (s : Sitting) (half : Option HalfDone) (ledger : Ledger) → UsesUpCounter ledger (resume_half q P s half) → ⊥
 unused_half q P s None ledger used = used
 unused_half q P s (Some half) ledger used = unused_from q P s half half.at ledger used
 
-pub unused_resume : (q : Equipment) (P : List ℕ) (s : Sitting) (ledger : Ledger) → IsUsedUp ledger (resume q P s) → ⊥
+pub unused_resume : (q : Equipment) (P : List ℕ) (s : Sitting) (ledger : Ledger) → UsesUpCounter ledger (resume q P s) → ⊥
 unused_resume q P s ledger used = by (not (is_at_rest s)) used
   where
-    by : (b : Bool) → IsUsedUp ledger (if b then refuses P fault.Busy s else resume_half q P s s.stored.half) → ⊥
+    by : (b : Bool) → UsesUpCounter ledger (if b then refuses P fault.Busy s else resume_half q P s s.stored.half) → ⊥
     by true used = used
     by false used = unused_half q P s s.stored.half ledger used

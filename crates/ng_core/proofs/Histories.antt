@@ -15,26 +15,26 @@ use Rattle.ng_session.specs.declared.event.Event.{Event}
 use Rattle.ng_session.specs.declared.event.Event.TheVariants as event
 use Rattle.ng_session.specs.declared.reply.Reply.{Reply}
 use Rattle.ng_session.specs.declared.reply.Reply.TheVariants as reply
-use Rattle.ng_core.specs.Station.{Station, Rests}
-use Rattle.ng_core.specs.Acts.{IsEitherLeft, reply_to, broken_answer, scene_of}
+use Rattle.ng_core.specs.Model.{ControllerModel, IsAtRestWith}
+use Rattle.ng_core.specs.Events.{IsEitherLeft, reply_to, broken_answer, scene_of}
 use Rattle.ng_core.specs.Moments.{AtEachStop, IsRising, answered_by}
-use Rattle.ng_core.specs.Runs.{IsLeftBehind, Passes, came, came_by, told, told_by, tried, tried_by}
+use Rattle.ng_core.specs.Runs.{IsLeftAfterSome, PassesAsSession, answered_events, answered_events_by, session_replies, session_replies_by, tried_events, tried_events_by}
 use Rattle.ng_core.specs.Causes.{outcome_of}
-use Rattle.ng_core.proofs.History.{History, Step, Serving, Stepping, program_behind}
+use Rattle.ng_core.proofs.History.{History, Step, Serving, Stepping, program_after}
 use Rattle.ng_core.proofs.Timing.{none_by, one_by, same_moment, same_each, same_rising, no_call, one_call, more_calls, weaker_said}
 
 -- ---- what a stop leaves, and how much of it was acknowledged
 
--- A stop leaves what stands behind some of these events, no fewer than so many; of their replies so many are Done, or one more.
+-- A stop leaves what stands after some of these events, no fewer than so many; of their replies so many are Done, or one more.
 pub record IsLeftAt {A : Type 0} (equipment : Equipment) (scene : Scene) (given : List Item) (least : ℕ) (events : List (Event A)) (acknowledged : ℕ) (image : Image) (handed : List Item) : Type 0 where
-  pub behind : IsLeftBehind least equipment scene given events image handed
-  pub all : acknowledged ≤ dones (replies_of equipment scene (take behind.count events))
-  pub few : dones (replies_of equipment scene (take behind.count events)) ≤ acknowledged + 1
+  pub after : IsLeftAfterSome least equipment scene given events image handed
+  pub all : acknowledged ≤ dones (replies_of equipment scene (take after.count events))
+  pub few : dones (replies_of equipment scene (take after.count events)) ≤ acknowledged + 1
 
 -- the same where the first n events were answered
 abbrev pub IsLeftBy : {A : Type 0} → Equipment → Scene → List Item → List (Event A) → List (Result Reply Fault) → List Reply → ℕ → Image → List Item → Type 0
 IsLeftBy equipment scene given events answers replies n image handed =
-    IsLeftAt equipment scene given (length (came (take n events) answers)) (tried (take (suc n) events) answers) (dones (take n replies)) image handed
+    IsLeftAt equipment scene given (length (answered_events (take n events) answers)) (tried_events (take (suc n) events) answers) (dones (take n replies)) image handed
 
 as_items : (standing : Standing) (given more : List Item) (image : Image) (handed : List Item) → more ≡ given → StandsFor standing given image handed → StandsFor standing more image handed
 as_items standing given more image handed same p = subst (λ (l : List Item). StandsFor standing l image handed) (sym same) p
@@ -44,27 +44,27 @@ done_once (reply.Done n) = omega arith
 done_once _ = omega arith
 
 -- a stop within an event, from a device at rest
-either_left : {R : Type 0} (lived : Life) (program : List ℕ) (old : Station R) (after : Left) (image : Image) (handed : List Item) → Rests lived old program
+either_left : {R : Type 0} (lived : Life) (program : List ℕ) (old : ControllerModel R) (after : Left) (image : Image) (handed : List Item) → IsAtRestWith lived old program
     → StopSince lived (moment lived) image handed ⊎ IsEitherLeft (left_in (scene_of program old) (items lived)) after image handed
     → IsEitherLeft (left_in (scene_of program old) (items lived)) after image handed
 either_left lived program old after image handed rests either =
     ⊎_elim (λ stop. record { left = left_in (scene_of program old) (items lived); which = inl refl; stands_for = alone lived _ _ image handed rests.0.at stop }) (λ p. p) either
 
 module _ {A : Type 0} (equipment : Equipment) (scene : Scene) (given : List Item) (image : Image) (handed : List Item) where
-  -- at rest, behind none
+  -- at rest, after none
   none_left : StandsFor (left_in scene given).standing given image handed → IsLeftAt {A = A} equipment scene given 0 [] 0 image handed
   none_left stands = record {
-    behind = record { count = 0; all = omega arith; within = omega arith; stands_for = as_items _ given (given ++ []) image handed (append-nil given) stands };
+    after = record { count = 0; all = omega arith; within = omega arith; stands_for = as_items _ given (given ++ []) image handed (append-nil given) stands };
     all = omega arith;
     few = omega arith;
   }
 
-  -- before an event, or behind it
+  -- before an event, or after it
   one_left : (event : Event A) → IsEitherLeft (left_in scene given) (left_in (scene_after (leads_to equipment scene event)) (given ++ (leads_to equipment scene event).items)) image handed
       → IsLeftAt equipment scene given 0 (event ∷ []) 0 image handed
   one_left event p = elim p.which [
     | inl before ↦ record {
-      behind = record {
+      after = record {
         count = 0;
         all = omega arith;
         within = omega arith;
@@ -76,7 +76,7 @@ module _ {A : Type 0} (equipment : Equipment) (scene : Scene) (given : List Item
     | inr after ↦
         let once = done_once (leads_to equipment scene event).reply in
         record {
-          behind = record {
+          after = record {
             count = 1;
             all = omega arith;
             within = omega arith;
@@ -88,17 +88,17 @@ module _ {A : Type 0} (equipment : Equipment) (scene : Scene) (given : List Item
         }
   ]
 
-  -- behind an event and later ones
+  -- after an event and later ones
   more_left : (event : Event A) (r : Reply) (least : ℕ) (events : List (Event A)) (acknowledged : ℕ) → done_count r ≡ done_count (leads_to equipment scene event).reply
       → IsLeftAt equipment (scene_after (leads_to equipment scene event)) (given ++ (leads_to equipment scene event).items) least events acknowledged image handed
       → IsLeftAt equipment scene given (suc least) (event ∷ events) (done_count r + acknowledged) image handed
   more_left event r least events acknowledged same p = record {
-    behind = record {
-      count = suc p.behind.count;
-      all = omega (arith, p.behind.all);
-      within = omega (arith, p.behind.within);
-      stands_for = as_items _ ((given ++ (leads_to equipment scene event).items) ++ items_of equipment (scene_after (leads_to equipment scene event)) (take p.behind.count events)) _ image handed
-          (sym (append_assoc given (leads_to equipment scene event).items (items_of equipment (scene_after (leads_to equipment scene event)) (take p.behind.count events)))) p.behind.stands_for;
+    after = record {
+      count = suc p.after.count;
+      all = omega (arith, p.after.all);
+      within = omega (arith, p.after.within);
+      stands_for = as_items _ ((given ++ (leads_to equipment scene event).items) ++ items_of equipment (scene_after (leads_to equipment scene event)) (take p.after.count events)) _ image handed
+          (sym (append_assoc given (leads_to equipment scene event).items (items_of equipment (scene_after (leads_to equipment scene event)) (take p.after.count events)))) p.after.stands_for;
     };
     all = omega (arith, p.all, same);
     few = omega (arith, p.few, same);
@@ -115,20 +115,20 @@ module _ {A : Type 0} (equipment : Equipment) (scene : Scene) (given : List Item
 -- ---- what a history leads to
 
 -- What is left at each stop, with how much of it was acknowledged; and what stands now.
-pub record Leads {A R : Type 0} (life : R → Life) (events : List (Event A)) (replies : List Reply) (equipment : Equipment) (scene : Scene) (lived : Life) (new : Station R) : Type 0 where
+pub record Leads {A R : Type 0} (life : R → Life) (events : List (Event A)) (replies : List Reply) (equipment : Equipment) (scene : Scene) (lived : Life) (new : ControllerModel R) : Type 0 where
   pub answers : List (Result Reply Fault)
   pub replies_are : replies ≡ map reply_to answers
-  pub told_is : told answers ≡ replies_of equipment scene (came events answers)
+  pub told_is : session_replies answers ≡ replies_of equipment scene (answered_events events answers)
   pub moments : List ℕ
   pub each : length moments ≡ length events
   pub rising : IsRising (moment lived) (moment (life new.journal.rig)) moments
   pub stops : AtEachStop lived (life new.journal.rig) (λ t. IsLeftBy equipment scene (items lived) events answers replies (answered_by t moments))
-  pub session_is : new.journal.broken ≡ false → new.session ≡ (scene_behind equipment scene (came events answers)).session
-  pub rests : new.journal.broken ≡ false → Rests (life new.journal.rig) new (scene_behind equipment scene (came events answers)).program
-  pub items_are : new.journal.broken ≡ false → items (life new.journal.rig) ≡ items lived ++ items_of equipment scene (came events answers)
+  pub session_is : new.journal.broken ≡ false → new.session ≡ (scene_behind equipment scene (answered_events events answers)).session
+  pub rests : new.journal.broken ≡ false → IsAtRestWith (life new.journal.rig) new (scene_behind equipment scene (answered_events events answers)).program
+  pub items_are : new.journal.broken ≡ false → items (life new.journal.rig) ≡ items lived ++ items_of equipment scene (answered_events events answers)
 
 -- once the device failed, nothing changes any more, and nothing is acknowledged
-record Idles {R : Type 0} (replies : List Reply) (old new : Station R) : Type 0 where
+record Idles {R : Type 0} (replies : List Reply) (old new : ControllerModel R) : Type 0 where
   answers : List (Result Reply Fault)
   replies_are : replies ≡ map reply_to answers
   none : (n : ℕ) → dones (take n replies) ≡ 0
@@ -142,7 +142,7 @@ none_more : (r : Reply) (replies : List Reply) → done_count r ≡ 0 → ((n : 
 none_more r replies is none zero = refl
 none_more r replies is none (suc n) = let rest = none n in omega (arith, is, rest)
 
-idles_more : {A R : Type 0} (life : R → Life) (event : Event A) (r : Reply) (replies : List Reply) (answer : Result Reply Fault) (program : List ℕ) (old between new : Station R)
+idles_more : {A R : Type 0} (life : R → Life) (event : Event A) (r : Reply) (replies : List Reply) (answer : Result Reply Fault) (program : List ℕ) (old between new : ControllerModel R)
     → old.journal.broken ≡ true → Step life event r answer program old between → Idles replies between new → Idles (r ∷ replies) old new
 idles_more life event r replies answer program old between new broken step rest =
     let turn : Stepping life true answer event program old between = subst (λ (b : Bool). Stepping life b answer event program old between) broken step.stepping in
@@ -153,7 +153,7 @@ idles_more life event r replies answer program old between new broken step rest 
       same = rest.same ∙ turn.1;
     }
 
-idles : {A R : Type 0} (life : R → Life) (events : List (Event A)) (replies : List Reply) (program : List ℕ) (old new : Station R)
+idles : {A R : Type 0} (life : R → Life) (events : List (Event A)) (replies : List Reply) (program : List ℕ) (old new : ControllerModel R)
     → History life events replies program old new → old.journal.broken ≡ true → Idles replies old new
 idles life [] [] program old new h broken = record { answers = []; replies_are = refl; none = none_taken; same = h }
   where
@@ -167,11 +167,11 @@ idles life (event ∷ events) (r ∷ replies) program old new h broken =
     let between = h.1.0 in
     let turn : Stepping life true answer event program old between = subst (λ (b : Bool). Stepping life b answer event program old between) broken h.1.1.0.stepping in
     idles_more life event r replies answer program old between new broken h.1.1.0
-    (idles life events replies (program_behind answer (outcome_of old program event) program) between new h.1.1.1 (ap (λ (c : Station _). c.journal.broken) turn.1 ∙ broken))
+    (idles life events replies (program_after answer (outcome_of old program event) program) between new h.1.1.1 (ap (λ (c : ControllerModel _). c.journal.broken) turn.1 ∙ broken))
 
 -- the rest of a history leads on, from where an answered event left the controller
-led_on : {A R : Type 0} (life : R → Life) (event : Event A) (events : List (Event A)) (r v : Reply) (replies : List Reply) (program : List ℕ) (old between new : Station R)
-    → r ≡ v → Serving life (Ok v) event program old between → Rests (life old.journal.rig) old program
+led_on : {A R : Type 0} (life : R → Life) (event : Event A) (events : List (Event A)) (r v : Reply) (replies : List Reply) (program : List ℕ) (old between new : ControllerModel R)
+    → r ≡ v → Serving life (Ok v) event program old between → IsAtRestWith (life old.journal.rig) old program
     → Leads life events replies between.equipment (scene_of (outcome_of old program event).program between) (life between.journal.rig) new
     → Leads life (event ∷ events) (r ∷ replies) old.equipment (scene_of program old) (life old.journal.rig) new
 led_on life event events r v replies program old between new told_is s rests p =
@@ -202,13 +202,13 @@ led_on life event events r v replies program old between new told_is s rests p =
           (subst (λ (before : List Item). IsLeftBy old.equipment (scene_after out) before events q.answers replies (answered_by t q.moments) image handed) s.acts.leaves.1 l)));
       session_is = q.session_is;
       rests = q.rests;
-      items_are = λ whole. q.items_are whole ∙ ap (λ (l : List Item). l ++ items_of old.equipment (scene_after out) (came events q.answers)) s.acts.leaves.1
-          ∙ append_assoc given out.items (items_of old.equipment (scene_after out) (came events q.answers));
+      items_are = λ whole. q.items_are whole ∙ ap (λ (l : List Item). l ++ items_of old.equipment (scene_after out) (answered_events events q.answers)) s.acts.leaves.1
+          ∙ append_assoc given out.items (items_of old.equipment (scene_after out) (answered_events events q.answers));
     }
 
 -- an event that was set aside changed nothing
-led_aside : {A R : Type 0} (life : R → Life) (event : Event A) (events : List (Event A)) (r : Reply) (replies : List Reply) (fault : Fault) (equipment : Equipment) (scene : Scene) (lived : Life) (new : Station R)
-    → ((l : List (Event A)) → came_by (Err fault) event l ≡ l) → ((l : List (Event A)) → tried_by (Err fault) event l ≡ l) → ((l : List Reply) → told_by (Err fault) l ≡ l)
+led_aside : {A R : Type 0} (life : R → Life) (event : Event A) (events : List (Event A)) (r : Reply) (replies : List Reply) (fault : Fault) (equipment : Equipment) (scene : Scene) (lived : Life) (new : ControllerModel R)
+    → ((l : List (Event A)) → answered_events_by (Err fault) event l ≡ l) → ((l : List (Event A)) → tried_events_by (Err fault) event l ≡ l) → ((l : List Reply) → session_replies_by (Err fault) l ≡ l)
     → r ≡ reply.Refused fault → Leads life events replies equipment scene lived new
     → Leads life (event ∷ events) (r ∷ replies) equipment scene lived new
 led_aside life event events r replies fault equipment scene lived new no_more no_try no_word told_is p =
@@ -218,7 +218,7 @@ led_aside life event events r replies fault equipment scene lived new no_more no
     record {
       answers = answers;
       replies_are = λ i. told_is i ∷ p.replies_are i;
-      told_is = rw (no_more (came events p.answers), no_word (told p.answers)) p.told_is;
+      told_is = rw (no_more (answered_events events p.answers), no_word (session_replies p.answers)) p.told_is;
       moments = moment lived ∷ p.moments;
       each = ap (λ (n : ℕ). suc n) p.each;
       rising = (omega arith, p.rising);
@@ -226,13 +226,13 @@ led_aside life event events r replies fault equipment scene lived new no_more no
           (λ t image handed from l.
           let n = answered_by t p.moments in
           subst (λ (k : ℕ). Said k image handed) (sym (one_by t (moment lived) p.moments from))
-          (same_left equipment scene (items lived) image handed _ _ _ _ _ _ (ap (λ (es : List (Event _)). length es) (no_more (came (take n events) p.answers))) (no_try (tried (take (suc n) events) p.answers)) (omega (arith, none)) l));
-      session_is = rw (no_more (came events p.answers)) p.session_is;
-      rests = rw (no_more (came events p.answers)) p.rests;
-      items_are = rw (no_more (came events p.answers)) p.items_are;
+          (same_left equipment scene (items lived) image handed _ _ _ _ _ _ (ap (λ (es : List (Event _)). length es) (no_more (answered_events (take n events) p.answers))) (no_try (tried_events (take (suc n) events) p.answers)) (omega (arith, none)) l));
+      session_is = rw (no_more (answered_events events p.answers)) p.session_is;
+      rests = rw (no_more (answered_events events p.answers)) p.rests;
+      items_are = rw (no_more (answered_events events p.answers)) p.items_are;
     }
 
--- in the event in which the device failed, and behind it
+-- in the event in which the device failed, and after it
 lost_left : {A : Type 0} (equipment : Equipment) (scene : Scene) (given : List Item) (event : Event A) (events : List (Event A)) (answers : List (Result Reply Fault)) (r : Reply) (replies : List Reply) (n : ℕ) (image : Image) (handed : List Item)
     → dones (take n (r ∷ replies)) ≡ 0
     → IsEitherLeft (left_in scene given) (left_in (scene_after (leads_to equipment scene event)) (given ++ (leads_to equipment scene event).items)) image handed
@@ -242,11 +242,11 @@ lost_left equipment scene given event events answers r replies (suc n) image han
     same_left equipment scene given image handed _ _ _ _ _ _ refl refl none (one_left equipment scene given image handed event p)
 
 -- the device failed in an event
-led_lost : {A R : Type 0} (life : R → Life) (event : Event A) (events : List (Event A)) (r : Reply) (replies : List Reply) (program : List ℕ) (old between new : Station R)
-    → r ≡ reply.Refused DeviceFailed → Serving life (Err DeviceFailed) event program old between → Rests (life old.journal.rig) old program → Idles replies between new
+led_lost : {A R : Type 0} (life : R → Life) (event : Event A) (events : List (Event A)) (r : Reply) (replies : List Reply) (program : List ℕ) (old between new : ControllerModel R)
+    → r ≡ reply.Refused DeviceFailed → Serving life (Err DeviceFailed) event program old between → IsAtRestWith (life old.journal.rig) old program → Idles replies between new
     → Leads life (event ∷ events) (r ∷ replies) old.equipment (scene_of program old) (life old.journal.rig) new
 led_lost {A} {R} life event events r replies program old between new told_is s rests idle =
-    let failed : new.journal.broken ≡ true = ap (λ (c : Station _). c.journal.broken) idle.same ∙ s.broken in
+    let failed : new.journal.broken ≡ true = ap (λ (c : ControllerModel _). c.journal.broken) idle.same ∙ s.broken in
     let lived = life old.journal.rig in
     let last = moment (life between.journal.rig) in
     let moments = last ∷ same_moment last events in
@@ -259,8 +259,8 @@ led_lost {A} {R} life event events r replies program old between new told_is s r
       told_is = refl;
       moments = moments;
       each = ap (λ (n : ℕ). suc n) (same_each last events);
-      rising = (s.acts.stops.later, subst (λ (c : Station R). IsRising last (moment (life c.journal.rig)) (same_moment last events)) (sym idle.same) (same_rising last events));
-      stops = subst (λ (c : Station R). AtEachStop lived (life c.journal.rig) (λ t. IsLeftBy old.equipment (scene_of program old) (items lived) (event ∷ events) answers (r ∷ replies) (answered_by t moments))) (sym idle.same)
+      rising = (s.acts.stops.later, subst (λ (c : ControllerModel R). IsRising last (moment (life c.journal.rig)) (same_moment last events)) (sym idle.same) (same_rising last events));
+      stops = subst (λ (c : ControllerModel R). AtEachStop lived (life c.journal.rig) (λ t. IsLeftBy old.equipment (scene_of program old) (items lived) (event ∷ events) answers (r ∷ replies) (answered_by t moments))) (sym idle.same)
           (one_call lived (life between.journal.rig) (IsEitherLeft (left_in (scene_of program old) (items lived)) after) _ s.acts.stops
           (λ t image handed either. lost_left old.equipment (scene_of program old) (items lived) event events idle.answers r replies (answered_by t moments) image handed
           (none_more r replies (ap done_count told_is) idle.none (answered_by t moments)) (either_left lived program old after image handed rests either)));
@@ -270,16 +270,16 @@ led_lost {A} {R} life event events r replies program old between new told_is s r
     }
 
 -- an event of a whole controller, and the rest of its history
-led : {A R : Type 0} (life : R → Life) (event : Event A) (events : List (Event A)) (r : Reply) (replies : List Reply) (answer : Result Reply Fault) (program : List ℕ) (old between new : Station R)
-    → r ≡ reply_to answer → Serving life answer event program old between → old.journal.broken ≡ false → Rests (life old.journal.rig) old program
-    → History life events replies (program_behind answer (outcome_of old program event) program) between new
-    → ((p : List ℕ) → between.journal.broken ≡ false → Rests (life between.journal.rig) between p → History life events replies p between new → Leads life events replies between.equipment (scene_of p between) (life between.journal.rig) new)
+led : {A R : Type 0} (life : R → Life) (event : Event A) (events : List (Event A)) (r : Reply) (replies : List Reply) (answer : Result Reply Fault) (program : List ℕ) (old between new : ControllerModel R)
+    → r ≡ reply_to answer → Serving life answer event program old between → old.journal.broken ≡ false → IsAtRestWith (life old.journal.rig) old program
+    → History life events replies (program_after answer (outcome_of old program event) program) between new
+    → ((p : List ℕ) → between.journal.broken ≡ false → IsAtRestWith (life between.journal.rig) between p → History life events replies p between new → Leads life events replies between.equipment (scene_of p between) (life between.journal.rig) new)
     → Leads life (event ∷ events) (r ∷ replies) old.equipment (scene_of program old) (life old.journal.rig) new
 led life event events r replies (Ok v) program old between new told_is s whole rests h on =
     led_on life event events r v replies program old between new told_is s rests (on (outcome_of old program event).program s.broken s.acts.leaves.0 h)
 led {A} {R} life event events r replies (Err fault) program old between new told_is s whole rests h on =
     let Goal : Fault → Type 0 = λ f. r ≡ reply.Refused f → Serving life (Err f) event program old between → Leads life (event ∷ events) (r ∷ replies) old.equipment (scene_of program old) (life old.journal.rig) new in
-    let unmoved : between.journal.broken ≡ false → between.session ≡ old.session → life between.journal.rig ≡ life old.journal.rig → Rests (life between.journal.rig) between program
+    let unmoved : between.journal.broken ≡ false → between.session ≡ old.session → life between.journal.rig ≡ life old.journal.rig → IsAtRestWith (life between.journal.rig) between program
     → Leads life events replies old.equipment (scene_of program old) (life old.journal.rig) new =
     λ unbroken same alive here.
     subst (λ (l : Life). Leads life events replies old.equipment (scene_of program old) l new) alive
@@ -292,12 +292,12 @@ led {A} {R} life event events r replies (Err fault) program old between new told
     let goal : Goal fault = ⊎_elim (λ e. subst Goal (sym e.0) short) (λ o. ⊎_elim (λ e. subst Goal (sym e.0) used) (λ e. subst Goal (sym e.0) lost) o) s.hindered in
     goal told_is s
 
-pub leads : {A R : Type 0} (life : R → Life) (events : List (Event A)) (replies : List Reply) (program : List ℕ) (old new : Station R)
-    → History life events replies program old new → old.journal.broken ≡ false → Rests (life old.journal.rig) old program
+pub leads : {A R : Type 0} (life : R → Life) (events : List (Event A)) (replies : List Reply) (program : List ℕ) (old new : ControllerModel R)
+    → History life events replies program old new → old.journal.broken ≡ false → IsAtRestWith (life old.journal.rig) old program
     → Leads life events replies old.equipment (scene_of program old) (life old.journal.rig) new
 leads {A} {R} life [] [] program old new h whole rests =
     let lived = life old.journal.rig in
-    subst (λ (c : Station R). Leads {A = A} life [] [] old.equipment (scene_of program old) lived c) (sym h) (record {
+    subst (λ (c : ControllerModel R). Leads {A = A} life [] [] old.equipment (scene_of program old) lived c) (sym h) (record {
       answers = [];
       replies_are = refl;
       told_is = refl;
@@ -319,8 +319,8 @@ leads life (event ∷ events) (r ∷ replies) program old new h whole rests =
     led life event events r replies answer program old between new h.1.1.0.told_is turn whole rests h.1.1.1
     (λ p w k g. leads life events replies p between new g w k)
 
-abbrev pub passed : {A R : Type 0} (life : R → Life) (events : List (Event A)) (replies : List Reply) (equipment : Equipment) (scene : Scene) (lived : Life) (new : Station R)
-    → Leads life events replies equipment scene lived new → Passes life events replies equipment scene lived new
+abbrev pub passed : {A R : Type 0} (life : R → Life) (events : List (Event A)) (replies : List Reply) (equipment : Equipment) (scene : Scene) (lived : Life) (new : ControllerModel R)
+    → Leads life events replies equipment scene lived new → PassesAsSession life events replies equipment scene lived new
 passed life events replies equipment scene lived new l = record {
   answers = l.answers;
   replies_are = l.replies_are;
@@ -328,15 +328,15 @@ passed life events replies equipment scene lived new l = record {
   moments = l.moments;
   each = l.each;
   rising = l.rising;
-  stops = weaker_said lived (life new.journal.rig) _ _ l.stops (λ t image handed from is. is.behind);
+  stops = weaker_said lived (life new.journal.rig) _ _ l.stops (λ t image handed from is. is.after);
   session_is = l.session_is;
   rests = l.rests;
   items_are = l.items_are;
 }
 
 -- Each history passes as the session does.
-pub passes : {A R : Type 0} (life : R → Life) (events : List (Event A)) (replies : List Reply) (program : List ℕ) (old new : Station R)
-    → History life events replies program old new → old.journal.broken ≡ false → Rests (life old.journal.rig) old program
-    → Passes life events replies old.equipment (scene_of program old) (life old.journal.rig) new
+pub passes : {A R : Type 0} (life : R → Life) (events : List (Event A)) (replies : List Reply) (program : List ℕ) (old new : ControllerModel R)
+    → History life events replies program old new → old.journal.broken ≡ false → IsAtRestWith (life old.journal.rig) old program
+    → PassesAsSession life events replies old.equipment (scene_of program old) (life old.journal.rig) new
 passes life events replies program old new h whole rests =
     passed life events replies old.equipment (scene_of program old) (life old.journal.rig) new (leads life events replies program old new h whole rests)

@@ -15,29 +15,29 @@ use Rattle.ng_session.specs.Entries.{Entry, referenced, after_reference, abandon
 use Rattle.ng_session.specs.Session.{Sitting, commits, is_running, is_at_rest, abandon_refusal}
 use Rattle.ng_session.specs.declared.reply.Reply.{Reply}
 use Rattle.ng_session.specs.declared.reply.Reply.TheVariants as reply
-use Rattle.ng_core.specs.Station.{Station, standing_of}
-use Rattle.ng_core.specs.Acts.{Does, TouchesNothing}
+use Rattle.ng_core.specs.Model.{ControllerModel, standing_of_session}
+use Rattle.ng_core.specs.Events.{IsCarriedOutIfHonest, TouchesNothing}
 use Rattle.ng_core.proofs.Doing.{does_moved, does_unmoved, Storing}
 use Rattle.ng_core.proofs.Ticks.{StoresEntry, kept}
 
-storing : {R T : Type 0} (honest : R → Type 0) (life : R → Life) (result : Result T Fault) (saved : Saved) (entry : Entry) (next : Sitting) (old : Station R) (journal : Logbook R) → saved ≡ next.stored
+storing : {R T : Type 0} (honest : R → Type 0) (life : R → Life) (result : Result T Fault) (saved : Saved) (entry : Entry) (next : Sitting) (old : ControllerModel R) (journal : Logbook R) → saved ≡ next.stored
     → StoresEntry honest life result saved old.journal journal → Storing honest life result (λ program. commits program entry next) old journal
 storing honest life result saved entry next old journal is p =
     meaning p (λ f program rests.
-    subst (λ (x : Saved). Moves result journal (standing_of program old.session) (record { saved = x; program = program }) (life old.journal.rig) (life journal.rig)) is
-    (f (standing_of program old.session) rests.0))
+    subst (λ (x : Saved). Moves result journal (standing_of_session program old.session) (record { saved = x; program = program }) (life old.journal.rig) (life journal.rig)) is
+    (f (standing_of_session program old.session) rests.0))
 
-pub keeps : {R T : Type 0} (honest : R → Type 0) (life : R → Life) (v : T) (r : Reply) (saved : Saved) (entry : Entry) (next : Sitting) (old new : Station R)
+pub keeps : {R T : Type 0} (honest : R → Type 0) (life : R → Life) (v : T) (r : Reply) (saved : Saved) (entry : Entry) (next : Sitting) (old new : ControllerModel R)
     → saved ≡ next.stored → r ≡ reply.Done next.stored.entries → new.session ≡ next → StoresEntry honest life (Ok v) saved old.journal new.journal → new.lines ≡ old.lines
-    → Does honest life (Ok r) (λ program. commits program entry next) old new
+    → IsCarriedOutIfHonest honest life (Ok r) (λ program. commits program entry next) old new
 keeps honest life v r saved entry next old new is replied there p lines =
     does_moved honest life r v (λ program. commits program entry next) old new (storing honest life (Ok v) saved entry next old new.journal is p) (kept old.lines new.lines lines) (λ program. replied) (λ program. there) (λ program. refl)
     (subst (λ (x : Reply). TouchesNothing x → ⊥) (sym replied) (λ z. z))
 
-pub keeps_none : {R T : Type 0} (honest : R → Type 0) (life : R → Life) (fault : Fault) (saved : Saved) (entry : Entry) (next : Sitting) (old new : Station R)
+pub keeps_none : {R T : Type 0} (honest : R → Type 0) (life : R → Life) (fault : Fault) (saved : Saved) (entry : Entry) (next : Sitting) (old new : ControllerModel R)
     → saved ≡ next.stored → new.session ≡ old.session → (fault ≡ CountersUsed) ⊎ (fault ≡ DeviceFailed) → (fault ≡ CountersUsed → new.journal ≡ old.journal)
     → StoresEntry {T = T} honest life (Err fault) saved old.journal new.journal → new.lines ≡ old.lines
-    → Does honest life (Err fault) (λ program. commits program entry next) old new
+    → IsCarriedOutIfHonest honest life (Err fault) (λ program. commits program entry next) old new
 keeps_none {R} {T} honest life fault saved entry next old new is same which unchanged p lines =
     does_unmoved {T = T} honest life fault fault (λ program. commits program entry next) old new (storing {T = T} honest life (Err fault) saved entry next old new.journal is p) which unchanged lines same (λ program. refl)
 

@@ -21,9 +21,9 @@ use Rattle.ng_session.specs.Session.{Sitting, Outcome, refuses, resume, resume_h
 use Rattle.ng_session.specs.declared.reply.Reply.{Reply}
 use Rattle.ng_session.specs.declared.reply.Reply.TheVariants as reply
 use Rattle.ng_session.proofs.Refusing.{refused_again}
-use Rattle.ng_core.specs.Station.{Station, standing_of}
-use Rattle.ng_core.specs.Acts.{ComesAnyway, Does}
-use Rattle.ng_core.specs.NextLines.{IsNext, FindsNext}
+use Rattle.ng_core.specs.Model.{ControllerModel, standing_of_session}
+use Rattle.ng_core.specs.Events.{IsAnsweredAnyway, IsCarriedOutIfHonest}
+use Rattle.ng_core.specs.NextLines.{IsNextLineAt, FindsNextLine}
 use Rattle.ng_core.proofs.Acting.{known_as, acts_read, acts_aside, acts_unread}
 use Rattle.ng_core.proofs.Beginning.{Reading}
 use Rattle.ng_core.proofs.Quiet.{IsStill, still}
@@ -34,7 +34,7 @@ use Rattle.ng_core.proofs.Anyway.{comes_by, comes_to}
 
 -- ---- where the next line begins
 
--- of a line that was found at a place, the next one begins behind it
+-- of a line that was found at a place, the next one begins after it
 abbrev next_of : Option Line → ℕ
 next_of None = 0
 next_of (Some line) = line.next
@@ -43,9 +43,9 @@ next_first : (ls : List (List ℕ)) (next : ℕ) (line : Line) → Some line ≡
 next_first [] next line e = cc e
 next_first (l ∷ ls) next line e = ap next_of e
 
-pub behind_found : (program : List ℕ) (place : ℕ) (line : Line) → Some line ≡ line_at program place → line.next ≡ place_behind program place
+pub after_found : (program : List ℕ) (place : ℕ) (line : Line) → Some line ≡ line_at program place → line.next ≡ place_behind program place
 unfolding line_at
-behind_found program place line e = next_first (lines (drop place program)) (place_behind program place) line e
+after_found program place line e = next_first (lines (drop place program)) (place_behind program place) line e
 
 -- a text that isn't empty has a line
 abbrev parts : List ℕ → List (List ℕ)
@@ -83,10 +83,10 @@ none_left : (rest : List ℕ) (next : ℕ) → None ≡ first_line (lines rest) 
 none_left [] next e = refl
 none_left (b ∷ rest) next e = absurd (line_some b rest next e)
 
--- behind the last line the place stays
-pub behind_end : (program : List ℕ) (place : ℕ) → None ≡ line_at program place → place ≡ place_behind program place
+-- after the last line the place stays
+pub after_end : (program : List ℕ) (place : ℕ) → None ≡ line_at program place → place ≡ place_behind program place
 unfolding line_at place_behind
-behind_end program place e =
+after_end program place e =
     let none : span (drop place program) ≡ 0 = ap span (none_left (drop place program) (place_behind program place) e) in
     omega (arith, none)
 
@@ -97,7 +97,7 @@ next_by program (Some half) place next line is = is ∙ sym (ap (λ (x : Source)
 -- what finding the next line leaves
 abbrev pub FindingNext : {R E : Type 0} → (R → Type 0) → (R → Life) → Result ℕ E → Sitting → Logbook R → Logbook R → Type 0
 FindingNext honest life result s old new =
-    Promises (honest old.rig) (honest new.rig) ((standing : Standing) → RestsAt (life old.rig) old standing → FindsNext result new standing s (life old.rig) (life new.rig))
+    Promises (honest old.rig) (honest new.rig) ((standing : Standing) → RestsAt (life old.rig) old standing → FindsNextLine result new standing s (life old.rig) (life new.rig))
 
 -- the block is a line of the program, and that is read
 pub finds_next : {R E F : Type 0} (honest : R → Type 0) (life : R → Life) (line : Option Line) (next : ℕ) (s : Sitting) (old new : Logbook R)
@@ -131,16 +131,16 @@ still_resume q P s = by (not (is_at_rest s))
 
 -- ---- it doesn't go on
 
-pub does_not_resume : {R : Type 0} (honest : R → Type 0) (life : R → Life) (fault : Fault) (old new : Station R)
+pub does_not_resume : {R : Type 0} (honest : R → Type 0) (life : R → Life) (fault : Fault) (old new : ControllerModel R)
     → Some fault ≡ resume_refusal old.equipment old.session → new.journal ≡ old.journal → new.lines ≡ old.lines → new.session ≡ old.session
-    → Does honest life (Ok (reply.Refused fault)) (λ program. resume old.equipment program old.session) old new
+    → IsCarriedOutIfHonest honest life (Ok (reply.Refused fault)) (λ program. resume old.equipment program old.session) old new
 does_not_resume honest life fault old new is journal lines same =
     does_on honest life (Ok (reply.Refused fault)) (λ program. refuses program fault old.session) (λ program. resume old.equipment program old.session) old old new refl
     (λ program. sym (refused_again old.equipment program old.session fault is))
     (does_still honest life (reply.Refused fault) (λ program. refuses program fault old.session) old new (λ program. still refl refl refl) journal lines (λ program. refl) (λ program. same))
 
-pub comes_not_resumed : {R : Type 0} (reads : Type 0) (fault : Fault) (old new : Station R) → Some fault ≡ resume_refusal old.equipment old.session → new.session ≡ old.session
-    → ComesAnyway reads (Ok (reply.Refused fault)) (λ program. resume old.equipment program old.session) old new
+pub comes_not_resumed : {R : Type 0} (reads : Type 0) (fault : Fault) (old new : ControllerModel R) → Some fault ≡ resume_refusal old.equipment old.session → new.session ≡ old.session
+    → IsAnsweredAnyway reads (Ok (reply.Refused fault)) (λ program. resume old.equipment program old.session) old new
 comes_not_resumed reads fault old new is same =
     comes_to reads reads (Ok (reply.Refused fault)) (λ program. refuses program fault old.session) (λ program. resume old.equipment program old.session) old new (λ p. p)
     (λ program. sym (refused_again old.equipment program old.session fault is))
@@ -149,57 +149,57 @@ comes_not_resumed reads fault old new is same =
 -- ---- it goes on
 
 -- what the session answers and goes on to
-abbrev pub GoesOn : {R : Type 0} → Reply → Sitting → Station R → Sitting → ℕ → Type 0
-GoesOn r next old s place = (program : List ℕ) → IsNext program s place → (r ≡ (resume old.equipment program s).reply) × (next ≡ (resume old.equipment program s).next)
+abbrev pub GoesOn : {R : Type 0} → Reply → Sitting → ControllerModel R → Sitting → ℕ → Type 0
+GoesOn r next old s place = (program : List ℕ) → IsNextLineAt program s place → (r ≡ (resume old.equipment program s).reply) × (next ≡ (resume old.equipment program s).next)
 
-does_go : {R E : Type 0} (honest : R → Type 0) (life : R → Life) (r : Reply) (place : ℕ) (old new : Station R)
+does_go : {R E : Type 0} (honest : R → Type 0) (life : R → Life) (r : Reply) (place : ℕ) (old new : ControllerModel R)
     → FindingNext {E = E} honest life (Ok place) old.session old.journal new.journal → new.lines ≡ old.lines → GoesOn r new.session old old.session place
-    → Does honest life (Ok r) (λ program. resume old.equipment program old.session) old new
+    → IsCarriedOutIfHonest honest life (Ok r) (λ program. resume old.equipment program old.session) old new
 does_go honest life r place old new p lines goes = record {
   keeps = p.keeps;
   back = p.back;
   holds = λ h program rests.
-      let f = p.holds h (standing_of program old.session) rests.0 in
+      let f = p.holds h (standing_of_session program old.session) rests.0 in
       let quiet = still_resume old.equipment program old.session in
       let out : Outcome = resume old.equipment program old.session in
       acts_read r out program old new (life old.journal.rig) (life new.journal.rig) f.same f.at (known_as program out.program old.lines new.lines quiet.program_is lines rests.1)
       (goes program f.next).0 (goes program f.next).1 quiet.items quiet.program_is quiet.stored_is;
 }
 
-pub does_resume : {R E : Type 0} (honest : R → Type 0) (life : R → Life) (r : Reply) (place : ℕ) (old new : Station R) (s : Sitting)
+pub does_resume : {R E : Type 0} (honest : R → Type 0) (life : R → Life) (r : Reply) (place : ℕ) (old new : ControllerModel R) (s : Sitting)
     → s ≡ old.session → FindingNext {E = E} honest life (Ok place) s old.journal new.journal → new.lines ≡ old.lines → GoesOn r new.session old s place
-    → Does honest life (Ok r) (λ program. resume old.equipment program old.session) old new
+    → IsCarriedOutIfHonest honest life (Ok r) (λ program. resume old.equipment program old.session) old new
 does_resume {R} {E} honest life r place old new s same p lines goes =
-    subst (λ (x : Sitting). Does honest life (Ok r) (λ program. resume old.equipment program x) (with_session old x) new) same
+    subst (λ (x : Sitting). IsCarriedOutIfHonest honest life (Ok r) (λ program. resume old.equipment program x) (with_session old x) new) same
     (does_go {E = E} honest life r place (with_session old s) new p lines goes)
 
-pub comes_resume : {R : Type 0} (r : Reply) (place : ℕ) (old new : Station R) (s : Sitting)
-    → s ≡ old.session → None ≡ resume_refusal old.equipment old.session → ((IsProgramsLine s.stored.half → ⊥) → (program : List ℕ) → IsNext program s place) → GoesOn r new.session old s place
-    → ComesAnyway ((resume_refusal old.equipment old.session ≡ None) × IsProgramsLine old.session.stored.half) (Ok r) (λ program. resume old.equipment program old.session) old new
+pub comes_resume : {R : Type 0} (r : Reply) (place : ℕ) (old new : ControllerModel R) (s : Sitting)
+    → s ≡ old.session → None ≡ resume_refusal old.equipment old.session → ((IsProgramsLine s.stored.half → ⊥) → (program : List ℕ) → IsNextLineAt program s place) → GoesOn r new.session old s place
+    → IsAnsweredAnyway ((resume_refusal old.equipment old.session ≡ None) × IsProgramsLine old.session.stored.half) (Ok r) (λ program. resume old.equipment program old.session) old new
 comes_resume r place old new s same free next goes =
-    subst (λ (x : Sitting). ComesAnyway ((resume_refusal old.equipment x ≡ None) × IsProgramsLine x.stored.half) (Ok r) (λ program. resume old.equipment program x) (with_session old x) new) same
+    subst (λ (x : Sitting). IsAnsweredAnyway ((resume_refusal old.equipment x ≡ None) × IsProgramsLine x.stored.half) (Ok r) (λ program. resume old.equipment program x) (with_session old x) new) same
     (λ read program. goes program (next (λ line. read (ap (λ (x : Sitting). resume_refusal old.equipment x) same ∙ sym free, line)) program))
 
 -- memory was wanting for the states after the block and after its approach
-pub does_resume_short : {R E : Type 0} (honest : R → Type 0) (life : R → Life) (fault : Fault) (place : ℕ) (s : Sitting) (out : List ℕ → Outcome) (old new : Station R)
+pub does_resume_short : {R E : Type 0} (honest : R → Type 0) (life : R → Life) (fault : Fault) (place : ℕ) (s : Sitting) (out : List ℕ → Outcome) (old new : ControllerModel R)
     → FindingNext {E = E} honest life (Ok place) s old.journal new.journal → fault ≡ OutOfMemory → new.session ≡ old.session → new.lines ≡ old.lines
-    → Does honest life (Err fault) out old new
+    → IsCarriedOutIfHonest honest life (Err fault) out old new
 does_resume_short honest life fault place s out old new p is same lines = record {
   keeps = p.keeps;
   back = p.back;
   holds = λ h program rests.
-      let f = p.holds h (standing_of program old.session) rests.0 in
+      let f = p.holds h (standing_of_session program old.session) rests.0 in
       acts_aside fault (out program) program old new (life old.journal.rig) (life new.journal.rig) (inl is) f.same same f.at (known_as program program old.lines new.lines refl lines rests.1);
 }
 
 -- the device failed in the read
-pub does_resume_unread : {R E : Type 0} (honest : R → Type 0) (life : R → Life) (fault : Fault) (e : E) (s : Sitting) (out : List ℕ → Outcome) (old new : Station R)
+pub does_resume_unread : {R E : Type 0} (honest : R → Type 0) (life : R → Life) (fault : Fault) (e : E) (s : Sitting) (out : List ℕ → Outcome) (old new : ControllerModel R)
     → FindingNext honest life (Err e) s old.journal new.journal → fault ≡ DeviceFailed → new.session ≡ old.session
-    → Does honest life (Err fault) out old new
+    → IsCarriedOutIfHonest honest life (Err fault) out old new
 does_resume_unread honest life fault e s out old new p is same = record {
   keeps = p.keeps;
   back = p.back;
   holds = λ h program rests.
-      let f = p.holds h (standing_of program old.session) rests.0 in
+      let f = p.holds h (standing_of_session program old.session) rests.0 in
       acts_unread fault (out program) program old new (life old.journal.rig) (life new.journal.rig) is f.same (ap shown same);
 }

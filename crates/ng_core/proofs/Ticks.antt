@@ -16,26 +16,26 @@ use Rattle.ng_session.specs.Session.{Underway, Sitting, Outcome, answers, tick, 
 use Rattle.ng_session.specs.declared.lines_before.LinesBefore.{LinesBefore}
 use Rattle.ng_session.specs.declared.reply.Reply.{Reply}
 use Rattle.ng_session.specs.declared.reply.Reply.TheVariants as reply
-use Rattle.ng_core.specs.Station.{Station, standing_of}
-use Rattle.ng_core.specs.Acts.{Does, TouchesNothing, handing}
+use Rattle.ng_core.specs.Model.{ControllerModel, standing_of_session}
+use Rattle.ng_core.specs.Events.{IsCarriedOutIfHonest, TouchesNothing, handing}
 use Rattle.ng_core.proofs.Acting.{known_as}
 use Rattle.ng_core.proofs.Quiet.{still}
 use Rattle.ng_core.proofs.Doing.{does_still, does_moved, does_unmoved, does_handed, does_unhanded, Storing}
 
 -- the same from an equal controller, to an equal outcome
-pub does_on : {R : Type 0} (honest : R → Type 0) (life : R → Life) (answer : Result Reply Fault) (out wanted : List ℕ → Outcome) (old mid new : Station R)
-    → mid ≡ old → ((program : List ℕ) → out program ≡ wanted program) → Does honest life answer out mid new → Does honest life answer wanted old new
+pub does_on : {R : Type 0} (honest : R → Type 0) (life : R → Life) (answer : Result Reply Fault) (out wanted : List ℕ → Outcome) (old mid new : ControllerModel R)
+    → mid ≡ old → ((program : List ℕ) → out program ≡ wanted program) → IsCarriedOutIfHonest honest life answer out mid new → IsCarriedOutIfHonest honest life answer wanted old new
 does_on honest life answer out wanted old mid new same equal does =
-    subst (λ (f : List ℕ → Outcome). Does honest life answer f old new) (λ i program. equal program i)
-    (subst (λ (c : Station _). Does honest life answer out c new) same does)
+    subst (λ (f : List ℕ → Outcome). IsCarriedOutIfHonest honest life answer f old new) (λ i program. equal program i)
+    (subst (λ (c : ControllerModel _). IsCarriedOutIfHonest honest life answer out c new) same does)
 
 -- ---- held
 
 pub tick_held : (q : Equipment) (P : List ℕ) (s : Sitting) → s.held ≡ true → tick q P s ≡ answers P reply.Held s
 tick_held q P s held = rw held refl
 
-pub does_held : {R : Type 0} (honest : R → Type 0) (life : R → Life) (c : Station R) → c.session.held ≡ true
-    → Does honest life (Ok reply.Held) (λ program. tick c.equipment program c.session) c c
+pub does_held : {R : Type 0} (honest : R → Type 0) (life : R → Life) (c : ControllerModel R) → c.session.held ≡ true
+    → IsCarriedOutIfHonest honest life (Ok reply.Held) (λ program. tick c.equipment program c.session) c c
 does_held honest life c held =
     does_on honest life (Ok reply.Held) (λ program. answers program reply.Held c.session) (λ program. tick c.equipment program c.session) c c c refl (λ program. sym (tick_held c.equipment program c.session held))
     (does_still honest life reply.Held (λ program. answers program reply.Held c.session) c c (λ program. still refl refl refl) refl refl (λ program. refl) (λ program. refl))
@@ -51,18 +51,18 @@ abbrev pub HandsIt : {R T : Type 0} → (R → Type 0) → (R → Life) → Resu
 HandsIt honest life result item old new =
     Promises (honest old.rig) (honest new.rig) ((standing : Standing) → RestsAt (life old.rig) old standing → HandsOut result new standing item (life old.rig) (life new.rig))
 
-pub hands_item : {R T : Type 0} (honest : R → Type 0) (life : R → Life) (v : T) (item : Item) (old new : Station R)
+pub hands_item : {R T : Type 0} (honest : R → Type 0) (life : R → Life) (v : T) (item : Item) (old new : ControllerModel R)
     → new.session ≡ old.session → HandsIt honest life (Ok v) item old.journal new.journal → new.lines ≡ old.lines
-    → Does honest life (Ok reply.Moved) (λ program. handing item program old.session) old new
+    → IsCarriedOutIfHonest honest life (Ok reply.Moved) (λ program. handing item program old.session) old new
 hands_item honest life v item old new next p lines =
-    does_handed honest life reply.Moved v item (λ program. handing item program old.session) old new (meaning p (λ f program rests. f (standing_of program old.session) rests.0)) lines
+    does_handed honest life reply.Moved v item (λ program. handing item program old.session) old new (meaning p (λ f program rests. f (standing_of_session program old.session) rests.0)) lines
     (λ program. refl) (λ program. next) (λ program. record { items = refl; program_is = refl; stored_is = refl }) (λ z. z)
 
-pub hands_none : {R T : Type 0} (honest : R → Type 0) (life : R → Life) (fault e : Fault) (item : Item) (old new : Station R)
+pub hands_none : {R T : Type 0} (honest : R → Type 0) (life : R → Life) (fault e : Fault) (item : Item) (old new : ControllerModel R)
     → new.session ≡ old.session → fault ≡ DeviceFailed → HandsIt {T = T} honest life (Err e) item old.journal new.journal
-    → Does honest life (Err fault) (λ program. handing item program old.session) old new
+    → IsCarriedOutIfHonest honest life (Err fault) (λ program. handing item program old.session) old new
 hands_none {R} {T} honest life fault e item old new next lost p =
-    does_unhanded {T = T} honest life fault e item (λ program. handing item program old.session) old new (meaning p (λ f program rests. f (standing_of program old.session) rests.0))
+    does_unhanded {T = T} honest life fault e item (λ program. handing item program old.session) old new (meaning p (λ f program rests. f (standing_of_session program old.session) rests.0))
     lost (ap shown next) (λ program. record { items = refl; program_is = refl; stored_is = refl })
 
 pub tick_item : (q : Equipment) (P : List ℕ) (s : Sitting) (item : Item) → s.held ≡ false → item_of s.current ≡ Some item → tick q P s ≡ handing item P (handed s)
@@ -87,27 +87,27 @@ StoresHalf honest life result half old new =
     Promises (honest old.rig) (honest new.rig) ((before : Standing) → RestsAt (life old.rig) old before
     → Moves result new before (record before { saved = record old.saved { half = Some half } }) (life old.rig) (life new.rig))
 
-storing_half : {R T : Type 0} (honest : R → Type 0) (life : R → Life) (result : Result T Fault) (half : HalfDone) (old : Station R) (journal : Logbook R)
+storing_half : {R T : Type 0} (honest : R → Type 0) (life : R → Life) (result : Result T Fault) (half : HalfDone) (old : ControllerModel R) (journal : Logbook R)
     → old.session.stored ≡ old.journal.saved → StoresHalf honest life result half old.journal journal
     → Storing honest life result (λ program. opening half program old.equipment old.session) old journal
 storing_half honest life result half old journal held p =
     meaning p (λ f program rests.
-    subst (λ (x : Saved). Moves result journal (standing_of program old.session) (record { saved = record x { half = Some half }; program = program }) (life old.journal.rig) (life journal.rig)) (sym held)
-    (f (standing_of program old.session) rests.0))
+    subst (λ (x : Saved). Moves result journal (standing_of_session program old.session) (record { saved = record x { half = Some half }; program = program }) (life old.journal.rig) (life journal.rig)) (sym held)
+    (f (standing_of_session program old.session) rests.0))
 
-pub opens : {R T : Type 0} (honest : R → Type 0) (life : R → Life) (v : T) (r : Reply) (half : HalfDone) (old new : Station R)
+pub opens : {R T : Type 0} (honest : R → Type 0) (life : R → Life) (v : T) (r : Reply) (half : HalfDone) (old new : ControllerModel R)
     → r ≡ opening_reply half.index half.opened → new.session ≡ opened old.equipment.geometry old.session half → old.session.stored ≡ old.journal.saved
     → StoresHalf honest life (Ok v) half old.journal new.journal → new.lines ≡ old.lines
-    → Does honest life (Ok r) (λ program. opening half program old.equipment old.session) old new
+    → IsCarriedOutIfHonest honest life (Ok r) (λ program. opening half program old.equipment old.session) old new
 opens honest life v r half old new replied next held p lines =
     does_moved honest life r v (λ program. opening half program old.equipment old.session) old new (storing_half honest life (Ok v) half old new.journal held p) (kept old.lines new.lines lines) (λ program. replied) (λ program. next) (λ program. refl)
     (subst (λ (x : Reply). TouchesNothing x → ⊥) (sym replied) (opening_touches half.index half.opened))
 
-pub opens_none : {R T : Type 0} (honest : R → Type 0) (life : R → Life) (fault e : Fault) (half : HalfDone) (old new : Station R)
+pub opens_none : {R T : Type 0} (honest : R → Type 0) (life : R → Life) (fault e : Fault) (half : HalfDone) (old new : ControllerModel R)
     → new.session ≡ old.session → old.session.stored ≡ old.journal.saved
     → (fault ≡ CountersUsed) ⊎ (fault ≡ DeviceFailed) → (fault ≡ CountersUsed → new.journal ≡ old.journal)
     → StoresHalf {T = T} honest life (Err e) half old.journal new.journal → new.lines ≡ old.lines
-    → Does honest life (Err fault) (λ program. opening half program old.equipment old.session) old new
+    → IsCarriedOutIfHonest honest life (Err fault) (λ program. opening half program old.equipment old.session) old new
 opens_none {R} {T} honest life fault e half old new same held which unchanged p lines =
     does_unmoved {T = T} honest life fault e (λ program. opening half program old.equipment old.session) old new (storing_half {T = T} honest life (Err e) half old new.journal held p) which unchanged lines same (λ program. refl)
 
@@ -119,33 +119,33 @@ StoresEntry honest life result saved old new =
     Promises (honest old.rig) (honest new.rig) ((before : Standing) → RestsAt (life old.rig) old before
     → Moves result new before (record before { saved = saved }) (life old.rig) (life new.rig))
 
--- the block that is current, and what is stored behind it
+-- the block that is current, and what is stored after it
 pub record IsDue (s : Sitting) (saved : Saved) : Type 0 where
   pub block : Underway
   pub current : s.current ≡ Some block
   pub after : saved ≡ (committed s block).stored
 
-storing_entry : {R T : Type 0} (honest : R → Type 0) (life : R → Life) (result : Result T Fault) (saved : Saved) (old : Station R) (journal : Logbook R) (due : IsDue old.session saved)
+storing_entry : {R T : Type 0} (honest : R → Type 0) (life : R → Life) (result : Result T Fault) (saved : Saved) (old : ControllerModel R) (journal : Logbook R) (due : IsDue old.session saved)
     → StoresEntry honest life result saved old.journal journal
     → Storing honest life result (λ program. end old.equipment program old.session (Some due.block)) old journal
 storing_entry honest life result saved old journal due p =
     meaning p (λ f program rests.
-    subst (λ (x : Saved). Moves result journal (standing_of program old.session) (record { saved = x; program = program }) (life old.journal.rig) (life journal.rig)) due.after
-    (f (standing_of program old.session) rests.0))
+    subst (λ (x : Saved). Moves result journal (standing_of_session program old.session) (record { saved = x; program = program }) (life old.journal.rig) (life journal.rig)) due.after
+    (f (standing_of_session program old.session) rests.0))
 
-pub does_commit : {R T : Type 0} (honest : R → Type 0) (life : R → Life) (v : T) (r : Reply) (saved : Saved) (old new : Station R) (due : IsDue old.session saved)
+pub does_commit : {R T : Type 0} (honest : R → Type 0) (life : R → Life) (v : T) (r : Reply) (saved : Saved) (old new : ControllerModel R) (due : IsDue old.session saved)
     → r ≡ reply.Done (committed old.session due.block).stored.entries → new.session ≡ committed old.session due.block
     → StoresEntry honest life (Ok v) saved old.journal new.journal → new.lines ≡ old.lines
-    → Does honest life (Ok r) (λ program. end old.equipment program old.session old.session.current) old new
+    → IsCarriedOutIfHonest honest life (Ok r) (λ program. end old.equipment program old.session old.session.current) old new
 does_commit honest life v r saved old new due replied next p lines =
     does_on honest life (Ok r) (λ program. end old.equipment program old.session (Some due.block)) _ old old new refl (λ program. sym (ap (λ (o : Option Underway). end old.equipment program old.session o) due.current))
     (does_moved honest life r v (λ program. end old.equipment program old.session (Some due.block)) old new (storing_entry honest life (Ok v) saved old new.journal due p) (kept old.lines new.lines lines) (λ program. replied) (λ program. next) (λ program. refl)
     (subst (λ (x : Reply). TouchesNothing x → ⊥) (sym replied) (λ z. z)))
 
-pub does_not_commit : {R T : Type 0} (honest : R → Type 0) (life : R → Life) (fault e : Fault) (saved : Saved) (old new : Station R) (due : IsDue old.session saved)
+pub does_not_commit : {R T : Type 0} (honest : R → Type 0) (life : R → Life) (fault e : Fault) (saved : Saved) (old new : ControllerModel R) (due : IsDue old.session saved)
     → new.session ≡ old.session → (fault ≡ CountersUsed) ⊎ (fault ≡ DeviceFailed) → (fault ≡ CountersUsed → new.journal ≡ old.journal)
     → StoresEntry {T = T} honest life (Err e) saved old.journal new.journal → new.lines ≡ old.lines
-    → Does honest life (Err fault) (λ program. end old.equipment program old.session old.session.current) old new
+    → IsCarriedOutIfHonest honest life (Err fault) (λ program. end old.equipment program old.session old.session.current) old new
 does_not_commit {R} {T} honest life fault e saved old new due same which unchanged p lines =
     does_on honest life (Err fault) (λ program. end old.equipment program old.session (Some due.block)) _ old old new refl (λ program. sym (ap (λ (o : Option Underway). end old.equipment program old.session o) due.current))
     (does_unmoved {T = T} honest life fault e (λ program. end old.equipment program old.session (Some due.block)) old new (storing_entry {T = T} honest life (Err e) saved old new.journal due p) which unchanged lines same (λ program. refl))
@@ -155,9 +155,9 @@ does_not_commit {R} {T} honest life fault e saved old new due same which unchang
 pub rests_there : (q : Equipment) (P : List ℕ) (s : Sitting) → s.current ≡ None → is_running s.activity ≡ false → end q P s s.current ≡ rest P s
 rests_there q P s none idle = ap (λ (o : Option Underway). end q P s o) none ∙ rw idle refl
 
-pub does_rest : {R : Type 0} (honest : R → Type 0) (life : R → Life) (r : Reply) (c : Station R) → c.session.current ≡ None → is_running c.session.activity ≡ false
+pub does_rest : {R : Type 0} (honest : R → Type 0) (life : R → Life) (r : Reply) (c : ControllerModel R) → c.session.current ≡ None → is_running c.session.activity ≡ false
     → ((program : List ℕ) → r ≡ (rest program c.session).reply)
-    → Does honest life (Ok r) (λ program. end c.equipment program c.session c.session.current) c c
+    → IsCarriedOutIfHonest honest life (Ok r) (λ program. end c.equipment program c.session c.session.current) c c
 does_rest honest life r c none idle replied =
     does_on honest life (Ok r) (λ program. rest program c.session) _ c c c refl (λ program. sym (rests_there c.equipment program c.session none idle))
     (does_still honest life r (λ program. rest program c.session) c c (λ program. still refl refl refl) refl refl replied (λ program. refl))

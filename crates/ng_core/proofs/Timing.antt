@@ -59,12 +59,12 @@ pub no_call : (life : Life) (Said : ℕ → Image → List Item → Type 0)
     → ((t : ℕ) (image : ℕ → List ℕ) (handed : List Item) → StopSince life (moment life) image handed → Said t image handed) → AtEachStop life life Said
 no_call life Said now = record { was = life_now life; each = λ t image handed from until stop. now t image handed (since image handed life (moment life) t from until stop) }
 
--- behind one call
+-- after one call
 pub one_call : (old new : Life) (P : Image → List Item → Type 0) (Said : ℕ → Image → List Item → Type 0) → Onward old new P
     → ((t : ℕ) (image : ℕ → List ℕ) (handed : List Item) → StopSince old (moment old) image handed ⊎ P image handed → Said t image handed) → AtEachStop old new Said
 one_call old new P Said a said = record { was = was_then old new P a; each = λ t image handed from until stop. said t image handed (within_call image handed old new P t a from until stop) }
 
--- behind one call and then others
+-- after one call and then others
 pub more_calls : (old mid new : Life) (P : Image → List Item → Type 0) (Rest Said : ℕ → Image → List Item → Type 0) → Onward old mid P → AtEachStop mid new Rest
     → ((t : ℕ) (image : ℕ → List ℕ) (handed : List Item) → t < moment mid → StopSince old (moment old) image handed ⊎ P image handed → Said t image handed)
     → ((t : ℕ) (image : ℕ → List ℕ) (handed : List Item) → moment mid ≤ t → Rest t image handed → Said t image handed)

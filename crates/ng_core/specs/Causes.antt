@@ -10,10 +10,10 @@ use Rattle.ng_session.specs.Session.{Outcome, step}
 use Rattle.ng_session.specs.declared.event.Event.{Event}
 use Rattle.ng_session.specs.declared.reply.Reply.{Reply}
 use Rattle.ng_session.specs.declared.reply.Reply.TheVariants as reply
-use Rattle.ng_core.specs.Station.{Station}
+use Rattle.ng_core.specs.Model.{ControllerModel}
 
 -- what an event leads to
-abbrev pub outcome_of : {A R : Type 0} → Station R → List ℕ → Event A → Outcome
+abbrev pub outcome_of : {A R : Type 0} → ControllerModel R → List ℕ → Event A → Outcome
 outcome_of c program event = step c.equipment program c.session event
 
 -- what is stored with an entry: a program's is loaded, each other is committed
@@ -45,8 +45,8 @@ stored_for out (reply.Status status) = None
 stored_for out (reply.Refused fault) = None
 
 -- an outcome uses up a counter of the journal
-abbrev pub IsUsedUp : Ledger → Outcome → Type 0
-IsUsedUp ledger out = IsSomeAnd (stored_for out out.reply) (UsesUp ledger)
+abbrev pub UsesUpCounter : Ledger → Outcome → Type 0
+UsesUpCounter ledger out = IsSomeAnd (stored_for out out.reply) (UsesUp ledger)
 
 -- an entry that is committed, and not loaded
 abbrev pub IsCommitted : Entry → Type 0
@@ -57,5 +57,5 @@ IsCommitted entry = (saved : Saved) → with_entry saved entry ≡ Commit saved
 abbrev pub IsHinderedBy : (memory device : Type 0) → Ledger → (List ℕ → Outcome) → Fault → Type 0
 IsHinderedBy memory device ledger told fault =
     ((fault ≡ OutOfMemory) × memory)
-    ⊎ (((fault ≡ CountersUsed) × ((program : List ℕ) → IsUsedUp ledger (told program)))
-    ⊎ ((fault ≡ DeviceFailed) × device × ((program : List ℕ) → IsUsedUp ledger (told program) → ⊥)))
+    ⊎ (((fault ≡ CountersUsed) × ((program : List ℕ) → UsesUpCounter ledger (told program)))
+    ⊎ ((fault ≡ DeviceFailed) × device × ((program : List ℕ) → UsesUpCounter ledger (told program) → ⊥)))

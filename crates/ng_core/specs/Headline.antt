@@ -12,24 +12,24 @@ use Rattle.ng_session.specs.Runs.{Left, resting_scene, entries_of, dones, lines_
 use Rattle.ng_session.specs.Cuts.{IsCut}
 use Rattle.ng_session.specs.declared.event.Event.{Event}
 use Rattle.ng_session.specs.declared.reply.Reply.{Reply}
-use Rattle.ng_core.specs.Station.{Station, Rests}
+use Rattle.ng_core.specs.Model.{ControllerModel, IsAtRestWith}
 use Rattle.ng_core.specs.Moments.{AtEachStop, answered_by}
-use Rattle.ng_core.specs.Powers.{Answer}
-use Rattle.ng_core.specs.Runs.{Passes, tried}
-use Rattle.ng_core.specs.Turns.{Turns}
+use Rattle.ng_core.specs.Powers.{PowerOnResult}
+use Rattle.ng_core.specs.Runs.{PassesAsSession, tried_events}
+use Rattle.ng_core.specs.Turns.{AreTurns}
 
 -- ---- what came since power on
 
 -- A controller as power on gave it over what stood: whole, at rest, and its device rests with that.
-pub record IsPoweredOn {R : Type 0} (life : R → Life) (x : Standing) (c : Station R) : Type 0 where
+pub record IsPoweredOn {R : Type 0} (life : R → Life) (x : Standing) (c : ControllerModel R) : Type 0 where
   pub whole : c.journal.broken ≡ false
   pub session : c.session ≡ resting x.saved
-  pub rests : Rests (life c.journal.rig) c x.program
+  pub rests : IsAtRestWith (life c.journal.rig) c x.program
 
 -- What came from there until now: these events, each with its reply.
-pub record IsPast {A R : Type 0} (honest : R → Type 0) (life : R → Life) (failed sectors : R → ℕ) (x : Standing) (events : List (Event A)) (replies : List Reply) (first now : Station R) : Type 0 where
+pub record IsPast {A R : Type 0} (honest : R → Type 0) (life : R → Life) (failed sectors : R → ℕ) (x : Standing) (events : List (Event A)) (replies : List Reply) (first now : ControllerModel R) : Type 0 where
   pub began : IsPoweredOn life x first
-  pub turns : Turns honest life failed sectors events replies first now
+  pub turns : AreTurns honest life failed sectors events replies first now
 
 -- ---- what a stop leaves of it
 
@@ -46,19 +46,19 @@ pub record IsAccounted (equipment : Equipment) (lines : List (List ℕ)) (x : St
 
 -- What came passes as the session does, and whenever power was cut since power on, the stop is accounted for: by the entries that the
 -- session executed, as many as Done was answered by then or one more, and by the lines given by then and in the event under way.
-pub record Accounts {A R : Type 0} (life : R → Life) (x : Standing) (events : List (Event A)) (replies : List Reply) (first now : Station R) : Type 0 where
-  pub passes : Passes life events replies first.equipment (resting_scene x) (life first.journal.rig) now
+pub record Accounts {A R : Type 0} (life : R → Life) (x : Standing) (events : List (Event A)) (replies : List Reply) (first now : ControllerModel R) : Type 0 where
+  pub passes : PassesAsSession life events replies first.equipment (resting_scene x) (life first.journal.rig) now
   pub stops : AtEachStop (life first.journal.rig) (life now.journal.rig) (λ t. let n = answered_by t passes.moments in
-      IsAccounted first.equipment (lines_given (take (suc n) events)) x (items (life first.journal.rig)) (entries_of first.equipment (resting_scene x) (tried events passes.answers)) (dones (take n replies)))
+      IsAccounted first.equipment (lines_given (take (suc n) events)) x (items (life first.journal.rig)) (entries_of first.equipment (resting_scene x) (tried_events events passes.answers)) (dones (take n replies)))
 
 -- ---- what the calls promise of it
 
 -- Power on gives the first past, of no event: over the recovered of what stood, where only such a controller wrote it.
-abbrev pub BeginsPast : {R : Type 0} → Type 0 → (R → Type 0) → (R → Life) → (failed sectors : R → ℕ) → Answer R → Life → Type 0
+abbrev pub BeginsPast : {R : Type 0} → Type 0 → (R → Type 0) → (R → Life) → (failed sectors : R → ℕ) → PowerOnResult R → Life → Type 0
 BeginsPast {R} A honest life failed sectors result old =
     IsWritten (reads old) → IfOk result (λ c. (x : Standing) → recovered_of (stands (reads old)) ≡ Ok x → IsPast {A = A} honest life failed sectors x [] [] c c)
 
--- Each past has these events and replies behind it now, and all of it is accounted for.
-abbrev pub AddsToPast : {A R : Type 0} → (R → Type 0) → (R → Life) → (failed sectors : R → ℕ) → List (Event A) → List Reply → Station R → Station R → Type 0
-AddsToPast {A} {R} honest life failed sectors events replies old new = (x : Standing) (past : List (Event A)) (told : List Reply) (first : Station R) → IsPast honest life failed sectors x past told first old
+-- Each past has these events and replies at its end now, and all of it is accounted for.
+abbrev pub AddsToPast : {A R : Type 0} → (R → Type 0) → (R → Life) → (failed sectors : R → ℕ) → List (Event A) → List Reply → ControllerModel R → ControllerModel R → Type 0
+AddsToPast {A} {R} honest life failed sectors events replies old new = (x : Standing) (past : List (Event A)) (told : List Reply) (first : ControllerModel R) → IsPast honest life failed sectors x past told first old
     → IsPast honest life failed sectors x (past ++ events) (told ++ replies) first new × Accounts life x (past ++ events) (told ++ replies) first new

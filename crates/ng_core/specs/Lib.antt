@@ -1,7 +1,7 @@
-pub mod Station
+pub mod Model
 pub mod NextLines
 pub mod Causes
-pub mod Acts
+pub mod Events
 pub mod Turns
 pub mod Powers
 pub mod Moments

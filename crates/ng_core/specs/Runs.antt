@@ -9,74 +9,74 @@ use Rattle.ng_session.specs.Entries.{Equipment}
 use Rattle.ng_session.specs.Runs.{Scene, left_behind, replies_of, items_of, scene_behind}
 use Rattle.ng_session.specs.declared.event.Event.{Event}
 use Rattle.ng_session.specs.declared.reply.Reply.{Reply}
-use Rattle.ng_core.specs.Station.{Station, Rests}
-use Rattle.ng_core.specs.Acts.{reply_to, scene_of}
+use Rattle.ng_core.specs.Model.{ControllerModel, IsAtRestWith}
+use Rattle.ng_core.specs.Events.{reply_to, scene_of}
 use Rattle.ng_core.specs.Moments.{AtEachStop, IsRising, answered_by}
 
 -- ---- what came of them, by the session alone
 
 -- the events that the session answered, until the device failed
-abbrev pub came_by : {A : Type 0} → Result Reply Fault → Event A → List (Event A) → List (Event A)
-came_by (Ok r) event events = event ∷ events
-came_by (Err DeviceFailed) event events = []
-came_by (Err fault) event events = events
+abbrev pub answered_events_by : {A : Type 0} → Result Reply Fault → Event A → List (Event A) → List (Event A)
+answered_events_by (Ok r) event events = event ∷ events
+answered_events_by (Err DeviceFailed) event events = []
+answered_events_by (Err fault) event events = events
 
-abbrev pub came : {A : Type 0} → List (Event A) → List (Result Reply Fault) → List (Event A)
-came [] answers = []
-came (event ∷ events) [] = []
-came (event ∷ events) (answer ∷ answers) = came_by answer event (came events answers)
+abbrev pub answered_events : {A : Type 0} → List (Event A) → List (Result Reply Fault) → List (Event A)
+answered_events [] answers = []
+answered_events (event ∷ events) [] = []
+answered_events (event ∷ events) (answer ∷ answers) = answered_events_by answer event (answered_events events answers)
 
 -- the same, with the event in which it failed
-abbrev pub tried_by : {A : Type 0} → Result Reply Fault → Event A → List (Event A) → List (Event A)
-tried_by (Ok r) event events = event ∷ events
-tried_by (Err DeviceFailed) event events = event ∷ []
-tried_by (Err fault) event events = events
+abbrev pub tried_events_by : {A : Type 0} → Result Reply Fault → Event A → List (Event A) → List (Event A)
+tried_events_by (Ok r) event events = event ∷ events
+tried_events_by (Err DeviceFailed) event events = event ∷ []
+tried_events_by (Err fault) event events = events
 
-abbrev pub tried : {A : Type 0} → List (Event A) → List (Result Reply Fault) → List (Event A)
-tried [] answers = []
-tried (event ∷ events) [] = []
-tried (event ∷ events) (answer ∷ answers) = tried_by answer event (tried events answers)
+abbrev pub tried_events : {A : Type 0} → List (Event A) → List (Result Reply Fault) → List (Event A)
+tried_events [] answers = []
+tried_events (event ∷ events) [] = []
+tried_events (event ∷ events) (answer ∷ answers) = tried_events_by answer event (tried_events events answers)
 
 -- the replies to the events that came
-abbrev pub told_by : Result Reply Fault → List Reply → List Reply
-told_by (Ok r) replies = r ∷ replies
-told_by (Err DeviceFailed) replies = []
-told_by (Err fault) replies = replies
+abbrev pub session_replies_by : Result Reply Fault → List Reply → List Reply
+session_replies_by (Ok r) replies = r ∷ replies
+session_replies_by (Err DeviceFailed) replies = []
+session_replies_by (Err fault) replies = replies
 
-abbrev pub told : List (Result Reply Fault) → List Reply
-told [] = []
-told (answer ∷ answers) = told_by answer (told answers)
+abbrev pub session_replies : List (Result Reply Fault) → List Reply
+session_replies [] = []
+session_replies (answer ∷ answers) = session_replies_by answer (session_replies answers)
 
--- A stop leaves what stands behind the first n of these events, and what they handed out; n is no less than this.
-pub record IsLeftBehind {A : Type 0} (least : ℕ) (equipment : Equipment) (scene : Scene) (before : List Item) (events : List (Event A)) (image : Image) (handed : List Item) : Type 0 where
+-- A stop leaves what stands after the first n of these events, and what they handed out; n is no less than this.
+pub record IsLeftAfterSome {A : Type 0} (least : ℕ) (equipment : Equipment) (scene : Scene) (before : List Item) (events : List (Event A)) (image : Image) (handed : List Item) : Type 0 where
   pub count : ℕ
   pub all : least ≤ count
   pub within : count ≤ length events
   pub stands_for : let left = left_behind equipment scene before (take count events) in StandsFor left.standing left.items image handed
 
 -- The replies are the session's to the events that came. Each event was answered at a moment of the device's life, and a stop leaves what
--- stands behind those that came of the events answered by then, or behind the one under way too. While the device didn't fail, what stands
+-- stands after those that came of the events answered by then, or after the one under way too. While the device didn't fail, what stands
 -- and was handed out now is the session's.
-pub record Passes {A R : Type 0} (life : R → Life) (events : List (Event A)) (replies : List Reply) (equipment : Equipment) (scene : Scene) (lived : Life) (new : Station R) : Type 0 where
+pub record PassesAsSession {A R : Type 0} (life : R → Life) (events : List (Event A)) (replies : List Reply) (equipment : Equipment) (scene : Scene) (lived : Life) (new : ControllerModel R) : Type 0 where
   pub answers : List (Result Reply Fault)
   pub replies_are : replies ≡ map reply_to answers
-  pub told_is : told answers ≡ replies_of equipment scene (came events answers)
+  pub told_is : session_replies answers ≡ replies_of equipment scene (answered_events events answers)
   pub moments : List ℕ
   pub each : length moments ≡ length events
   pub rising : IsRising (moment lived) (moment (life new.journal.rig)) moments
   pub stops : AtEachStop lived (life new.journal.rig) (λ t. let n = answered_by t moments in
-      IsLeftBehind (length (came (take n events) answers)) equipment scene (items lived) (tried (take (suc n) events) answers))
-  pub session_is : new.journal.broken ≡ false → new.session ≡ (scene_behind equipment scene (came events answers)).session
-  pub rests : new.journal.broken ≡ false → Rests (life new.journal.rig) new (scene_behind equipment scene (came events answers)).program
-  pub items_are : new.journal.broken ≡ false → items (life new.journal.rig) ≡ items lived ++ items_of equipment scene (came events answers)
+      IsLeftAfterSome (length (answered_events (take n events) answers)) equipment scene (items lived) (tried_events (take (suc n) events) answers))
+  pub session_is : new.journal.broken ≡ false → new.session ≡ (scene_behind equipment scene (answered_events events answers)).session
+  pub rests : new.journal.broken ≡ false → IsAtRestWith (life new.journal.rig) new (scene_behind equipment scene (answered_events events answers)).program
+  pub items_are : new.journal.broken ≡ false → items (life new.journal.rig) ≡ items lived ++ items_of equipment scene (answered_events events answers)
 
 -- whatever program rests there beside the session, they pass as the session does
-abbrev pub Ran : {A R : Type 0} → (R → Life) → List (Event A) → List Reply → Station R → Station R → Type 0
-Ran life events replies old new = (program : List ℕ) → old.journal.broken ≡ false → Rests (life old.journal.rig) old program
-    → Passes life events replies old.equipment (scene_of program old) (life old.journal.rig) new
+abbrev pub IsRun : {A R : Type 0} → (R → Life) → List (Event A) → List Reply → ControllerModel R → ControllerModel R → Type 0
+IsRun life events replies old new = (program : List ℕ) → old.journal.broken ≡ false → IsAtRestWith (life old.journal.rig) old program
+    → PassesAsSession life events replies old.equipment (scene_of program old) (life old.journal.rig) new
 
 -- The device counted one failure where the controller broke, and else none; once broken it stays so.
-abbrev pub FailsOnce : Bool → Bool → ℕ → ℕ → Type 0
-FailsOnce true broken old new = (broken ≡ true) × (new ≡ old)
-FailsOnce false true old new = new ≡ (old + 1) % 2 ^ 64
-FailsOnce false false old new = new ≡ old
+abbrev pub CountsOneFailure : Bool → Bool → ℕ → ℕ → Type 0
+CountsOneFailure true broken old new = (broken ≡ true) × (new ≡ old)
+CountsOneFailure false true old new = new ≡ (old + 1) % 2 ^ 64
+CountsOneFailure false false old new = new ≡ old

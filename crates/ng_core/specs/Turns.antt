@@ -3,18 +3,18 @@ use Rattle.std.specs.Prelude.{◌≡◌, ℕ, true, false, List, [], ◌∷◌}
 use Rattle.ng_rig.specs.Life.{Life}
 use Rattle.ng_session.specs.declared.event.Event.{Event}
 use Rattle.ng_session.specs.declared.reply.Reply.{Reply}
-use Rattle.ng_core.specs.Acts.{Serves, reply_to, broken_answer}
-use Rattle.ng_core.specs.Station.{Station}
+use Rattle.ng_core.specs.Events.{Handles, reply_to, broken_answer}
+use Rattle.ng_core.specs.Model.{ControllerModel}
 
 -- An event with its reply: a whole controller serves it, a broken one refuses it.
-pub record Turn {A R : Type 0} (honest : R → Type 0) (life : R → Life) (failed sectors : R → ℕ) (event : Event A) (r : Reply) (old new : Station R) : Type 0 where
-  pub serves : old.journal.broken ≡ false → Serves honest life failed sectors event r old new
+pub record IsTurn {A R : Type 0} (honest : R → Type 0) (life : R → Life) (failed sectors : R → ℕ) (event : Event A) (r : Reply) (old new : ControllerModel R) : Type 0 where
+  pub serves : old.journal.broken ≡ false → Handles honest life failed sectors event r old new
   pub refuses : old.journal.broken ≡ true → (new ≡ old) × (r ≡ reply_to (broken_answer old.session event))
 
 -- events with their replies, each from where the one before left controller and device
-abbrev pub Turns : {A R : Type 0} → (R → Type 0) → (R → Life) → (failed sectors : R → ℕ) → List (Event A) → List Reply → Station R → Station R → Type 0
-Turns honest life failed sectors [] [] old new = new ≡ old
-Turns honest life failed sectors [] (r ∷ replies) old new = ⊥
-Turns honest life failed sectors (event ∷ events) [] old new = ⊥
-Turns {A} {R} honest life failed sectors (event ∷ events) (r ∷ replies) old new =
-    (between : Station R) × (Turn honest life failed sectors event r old between × Turns honest life failed sectors events replies between new)
+abbrev pub AreTurns : {A R : Type 0} → (R → Type 0) → (R → Life) → (failed sectors : R → ℕ) → List (Event A) → List Reply → ControllerModel R → ControllerModel R → Type 0
+AreTurns honest life failed sectors [] [] old new = new ≡ old
+AreTurns honest life failed sectors [] (r ∷ replies) old new = ⊥
+AreTurns honest life failed sectors (event ∷ events) [] old new = ⊥
+AreTurns {A} {R} honest life failed sectors (event ∷ events) (r ∷ replies) old new =
+    (between : ControllerModel R) × (IsTurn honest life failed sectors event r old between × AreTurns honest life failed sectors events replies between new)

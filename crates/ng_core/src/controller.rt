@@ -12,7 +12,7 @@ use ng_session::{Condition, Event, LinesBefore, Reply, Session, Status};
 use std::alloc::Allocator;
 use std::marker::Model;
 
-/// A machine's controller, over its device (own). Contracts see a `Station`. After a call of the device failed it is broken, until it
+/// A machine's controller, over its device (own). Contracts see a `ControllerModel`. After a call of the device failed it is broken, until it
 /// is powered on anew.
 pub struct Controller<R: Rig, A: Allocator + Copy + Drop> {
     pub(crate) alloc: A,
@@ -26,9 +26,9 @@ pub struct Controller<R: Rig, A: Allocator + Copy + Drop> {
 
 impl<R: Rig, A: Allocator + Copy + Drop> Model for Controller<R, A> {
     ghost use Rattle.std.specs.Prelude.{◌≡◌, false};
-    ghost use Rattle.ng_core.specs.Station.{Station};
+    ghost use Rattle.ng_core.specs.Model.{ControllerModel};
 
-    ghost Value = { Station R };
+    ghost Value = { ControllerModel R };
 
     ghost view = { λ c. record { journal = c.journal; session = c.session; lines = c.lines; equipment = record { tools = c.tools; geometry = c.geometry } } };
 
@@ -37,7 +37,7 @@ impl<R: Rig, A: Allocator + Copy + Drop> Model for Controller<R, A> {
 
 impl<R: Rig, A: Allocator + Copy + Drop> Controller<R, A> {
     ghost use Rattle.ng_session.specs.Session.{load, load_refusal, IsQuiet};
-    ghost use Rattle.ng_core.specs.Acts.{CarriesOut, CarriesOutEvent, Serves, reply_to, broken_answer};
+    ghost use Rattle.ng_core.specs.Events.{CarriesOut, CarriesOutEvent, Handles, reply_to, broken_answer};
     ghost use Rattle.ng_core.specs.Headline.{AddsToPast};
 
     /// The device as it is, with no call to it.
@@ -69,11 +69,11 @@ impl<R: Rig, A: Allocator + Copy + Drop> Controller<R, A> {
     /// leave the program stopped there. M1 where memory is wanting, which only a Load, a line of the operator, a Resume and a Tick between
     /// two lines take; J4 where the journal has used up a counter that a Load, an opened segment or approach, or an entry needs. Nothing
     /// is changed then, though a Tick or a Resume has read its line. J1 where the device failed: the controller is broken then, and the
-    /// device stands for what stood before the event or for what stands behind it. K5 to all but Status where it is broken already. The
+    /// device stands for what stood before the event or for what stands after it. K5 to all but Status where it is broken already. The
     /// device keeps its size. Over an honest device all that came since power on, with this event, is accounted for by the plain
     /// interpreter, whenever power is cut.
     pub fn on(&mut self, event: Event<A>) -> Reply
-        ensures serves { self.old.journal.broken ≡ false → Serves R.honest R.life R.failed R.sectors event result self.old self.new }
+        ensures serves { self.old.journal.broken ≡ false → Handles R.honest R.life R.failed R.sectors event result self.old self.new }
         ensures broken { self.old.journal.broken ≡ true → (self.new ≡ self.old) × (result ≡ reply_to (broken_answer self.old.session event)) }
         ensures equipment { self.new.equipment ≡ self.old.equipment }
         ensures size { R.sectors self.new.journal.rig ≡ R.sectors self.old.journal.rig }
@@ -84,7 +84,7 @@ impl<R: Rig, A: Allocator + Copy + Drop> Controller<R, A> {
 
     /// Answers an event that stays the caller's as `on` does: the same is refused, and the same is left.
     pub(crate) fn reply(&mut self, event: &Event<A>) -> Reply
-        ensures serves { self.old.journal.broken ≡ false → Serves R.honest R.life R.failed R.sectors event.now result self.old self.new }
+        ensures serves { self.old.journal.broken ≡ false → Handles R.honest R.life R.failed R.sectors event.now result self.old self.new }
         ensures broken { self.old.journal.broken ≡ true → (self.new ≡ self.old) × (result ≡ reply_to (broken_answer self.old.session event.now)) }
         ensures equipment { self.new.equipment ≡ self.old.equipment }
         ensures size { R.sectors self.new.journal.rig ≡ R.sectors self.old.journal.rig }

@@ -7,7 +7,7 @@ ghost use Rattle.ng_layout.specs.Stored.{Standing, with_report};
 ghost use Rattle.ng_journal.specs.Journal.{RestsAt, Tells, IsBrokenBy};
 ghost use Rattle.ng_journal.specs.Storing.{ledger_of};
 ghost use Rattle.ng_session.specs.Session.{IsProgramsLine};
-ghost use Rattle.ng_core.specs.NextLines.{IsNext, FindsNext};
+ghost use Rattle.ng_core.specs.NextLines.{IsNextLineAt, FindsNextLine};
 
 use crate::controller::Controller;
 use ng_journal::{Journal, laws};
@@ -17,7 +17,7 @@ use ng_rig::Rig;
 use ng_session::{Reply, Session};
 use std::alloc::Allocator;
 
-/// The byte of the program at which its next line begins behind the half-done block: behind the line at the place where the block is a
+/// The byte of the program at which its next line begins after the half-done block: after the line at the place where the block is a
 /// line of the program, for which that is read, and else the place. J1 where the device failed: the journal is broken then.
 fn next_line<R: Rig, A: Allocator + Copy + Drop>(
     journal: &mut Journal<R, A>,
@@ -26,9 +26,9 @@ fn next_line<R: Rig, A: Allocator + Copy + Drop>(
     requires whole { journal.old.broken ≡ false }
     requires stored { session.now.stored ≡ journal.old.saved }
     ensures next { Promises (R.honest journal.old.rig) (R.honest journal.new.rig) ((standing : Standing) → RestsAt (R.life journal.old.rig) journal.old standing
-        → FindsNext result journal.new standing session.now (R.life journal.old.rig) (R.life journal.new.rig)) }
+        → FindsNextLine result journal.new standing session.now (R.life journal.old.rig) (R.life journal.new.rig)) }
     ensures within { IfOk result (λ next. next ≤ session.now.stored.length) }
-    ensures unread { (IsProgramsLine session.now.stored.half → ⊥) → (journal.new ≡ journal.old) × IfOk result (λ next. (program : List ℕ) → IsNext program session.now next) }
+    ensures unread { (IsProgramsLine session.now.stored.half → ⊥) → (journal.new ≡ journal.old) × IfOk result (λ next. (program : List ℕ) → IsNextLineAt program session.now next) }
     ensures ledger { ledger_of journal.new ≡ ledger_of journal.old }
     ensures broken { IsBrokenBy result journal.new.broken }
     ensures errors { IfErr result (λ e. (e ≡ DeviceFailed) × IsProgramsLine session.now.stored.half) }
@@ -49,7 +49,7 @@ impl<R: Rig, A: Allocator + Copy + Drop> Controller<R, A> {
     ghost use Rattle.std.specs.Prelude.{None};
     ghost use Rattle.ng_session.specs.Session.{reference, reference_refusal, abandon, abandon_refusal, resume, resume_refusal, IsProgramsLine, commits};
     ghost use Rattle.ng_session.specs.Entries.{Entry};
-    ghost use Rattle.ng_core.specs.Acts.{CarriesOut};
+    ghost use Rattle.ng_core.specs.Events.{CarriesOut};
     ghost use Rattle.ng_core.specs.Causes.{IsCommitted};
 
     /// Commits a report: it takes the place of what is stored of it. J4 where a counter is used up, J1 where the device failed: the

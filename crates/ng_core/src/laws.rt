@@ -2,10 +2,10 @@
 ghost use Rattle.std.specs.Prelude.{◌≡◌, ℕ, List, false};
 ghost use Rattle.ng_session.specs.declared.event.Event.{Event};
 ghost use Rattle.ng_session.specs.declared.reply.Reply.{Reply};
-ghost use Rattle.ng_core.specs.Station.{Station, Rests};
-ghost use Rattle.ng_core.specs.Acts.{scene_of};
-ghost use Rattle.ng_core.specs.Runs.{Passes};
-ghost use Rattle.ng_core.specs.Turns.{Turns};
+ghost use Rattle.ng_core.specs.Model.{ControllerModel, IsAtRestWith};
+ghost use Rattle.ng_core.specs.Events.{scene_of};
+ghost use Rattle.ng_core.specs.Runs.{PassesAsSession};
+ghost use Rattle.ng_core.specs.Turns.{AreTurns};
 ghost use Rattle.ng_layout.specs.Stored.{Standing};
 ghost use Rattle.ng_core.specs.Headline.{IsPast, Accounts};
 
@@ -13,16 +13,16 @@ use ng_rig::Rig;
 use std::alloc::Allocator;
 
 /// What events leave of an honest device, one after the other, each with its reply: what the session makes of those that came, and
-/// each stop since their beginning leaves what stands behind those that came until then, or behind the one under way too.
+/// each stop since their beginning leaves what stands after those that came until then, or after the one under way too.
 pub fn histories<R: Rig, A: Allocator>()
-    ensures { (events : List (Event A)) (replies : List Reply) (program : List ℕ) (old new : Station R)
-        → R.honest old.journal.rig → Turns R.honest R.life R.failed R.sectors events replies old new → old.journal.broken ≡ false → Rests (R.life old.journal.rig) old program
-        → Passes R.life events replies old.equipment (scene_of program old) (R.life old.journal.rig) new }
+    ensures { (events : List (Event A)) (replies : List Reply) (program : List ℕ) (old new : ControllerModel R)
+        → R.honest old.journal.rig → AreTurns R.honest R.life R.failed R.sectors events replies old new → old.journal.broken ≡ false → IsAtRestWith (R.life old.journal.rig) old program
+        → PassesAsSession R.life events replies old.equipment (scene_of program old) (R.life old.journal.rig) new }
 {}
 
 /// Whenever power of an honest device is cut since power on, the plain interpreter accounts for what is left: by as many entries as were acknowledged until
 /// then, or one more.
 pub fn accounts<R: Rig, A: Allocator>()
-    ensures { (x : Standing) (events : List (Event A)) (replies : List Reply) (first now : Station R)
+    ensures { (x : Standing) (events : List (Event A)) (replies : List Reply) (first now : ControllerModel R)
         → R.honest first.journal.rig → IsPast R.honest R.life R.failed R.sectors x events replies first now → Accounts R.life x events replies first now }
 {}

@@ -10,22 +10,22 @@ use ng_session::{Event, Reply};
 use std::alloc::Allocator;
 
 impl<R: Rig, A: Allocator + Copy + Drop> Controller<R, A> {
-    ghost use Rattle.ng_core.specs.Turns.{Turns};
-    ghost use Rattle.ng_core.specs.Runs.{Ran, FailsOnce};
+    ghost use Rattle.ng_core.specs.Turns.{AreTurns};
+    ghost use Rattle.ng_core.specs.Runs.{IsRun, CountsOneFailure};
     ghost use Rattle.ng_core.specs.Headline.{AddsToPast};
 
     /// Answers events in turn, each as `on` does: the replies in their order (own).
     ///
     /// M1 where there is no room for all replies: then no event was answered, and nothing is changed. A fault of an event is its reply,
-    /// and the next one is answered all the same. Over an honest device each stop leaves what stands behind the events that came until
-    /// then, or behind the one under way too; and all that came since power on, in this call and before it, is accounted for by the plain
+    /// and the next one is answered all the same. Over an honest device each stop leaves what stands after the events that came until
+    /// then, or after the one under way too; and all that came since power on, in this call and before it, is accounted for by the plain
     /// interpreter, whenever power is cut.
     pub fn run(&mut self, events: &[Event<A>]) -> Result<Vec<Reply, A>, Fault>
-        ensures turns { IfOk result (λ replies. Turns R.honest R.life R.failed R.sectors events.now replies.items self.old self.new) }
-        ensures ran { IfOk result (λ replies. Promises (R.honest self.old.journal.rig) (R.honest self.new.journal.rig) (Ran R.life events.now replies.items self.old self.new)) }
+        ensures turns { IfOk result (λ replies. AreTurns R.honest R.life R.failed R.sectors events.now replies.items self.old self.new) }
+        ensures ran { IfOk result (λ replies. Promises (R.honest self.old.journal.rig) (R.honest self.new.journal.rig) (IsRun R.life events.now replies.items self.old self.new)) }
         ensures past { IfOk result (λ replies. Promises (R.honest self.old.journal.rig) (R.honest self.new.journal.rig) (AddsToPast R.honest R.life R.failed R.sectors events.now replies.items self.old self.new)) }
         ensures each { IfOk result (λ replies. length replies.items ≡ length events.now) }
-        ensures failures { IfOk result (λ replies. FailsOnce self.old.journal.broken self.new.journal.broken (R.failed self.old.journal.rig) (R.failed self.new.journal.rig)) }
+        ensures failures { IfOk result (λ replies. CountsOneFailure self.old.journal.broken self.new.journal.broken (R.failed self.old.journal.rig) (R.failed self.new.journal.rig)) }
         ensures equipment { self.new.equipment ≡ self.old.equipment }
         ensures size { R.sectors self.new.journal.rig ≡ R.sectors self.old.journal.rig }
         ensures memory { IfErr result (λ fault. (fault ≡ OutOfMemory) × (self.new ≡ self.old)) }

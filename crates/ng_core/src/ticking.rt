@@ -42,9 +42,9 @@ fn first_kind_before<R: Rig, A: Allocator + Copy + Drop>(
     }
 }
 
-/// What is known of the lines behind the line at a place, where the next one begins; no more behind one that is too long, which is
+/// What is known of the lines after the line at a place, where the next one begins; no more after one that is too long, which is
 /// refused.
-fn lines_behind(known: &LinesBefore, place: u64, first: Kind, text: &[u8], next: u64) -> LinesBefore
+fn lines_after(known: &LinesBefore, place: u64, first: Kind, text: &[u8], next: u64) -> LinesBefore
     ensures { (program : List ℕ) → IsTrueOf program known.now → Next program place first text.now next → IsTrueOf program result }
 {
     if text.len() > TEXT {
@@ -56,7 +56,7 @@ fn lines_behind(known: &LinesBefore, place: u64, first: Kind, text: &[u8], next:
 impl<R: Rig, A: Allocator + Copy + Drop> Controller<R, A> {
     ghost use Rattle.ng_session.specs.Session.{open_part_of, tick, open_next, end, begin, opening_of, is_busy, IsBetweenLines};
     ghost use Rattle.ng_layout.specs.Programs.{line_at};
-    ghost use Rattle.ng_core.specs.Acts.{CarriesOut, handing};
+    ghost use Rattle.ng_core.specs.Events.{CarriesOut, handing};
 
     /// Does the next thing that is to do, of those above the first that applies.
     pub(crate) fn tick(&mut self) -> Result<Reply, Fault>
@@ -120,7 +120,7 @@ impl<R: Rig, A: Allocator + Copy + Drop> Controller<R, A> {
         Ok(self.session.open(half, &self.geometry))
     }
 
-    /// Commits the current block or its approach, once what stands behind it is stored.
+    /// Commits the current block or its approach, once what stands after it is stored.
     fn commit(&mut self) -> Result<Reply, Fault>
         requires whole { self.old.journal.broken ≡ false }
         requires block { IsSome self.old.session.current }
@@ -147,7 +147,7 @@ impl<R: Rig, A: Allocator + Copy + Drop> Controller<R, A> {
                 let reply = self
                     .session
                     .begin(text, line.next, first, &self.tools, &self.geometry)?;
-                self.lines = lines_behind(&self.lines, place, first, text, line.next);
+                self.lines = lines_after(&self.lines, place, first, text, line.next);
                 Ok(reply)
             }
             None => Ok(self.session.break_off(first)),

@@ -9,11 +9,11 @@ use Rattle.ng_session.specs.declared.reply.Reply.{Reply}
 use Rattle.ng_dialogue.specs.Orders.{Ends, TakesOrder}
 use Rattle.ng_dialogue.specs.declared.order.Order.{Order}
 use Rattle.ng_dialogue.specs.declared.telling.Unsent.{Unsent}
-use Rattle.ng_core.specs.Station.{Station}
+use Rattle.ng_core.specs.Model.{ControllerModel}
 use Rattle.ng_run.specs.Consoles.{Answers, Closes, Conversation}
 use Rattle.ng_run.specs.Endings.{ended_by}
 use Rattle.ng_run.specs.Talks.{Exchange, Hears, IsAnswered, events_in, events_of, replies_in, words_in, words_of}
-use Rattle.ng_core.specs.Turns.{Turns}
+use Rattle.ng_core.specs.Turns.{AreTurns}
 use Rattle.ng_run.specs.declared.ending.Ended.{Ended}
 use Rattle.ng_run.specs.declared.ending.Stop.{Stop}
 use Rattle.ng_run.specs.declared.ending.Stop.TheVariants.{Deaf, Mute}
@@ -21,14 +21,14 @@ use Rattle.ng_run.proofs.Asking.{hears_more, hears_none, one_more}
 use Rattle.ng_core.proofs.InTurn.{turns_joined, turns_pass}
 
 -- so much of the text was heard, and is answered whole
-pub record Talked {R : Type 0} (A : Type 0) (honest : R → Type 0) (life : R → Life) (failed sectors : R → ℕ) (text rest old new : Option (List ℕ)) (before after : Station R) : Type 0 where
+pub record Talked {R : Type 0} (A : Type 0) (honest : R → Type 0) (life : R → Life) (failed sectors : R → ℕ) (text rest old new : Option (List ℕ)) (before after : ControllerModel R) : Type 0 where
   pub talk : List (Exchange A)
   pub each : All IsAnswered talk
   pub hears : Hears text talk rest
-  pub given : Turns honest life failed sectors (events_in talk) (replies_in talk) before after
+  pub given : AreTurns honest life failed sectors (events_in talk) (replies_in talk) before after
   pub tells : Appends old new (words_in talk)
 
-pub talked_none : {R : Type 0} (A : Type 0) (honest : R → Type 0) (life : R → Life) (failed sectors : R → ℕ) (text old : Option (List ℕ)) (c : Station R)
+pub talked_none : {R : Type 0} (A : Type 0) (honest : R → Type 0) (life : R → Life) (failed sectors : R → ℕ) (text old : Option (List ℕ)) (c : ControllerModel R)
     → Talked A honest life failed sectors text text old old c c
 talked_none A honest life failed sectors text old c = record {
   talk = [];
@@ -39,15 +39,15 @@ talked_none A honest life failed sectors text old c = record {
 }
 
 -- the events of an exchange more
-given_more : {R : Type 0} (A : Type 0) (honest : R → Type 0) (life : R → Life) (failed sectors : R → ℕ) (talk : List (Exchange A)) (x : Exchange A) (before mid after : Station R)
-    → Turns honest life failed sectors (events_in talk) (replies_in talk) before mid → Turns honest life failed sectors (events_of x.order x.replies) x.replies mid after
-    → Turns honest life failed sectors (events_in (talk ++ x ∷ [])) (replies_in (talk ++ x ∷ [])) before after
+given_more : {R : Type 0} (A : Type 0) (honest : R → Type 0) (life : R → Life) (failed sectors : R → ℕ) (talk : List (Exchange A)) (x : Exchange A) (before mid after : ControllerModel R)
+    → AreTurns honest life failed sectors (events_in talk) (replies_in talk) before mid → AreTurns honest life failed sectors (events_of x.order x.replies) x.replies mid after
+    → AreTurns honest life failed sectors (events_in (talk ++ x ∷ [])) (replies_in (talk ++ x ∷ [])) before after
 given_more A honest life failed sectors talk x before mid after p q =
     let joined = turns_joined honest life failed sectors (events_in talk) (events_of x.order x.replies) (replies_in talk) x.replies before mid after p q in
-    subst (λ (l : List Reply). Turns honest life failed sectors (events_in (talk ++ x ∷ [])) l before after) (one_more (λ (y : Exchange A). y.replies) talk x)
-    (subst (λ (l : List (Event A)). Turns honest life failed sectors l (replies_in talk ++ x.replies) before after) (one_more (λ (y : Exchange A). events_of y.order y.replies) talk x) joined)
+    subst (λ (l : List Reply). AreTurns honest life failed sectors (events_in (talk ++ x ∷ [])) l before after) (one_more (λ (y : Exchange A). y.replies) talk x)
+    (subst (λ (l : List (Event A)). AreTurns honest life failed sectors l (replies_in talk ++ x.replies) before after) (one_more (λ (y : Exchange A). events_of y.order y.replies) talk x) joined)
 
-pub talked_more : {R T : Type 0} (A : Type 0) (honest : R → Type 0) (life : R → Life) (failed sectors : R → ℕ) (order : Order A) (done : T) (text rest next old mid new : Option (List ℕ)) (before now after : Station R)
+pub talked_more : {R T : Type 0} (A : Type 0) (honest : R → Type 0) (life : R → Life) (failed sectors : R → ℕ) (order : Order A) (done : T) (text rest next old mid new : Option (List ℕ)) (before now after : ControllerModel R)
     → Talked A honest life failed sectors text rest old mid before now → TakesOrder rest next (Some order) → Answers honest life failed sectors order (Ok done) mid new now after
     → Talked A honest life failed sectors text next old new before after
 talked_more A honest life failed sectors order done text rest next old mid new before now after p asked a =
@@ -62,12 +62,12 @@ talked_more A honest life failed sectors order done text rest next old mid new b
     }
 
 -- a conversation by what was answered whole and what was begun
-conversed : {R : Type 0} (A : Type 0) (honest : R → Type 0) (life : R → Life) (failed sectors : R → ℕ) (ended : Result Ended Stop) (text rest old new : Option (List ℕ)) (before after : Station R)
+conversed : {R : Type 0} (A : Type 0) (honest : R → Type 0) (life : R → Life) (failed sectors : R → ℕ) (ended : Result Ended Stop) (text rest old new : Option (List ℕ)) (before after : ControllerModel R)
     (answered begun talk : List (Exchange A)) (written : List ℕ) → answered ++ begun ≡ talk → All IsAnswered answered → Hears text talk rest
-    → Turns honest life failed sectors (events_in talk) (replies_in talk) before after → Appends old new (words_in answered ++ written)
+    → AreTurns honest life failed sectors (events_in talk) (replies_in talk) before after → Appends old new (words_in answered ++ written)
     → Closes ended after.journal.broken rest begun written → Conversation A honest life failed sectors ended text old new before after
 conversed A honest life failed sectors ended text rest old new before after answered begun talk written parts each hears given tells closes =
-    let given_all = subst (λ (l : List (Exchange A)). Turns honest life failed sectors (events_in l) (replies_in l) before after) (sym parts) given in
+    let given_all = subst (λ (l : List (Exchange A)). AreTurns honest life failed sectors (events_in l) (replies_in l) before after) (sym parts) given in
     record {
       answered = answered;
       begun = begun;
@@ -82,25 +82,25 @@ conversed A honest life failed sectors ended text rest old new before after answ
     }
 
 -- nothing is begun
-conversed_whole : {R : Type 0} (A : Type 0) (honest : R → Type 0) (life : R → Life) (failed sectors : R → ℕ) (ended : Result Ended Stop) (text rest old new : Option (List ℕ)) (before after : Station R)
+conversed_whole : {R : Type 0} (A : Type 0) (honest : R → Type 0) (life : R → Life) (failed sectors : R → ℕ) (ended : Result Ended Stop) (text rest old new : Option (List ℕ)) (before after : ControllerModel R)
     → (p : Talked A honest life failed sectors text rest old new before after) → Closes {A = A} ended after.journal.broken rest [] []
     → Conversation A honest life failed sectors ended text old new before after
 conversed_whole A honest life failed sectors ended text rest old new before after p closes =
     conversed A honest life failed sectors ended text rest old new before after p.talk [] p.talk [] (append-nil p.talk) p.each p.hears p.given
     (subst (λ (l : List ℕ). Appends old new l) (sym (append-nil (words_in p.talk))) p.tells) closes
 
-pub ends_whole : {R : Type 0} (A : Type 0) (honest : R → Type 0) (life : R → Life) (failed sectors : R → ℕ) (ended : Ended) (text rest old new : Option (List ℕ)) (before after : Station R)
+pub ends_whole : {R : Type 0} (A : Type 0) (honest : R → Type 0) (life : R → Life) (failed sectors : R → ℕ) (ended : Ended) (text rest old new : Option (List ℕ)) (before after : ControllerModel R)
     → Talked A honest life failed sectors text rest old new before after → IfSome rest Ends → ended ≡ ended_by after.journal.broken
     → Conversation A honest life failed sectors (Ok ended) text old new before after
 ends_whole A honest life failed sectors ended text rest old new before after p end is =
     conversed_whole A honest life failed sectors (Ok ended) text rest old new before after p (is, end, refl, refl)
 
-pub ends_deaf : {R : Type 0} (A : Type 0) (honest : R → Type 0) (life : R → Life) (failed sectors : R → ℕ) (text rest old new : Option (List ℕ)) (before after : Station R)
+pub ends_deaf : {R : Type 0} (A : Type 0) (honest : R → Type 0) (life : R → Life) (failed sectors : R → ℕ) (text rest old new : Option (List ℕ)) (before after : ControllerModel R)
     → Talked A honest life failed sectors text rest old new before after → Conversation A honest life failed sectors (Err Deaf) text old new before after
 ends_deaf A honest life failed sectors text rest old new before after p =
     conversed_whole A honest life failed sectors (Err Deaf) text rest old new before after p (refl, refl)
 
-pub ends_mute : {R T : Type 0} (A : Type 0) (honest : R → Type 0) (life : R → Life) (failed sectors : R → ℕ) (order : Order A) (fault : Unsent) (text rest next old mid new : Option (List ℕ)) (before now after : Station R)
+pub ends_mute : {R T : Type 0} (A : Type 0) (honest : R → Type 0) (life : R → Life) (failed sectors : R → ℕ) (order : Order A) (fault : Unsent) (text rest next old mid new : Option (List ℕ)) (before now after : ControllerModel R)
     → Talked A honest life failed sectors text rest old mid before now → TakesOrder rest next (Some order) → Answers {T = T} honest life failed sectors order (Err fault) mid new now after
     → Conversation A honest life failed sectors (Err Mute) text old new before after
 ends_mute A honest life failed sectors order fault text rest next old mid new before now after p asked a =

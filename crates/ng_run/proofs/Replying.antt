@@ -10,10 +10,10 @@ use Rattle.ng_session.specs.declared.reply.Reply.{Reply}
 use Rattle.ng_dialogue.specs.Telling.{Sends}
 use Rattle.ng_dialogue.specs.declared.order.Order.TheVariants.{Give, Ticks, Refuse}
 use Rattle.ng_dialogue.specs.declared.telling.Unsent.{Unsent}
-use Rattle.ng_core.specs.Station.{Station}
+use Rattle.ng_core.specs.Model.{ControllerModel}
 use Rattle.ng_run.specs.Consoles.{Answers, TicksOn, Told}
 use Rattle.ng_run.specs.Talks.{Exchange, IsAnswered, last_line, earlier_lines}
-use Rattle.ng_core.specs.Turns.{Turn}
+use Rattle.ng_core.specs.Turns.{IsTurn}
 use Rattle.ng_core.proofs.InTurn.{turns_one}
 
 -- the lines before the last are written; then the answer is, or it is broken off in its last line
@@ -25,8 +25,8 @@ told_behind x (Err fault) old mid new answered p q =
     let line = take q.0 (last_line x.order x.replies) in
     (lines ++ line, inl (answered, (q.0, refl)), Appends-trans old mid new lines line p q.1)
 
-pub answers_event : {A R T : Type 0} (honest : R → Type 0) (life : R → Life) (failed sectors : R → ℕ) (event : Event A) (r : Reply) (result : Result T Unsent) (old new : Option (List ℕ)) (before after : Station R)
-    → Turn honest life failed sectors event r before after → Sends old new (reply_line r) result → Answers honest life failed sectors (Give event) result old new before after
+pub answers_event : {A R T : Type 0} (honest : R → Type 0) (life : R → Life) (failed sectors : R → ℕ) (event : Event A) (r : Reply) (result : Result T Unsent) (old new : Option (List ℕ)) (before after : ControllerModel R)
+    → IsTurn honest life failed sectors event r before after → Sends old new (reply_line r) result → Answers honest life failed sectors (Give event) result old new before after
 answers_event {A} honest life failed sectors event r result old new before after t p = record {
   replies = r ∷ [];
   given = turns_one honest life failed sectors event r before after t;
@@ -34,7 +34,7 @@ answers_event {A} honest life failed sectors event r result old new before after
       (subst (λ (l : List ℕ). Sends old new l result) (sym (append-nil (reply_line r))) p);
 }
 
-pub answers_refusal : {A R T : Type 0} (honest : R → Type 0) (life : R → Life) (failed sectors : R → ℕ) (fault : Fault) (result : Result T Unsent) (old new : Option (List ℕ)) (c : Station R)
+pub answers_refusal : {A R T : Type 0} (honest : R → Type 0) (life : R → Life) (failed sectors : R → ℕ) (fault : Fault) (result : Result T Unsent) (old new : Option (List ℕ)) (c : ControllerModel R)
     → Sends old new (refused_line fault) result → Answers {A = A} honest life failed sectors (Refuse fault) result old new c c
 answers_refusal {A} honest life failed sectors fault result old new c p = record {
   replies = [];
@@ -43,7 +43,7 @@ answers_refusal {A} honest life failed sectors fault result old new c p = record
 }
 
 -- behind the lines of ticks, how many were made
-pub answers_ticks : {A R T : Type 0} (honest : R → Type 0) (life : R → Life) (failed sectors : R → ℕ) (most made : ℕ) (result : Result T Unsent) (old mid new : Option (List ℕ)) (before after : Station R)
+pub answers_ticks : {A R T : Type 0} (honest : R → Type 0) (life : R → Life) (failed sectors : R → ℕ) (most made : ℕ) (result : Result T Unsent) (old mid new : Option (List ℕ)) (before after : ControllerModel R)
     → TicksOn A honest life failed sectors most (Ok made) old mid before after → Sends mid new (ticks_line made) result → Answers {A = A} honest life failed sectors (Ticks most) result old new before after
 answers_ticks {A} honest life failed sectors most made result old mid new before after p q = record {
   replies = p.replies;
@@ -52,7 +52,7 @@ answers_ticks {A} honest life failed sectors most made result old mid new before
       (subst (λ (n : ℕ). Sends mid new (ticks_line n) result) p.makes.1 q);
 }
 
-pub answers_ticks_broken : {A R T : Type 0} (honest : R → Type 0) (life : R → Life) (failed sectors : R → ℕ) (most : ℕ) (fault told : Unsent) (old new : Option (List ℕ)) (before after : Station R)
+pub answers_ticks_broken : {A R T : Type 0} (honest : R → Type 0) (life : R → Life) (failed sectors : R → ℕ) (most : ℕ) (fault told : Unsent) (old new : Option (List ℕ)) (before after : ControllerModel R)
     → TicksOn A honest life failed sectors most (Err fault) old new before after → Answers {A = A} {T = T} honest life failed sectors (Ticks most) (Err told) old new before after
 answers_ticks_broken {A} honest life failed sectors most fault told old new before after p = record {
   replies = p.replies;

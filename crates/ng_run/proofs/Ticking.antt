@@ -11,9 +11,9 @@ use Rattle.ng_session.specs.declared.event.Event.{Event}
 use Rattle.ng_session.specs.declared.event.Event.TheVariants as event
 use Rattle.ng_session.specs.declared.reply.Reply.{Reply}
 use Rattle.ng_dialogue.specs.declared.telling.Unsent.{Unsent}
-use Rattle.ng_core.specs.Station.{Station}
+use Rattle.ng_core.specs.Model.{ControllerModel}
 use Rattle.ng_run.specs.Consoles.{TicksOn}
-use Rattle.ng_core.specs.Turns.{Turn, Turns}
+use Rattle.ng_core.specs.Turns.{IsTurn, AreTurns}
 use Rattle.ng_run.proofs.Asking.{one_more}
 use Rattle.ng_core.proofs.InTurn.{turns_joined, turns_one}
 
@@ -25,18 +25,18 @@ abbrev pub ticks_of : (A : Type 0) → List Reply → List (Event A)
 ticks_of A replies = map (tick_for A) replies
 
 -- so many ticks were made, which all go on
-pub record Ticked {R : Type 0} (A : Type 0) (honest : R → Type 0) (life : R → Life) (failed sectors : R → ℕ) (count : ℕ) (old new : Option (List ℕ)) (before after : Station R) : Type 0 where
+pub record Ticked {R : Type 0} (A : Type 0) (honest : R → Type 0) (life : R → Life) (failed sectors : R → ℕ) (count : ℕ) (old new : Option (List ℕ)) (before after : ControllerModel R) : Type 0 where
   pub replies : List Reply
   pub go_on : AllPass goes_on replies
   pub count_is : length replies ≡ count
-  pub given : Turns honest life failed sectors (ticks_of A replies) replies before after
+  pub given : AreTurns honest life failed sectors (ticks_of A replies) replies before after
   pub tells : Appends old new (flat_map tick_line replies)
 
-given_more : {R : Type 0} (A : Type 0) (honest : R → Type 0) (life : R → Life) (failed sectors : R → ℕ) (replies : List Reply) (r : Reply) (before mid after : Station R)
-    → Turns honest life failed sectors (ticks_of A replies) replies before mid → Turn {A = A} honest life failed sectors event.Tick r mid after
-    → Turns honest life failed sectors (ticks_of A (replies ++ r ∷ [])) (replies ++ r ∷ []) before after
+given_more : {R : Type 0} (A : Type 0) (honest : R → Type 0) (life : R → Life) (failed sectors : R → ℕ) (replies : List Reply) (r : Reply) (before mid after : ControllerModel R)
+    → AreTurns honest life failed sectors (ticks_of A replies) replies before mid → IsTurn {A = A} honest life failed sectors event.Tick r mid after
+    → AreTurns honest life failed sectors (ticks_of A (replies ++ r ∷ [])) (replies ++ r ∷ []) before after
 given_more A honest life failed sectors replies r before mid after p t =
-    subst (λ (l : List (Event A)). Turns honest life failed sectors l (replies ++ r ∷ []) before after) (sym (map-append (tick_for A) replies (r ∷ [])))
+    subst (λ (l : List (Event A)). AreTurns honest life failed sectors l (replies ++ r ∷ []) before after) (sym (map-append (tick_for A) replies (r ∷ [])))
     (turns_joined honest life failed sectors (ticks_of A replies) (event.Tick ∷ []) replies (r ∷ []) before mid after p (turns_one honest life failed sectors event.Tick r mid after t))
 
 tells_more : (old mid new : Option (List ℕ)) (replies : List Reply) (r : Reply) → Appends old mid (flat_map tick_line replies) → Appends mid new (tick_line r) → Appends old new (flat_map tick_line (replies ++ r ∷ []))
@@ -46,8 +46,8 @@ tells_more old mid new replies r p q =
 one_longer : {X : Type 0} (xs : List X) (x : X) (n : ℕ) → length xs ≡ n → length (xs ++ x ∷ []) ≡ n + 1
 one_longer xs x n e = omega (arith, length-append xs (x ∷ []), e)
 
-pub ticked_more : {R : Type 0} (A : Type 0) (honest : R → Type 0) (life : R → Life) (failed sectors : R → ℕ) (count : ℕ) (r : Reply) (old mid new : Option (List ℕ)) (before now after : Station R)
-    → Ticked A honest life failed sectors count old mid before now → Turn {A = A} honest life failed sectors event.Tick r now after → goes_on r ≡ true → Appends mid new (tick_line r)
+pub ticked_more : {R : Type 0} (A : Type 0) (honest : R → Type 0) (life : R → Life) (failed sectors : R → ℕ) (count : ℕ) (r : Reply) (old mid new : Option (List ℕ)) (before now after : ControllerModel R)
+    → Ticked A honest life failed sectors count old mid before now → IsTurn {A = A} honest life failed sectors event.Tick r now after → goes_on r ≡ true → Appends mid new (tick_line r)
     → Ticked A honest life failed sectors (count + 1) old new before after
 ticked_more A honest life failed sectors count r old mid new before now after p t on told = record {
   replies = p.replies ++ r ∷ [];
@@ -58,8 +58,8 @@ ticked_more A honest life failed sectors count r old mid new before now after p 
 }
 
 -- a reply ends them
-pub ticks_end : {R : Type 0} (A : Type 0) (honest : R → Type 0) (life : R → Life) (failed sectors : R → ℕ) (most count : ℕ) (r : Reply) (old mid new : Option (List ℕ)) (before now after : Station R)
-    → Ticked A honest life failed sectors count old mid before now → count < most → Turn {A = A} honest life failed sectors event.Tick r now after → goes_on r ≡ false → Appends mid new (tick_line r)
+pub ticks_end : {R : Type 0} (A : Type 0) (honest : R → Type 0) (life : R → Life) (failed sectors : R → ℕ) (most count : ℕ) (r : Reply) (old mid new : Option (List ℕ)) (before now after : ControllerModel R)
+    → Ticked A honest life failed sectors count old mid before now → count < most → IsTurn {A = A} honest life failed sectors event.Tick r now after → goes_on r ≡ false → Appends mid new (tick_line r)
     → TicksOn A honest life failed sectors most (Ok (count + 1)) old new before after
 ticks_end A honest life failed sectors most count r old mid new before now after p below t off told =
     let longer = one_longer p.replies r count p.count_is in
@@ -74,7 +74,7 @@ ticks_end A honest life failed sectors most count r old mid new before now after
     }
 
 -- all were made
-pub ticks_all : {R : Type 0} (A : Type 0) (honest : R → Type 0) (life : R → Life) (failed sectors : R → ℕ) (most count : ℕ) (old new : Option (List ℕ)) (before after : Station R)
+pub ticks_all : {R : Type 0} (A : Type 0) (honest : R → Type 0) (life : R → Life) (failed sectors : R → ℕ) (most count : ℕ) (old new : Option (List ℕ)) (before after : ControllerModel R)
     → Ticked A honest life failed sectors count old new before after → count ≡ most → TicksOn A honest life failed sectors most (Ok most) old new before after
 ticks_all A honest life failed sectors most count old new before after p all = record {
   replies = p.replies;
@@ -83,8 +83,8 @@ ticks_all A honest life failed sectors most count old new before after p all = r
 }
 
 -- a line can't be written
-pub ticks_break : {R : Type 0} (A : Type 0) (honest : R → Type 0) (life : R → Life) (failed sectors : R → ℕ) (most count : ℕ) (r : Reply) (fault : Unsent) (old mid new : Option (List ℕ)) (before now after : Station R)
-    → Ticked A honest life failed sectors count old mid before now → count < most → Turn {A = A} honest life failed sectors event.Tick r now after → (n : ℕ) × Appends mid new (take n (tick_line r))
+pub ticks_break : {R : Type 0} (A : Type 0) (honest : R → Type 0) (life : R → Life) (failed sectors : R → ℕ) (most count : ℕ) (r : Reply) (fault : Unsent) (old mid new : Option (List ℕ)) (before now after : ControllerModel R)
+    → Ticked A honest life failed sectors count old mid before now → count < most → IsTurn {A = A} honest life failed sectors event.Tick r now after → (n : ℕ) × Appends mid new (take n (tick_line r))
     → TicksOn A honest life failed sectors most (Err fault) old new before after
 ticks_break A honest life failed sectors most count r fault old mid new before now after p below t told =
     let begun = flat_map tick_line p.replies ++ take told.0 (tick_line r) in

@@ -15,13 +15,13 @@ use Rattle.ng_dialogue.specs.Orders.{Ends}
 use Rattle.ng_dialogue.specs.declared.order.Order.{Order}
 use Rattle.ng_dialogue.specs.declared.order.Order.TheVariants.{Ticks}
 use Rattle.ng_dialogue.specs.declared.telling.Unsent.{Unsent}
-use Rattle.ng_core.specs.Acts.{scene_of}
-use Rattle.ng_core.specs.Powers.{Answer, PowersOn}
-use Rattle.ng_core.specs.Runs.{Passes}
-use Rattle.ng_core.specs.Station.{Station, Rests}
+use Rattle.ng_core.specs.Events.{scene_of}
+use Rattle.ng_core.specs.Powers.{PowerOnResult, PowersOn}
+use Rattle.ng_core.specs.Runs.{PassesAsSession}
+use Rattle.ng_core.specs.Model.{ControllerModel, IsAtRestWith}
 use Rattle.ng_run.specs.Endings.{ended_by, status_of}
 use Rattle.ng_run.specs.Talks.{AreBrokenOff, AreTicks, Exchange, Hears, IsAnswered, IsBegun, events_in, events_of, replies_in, words_in, words_of}
-use Rattle.ng_core.specs.Turns.{Turns}
+use Rattle.ng_core.specs.Turns.{AreTurns}
 use Rattle.ng_run.specs.declared.ending.Ended.{Ended}
 use Rattle.ng_run.specs.declared.ending.Ended.TheVariants.{Unpowered}
 use Rattle.ng_run.specs.declared.ending.Stop.{Stop}
@@ -35,9 +35,9 @@ Makes most (Ok made) replies old new = AreTicks most replies × (made ≡ length
 Makes most (Err fault) replies old new = (written : List ℕ) × AreBrokenOff most replies written × Appends old new written
 
 -- The controller is given ticks, and the lines of their replies are written, or they are broken off in the last.
-pub record TicksOn {R : Type 0} (A : Type 0) (honest : R → Type 0) (life : R → Life) (failed sectors : R → ℕ) (most : ℕ) (made : Result ℕ Unsent) (old new : Option (List ℕ)) (before after : Station R) : Type 0 where
+pub record TicksOn {R : Type 0} (A : Type 0) (honest : R → Type 0) (life : R → Life) (failed sectors : R → ℕ) (most : ℕ) (made : Result ℕ Unsent) (old new : Option (List ℕ)) (before after : ControllerModel R) : Type 0 where
   pub replies : List Reply
-  pub given : Turns honest life failed sectors (events_of {A = A} (Ticks most) replies) replies before after
+  pub given : AreTurns honest life failed sectors (events_of {A = A} (Ticks most) replies) replies before after
   pub makes : Makes most made replies old new
 
 -- an answer is written, or a beginning of it
@@ -46,9 +46,9 @@ Told x (Ok done) old new = IsAnswered x × Appends old new (words_of x.order x.r
 Told x (Err fault) old new = (written : List ℕ) × IsBegun x written × Appends old new written
 
 -- The controller is given what an order asks, and the answer is written.
-pub record Answers {A R T : Type 0} (honest : R → Type 0) (life : R → Life) (failed sectors : R → ℕ) (order : Order A) (result : Result T Unsent) (old new : Option (List ℕ)) (before after : Station R) : Type 0 where
+pub record Answers {A R T : Type 0} (honest : R → Type 0) (life : R → Life) (failed sectors : R → ℕ) (order : Order A) (result : Result T Unsent) (old new : Option (List ℕ)) (before after : ControllerModel R) : Type 0 where
   pub replies : List Reply
-  pub given : Turns honest life failed sectors (events_of order replies) replies before after
+  pub given : AreTurns honest life failed sectors (events_of order replies) replies before after
   pub tells : Told (record { order = order; replies = replies }) result old new
 
 -- ---- the text
@@ -61,18 +61,18 @@ Closes {A} (Err Mute) broken rest begun written = (last : Exchange A) × (begun 
 
 -- A text is heard and answered in turn: the events that it asks are given, and the words of the answers are written. Over an honest
 -- device each stop leaves what stands behind some of these events, and the items handed out are the session's.
-pub record Conversation {R : Type 0} (A : Type 0) (honest : R → Type 0) (life : R → Life) (failed sectors : R → ℕ) (ended : Result Ended Stop) (text old new : Option (List ℕ)) (before after : Station R) : Type 0 where
+pub record Conversation {R : Type 0} (A : Type 0) (honest : R → Type 0) (life : R → Life) (failed sectors : R → ℕ) (ended : Result Ended Stop) (text old new : Option (List ℕ)) (before after : ControllerModel R) : Type 0 where
   pub answered : List (Exchange A)
   pub begun : List (Exchange A)
   pub rest : Option (List ℕ)
   pub written : List ℕ
   pub each : All IsAnswered answered
   pub hears : Hears text (answered ++ begun) rest
-  pub given : Turns honest life failed sectors (events_in (answered ++ begun)) (replies_in (answered ++ begun)) before after
+  pub given : AreTurns honest life failed sectors (events_in (answered ++ begun)) (replies_in (answered ++ begun)) before after
   pub tells : Appends old new (words_in answered ++ written)
   pub closes : Closes ended after.journal.broken rest begun written
-  pub passes : before.journal.broken ≡ false → Promises (honest before.journal.rig) (honest after.journal.rig) ((program : List ℕ) → Rests (life before.journal.rig) before program
-      → Passes life (events_in (answered ++ begun)) (replies_in (answered ++ begun)) before.equipment (scene_of program before) (life before.journal.rig) after)
+  pub passes : before.journal.broken ≡ false → Promises (honest before.journal.rig) (honest after.journal.rig) ((program : List ℕ) → IsAtRestWith (life before.journal.rig) before program
+      → PassesAsSession life (events_in (answered ++ begun)) (replies_in (answered ++ begun)) before.equipment (scene_of program before) (life before.journal.rig) after)
 
 -- ---- the console
 
@@ -82,13 +82,13 @@ Refuses fault (Ok ended) old new = (ended ≡ Unpowered) × Appends old new (ref
 Refuses fault (Err stop) old new = (stop ≡ Mute) × ((n : ℕ) × Appends old new (take n (refused_line fault)))
 
 -- what comes of power on, and the device that is left
-abbrev pub GoesOn : {R : Type 0} → Type 0 → (R → Type 0) → (R → Life) → (failed sectors : R → ℕ) → Answer R → Result Ended Stop → R → Option (List ℕ) → Option (List ℕ) → Option (List ℕ) → Type 0
-GoesOn {R} A honest life failed sectors (Ok c) ended left text old new = (after : Station R) × Conversation A honest life failed sectors ended text old new c after × (left ≡ after.journal.rig)
+abbrev pub GoesOn : {R : Type 0} → Type 0 → (R → Type 0) → (R → Life) → (failed sectors : R → ℕ) → PowerOnResult R → Result Ended Stop → R → Option (List ℕ) → Option (List ℕ) → Option (List ℕ) → Type 0
+GoesOn {R} A honest life failed sectors (Ok c) ended left text old new = (after : ControllerModel R) × Conversation A honest life failed sectors ended text old new c after × (left ≡ after.journal.rig)
 GoesOn {R} A honest life failed sectors (Err e) ended left text old new = (left ≡ e.1) × Refuses e.0 ended old new
 
 -- A console over a device: power on, and what comes of it.
 pub record Runs {R : Type 0} (A : Type 0) (sectors failed : R → ℕ) (honest : R → Type 0) (life : R → Life) (settings : Settings) (rig : R) (text old new : Option (List ℕ)) (result : Result Ended Stop × R) : Type 0 where
-  pub powered : Answer R
+  pub powered : PowerOnResult R
   pub starts : PowersOn honest life failed sectors settings rig powered
   pub goes_on : GoesOn A honest life failed sectors powered result.0 result.1 text old new
 

@@ -4,7 +4,7 @@ use Rattle.ng_num.specs.declared.fault.Fault.{Fault}
 use Rattle.ng_rig.proofs.Promise.{meaning}
 use Rattle.ng_layout.specs.Programs.{Line}
 use Rattle.ng_core.proofs.Beginning.{Reading}
-use Rattle.ng_core.proofs.Resuming.{finds_next, behind_found, behind_end}
+use Rattle.ng_core.proofs.Resuming.{finds_next, after_found, after_end}
 use Rattle.ng_core.proofs.half_done.next_line.Goals as goal
 
 pub returns-in-Some-clause-next : goal.returns-in-Some-clause-next
@@ -15,7 +15,7 @@ returns-in-Some-clause-next g c =
     (subst (λ (l : Option Line). Reading {E = Fault} g.R.Rig.honest g.R.Rig.life (Ok l) place c.args.journal.now c.program_line.new.self) c.in-Some.is c.in_ok-line.ensures.line) in
     finds_next {E = Fault} {F = Fault} g.R.Rig.honest g.R.Rig.life (Some c.in-Some.line) c.line.inside.next c.args.session.now c.args.journal.now c.program_line.new.self
     (c.is_programs_line.ensures.yes c.if-not-is_programs_line.false)
-    (λ program found. ap (λ (l : Line). l.next) c.line.view_is ∙ behind_found program c.args.session.now.stored.place c.in-Some.line found) reading
+    (λ program found. ap (λ (l : Line). l.next) c.line.view_is ∙ after_found program c.args.session.now.stored.place c.in-Some.line found) reading
 
 pub returns-in-None-clause-next : goal.returns-in-None-clause-next
 returns-in-None-clause-next g c =
@@ -25,7 +25,7 @@ returns-in-None-clause-next g c =
     (subst (λ (l : Option Line). Reading {E = Fault} g.R.Rig.honest g.R.Rig.life (Ok l) place c.args.journal.now c.program_line.new.self) c.in-None.is c.in_ok-line.ensures.line) in
     finds_next {E = Fault} {F = Fault} g.R.Rig.honest g.R.Rig.life None place c.args.session.now c.args.journal.now c.program_line.new.self
     (c.is_programs_line.ensures.yes c.if-not-is_programs_line.false)
-    (λ program end. at ∙ behind_end program c.args.session.now.stored.place end) reading
+    (λ program end. at ∙ after_end program c.args.session.now.stored.place end) reading
 
 pub returns-in_err-line-clause-next : goal.returns-in_err-line-clause-next
 returns-in_err-line-clause-next g c =

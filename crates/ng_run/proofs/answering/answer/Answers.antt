@@ -1,10 +1,10 @@
-use Rattle.ng_core.specs.Turns.{Turn}
+use Rattle.ng_core.specs.Turns.{IsTurn}
 use Rattle.ng_run.proofs.Replying.{answers_event, answers_refusal, answers_ticks, answers_ticks_broken}
 use Rattle.ng_run.proofs.answering.answer.Goals as goal
 
 pub returns-in-Give : goal.returns-in-Give
 returns-in-Give g c =
-    let turn : Turn g.R.Rig.honest g.R.Rig.life g.R.Rig.failed g.R.Rig.sectors c.in-Give.event c.on-reply.result c.args.controller.now c.on-reply.new.self =
+    let turn : IsTurn g.R.Rig.honest g.R.Rig.life g.R.Rig.failed g.R.Rig.sectors c.in-Give.event c.on-reply.result c.args.controller.now c.on-reply.new.self =
     record { serves = c.on-reply.ensures.serves; refuses = c.on-reply.ensures.broken } in
     rw (c.in-Give.is) (answers_event g.R.Rig.honest g.R.Rig.life g.R.Rig.failed g.R.Rig.sectors c.in-Give.event c.on-reply.result c.tell_reply.result _ _ _ _ turn c.tell_reply.ensures)
 

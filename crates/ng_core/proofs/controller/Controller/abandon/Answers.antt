@@ -7,7 +7,7 @@ use Rattle.ng_journal.specs.Storing.{ledger_of}
 use Rattle.ng_session.specs.Entries.{Abandoned, after_abandon}
 use Rattle.ng_session.specs.Session.{Sitting, commits, abandon, abandon_unless, abandon_refusal}
 use Rattle.ng_core.specs.Causes.{IsHinderedBy}
-use Rattle.ng_core.specs.Station.{Station}
+use Rattle.ng_core.specs.Model.{ControllerModel}
 use Rattle.ng_core.proofs.Carrying.{carried_to, carried_refused, carried_used}
 use Rattle.ng_core.proofs.Hindering.{hindered_count, stored_abandon}
 use Rattle.ng_core.proofs.Reporting.{no_block, has_half, past_abandoned}
@@ -15,39 +15,39 @@ use Rattle.ng_core.proofs.controller.Controller.abandon.Goals as goal
 
 pub keep-requires-clause-free : goal.keep-requires-clause-free
 keep-requires-clause-free g c =
-    let old : Station g.row.R.Denot = c.args.self.now in
-    let none : abandon_refusal old.session ≡ None = subst (λ (x : Station g.row.R.Denot). abandon_refusal x.session ≡ None) c.self.view_is (sym c.in_default.ensures) in
+    let old : ControllerModel g.row.R.Denot = c.args.self.now in
+    let none : abandon_refusal old.session ≡ None = subst (λ (x : ControllerModel g.row.R.Denot). abandon_refusal x.session ≡ None) c.self.view_is (sym c.in_default.ensures) in
     no_block old.session none
 
 pub keep-requires-clause-storable : goal.keep-requires-clause-storable
 keep-requires-clause-storable g c =
-    subst (λ (x : Station g.row.R.Denot). IsStorable (with_report x.session.stored c.in-Some-abandoned.report x.session.stored.length)) c.self.view_is c.in-Some-abandoned.ensures.storable
+    subst (λ (x : ControllerModel g.row.R.Denot). IsStorable (with_report x.session.stored c.in-Some-abandoned.report x.session.stored.length)) c.self.view_is c.in-Some-abandoned.ensures.storable
 
 pub returns-in-Some : goal.returns-in-Some
 returns-in-Some g c =
-    let old : Station g.row.R.Denot = c.args.self.now in
-    let refused : Some c.in-Some.fault ≡ abandon_refusal old.session = subst (λ (x : Station g.row.R.Denot). Some c.in-Some.fault ≡ abandon_refusal x.session) c.self.view_is c.in-Some.ensures in
+    let old : ControllerModel g.row.R.Denot = c.args.self.now in
+    let refused : Some c.in-Some.fault ≡ abandon_refusal old.session = subst (λ (x : ControllerModel g.row.R.Denot). Some c.in-Some.fault ≡ abandon_refusal x.session) c.self.view_is c.in-Some.ensures in
     carried_refused g.R.Rig.honest g.R.Rig.life g.R.Rig.failed g.R.Rig.sectors ⊥ (abandon_refusal old.session ≡ None) ⊥ c.in-Some.fault (λ (program : List ℕ). abandon program old.session) old c.requires
     (λ program. ap (λ (o : Option Fault). abandon_unless program old.session o) refused)
 
 pub returns-then-is_count_used_up : goal.returns-then-is_count_used_up
 returns-then-is_count_used_up g c =
-    let old : Station g.row.R.Denot = c.args.self.now in
+    let old : ControllerModel g.row.R.Denot = c.args.self.now in
     let session = c.self.inside.session in
     let ledger = ledger_of c.self.inside.journal in
     let saved = after_abandon session.stored in
     let free : abandon_refusal session ≡ None = sym c.in_default.ensures in
     carried_used g.R.Rig.honest g.R.Rig.life g.R.Rig.failed g.R.Rig.sectors ⊥ (abandon_refusal old.session ≡ None) ⊥ (λ (program : List ℕ). abandon program old.session) old c.requires
-    (subst (λ (x : Station g.row.R.Denot). IsHinderedBy ⊥ (abandon_refusal x.session ≡ None) (ledger_of x.journal) (λ (program : List ℕ). abandon program x.session) CountersUsed) c.self.view_is
+    (subst (λ (x : ControllerModel g.row.R.Denot). IsHinderedBy ⊥ (abandon_refusal x.session ≡ None) (ledger_of x.journal) (λ (program : List ℕ). abandon program x.session) CountersUsed) c.self.view_is
     (hindered_count ledger (λ program. abandon program session) saved (abandon_refusal session ≡ None)
     (c.counters.ensures.past ledger saved (past_abandoned session.stored (has_half session free) c.if-is_count_used_up.ensures)) (λ program. stored_abandon program session free)))
 
 pub returns-in-Some-abandoned : goal.returns-in-Some-abandoned
 returns-in-Some-abandoned g c =
-    let old : Station g.row.R.Denot = c.args.self.now in
-    let none : abandon_refusal old.session ≡ None = subst (λ (x : Station g.row.R.Denot). abandon_refusal x.session ≡ None) c.self.view_is (sym c.in_default.ensures) in
+    let old : ControllerModel g.row.R.Denot = c.args.self.now in
+    let none : abandon_refusal old.session ≡ None = subst (λ (x : ControllerModel g.row.R.Denot). abandon_refusal x.session ≡ None) c.self.view_is (sym c.in_default.ensures) in
     let is : with_report old.session.stored c.in-Some-abandoned.report old.session.stored.length ≡ after_abandon old.session.stored =
-    subst (λ (x : Station g.row.R.Denot). with_report x.session.stored c.in-Some-abandoned.report x.session.stored.length ≡ after_abandon x.session.stored) c.self.view_is c.in-Some-abandoned.ensures.value in
+    subst (λ (x : ControllerModel g.row.R.Denot). with_report x.session.stored c.in-Some-abandoned.report x.session.stored.length ≡ after_abandon x.session.stored) c.self.view_is c.in-Some-abandoned.ensures.value in
     carried_to g.R.Rig.honest g.R.Rig.life g.R.Rig.failed g.R.Rig.sectors ⊥ ⊥ (Unit {0}) (abandon_refusal old.session ≡ None) ⊥ ⊥
     (λ (program : List ℕ). commits program Abandoned (record old.session { stored = with_report old.session.stored c.in-Some-abandoned.report old.session.stored.length })) (λ (program : List ℕ). abandon program old.session)
     c.keep.result old c.keep.new.self (λ m. m) (λ u. none) (λ e. e)

@@ -2,8 +2,8 @@ use Rattle.std.proofs.Common.{◌≡◌, ℕ, List, [], Ok, Err, refl, sym, ◌�
 use Rattle.std.proofs.lemmas.Result.{err_from_is_err_and}
 use Rattle.ng_session.specs.Entries.{Equipment}
 use Rattle.ng_session.specs.Session.{Sitting, step, TakesMemory, AsksDevice, ReadsLine}
-use Rattle.ng_core.specs.Station.{Station}
-use Rattle.ng_core.specs.Acts.{CarriesOutEvent}
+use Rattle.ng_core.specs.Model.{ControllerModel}
+use Rattle.ng_core.specs.Events.{CarriesOutEvent}
 use Rattle.ng_core.proofs.Quiet.{still_step}
 use Rattle.ng_core.proofs.Carrying.{carried_still, carried_short}
 use Rattle.ng_core.proofs.controller.Controller.answer.Goals as goal
@@ -19,20 +19,20 @@ pub returns-in_err-answer-clause-carried : goal.returns-in_err-answer-clause-car
 returns-in_err-answer-clause-carried g c =
     let p = err_from_is_err_and c.from_residual.result c.from_residual.ensures.1 in
     let equipment : Equipment = record { tools = c.self.inside.tools; geometry = c.self.inside.geometry } in
-    let old : Station g.row.R.Denot = record { journal = c.self.inside.journal; session = c.self.inside.session; lines = c.self.inside.lines; equipment = equipment } in
-    let new : Station g.row.R.Denot = record { journal = c.self.inside.journal; session = c.answer.new.self; lines = c.self.inside.lines; equipment = equipment } in
-    let whole = ap (λ (x : Station g.row.R.Denot). x.journal.broken) c.self.view_is ∙ c.requires.whole in
-    rw (p.1) (subst (λ (x : Station g.row.R.Denot). CarriesOutEvent g.R.Rig.honest g.R.Rig.life g.R.Rig.failed g.R.Rig.sectors c.args.event.now (Err p.0) x new) c.self.view_is
+    let old : ControllerModel g.row.R.Denot = record { journal = c.self.inside.journal; session = c.self.inside.session; lines = c.self.inside.lines; equipment = equipment } in
+    let new : ControllerModel g.row.R.Denot = record { journal = c.self.inside.journal; session = c.answer.new.self; lines = c.self.inside.lines; equipment = equipment } in
+    let whole = ap (λ (x : ControllerModel g.row.R.Denot). x.journal.broken) c.self.view_is ∙ c.requires.whole in
+    rw (p.1) (subst (λ (x : ControllerModel g.row.R.Denot). CarriesOutEvent g.R.Rig.honest g.R.Rig.life g.R.Rig.failed g.R.Rig.sectors c.args.event.now (Err p.0) x new) c.self.view_is
     (carried_short g.R.Rig.honest g.R.Rig.life g.R.Rig.failed g.R.Rig.sectors (TakesMemory equipment old.session c.args.event.now) (AsksDevice equipment old.session c.args.event.now) (ReadsLine equipment old.session c.args.event.now)
     p.0 (λ (program : List ℕ). step equipment program old.session c.args.event.now) old new whole p.2 c.in_err-answer.ensures.memory refl refl refl c.in_err-answer.ensures.err))
 
 pub returns-clause-carried : goal.returns-clause-carried
 returns-clause-carried g c =
     let equipment : Equipment = record { tools = c.self.inside.tools; geometry = c.self.inside.geometry } in
-    let old : Station g.row.R.Denot = record { journal = c.self.inside.journal; session = c.self.inside.session; lines = c.self.inside.lines; equipment = equipment } in
-    let new : Station g.row.R.Denot = record { journal = c.self.inside.journal; session = c.answer.new.self; lines = c.self.inside.lines; equipment = equipment } in
-    let whole = ap (λ (x : Station g.row.R.Denot). x.journal.broken) c.self.view_is ∙ c.requires.whole in
-    subst (λ (x : Station g.row.R.Denot). CarriesOutEvent g.R.Rig.honest g.R.Rig.life g.R.Rig.failed g.R.Rig.sectors c.args.event.now (Ok c.in_ok-answer.field-0) x new) c.self.view_is
+    let old : ControllerModel g.row.R.Denot = record { journal = c.self.inside.journal; session = c.self.inside.session; lines = c.self.inside.lines; equipment = equipment } in
+    let new : ControllerModel g.row.R.Denot = record { journal = c.self.inside.journal; session = c.answer.new.self; lines = c.self.inside.lines; equipment = equipment } in
+    let whole = ap (λ (x : ControllerModel g.row.R.Denot). x.journal.broken) c.self.view_is ∙ c.requires.whole in
+    subst (λ (x : ControllerModel g.row.R.Denot). CarriesOutEvent g.R.Rig.honest g.R.Rig.life g.R.Rig.failed g.R.Rig.sectors c.args.event.now (Ok c.in_ok-answer.field-0) x new) c.self.view_is
     (carried_still g.R.Rig.honest g.R.Rig.life g.R.Rig.failed g.R.Rig.sectors (TakesMemory equipment old.session c.args.event.now) (AsksDevice equipment old.session c.args.event.now) (ReadsLine equipment old.session c.args.event.now)
     c.in_ok-answer.field-0 (λ (program : List ℕ). step equipment program old.session c.args.event.now) old new whole
     (λ program. still_step equipment program old.session c.args.event.now c.requires.quiet) refl refl refl c.in_ok-answer.ensures.reply c.in_ok-answer.ensures.next)

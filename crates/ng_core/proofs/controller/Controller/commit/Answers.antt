@@ -5,7 +5,7 @@ use Rattle.ng_num.specs.declared.fault.Fault.TheVariants.{CountersUsed}
 use Rattle.ng_journal.specs.Storing.{ledger_of}
 use Rattle.ng_session.specs.Entries.{Equipment}
 use Rattle.ng_session.specs.Session.{Sitting, end}
-use Rattle.ng_core.specs.Station.{Station}
+use Rattle.ng_core.specs.Model.{ControllerModel}
 use Rattle.ng_core.proofs.Anyway.{comes_commit}
 use Rattle.ng_core.proofs.Carrying.{carried_as, carried_failed}
 use Rattle.ng_core.proofs.Hindering.{hindered_entry}
@@ -23,12 +23,12 @@ returns-in_err-commit g c =
     let p = err_from_is_err_and c.from_residual.result c.from_residual.ensures.1 in
     let e = c.in_err-commit.field-0.0 in
     let equipment : Equipment = record { tools = c.self.inside.tools; geometry = c.self.inside.geometry } in
-    let old : Station g.row.R.Denot = record { journal = c.self.inside.journal; session = c.self.inside.session; lines = c.self.inside.lines; equipment = equipment } in
-    let new : Station g.row.R.Denot = record { journal = c.commit.new.self; session = c.self.inside.session; lines = c.self.inside.lines; equipment = equipment } in
+    let old : ControllerModel g.row.R.Denot = record { journal = c.self.inside.journal; session = c.self.inside.session; lines = c.self.inside.lines; equipment = equipment } in
+    let new : ControllerModel g.row.R.Denot = record { journal = c.commit.new.self; session = c.self.inside.session; lines = c.self.inside.lines; equipment = equipment } in
     let block = c.in-Some.ensures.after in
     let due : IsDue old.session c.in-Some.after.now = record { block = block.0; current = block.1; after = block.2 } in
     let unchanged : e ≡ CountersUsed → new.journal ≡ old.journal = λ used. c.in_err-commit.ensures.unchanged (ap (λ (f : Fault). Err f) used) in
-    rw (p.1) (carried_as g.R.Rig.honest g.R.Rig.life g.R.Rig.failed g.R.Rig.sectors (λ (x : Station g.row.R.Denot). ⊥) (λ (x : Station g.row.R.Denot). Unit {0}) (λ (x : Station g.row.R.Denot). ⊥) (λ (x : Station g.row.R.Denot) (program : List ℕ). end x.equipment program x.session x.session.current) (Err p.0) c.args.self.now old new c.self.view_is
+    rw (p.1) (carried_as g.R.Rig.honest g.R.Rig.life g.R.Rig.failed g.R.Rig.sectors (λ (x : ControllerModel g.row.R.Denot). ⊥) (λ (x : ControllerModel g.row.R.Denot). Unit {0}) (λ (x : ControllerModel g.row.R.Denot). ⊥) (λ (x : ControllerModel g.row.R.Denot) (program : List ℕ). end x.equipment program x.session x.session.current) (Err p.0) c.args.self.now old new c.self.view_is
     (carried_failed g.R.Rig.honest g.R.Rig.life g.R.Rig.failed g.R.Rig.sectors ⊥ (Unit {0}) ⊥ p.0 e (λ (program : List ℕ). end equipment program old.session old.session.current) old new p.2
     (does_not_commit g.R.Rig.honest g.R.Rig.life e e c.in-Some.after.now old new due refl c.in_err-commit.ensures.errors unchanged c.in_err-commit.ensures.stops refl)
     c.in_err-commit.ensures.errors unchanged refl refl
@@ -38,11 +38,11 @@ returns-in_err-commit g c =
 pub returns : goal.returns
 returns g c =
     let equipment : Equipment = record { tools = c.self.inside.tools; geometry = c.self.inside.geometry } in
-    let old : Station g.row.R.Denot = record { journal = c.self.inside.journal; session = c.self.inside.session; lines = c.self.inside.lines; equipment = equipment } in
-    let new : Station g.row.R.Denot = record { journal = c.commit.new.self; session = c.commit-2.new.self; lines = c.self.inside.lines; equipment = equipment } in
+    let old : ControllerModel g.row.R.Denot = record { journal = c.self.inside.journal; session = c.self.inside.session; lines = c.self.inside.lines; equipment = equipment } in
+    let new : ControllerModel g.row.R.Denot = record { journal = c.commit.new.self; session = c.commit-2.new.self; lines = c.self.inside.lines; equipment = equipment } in
     let block = c.in-Some.ensures.after in
     let due : IsDue old.session c.in-Some.after.now = record { block = block.0; current = block.1; after = block.2 } in
-    carried_as g.R.Rig.honest g.R.Rig.life g.R.Rig.failed g.R.Rig.sectors (λ (x : Station g.row.R.Denot). ⊥) (λ (x : Station g.row.R.Denot). Unit {0}) (λ (x : Station g.row.R.Denot). ⊥) (λ (x : Station g.row.R.Denot) (program : List ℕ). end x.equipment program x.session x.session.current) (Ok c.commit-2.result) c.args.self.now old new c.self.view_is (record {
+    carried_as g.R.Rig.honest g.R.Rig.life g.R.Rig.failed g.R.Rig.sectors (λ (x : ControllerModel g.row.R.Denot). ⊥) (λ (x : ControllerModel g.row.R.Denot). Unit {0}) (λ (x : ControllerModel g.row.R.Denot). ⊥) (λ (x : ControllerModel g.row.R.Denot) (program : List ℕ). end x.equipment program x.session x.session.current) (Ok c.commit-2.result) c.args.self.now old new c.self.view_is (record {
       does = does_commit g.R.Rig.honest g.R.Rig.life c.in_ok-commit.field-0 c.commit-2.result c.in-Some.after.now old new due
           (c.commit-2.ensures.reply block.0 block.1) (c.commit-2.ensures.next block.0 block.1) c.in_ok-commit.ensures.stops refl;
       comes = comes_commit ⊥ c.commit-2.result c.in-Some.after.now old new due (c.commit-2.ensures.reply block.0 block.1) (c.commit-2.ensures.next block.0 block.1);

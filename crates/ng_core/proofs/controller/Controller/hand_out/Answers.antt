@@ -2,8 +2,8 @@ use Rattle.std.proofs.Common.{◌≡◌, ℕ, List, Ok, Err, refl}
 use Rattle.std.proofs.lemmas.Result.{err_from_is_err_and}
 use Rattle.ng_session.specs.Entries.{Equipment}
 use Rattle.ng_session.specs.declared.reply.Reply.TheVariants as reply
-use Rattle.ng_core.specs.Acts.{handing}
-use Rattle.ng_core.specs.Station.{Station}
+use Rattle.ng_core.specs.Events.{handing}
+use Rattle.ng_core.specs.Model.{ControllerModel}
 use Rattle.ng_core.proofs.Anyway.{comes_by}
 use Rattle.ng_core.proofs.Carrying.{carried_as, carried_lost}
 use Rattle.ng_core.proofs.Ticks.{hands_item, hands_none}
@@ -14,9 +14,9 @@ returns-in_err-hand_out g c =
     let p = err_from_is_err_and c.from_residual.result c.from_residual.ensures.1 in
     let e = c.in_err-hand_out.field-0.0 in
     let equipment : Equipment = record { tools = c.self.inside.tools; geometry = c.self.inside.geometry } in
-    let old : Station g.row.R.Denot = record { journal = c.self.inside.journal; session = c.self.inside.session; lines = c.self.inside.lines; equipment = equipment } in
-    let new : Station g.row.R.Denot = record { journal = c.hand_out.new.self; session = c.self.inside.session; lines = c.self.inside.lines; equipment = equipment } in
-    rw (p.1) (carried_as g.R.Rig.honest g.R.Rig.life g.R.Rig.failed g.R.Rig.sectors (λ (x : Station g.row.R.Denot). ⊥) (λ (x : Station g.row.R.Denot). Unit {0}) (λ (x : Station g.row.R.Denot). ⊥) (λ (x : Station g.row.R.Denot) (program : List ℕ). handing c.args.item program x.session) (Err p.0) c.args.self.now old new c.self.view_is
+    let old : ControllerModel g.row.R.Denot = record { journal = c.self.inside.journal; session = c.self.inside.session; lines = c.self.inside.lines; equipment = equipment } in
+    let new : ControllerModel g.row.R.Denot = record { journal = c.hand_out.new.self; session = c.self.inside.session; lines = c.self.inside.lines; equipment = equipment } in
+    rw (p.1) (carried_as g.R.Rig.honest g.R.Rig.life g.R.Rig.failed g.R.Rig.sectors (λ (x : ControllerModel g.row.R.Denot). ⊥) (λ (x : ControllerModel g.row.R.Denot). Unit {0}) (λ (x : ControllerModel g.row.R.Denot). ⊥) (λ (x : ControllerModel g.row.R.Denot) (program : List ℕ). handing c.args.item program x.session) (Err p.0) c.args.self.now old new c.self.view_is
     (carried_lost g.R.Rig.honest g.R.Rig.life g.R.Rig.failed g.R.Rig.sectors ⊥ (Unit {0}) ⊥ p.0 e (λ (program : List ℕ). handing c.args.item program old.session) old new p.2
     (hands_none g.R.Rig.honest g.R.Rig.life e e c.args.item old new refl c.in_err-hand_out.ensures.errors c.in_err-hand_out.ensures.stops)
     c.in_err-hand_out.ensures.errors tt (λ program used. used) refl refl c.in_err-hand_out.ensures.broken c.in_err-hand_out.ensures.size c.in_err-hand_out.ensures.failures))
@@ -24,9 +24,9 @@ returns-in_err-hand_out g c =
 pub returns : goal.returns
 returns g c =
     let equipment : Equipment = record { tools = c.self.inside.tools; geometry = c.self.inside.geometry } in
-    let old : Station g.row.R.Denot = record { journal = c.self.inside.journal; session = c.self.inside.session; lines = c.self.inside.lines; equipment = equipment } in
-    let new : Station g.row.R.Denot = record { journal = c.hand_out.new.self; session = c.self.inside.session; lines = c.self.inside.lines; equipment = equipment } in
-    carried_as g.R.Rig.honest g.R.Rig.life g.R.Rig.failed g.R.Rig.sectors (λ (x : Station g.row.R.Denot). ⊥) (λ (x : Station g.row.R.Denot). Unit {0}) (λ (x : Station g.row.R.Denot). ⊥) (λ (x : Station g.row.R.Denot) (program : List ℕ). handing c.args.item program x.session) (Ok reply.Moved) c.args.self.now old new c.self.view_is (record {
+    let old : ControllerModel g.row.R.Denot = record { journal = c.self.inside.journal; session = c.self.inside.session; lines = c.self.inside.lines; equipment = equipment } in
+    let new : ControllerModel g.row.R.Denot = record { journal = c.hand_out.new.self; session = c.self.inside.session; lines = c.self.inside.lines; equipment = equipment } in
+    carried_as g.R.Rig.honest g.R.Rig.life g.R.Rig.failed g.R.Rig.sectors (λ (x : ControllerModel g.row.R.Denot). ⊥) (λ (x : ControllerModel g.row.R.Denot). Unit {0}) (λ (x : ControllerModel g.row.R.Denot). ⊥) (λ (x : ControllerModel g.row.R.Denot) (program : List ℕ). handing c.args.item program x.session) (Ok reply.Moved) c.args.self.now old new c.self.view_is (record {
       does = hands_item g.R.Rig.honest g.R.Rig.life c.in_ok-hand_out.field-0 c.args.item old new refl c.in_ok-hand_out.ensures.stops refl;
       comes = comes_by ⊥ reply.Moved (λ program. handing c.args.item program old.session) old new (λ program. refl) (λ program. refl);
       hindered = tt;

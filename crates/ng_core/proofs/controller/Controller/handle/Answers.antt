@@ -1,7 +1,7 @@
 use Rattle.std.proofs.Common.{ℕ, List, sym, ◌∙◌, ap, subst}
 use Rattle.ng_session.specs.declared.event.Event.{Event}
 use Rattle.ng_session.specs.declared.event.Event.TheVariants as event
-use Rattle.ng_core.specs.Acts.{CarriesOutEvent}
+use Rattle.ng_core.specs.Events.{CarriesOutEvent}
 use Rattle.ng_core.proofs.controller.Controller.handle.Goals as goal
 
 pub returns-in-Load-clause-carried : goal.returns-in-Load-clause-carried

@@ -7,7 +7,7 @@ use Rattle.ng_journal.specs.Storing.{Storing, Commit, ledger_of}
 use Rattle.ng_session.specs.Entries.{Equipment}
 use Rattle.ng_session.specs.Session.{Sitting, commits}
 use Rattle.ng_session.specs.declared.reply.Reply.TheVariants as reply
-use Rattle.ng_core.specs.Station.{Station}
+use Rattle.ng_core.specs.Model.{ControllerModel}
 use Rattle.ng_core.proofs.Anyway.{comes_by}
 use Rattle.ng_core.proofs.Carrying.{carried_as, carried_failed}
 use Rattle.ng_core.proofs.Hindering.{hindered_storing}
@@ -28,13 +28,13 @@ exchange-requires-clause-storable g c =
 pub returns-in-Ok : goal.returns-in-Ok
 returns-in-Ok g c = λ entry committed.
     let equipment : Equipment = record { tools = c.self.inside.tools; geometry = c.self.inside.geometry } in
-    let old : Station g.row.R.Denot = record { journal = c.self.inside.journal; session = c.self.inside.session; lines = c.self.inside.lines; equipment = equipment } in
-    let new : Station g.row.R.Denot = record { journal = c.commit.new.self; session = c.exchange-before.new.self; lines = c.self.inside.lines; equipment = equipment } in
+    let old : ControllerModel g.row.R.Denot = record { journal = c.self.inside.journal; session = c.self.inside.session; lines = c.self.inside.lines; equipment = equipment } in
+    let new : ControllerModel g.row.R.Denot = record { journal = c.commit.new.self; session = c.exchange-before.new.self; lines = c.self.inside.lines; equipment = equipment } in
     let next : Sitting = record old.session { stored = with_report old.session.stored c.args.report old.session.stored.length } in
     let stored : c.stored-2.result.now ≡ next.stored = c.stored-2.ensures.value ∙ ap (λ (s : Sitting). s.stored) c.exchange-before.ensures.next in
     let counted : reply.Done c.behind-self.inside.entries ≡ reply.Done next.stored.entries =
     ap (λ (x : Saved). reply.Done x.entries) (c.behind-self.view_is ∙ c.stored-in-Ok.ensures.value ∙ ap (λ (s : Sitting). s.stored) c.exchange-before.ensures.next) in
-    carried_as g.R.Rig.honest g.R.Rig.life g.R.Rig.failed g.R.Rig.sectors (λ (x : Station g.row.R.Denot). ⊥) (λ (x : Station g.row.R.Denot). Unit {0}) (λ (x : Station g.row.R.Denot). ⊥) (λ (x : Station g.row.R.Denot) (program : List ℕ). commits program entry (record x.session { stored = with_report x.session.stored c.args.report x.session.stored.length })) (Ok (reply.Done c.behind-self.inside.entries)) c.args.self.now old new c.self.view_is (record {
+    carried_as g.R.Rig.honest g.R.Rig.life g.R.Rig.failed g.R.Rig.sectors (λ (x : ControllerModel g.row.R.Denot). ⊥) (λ (x : ControllerModel g.row.R.Denot). Unit {0}) (λ (x : ControllerModel g.row.R.Denot). ⊥) (λ (x : ControllerModel g.row.R.Denot) (program : List ℕ). commits program entry (record x.session { stored = with_report x.session.stored c.args.report x.session.stored.length })) (Ok (reply.Done c.behind-self.inside.entries)) c.args.self.now old new c.self.view_is (record {
       does = keeps g.R.Rig.honest g.R.Rig.life c.in-Ok.field-0 (reply.Done c.behind-self.inside.entries) c.stored-2.result.now entry next old new stored counted c.exchange-before.ensures.next c.in-Ok.ensures.stops refl;
       comes = comes_by ⊥ (reply.Done c.behind-self.inside.entries) (λ program. commits program entry next) old new (λ program. counted) (λ program. c.exchange-before.ensures.next);
       hindered = tt;
@@ -47,14 +47,14 @@ returns-in-Ok g c = λ entry committed.
 pub returns-in-Err : goal.returns-in-Err
 returns-in-Err g c = λ entry committed.
     let equipment : Equipment = record { tools = c.self.inside.tools; geometry = c.self.inside.geometry } in
-    let old : Station g.row.R.Denot = record { journal = c.self.inside.journal; session = c.self.inside.session; lines = c.self.inside.lines; equipment = equipment } in
-    let new : Station g.row.R.Denot = record { journal = c.commit.new.self; session = c.exchange.new.self; lines = c.self.inside.lines; equipment = equipment } in
+    let old : ControllerModel g.row.R.Denot = record { journal = c.self.inside.journal; session = c.self.inside.session; lines = c.self.inside.lines; equipment = equipment } in
+    let new : ControllerModel g.row.R.Denot = record { journal = c.commit.new.self; session = c.exchange.new.self; lines = c.self.inside.lines; equipment = equipment } in
     let next : Sitting = record old.session { stored = with_report old.session.stored c.args.report old.session.stored.length } in
     let stored : c.stored-2.result.now ≡ next.stored = c.stored-2.ensures.value ∙ ap (λ (s : Sitting). s.stored) c.exchange-before.ensures.next in
     let same : c.exchange.new.self ≡ old.session = c.exchange.ensures.next
     ∙ (λ i. let s : Sitting = record (c.exchange-before.ensures.next i) { stored = with_report (c.exchange-before.ensures.next i).stored (c.exchange-before.ensures.before i) (c.exchange-before.ensures.next i).stored.length } in s) in
     let unchanged : c.in-Err.fault ≡ CountersUsed → new.journal ≡ old.journal = λ used. c.in-Err.ensures.unchanged (ap (λ (f : Fault). Err f) used) in
-    carried_as g.R.Rig.honest g.R.Rig.life g.R.Rig.failed g.R.Rig.sectors (λ (x : Station g.row.R.Denot). ⊥) (λ (x : Station g.row.R.Denot). Unit {0}) (λ (x : Station g.row.R.Denot). ⊥) (λ (x : Station g.row.R.Denot) (program : List ℕ). commits program entry (record x.session { stored = with_report x.session.stored c.args.report x.session.stored.length })) (Err c.in-Err.fault) c.args.self.now old new c.self.view_is
+    carried_as g.R.Rig.honest g.R.Rig.life g.R.Rig.failed g.R.Rig.sectors (λ (x : ControllerModel g.row.R.Denot). ⊥) (λ (x : ControllerModel g.row.R.Denot). Unit {0}) (λ (x : ControllerModel g.row.R.Denot). ⊥) (λ (x : ControllerModel g.row.R.Denot) (program : List ℕ). commits program entry (record x.session { stored = with_report x.session.stored c.args.report x.session.stored.length })) (Err c.in-Err.fault) c.args.self.now old new c.self.view_is
     (carried_failed g.R.Rig.honest g.R.Rig.life g.R.Rig.failed g.R.Rig.sectors ⊥ (Unit {0}) ⊥ c.in-Err.fault c.in-Err.fault (λ (program : List ℕ). commits program entry next) old new refl
     (keeps_none g.R.Rig.honest g.R.Rig.life c.in-Err.fault c.stored-2.result.now entry next old new stored same c.in-Err.ensures.errors unchanged c.in-Err.ensures.stops refl)
     c.in-Err.ensures.errors unchanged refl same

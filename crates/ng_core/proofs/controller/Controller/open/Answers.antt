@@ -4,7 +4,7 @@ use Rattle.ng_num.specs.declared.fault.Fault.{Fault}
 use Rattle.ng_num.specs.declared.fault.Fault.TheVariants.{CountersUsed}
 use Rattle.ng_journal.specs.Storing.{ledger_of}
 use Rattle.ng_session.specs.Entries.{Equipment}
-use Rattle.ng_core.specs.Station.{Station}
+use Rattle.ng_core.specs.Model.{ControllerModel}
 use Rattle.ng_core.proofs.Anyway.{comes_by}
 use Rattle.ng_core.proofs.Carrying.{carried_as, carried_failed}
 use Rattle.ng_core.proofs.Hindering.{hindered_opening}
@@ -16,11 +16,11 @@ returns-in_err-open_segment g c =
     let p = err_from_is_err_and c.from_residual.result c.from_residual.ensures.1 in
     let e = c.in_err-open_segment.field-0.0 in
     let equipment : Equipment = record { tools = c.self.inside.tools; geometry = c.self.inside.geometry } in
-    let old : Station g.row.R.Denot = record { journal = c.self.inside.journal; session = c.self.inside.session; lines = c.self.inside.lines; equipment = equipment } in
-    let new : Station g.row.R.Denot = record { journal = c.open_segment.new.self; session = c.self.inside.session; lines = c.self.inside.lines; equipment = equipment } in
-    let whole = ap (λ (x : Station g.row.R.Denot). x.journal.broken) c.self.view_is ∙ c.requires.whole in
+    let old : ControllerModel g.row.R.Denot = record { journal = c.self.inside.journal; session = c.self.inside.session; lines = c.self.inside.lines; equipment = equipment } in
+    let new : ControllerModel g.row.R.Denot = record { journal = c.open_segment.new.self; session = c.self.inside.session; lines = c.self.inside.lines; equipment = equipment } in
+    let whole = ap (λ (x : ControllerModel g.row.R.Denot). x.journal.broken) c.self.view_is ∙ c.requires.whole in
     let unchanged : e ≡ CountersUsed → new.journal ≡ old.journal = λ used. c.in_err-open_segment.ensures.unchanged (ap (λ (f : Fault). Err f) used) in
-    rw (p.1) (carried_as g.R.Rig.honest g.R.Rig.life g.R.Rig.failed g.R.Rig.sectors (λ (x : Station g.row.R.Denot). ⊥) (λ (x : Station g.row.R.Denot). Unit {0}) (λ (x : Station g.row.R.Denot). ⊥) (λ (x : Station g.row.R.Denot) (program : List ℕ). opening c.args.half program x.equipment x.session) (Err p.0) c.args.self.now old new c.self.view_is
+    rw (p.1) (carried_as g.R.Rig.honest g.R.Rig.life g.R.Rig.failed g.R.Rig.sectors (λ (x : ControllerModel g.row.R.Denot). ⊥) (λ (x : ControllerModel g.row.R.Denot). Unit {0}) (λ (x : ControllerModel g.row.R.Denot). ⊥) (λ (x : ControllerModel g.row.R.Denot) (program : List ℕ). opening c.args.half program x.equipment x.session) (Err p.0) c.args.self.now old new c.self.view_is
     (carried_failed g.R.Rig.honest g.R.Rig.life g.R.Rig.failed g.R.Rig.sectors ⊥ (Unit {0}) ⊥ p.0 e (λ (program : List ℕ). opening c.args.half program equipment old.session) old new p.2
     (opens_none g.R.Rig.honest g.R.Rig.life e e c.args.half old new refl (c.self.invariant whole) c.in_err-open_segment.ensures.errors unchanged c.in_err-open_segment.ensures.stops refl)
     c.in_err-open_segment.ensures.errors unchanged refl refl
@@ -30,10 +30,10 @@ returns-in_err-open_segment g c =
 pub returns : goal.returns
 returns g c =
     let equipment : Equipment = record { tools = c.self.inside.tools; geometry = c.self.inside.geometry } in
-    let old : Station g.row.R.Denot = record { journal = c.self.inside.journal; session = c.self.inside.session; lines = c.self.inside.lines; equipment = equipment } in
-    let new : Station g.row.R.Denot = record { journal = c.open_segment.new.self; session = c.open.new.self; lines = c.self.inside.lines; equipment = equipment } in
-    let whole = ap (λ (x : Station g.row.R.Denot). x.journal.broken) c.self.view_is ∙ c.requires.whole in
-    carried_as g.R.Rig.honest g.R.Rig.life g.R.Rig.failed g.R.Rig.sectors (λ (x : Station g.row.R.Denot). ⊥) (λ (x : Station g.row.R.Denot). Unit {0}) (λ (x : Station g.row.R.Denot). ⊥) (λ (x : Station g.row.R.Denot) (program : List ℕ). opening c.args.half program x.equipment x.session) (Ok c.open.result) c.args.self.now old new c.self.view_is (record {
+    let old : ControllerModel g.row.R.Denot = record { journal = c.self.inside.journal; session = c.self.inside.session; lines = c.self.inside.lines; equipment = equipment } in
+    let new : ControllerModel g.row.R.Denot = record { journal = c.open_segment.new.self; session = c.open.new.self; lines = c.self.inside.lines; equipment = equipment } in
+    let whole = ap (λ (x : ControllerModel g.row.R.Denot). x.journal.broken) c.self.view_is ∙ c.requires.whole in
+    carried_as g.R.Rig.honest g.R.Rig.life g.R.Rig.failed g.R.Rig.sectors (λ (x : ControllerModel g.row.R.Denot). ⊥) (λ (x : ControllerModel g.row.R.Denot). Unit {0}) (λ (x : ControllerModel g.row.R.Denot). ⊥) (λ (x : ControllerModel g.row.R.Denot) (program : List ℕ). opening c.args.half program x.equipment x.session) (Ok c.open.result) c.args.self.now old new c.self.view_is (record {
       does = opens g.R.Rig.honest g.R.Rig.life c.in_ok-open_segment.field-0 c.open.result c.args.half old new c.open.ensures.reply c.open.ensures.next (c.self.invariant whole) c.in_ok-open_segment.ensures.stops refl;
       comes = comes_by ⊥ c.open.result (λ program. opening c.args.half program equipment old.session) old new (λ program. c.open.ensures.reply) (λ program. c.open.ensures.next);
       hindered = tt;

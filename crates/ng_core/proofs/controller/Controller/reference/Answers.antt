@@ -6,7 +6,7 @@ use Rattle.ng_journal.specs.Storing.{ledger_of}
 use Rattle.ng_session.specs.Entries.{Equipment, Referenced, after_reference}
 use Rattle.ng_session.specs.Session.{Sitting, commits, reference, reference_unless, reference_refusal}
 use Rattle.ng_core.specs.Causes.{IsHinderedBy}
-use Rattle.ng_core.specs.Station.{Station}
+use Rattle.ng_core.specs.Model.{ControllerModel}
 use Rattle.ng_core.proofs.Carrying.{carried_to, carried_refused, carried_used}
 use Rattle.ng_core.proofs.Hindering.{hindered_count, stored_reference}
 use Rattle.ng_core.proofs.Reporting.{past_referenced}
@@ -14,33 +14,33 @@ use Rattle.ng_core.proofs.controller.Controller.reference.Goals as goal
 
 pub returns-in-Some : goal.returns-in-Some
 returns-in-Some g c =
-    let old : Station g.row.R.Denot = c.args.self.now in
+    let old : ControllerModel g.row.R.Denot = c.args.self.now in
     let refused : Some c.in-Some.fault ≡ reference_refusal old.equipment.geometry old.session c.args.point.now =
-    subst (λ (x : Station g.row.R.Denot). Some c.in-Some.fault ≡ reference_refusal x.equipment.geometry x.session c.args.point.now) c.self.view_is c.in-Some.ensures in
+    subst (λ (x : ControllerModel g.row.R.Denot). Some c.in-Some.fault ≡ reference_refusal x.equipment.geometry x.session c.args.point.now) c.self.view_is c.in-Some.ensures in
     carried_refused g.R.Rig.honest g.R.Rig.life g.R.Rig.failed g.R.Rig.sectors ⊥ (reference_refusal old.equipment.geometry old.session c.args.point.now ≡ None) ⊥ c.in-Some.fault (λ (program : List ℕ). reference old.equipment program old.session c.args.point.now) old c.requires
     (λ program. ap (λ (o : Option Fault). reference_unless program old.session c.args.point.now o) refused)
 
 pub returns-then-is_count_used_up : goal.returns-then-is_count_used_up
 returns-then-is_count_used_up g c =
-    let old : Station g.row.R.Denot = c.args.self.now in
+    let old : ControllerModel g.row.R.Denot = c.args.self.now in
     let equipment : Equipment = record { tools = c.self.inside.tools; geometry = c.self.inside.geometry } in
     let session = c.self.inside.session in
     let ledger = ledger_of c.self.inside.journal in
     let saved = after_reference session.stored c.args.point.now in
     let free : reference_refusal equipment.geometry session c.args.point.now ≡ None = sym c.in_default.ensures in
     carried_used g.R.Rig.honest g.R.Rig.life g.R.Rig.failed g.R.Rig.sectors ⊥ (reference_refusal old.equipment.geometry old.session c.args.point.now ≡ None) ⊥ (λ (program : List ℕ). reference old.equipment program old.session c.args.point.now) old c.requires
-    (subst (λ (x : Station g.row.R.Denot). IsHinderedBy ⊥ (reference_refusal x.equipment.geometry x.session c.args.point.now ≡ None) (ledger_of x.journal) (λ (program : List ℕ). reference x.equipment program x.session c.args.point.now) CountersUsed) c.self.view_is
+    (subst (λ (x : ControllerModel g.row.R.Denot). IsHinderedBy ⊥ (reference_refusal x.equipment.geometry x.session c.args.point.now ≡ None) (ledger_of x.journal) (λ (program : List ℕ). reference x.equipment program x.session c.args.point.now) CountersUsed) c.self.view_is
     (hindered_count ledger (λ program. reference equipment program session c.args.point.now) saved (reference_refusal equipment.geometry session c.args.point.now ≡ None)
     (c.counters.ensures.past ledger saved (past_referenced session.stored c.args.point.now c.if-is_count_used_up.ensures))
     (λ program. stored_reference equipment program session c.args.point.now free)))
 
 pub returns : goal.returns
 returns g c =
-    let old : Station g.row.R.Denot = c.args.self.now in
+    let old : ControllerModel g.row.R.Denot = c.args.self.now in
     let none : reference_refusal old.equipment.geometry old.session c.args.point.now ≡ None =
-    subst (λ (x : Station g.row.R.Denot). reference_refusal x.equipment.geometry x.session c.args.point.now ≡ None) c.self.view_is (sym c.in_default.ensures) in
+    subst (λ (x : ControllerModel g.row.R.Denot). reference_refusal x.equipment.geometry x.session c.args.point.now ≡ None) c.self.view_is (sym c.in_default.ensures) in
     let is : with_report old.session.stored c.referenced-report.result old.session.stored.length ≡ after_reference old.session.stored c.args.point.now =
-    subst (λ (x : Station g.row.R.Denot). with_report x.session.stored c.referenced-report.result x.session.stored.length ≡ after_reference x.session.stored c.args.point.now) c.self.view_is c.referenced-report.ensures.value in
+    subst (λ (x : ControllerModel g.row.R.Denot). with_report x.session.stored c.referenced-report.result x.session.stored.length ≡ after_reference x.session.stored c.args.point.now) c.self.view_is c.referenced-report.ensures.value in
     carried_to g.R.Rig.honest g.R.Rig.life g.R.Rig.failed g.R.Rig.sectors ⊥ ⊥ (Unit {0}) (reference_refusal old.equipment.geometry old.session c.args.point.now ≡ None) ⊥ ⊥
     (λ (program : List ℕ). commits program (Referenced c.args.point.now) (record old.session { stored = with_report old.session.stored c.referenced-report.result old.session.stored.length })) (λ (program : List ℕ). reference old.equipment program old.session c.args.point.now)
     c.keep.result old c.keep.new.self (λ m. m) (λ u. none) (λ e. e)

@@ -17,7 +17,7 @@ use Rattle.ng_session.specs.declared.reply.Reply.TheVariants as reply
 use Rattle.ng_session.specs.declared.reply.Status.{Status}
 use Rattle.ng_session.specs.declared.reply.Condition.TheVariants as condition
 use Rattle.ng_core.specs.Causes.{IsHinderedBy, outcome_of}
-use Rattle.ng_core.specs.Station.{Station, Rests}
+use Rattle.ng_core.specs.Model.{ControllerModel, IsAtRestWith}
 
 -- the reply to an event that the session answered, or why it didn't
 abbrev pub reply_to : Result Reply Fault → Reply
@@ -26,29 +26,29 @@ reply_to (Err fault) = reply.Refused fault
 
 -- What is told, and the session then, of an event that leads to this. Where memory or a count is wanting, the session stays; where
 -- the device failed, what the status shows stays.
-abbrev pub Comes : {R : Type 0} → Result Reply Fault → Outcome → Station R → Station R → Type 0
-Comes (Ok r) out old new = (r ≡ out.reply) × (new.session ≡ out.next)
-Comes (Err DeviceFailed) out old new = shown new.session ≡ shown old.session
-Comes (Err fault) out old new = new.session ≡ old.session
+abbrev pub IsAnsweredBy : {R : Type 0} → Result Reply Fault → Outcome → ControllerModel R → ControllerModel R → Type 0
+IsAnsweredBy (Ok r) out old new = (r ≡ out.reply) × (new.session ≡ out.next)
+IsAnsweredBy (Err DeviceFailed) out old new = shown new.session ≡ shown old.session
+IsAnsweredBy (Err fault) out old new = new.session ≡ old.session
 
 -- Where an event isn't answered, what the status shows stays. Where the device didn't fail, so does all of the session, and what the
 -- journal keeps; and the device isn't called, unless a line is read.
-pub record Stays {R : Type 0} (reads : Type 0) (fault : Fault) (old new : Station R) : Type 0 where
+pub record KeepsSession {R : Type 0} (reads : Type 0) (fault : Fault) (old new : ControllerModel R) : Type 0 where
   pub status : shown new.session ≡ shown old.session
   pub session : fault ≢ DeviceFailed → new.session ≡ old.session
   pub ledger : fault ≢ DeviceFailed → ledger_of new.journal ≡ ledger_of old.journal
   pub journal : fault ≢ DeviceFailed → (reads → ⊥) → new.journal ≡ old.journal
 
 -- What is told, and the session then, whatever the device is: by the session alone, unless a line is read for it.
-abbrev pub ComesAnyway : {R : Type 0} → (reads : Type 0) → Result Reply Fault → (List ℕ → Outcome) → Station R → Station R → Type 0
-ComesAnyway reads answer out old new =
-    MatchResult answer (λ r. (reads → ⊥) → (program : List ℕ) → (r ≡ (out program).reply) × (new.session ≡ (out program).next)) (λ fault. Stays reads fault old new)
+abbrev pub IsAnsweredAnyway : {R : Type 0} → (reads : Type 0) → Result Reply Fault → (List ℕ → Outcome) → ControllerModel R → ControllerModel R → Type 0
+IsAnsweredAnyway reads answer out old new =
+    MatchResult answer (λ r. (reads → ⊥) → (program : List ℕ) → (r ≡ (out program).reply) × (new.session ≡ (out program).next)) (λ fault. KeepsSession reads fault old new)
 
 -- What stands then and was handed out: of an answer what it leads to, alone; where memory or a count is wanting, the device stays.
-abbrev pub Leaves : {R : Type 0} → Result Reply Fault → Outcome → List ℕ → Station R → Life → Life → Type 0
-Leaves (Ok r) out program new lived living = Rests living new out.program × (items living ≡ items lived ++ out.items)
-Leaves (Err DeviceFailed) out program new lived living = Unit {0}
-Leaves (Err fault) out program new lived living = Rests living new program × (living ≡ lived)
+abbrev pub LeavesDevice : {R : Type 0} → Result Reply Fault → Outcome → List ℕ → ControllerModel R → Life → Life → Type 0
+LeavesDevice (Ok r) out program new lived living = IsAtRestWith living new out.program × (items living ≡ items lived ++ out.items)
+LeavesDevice (Err DeviceFailed) out program new lived living = Unit {0}
+LeavesDevice (Err fault) out program new lived living = IsAtRestWith living new program × (living ≡ lived)
 
 -- an answer for which nothing is stored and nothing handed out
 abbrev pub TouchesNothing : Reply → Type 0
@@ -71,22 +71,22 @@ pub record IsEitherLeft (before after : Left) (image : Image) (handed : List Ite
   pub which : (left ≡ before) ⊎ (left ≡ after)
   pub stands_for : StandsFor left.standing left.items image handed
 
-abbrev pub scene_of : {R : Type 0} → List ℕ → Station R → Scene
+abbrev pub scene_of : {R : Type 0} → List ℕ → ControllerModel R → Scene
 scene_of program c = record { program = program; session = c.session }
 
 -- An event came to its outcome: each stop since leaves what was there before it or what is there after it. Where nothing is stored and
 -- nothing handed out, the device's life is as it was.
-pub record Acts {R : Type 0} (answer : Result Reply Fault) (out : Outcome) (program : List ℕ) (old new : Station R) (lived living : Life) : Type 0 where
-  pub comes : Comes answer out old new
+pub record IsCarriedOut {R : Type 0} (answer : Result Reply Fault) (out : Outcome) (program : List ℕ) (old new : ControllerModel R) (lived living : Life) : Type 0 where
+  pub comes : IsAnsweredBy answer out old new
   pub stops : Onward lived living (IsEitherLeft (left_in (scene_of program old) (items lived)) (left_in (scene_after out) (items lived ++ out.items)))
-  pub leaves : Leaves answer out program new lived living
+  pub leaves : LeavesDevice answer out program new lived living
   pub untouched : IfOk answer (λ r. TouchesNothing r → living ≡ lived)
 
 -- The same over an honest device that rests with what the session stored: what it leads to is by the program of what stands.
-abbrev pub Does : {R : Type 0} → (R → Type 0) → (R → Life) → Result Reply Fault → (List ℕ → Outcome) → Station R → Station R → Type 0
-Does honest life answer out old new =
-    Promises (honest old.journal.rig) (honest new.journal.rig) ((program : List ℕ) → Rests (life old.journal.rig) old program
-    → Acts answer (out program) program old new (life old.journal.rig) (life new.journal.rig))
+abbrev pub IsCarriedOutIfHonest : {R : Type 0} → (R → Type 0) → (R → Life) → Result Reply Fault → (List ℕ → Outcome) → ControllerModel R → ControllerModel R → Type 0
+IsCarriedOutIfHonest honest life answer out old new =
+    Promises (honest old.journal.rig) (honest new.journal.rig) ((program : List ℕ) → IsAtRestWith (life old.journal.rig) old program
+    → IsCarriedOut answer (out program) program old new (life old.journal.rig) (life new.journal.rig))
 
 -- an item of the open segment is handed out, which this session took from it
 abbrev pub handing : Item → List ℕ → Sitting → Outcome
@@ -95,9 +95,9 @@ handing item program s = record { reply = reply.Moved; items = item ∷ []; entr
 -- An answer to what leads to this, and what it leaves: of an honest device, and of any. An error has its cause: memory is taken, the device is
 -- asked, and a line of the program is read, where these say so. The journal is broken, and the device counted a failure, exactly where that
 -- failed; the device keeps its size.
-pub record CarriesOut {R : Type 0} (honest : R → Type 0) (life : R → Life) (failed sectors : R → ℕ) (memory device reads : Type 0) (out : List ℕ → Outcome) (answer : Result Reply Fault) (old new : Station R) : Type 0 where
-  pub does : Does honest life answer out old new
-  pub comes : ComesAnyway reads answer out old new
+pub record CarriesOut {R : Type 0} (honest : R → Type 0) (life : R → Life) (failed sectors : R → ℕ) (memory device reads : Type 0) (out : List ℕ → Outcome) (answer : Result Reply Fault) (old new : ControllerModel R) : Type 0 where
+  pub does : IsCarriedOutIfHonest honest life answer out old new
+  pub comes : IsAnsweredAnyway reads answer out old new
   pub hindered : IfErr answer (IsHinderedBy memory device (ledger_of old.journal) out)
   pub broken : IsBrokenBy answer new.journal.broken
   pub equipment : new.equipment ≡ old.equipment
@@ -105,13 +105,13 @@ pub record CarriesOut {R : Type 0} (honest : R → Type 0) (life : R → Life) (
   pub failures : Tells answer (failed old.journal.rig) (failed new.journal.rig)
 
 -- the same of an event, by its own lines
-abbrev pub CarriesOutEvent : {A R : Type 0} → (R → Type 0) → (R → Life) → (failed sectors : R → ℕ) → Event A → Result Reply Fault → Station R → Station R → Type 0
+abbrev pub CarriesOutEvent : {A R : Type 0} → (R → Type 0) → (R → Life) → (failed sectors : R → ℕ) → Event A → Result Reply Fault → ControllerModel R → ControllerModel R → Type 0
 CarriesOutEvent honest life failed sectors event answer old new =
     CarriesOut honest life failed sectors (TakesMemory old.equipment old.session event) (AsksDevice old.equipment old.session event) (ReadsLine old.equipment old.session event)
     (λ program. outcome_of old program event) answer old new
 
 -- A reply to an event, and what became of that.
-pub record Serves {A R : Type 0} (honest : R → Type 0) (life : R → Life) (failed sectors : R → ℕ) (event : Event A) (told : Reply) (old new : Station R) : Type 0 where
+pub record Handles {A R : Type 0} (honest : R → Type 0) (life : R → Life) (failed sectors : R → ℕ) (event : Event A) (told : Reply) (old new : ControllerModel R) : Type 0 where
   pub answer : Result Reply Fault
   pub told_is : told ≡ reply_to answer
   pub carried : CarriesOutEvent honest life failed sectors event answer old new

@@ -9,16 +9,16 @@ use Rattle.ng_session.specs.Session.{Sitting}
 use Rattle.ng_session.specs.declared.lines_before.LinesBefore.{LinesBefore}
 
 -- the journal of its device, its session, what it knows of the lines of its program, and the tools and the geometry that it was powered on with
-pub record Station (R : Type 0) : Type 0 where
+pub record ControllerModel (R : Type 0) : Type 0 where
   pub journal : Logbook R
   pub session : Sitting
   pub lines : LinesBefore
   pub equipment : Equipment
 
 -- what is stored of a session, beside the program of its device
-abbrev pub standing_of : List ℕ → Sitting → Standing
-standing_of program s = record { saved = s.stored; program = program }
+abbrev pub standing_of_session : List ℕ → Sitting → Standing
+standing_of_session program s = record { saved = s.stored; program = program }
 
 -- The device has one image, which stands for what the session stored, with this program; what is known of its lines is true.
-abbrev pub Rests : {R : Type 0} → Life → Station R → List ℕ → Type 0
-Rests life c program = RestsAt life c.journal (standing_of program c.session) × IsTrueOf program c.lines
+abbrev pub IsAtRestWith : {R : Type 0} → Life → ControllerModel R → List ℕ → Type 0
+IsAtRestWith life c program = RestsAt life c.journal (standing_of_session program c.session) × IsTrueOf program c.lines
