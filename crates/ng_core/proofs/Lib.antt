@@ -19,3 +19,5 @@ pub mod Hindering
 pub mod Carrying
 pub mod Answering
 pub mod Powering
+pub mod Living
+pub mod Stopping

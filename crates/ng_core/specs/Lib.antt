@@ -7,3 +7,4 @@ pub mod Powers
 pub mod Moments
 pub mod Runs
 pub mod Headline
+pub mod Lives

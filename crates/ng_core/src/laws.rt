@@ -8,6 +8,7 @@ ghost use Rattle.ng_core.specs.Runs.{PassesAsSession};
 ghost use Rattle.ng_core.specs.Turns.{AreTurns};
 ghost use Rattle.ng_layout.specs.Stored.{Standing};
 ghost use Rattle.ng_core.specs.Headline.{IsPast, Accounts};
+ghost use Rattle.ng_core.specs.Lives.{CutsOfLife, SessionsWithinPowerOn, SessionsAfterPowerOn, SessionsAnew};
 
 use ng_rig::Rig;
 use std::alloc::Allocator;
@@ -25,4 +26,24 @@ pub fn histories<R: Rig, A: Allocator>()
 pub fn accounts<R: Rig, A: Allocator>()
     ensures { (x : Standing) (events : List (Event A)) (replies : List Reply) (first now : ControllerModel R)
         → R.honest first.journal.rig → IsPast R.honest R.life R.failed R.sectors x events replies first now → Accounts R.life x events replies first now }
+{}
+
+/// However often power is cut, within power on or after it: from an image that only such a controller wrote, the last image stands for
+/// the plain interpreter's fold over the sessions' entries, with what power on makes of it between two sessions, and what was handed out
+/// in all of them is what the fold hands out. Of each session these are the acknowledged entries and at most one more, by the lines of
+/// that session's operator, with a beginning of one further block or approach after them.
+pub fn cuts()
+    ensures { CutsOfLife }
+{}
+
+/// Each stop of a device leaves such a session, by what its calls promise.
+pub fn sessions<R: Rig, A: Allocator>()
+    // since `power_on` began, whatever it answers, by `PowersOn`
+    ensures within { SessionsWithinPowerOn R.life }
+
+    // since it ended, by what `on` and `run` promise of all that came, `Accounts`
+    ensures after { SessionsAfterPowerOn A R.life }
+
+    // since another began with no cut before it, as after the device failed
+    ensures anew { SessionsAnew A R.life }
 {}
