@@ -10,14 +10,14 @@ use Rattle.ng_rig.proofs.Running.{is_synced}
 use Rattle.ng_rig.proofs.Writes_only.{only_more, only_write, only_synced}
 use Rattle.ng_layout.specs.Fields.{number_at}
 use Rattle.ng_layout.specs.Header.{HoldsHeader, header_at, is_marked, is_within, header_in}
-use Rattle.ng_layout.specs.Log.{log_size}
+use Rattle.ng_layout.specs.Areas.{log_size, snapshot_first, snapshot_size, program_first, program_size, log_first}
 use Rattle.ng_layout.specs.Sectors.{text_of}
 use Rattle.ng_layout.specs.Snapshot.{HoldsPart}
 use Rattle.ng_layout.specs.Spare.{IsAmong}
-use Rattle.ng_layout.specs.Stands.{snapshot_first, snapshot_size, program_first, program_size, log_first, stretch, newer, in_force, snapshot, IsWritten}
+use Rattle.ng_layout.specs.Stands.{stretch, newer, in_force, snapshot, IsWritten}
 use Rattle.ng_layout.specs.Stored.{Saved}
 use Rattle.ng_layout.proofs.Rows.{number-zeros}
-use Rattle.ng_layout.proofs.Images.{stretch-at}
+use Rattle.ng_layout.proofs.Images.{stretch-at, is-written}
 use Rattle.ng_layout.proofs.Snapshots.{snapshot-new}
 use Rattle.ng_journal.specs.Area.{BelongsIn}
 use Rattle.ng_log.specs.AtEnd.{no_records, EndsIn, IsAtEnd}
@@ -96,7 +96,7 @@ unfolding in_force
 made_force image saved m = λ i. newer (no_header 0 (image 0) m.other i) (m.header i)
 
 made_written : (image : Image) (saved : Saved) → IsMade image saved → IsWritten image
-made_written image saved m = record { past = λ n lt. let e = m.log n lt in omega (arith, e) }
+made_written image saved m = is-written image (λ n lt. let e = m.log n lt in omega (arith, e))
 
 -- stands for what was written, and its log is empty
 made_ends : (image : Image) (saved : Saved) → IsMade image saved → saved.length ≡ 0 → length saved.setup.params ≡ 5399 → EndsIn image first_header (record { saved = saved; program = [] }) no_records
@@ -113,7 +113,7 @@ made_ends image saved m long table =
         room = omega arith;
         clean = record { none = λ n ge lt is. omega (arith, is, ap (number_at 8 0) (stretch-at log_first log_size image n lt), m.log n lt) };
       };
-      program = no_text (stretch (program_first 0) program_size image);
+      program = no_text (stretch (program_first 0) (program_size 0) image);
       long = long;
     }
 

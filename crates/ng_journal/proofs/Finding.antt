@@ -3,10 +3,11 @@ use Rattle.std.proofs.Common.{◌≡◌, ◌≤◌, inl, inr, ◌⊎◌, ℕ, ze
 use Rattle.ng_num.specs.declared.fault.Fault.TheVariants.{NotFormatted, Damaged}
 use Rattle.ng_rig.specs.Life.{Image}
 use Rattle.ng_layout.specs.declared.header.Header.{Header}
-use Rattle.ng_layout.specs.Log.{Place, after_step, log_size, next, run, with_record}
+use Rattle.ng_layout.specs.Areas.{log_size, log_first, program_first, program_size, snapshot_first, snapshot_size}
+use Rattle.ng_layout.specs.Log.{Place, after_step, next, run, with_record}
 use Rattle.ng_layout.specs.Report.{and_then}
 use Rattle.ng_layout.specs.Sectors.{text_of}
-use Rattle.ng_layout.specs.Stands.{by_header, in_force, log_first, program_first, program_size, snapshot, snapshot_first, snapshot_size, standing, standing_of, stands, stretch}
+use Rattle.ng_layout.specs.Stands.{by_header, in_force, snapshot, standing, standing_of, stands, stretch}
 use Rattle.ng_layout.specs.Stored.{Saved}
 use Rattle.ng_log.specs.declared.log_end.LogEnd.{LogEnd}
 use Rattle.ng_log.specs.Reading.{IsRunOf}
@@ -20,7 +21,7 @@ pub none_found : (image : Image) (h : Option Header) → h ≡ in_force image �
 unfolding stands
 none_found image h is none =
     let e : in_force image ≡ None = sym is ∙ none in
-    λ i. by_header (e i) (λ x. standing_of x (stretch (snapshot_first x.epoch) snapshot_size image) (stretch (program_first x.area) program_size image) (stretch log_first log_size image))
+    λ i. by_header (e i) (λ x. standing_of x (stretch (snapshot_first x.epoch) snapshot_size image) (stretch (program_first x.area) (program_size x.area) image) (stretch log_first log_size image))
 
 -- the snapshot is damaged, and so is what is found with each record behind it
 by_cases : (o : Option Place) → (o ≡ None) ⊎ ((m : Place) × (o ≡ Some m))
@@ -44,8 +45,8 @@ damage_found image h header whole saved is some read broken =
     let damaged : snapshot header.length (stretch (snapshot_first header.epoch) snapshot_size image) ≡ None = subst (λ (b : Bool). IsSnapshotOf (snapshot_first header.epoch) header.length saved image b) broken read in
     let force : in_force image ≡ Some header = sym is ∙ some in
     let log = stretch log_first log_size image in
-    let text = text_of header.length (stretch (program_first header.area) program_size image) in
-    (λ i. by_header (force i) (λ x. standing_of x (stretch (snapshot_first x.epoch) snapshot_size image) (stretch (program_first x.area) program_size image) log))
+    let text = text_of header.length (stretch (program_first header.area) (program_size header.area) image) in
+    (λ i. by_header (force i) (λ x. standing_of x (stretch (snapshot_first x.epoch) snapshot_size image) (stretch (program_first x.area) (program_size x.area) image) log))
     ∙ (λ i. standing (run log_size log_size header.length log header.epoch (record { at = 0; number = 0; found = damaged i })).found text header.length)
     ∙ (λ i. standing (run_none log_size header.length log header.epoch (record { at = 0; number = 0; found = None }) refl i) text header.length)
 
@@ -71,6 +72,6 @@ all_found image header snap saved found end s some room r =
     record {
       force = s.force;
       state = run-stands image header snap saved end s.force s.is.0 room run
-          ∙ (λ i. Ok (record { saved = saved; program = text_of (sym run.1 i) (stretch (program_first header.area) program_size image) }));
+          ∙ (λ i. Ok (record { saved = saved; program = text_of (sym run.1 i) (stretch (program_first header.area) (program_size header.area) image) }));
       long = run.1;
     }

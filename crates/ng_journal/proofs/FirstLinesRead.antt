@@ -6,7 +6,8 @@ use Rattle.ng_block.specs.Dry.{first_kind}
 use Rattle.ng_rig.specs.Life.{Life, reads}
 use Rattle.ng_layout.specs.Programs.{lines_before}
 use Rattle.ng_layout.specs.Sectors.{text_of}
-use Rattle.ng_layout.specs.Stands.{program_first, program_size, stretch}
+use Rattle.ng_layout.specs.Areas.{program_first, program_size}
+use Rattle.ng_layout.specs.Stands.{stretch}
 use Rattle.ng_layout.specs.Stored.{Standing}
 use Rattle.ng_layout.specs.declared.header.Header.{Header}
 use Rattle.ng_log.specs.declared.log_end.LogEnd.{LogEnd}
@@ -40,11 +41,10 @@ text_of-take m n row le =
     same_lists m (text_of m row) (take m (text_of n row)) (length-text m row) (length-take-le m (text_of n row) (omega (arith, length-text n row)))
     (λ k lt. text-at m row k lt ∙ sym (text-at n row k (omega arith)) ∙ sym (get_or-take m (text_of n row) k 0 lt))
 
-pub first_in_force : {end : LogEnd} (old : Life) (header : Header) (standing : Standing) (first place : ℕ) (kind : Kind) → IsAtEnd old header standing end → first ≡ program_first header.area → place ≤ header.length
-    → kind ≡ kind_in (text_of place (stretch first program_size (reads old))) → kind ≡ first_kind (lines_before standing.program place)
-first_in_force old header standing first place kind at is within found =
-    let row = stretch (program_first header.area) program_size (reads old) in
+pub first_in_force : {end : LogEnd} (old : Life) (header : Header) (standing : Standing) (place : ℕ) (kind : Kind) → IsAtEnd old header standing end → place ≤ header.length
+    → kind ≡ kind_in (text_of place (stretch (program_first header.area) (program_size header.area) (reads old))) → kind ≡ first_kind (lines_before standing.program place)
+first_in_force old header standing place kind at within found =
+    let row = stretch (program_first header.area) (program_size header.area) (reads old) in
     found
-    ∙ ap (λ (n : ℕ). kind_in (text_of place (stretch n program_size (reads old)))) is
     ∙ ap kind_in (text_of-take place header.length row within)
     ∙ ap (λ (l : List ℕ). first_kind (lines_before l place)) at.image.program

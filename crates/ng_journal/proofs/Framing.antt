@@ -12,16 +12,15 @@ use Rattle.ng_rig.proofs.Running.{is_synced}
 use Rattle.ng_rig.proofs.Writes_only.{only_more, only_write, only_syncs, only_wider, reads_blend}
 use Rattle.ng_layout.specs.declared.header.Header.{Header}
 use Rattle.ng_layout.specs.Header.{HoldsHeader}
-use Rattle.ng_layout.specs.Log.{log_size}
+use Rattle.ng_layout.specs.Areas.{log_size, snapshot_first, snapshot_size, program_first, program_size, log_first, spare_area}
 use Rattle.ng_layout.specs.Sectors.{HoldsText}
 use Rattle.ng_layout.specs.Snapshot.{HoldsPart}
 use Rattle.ng_layout.specs.Spare.{IsAmong}
-use Rattle.ng_layout.specs.Stands.{snapshot_first, snapshot_size, program_first, program_size, log_first}
 use Rattle.ng_layout.specs.Stored.{Saved, Standing}
 use Rattle.ng_journal.specs.Area.{BelongsIn, AreaTo, WritesArea}
 use Rattle.ng_journal.specs.AtRest.{IsOfEpoch, BelongsTo, WritesState, StoresState, IsLaidOut, next_header}
 use Rattle.ng_journal.specs.Formats.{IsEmpty, Overwrites, first_header}
-use Rattle.ng_journal.specs.Loads.{BelongsToText, BelongsToLoad, IsTextAt, TextTo, WritesLoad, WritesText, other_area}
+use Rattle.ng_journal.specs.Loads.{BelongsToText, BelongsToLoad, IsTextAt, TextTo, WritesLoad, WritesText}
 
 -- what a read gives after a write
 pub there : (n : ℕ) (bytes : List ℕ) (life : Life) → reads (Wrote n bytes life) n ≡ bytes
@@ -37,8 +36,8 @@ among first size IsRight old new w = only_wider (BelongsIn first size IsRight) (
     in_stretch : (n : ℕ) (c : List ℕ) → BelongsIn first size IsRight n c → IsAmong first size n
     in_stretch n c b = let is = b.is in let within = b.within in record { from = omega arith; to = omega arith }
 
-pub among_text : (first : ℕ) (text : List ℕ) (old new : Life) → WritesOnly (λ n c. BelongsToText text first n c) old new → WritesOnly (λ n c. IsAmong first program_size n) old new
-among_text first text old new w = among first program_size (λ j part. HoldsText text (512 * j) part) old new w
+pub among_text : (area : ℕ) (text : List ℕ) (old new : Life) → WritesOnly (λ n c. BelongsToText text area n c) old new → WritesOnly (λ n c. IsAmong (program_first area) (program_size area) n) old new
+among_text area text old new w = among (program_first area) (program_size area) (λ j part. HoldsText text (512 * j) part) old new w
 
 -- A checkpoint: the snapshot, a sync, the header, a sync.
 abbrev May : Header → Saved → ℕ → List ℕ → Type 0
@@ -103,14 +102,14 @@ area_more n first saved bytes old mid new lt right w is =
     let more = one_more n first snapshot_size (HoldsPart saved) bytes old mid new lt right w.writes w.parts is in
     record { writes = more.0; parts = more.1 }
 
-pub text_more : (n first : ℕ) (text bytes : List ℕ) (old mid new : Life) → n < program_size → HoldsText text (512 * n) bytes → TextTo n first text old mid → new ≡ Wrote (first + n) bytes mid → TextTo (n + 1) first text old new
-text_more n first text bytes old mid new lt right w is =
-    let more = one_more n first program_size (λ j part. HoldsText text (512 * j) part) bytes old mid new lt right w.writes w.parts is in
+pub text_more : (n first area : ℕ) (text bytes : List ℕ) (old mid new : Life) → first ≡ program_first area → n < program_size area → HoldsText text (512 * n) bytes → TextTo n area text old mid → new ≡ Wrote (first + n) bytes mid → TextTo (n + 1) area text old new
+text_more n first area text bytes old mid new at lt right w is =
+    let more = one_more n (program_first area) (program_size area) (λ j part. HoldsText text (512 * j) part) bytes old mid new lt right w.writes w.parts (is ∙ ap (λ (k : ℕ). Wrote (k + n) bytes mid) at) in
     record { writes = more.0; parts = more.1 }
 
-pub text_failed : {T E F : Type 0} (e : E) (result : Result T F) (n first : ℕ) (text bytes : List ℕ) (old mid new : Life) → n < program_size → HoldsText text (512 * n) bytes → TextTo n first text old mid → Writes result (first + n) bytes mid new → WritesText {T = T} (Err e) first text old new
-text_failed e result n first text bytes old mid new lt right w is =
-    record { writes = one_failed result n first program_size (λ j part. HoldsText text (512 * j) part) bytes old mid new lt right w.writes is; parts = tt }
+pub text_failed : {T E F : Type 0} (e : E) (result : Result T F) (n first area : ℕ) (text bytes : List ℕ) (old mid new : Life) → first ≡ program_first area → n < program_size area → HoldsText text (512 * n) bytes → TextTo n area text old mid → Writes result (first + n) bytes mid new → WritesText {T = T} (Err e) area text old new
+text_failed e result n first area text bytes old mid new at lt right w is =
+    record { writes = one_failed result n (program_first area) (program_size area) (λ j part. HoldsText text (512 * j) part) bytes old mid new lt right w.writes (subst (λ (k : ℕ). Writes result (k + n) bytes mid new) at is); parts = tt }
 
 -- the write of a part that failed
 pub area_failed : {T E F : Type 0} (e : E) (result : Result T F) (n first : ℕ) (saved : Saved) (bytes : List ℕ) (old mid new : Life) → n < snapshot_size → HoldsPart saved n bytes → AreaTo n first saved old mid → Writes result (first + n) bytes mid new → WritesArea {T = T} (Err e) first saved old new
@@ -126,33 +125,33 @@ of_epoch header saved n bytes (inr h) = inr h.0
 abbrev MayLoad : Header → Standing → ℕ → List ℕ → Type 0
 MayLoad header loaded n bytes = BelongsToLoad header loaded n bytes
 
-pub load_text : {T E : Type 0} (result : Result T E) (first : ℕ) (header : Header) (loaded : Standing) (old new : Life) → first ≡ program_first (other_area header) → WritesText result first loaded.program old new → WritesLoad header loaded old new
-load_text result first header loaded old new is w =
-    only_wider (λ n c. BelongsToText loaded.program first n c) (MayLoad header loaded) old new (λ n c b. inl (subst (λ (k : ℕ). BelongsToText loaded.program k n c) is b)) w.writes
+pub load_text : {T E : Type 0} (result : Result T E) (area : ℕ) (header : Header) (loaded : Standing) (old new : Life) → area ≡ spare_area header.area → WritesText result area loaded.program old new → WritesLoad header loaded old new
+load_text result area header loaded old new is w =
+    only_wider (λ n c. BelongsToText loaded.program area n c) (MayLoad header loaded) old new (λ n c b. inl (subst (λ (k : ℕ). BelongsToText loaded.program k n c) is b)) w.writes
 
 pub load_sync : {T E : Type 0} (result : Result T E) (header : Header) (loaded : Standing) (old mid new : Life) → WritesLoad header loaded old mid → Syncs result mid new → WritesLoad header loaded old new
 load_sync result header loaded old mid new w is = only_syncs (MayLoad header loaded) result old mid new w is
 
-pub load_state : (header : Header) (loaded : Standing) (old mid new : Life) → WritesLoad header loaded old mid → WritesState (next_header header (other_area header) loaded.saved.length) loaded.saved mid new → WritesLoad header loaded old new
+pub load_state : (header : Header) (loaded : Standing) (old mid new : Life) → WritesLoad header loaded old mid → WritesState (next_header header (spare_area header.area) loaded.saved.length) loaded.saved mid new → WritesLoad header loaded old new
 load_state header loaded old mid new w last =
-    only_more (MayLoad header loaded) old mid new w (only_wider (May (next_header header (other_area header) loaded.saved.length) loaded.saved) (MayLoad header loaded) mid new (λ n c own. inr own) last)
+    only_more (MayLoad header loaded) old mid new w (only_wider (May (next_header header (spare_area header.area) loaded.saved.length) loaded.saved) (MayLoad header loaded) mid new (λ n c own. inr own) last)
 
 -- the text stays where it stands
-pub text_stays : {T E U F : Type 0} (result : Result T E) (u : U) (first : ℕ) (header : Header) (loaded : Standing) (old mid synced new : Life) → first ≡ program_first (other_area header) → WritesText {E = F} (Ok u) first loaded.program old mid → synced ≡ Synced mid → WritesState (next_header header (other_area header) loaded.saved.length) loaded.saved synced new
-    → OnOk result (IsTextAt (program_first (other_area header)) loaded.program (reads new))
-text_stays (Err _) u first header loaded old mid synced new is w is_synced last = tt
-text_stays (Ok _) u first header loaded old mid synced new is w is_synced last = λ j lt.
-    subst (HoldsText loaded.program (512 * j)) (sym (same (program_first (other_area header) + j) (omega arith))) (subst (λ (k : ℕ). HoldsText loaded.program (512 * j) (reads mid (k + j))) is (w.parts j lt))
+pub text_stays : {T E U F : Type 0} (result : Result T E) (u : U) (area : ℕ) (header : Header) (loaded : Standing) (old mid synced new : Life) → area ≡ spare_area header.area → WritesText {E = F} (Ok u) area loaded.program old mid → synced ≡ Synced mid → WritesState (next_header header (spare_area header.area) loaded.saved.length) loaded.saved synced new
+    → OnOk result (IsTextAt (spare_area header.area) loaded.program (reads new))
+text_stays (Err _) u area header loaded old mid synced new is w is_synced last = tt
+text_stays (Ok _) u area header loaded old mid synced new is w is_synced last = λ j lt.
+    subst (HoldsText loaded.program (512 * j)) (sym (same (program_first (spare_area header.area) + j) (omega arith))) (subst (λ (k : ℕ). HoldsText loaded.program (512 * j) (reads mid (program_first k + j))) is (w.parts j lt))
   where
-    on : WritesOnly (May (next_header header (other_area header) loaded.saved.length) loaded.saved) (Synced mid) new
-    on = subst (λ (l : Life). WritesOnly (May (next_header header (other_area header) loaded.saved.length) loaded.saved) l new) is_synced last
+    on : WritesOnly (May (next_header header (spare_area header.area) loaded.saved.length) loaded.saved) (Synced mid) new
+    on = subst (λ (l : Life). WritesOnly (May (next_header header (spare_area header.area) loaded.saved.length) loaded.saved) l new) is_synced last
 
     apart : (n : ℕ) → 174 ≤ n → IsOfEpoch (header.epoch + 1) n → ⊥
     apart n le (inl among) = let to = among.to in omega arith
     apart n le (inr is) = omega arith
 
     same : (n : ℕ) → 174 ≤ n → reads new n ≡ reads mid n
-    same n le = ⊎_elim (λ was. was) (λ own. absurd (apart n le (of_epoch (next_header header (other_area header) loaded.saved.length) loaded.saved n (reads new n) own))) ((reads_blend (May (next_header header (other_area header) loaded.saved.length) loaded.saved) (Synced mid) new on).each n)
+    same n le = ⊎_elim (λ was. was) (λ own. absurd (apart n le (of_epoch (next_header header (spare_area header.area) loaded.saved.length) loaded.saved n (reads new n) own))) ((reads_blend (May (next_header header (spare_area header.area) loaded.saved.length) loaded.saved) (Synced mid) new on).each n)
 
 -- A format of whatever is stored: each of the three stretches, a sync, the header, a sync.
 abbrev pub MayFormat : Saved → ℕ → List ℕ → Type 0

@@ -8,7 +8,8 @@ use Rattle.std.proofs.Common.{length-drop}
 use Rattle.ng_rig.specs.Life.{Life, reads}
 use Rattle.ng_layout.specs.Sectors.{text_of}
 use Rattle.ng_layout.specs.declared.header.Header.{Header}
-use Rattle.ng_layout.specs.Stands.{program_first, program_size, stretch}
+use Rattle.ng_layout.specs.Areas.{program_first, program_size}
+use Rattle.ng_layout.specs.Stands.{stretch}
 use Rattle.ng_layout.specs.Stored.{Standing}
 use Rattle.ng_log.specs.declared.log_end.LogEnd.{LogEnd}
 use Rattle.ng_log.specs.AtEnd.{IsAtEnd}
@@ -243,8 +244,8 @@ no_line program place size long end =
     sym (ap (λ (l : List ℕ). first_line (lines l) (place + span l)) none)
 
 -- A sector read of a program area.
-pub sector_at : (first n : ℕ) (begun now : Life) (sector : List ℕ) → n < 256 → now ≡ begun → sector ≡ reads now (first + n) → sector ≡ stretch first program_size (reads begun) n
-sector_at first n begun now sector lt same is = is ∙ ap (λ (l : Life). reads l (first + n)) same ∙ sym (stretch-at first program_size (reads begun) n lt)
+pub sector_at : (area first n : ℕ) (begun now : Life) (sector : List ℕ) → first ≡ program_first area → n < program_size area → now ≡ begun → sector ≡ reads now (first + n) → sector ≡ stretch (program_first area) (program_size area) (reads begun) n
+sector_at area first n begun now sector at lt same is = is ∙ (λ i. reads (same i) (at i + n)) ∙ sym (stretch-at (program_first area) (program_size area) (reads begun) n lt)
 
 pub end_some : (rest kept : List ℕ) (o : Option ℕ) (n : ℕ) → o ≡ Some n → IsEnd rest kept o → IsEnd rest kept (Some n)
 end_some rest kept o n is e = subst (IsEnd rest kept) is e
@@ -253,8 +254,5 @@ pub end_none : (rest kept : List ℕ) (o : Option ℕ) → o ≡ None → IsEnd 
 end_none rest kept o is e = subst (IsEnd rest kept) is e
 
 -- The program of what stands is that of the area in force.
-pub line_in_force : {end : LogEnd} (old : Life) (header : Header) (standing : Standing) (first place : ℕ) (line : Option Line) → IsAtEnd old header standing end → first ≡ program_first header.area → line ≡ line_at (text_of header.length (stretch first program_size (reads old))) place → line ≡ line_at standing.program place
-line_in_force old header standing first place line at is found =
-    found
-    ∙ ap (λ (n : ℕ). line_at (text_of header.length (stretch n program_size (reads old))) place) is
-    ∙ ap (λ (l : List ℕ). line_at l place) at.image.program
+pub line_in_force : {end : LogEnd} (old : Life) (header : Header) (standing : Standing) (place : ℕ) (line : Option Line) → IsAtEnd old header standing end → line ≡ line_at (text_of header.length (stretch (program_first header.area) (program_size header.area) (reads old))) place → line ≡ line_at standing.program place
+line_in_force old header standing place line at found = found ∙ ap (λ (l : List ℕ). line_at l place) at.image.program

@@ -4,6 +4,7 @@ use Rattle.ng_rig.specs.Life.{Life, reads, items}
 use Rattle.ng_rig.specs.Onward.{Onward}
 use Rattle.ng_rig.proofs.Running.{weaker}
 use Rattle.ng_layout.specs.declared.header.Header.{Header}
+use Rattle.ng_layout.specs.Areas.{spare_area}
 use Rattle.ng_layout.specs.Stands.{stands}
 use Rattle.ng_layout.specs.Stored.{Saved, Standing}
 use Rattle.ng_log.specs.declared.log_end.LogEnd.{LogEnd}
@@ -11,7 +12,7 @@ use Rattle.ng_log.specs.AtEnd.{no_records, IsAtEnd}
 use Rattle.ng_log.proofs.Ending.{ends-stand}
 use Rattle.ng_journal.specs.declared.storing.Tip.{Tip}
 use Rattle.ng_journal.specs.AtRest.{IsEither, next_header}
-use Rattle.ng_journal.specs.Loads.{Loads, other_area}
+use Rattle.ng_journal.specs.Loads.{Loads}
 use Rattle.ng_journal.specs.Journal.{Logbook, Moves}
 use Rattle.ng_journal.specs.Records.{tip_of, Stores}
 use Rattle.ng_journal.specs.Storing.{Ledger, StoresRecord, ledger_of}
@@ -42,7 +43,7 @@ as_moved old new header end before loaded at stops = weaker old new (IsEither (s
   handed_is = p.handed_is;
 })
 
-pub loaded : {R T U E F : Type 0} (v : T) (u : U) (journal : Logbook R) (header next : Header) (end : LogEnd) (before after : Standing) (old new : Life) → tip_of (ledger_of journal) ≡ record { header = next; end = no_records } → next ≡ next_header header (other_area header) after.saved.length → journal.saved ≡ after.saved
+pub loaded : {R T U E F : Type 0} (v : T) (u : U) (journal : Logbook R) (header next : Header) (end : LogEnd) (before after : Standing) (old new : Life) → tip_of (ledger_of journal) ≡ record { header = next; end = no_records } → next ≡ next_header header (spare_area header.area) after.saved.length → journal.saved ≡ after.saved
     → IsAtEnd old header before end → Loads {E = F} (Ok u) header after old new → Moves {E = E} (Ok v) journal before after old new
 loaded v u journal header next end before after old new tip_is next_is saved_is at l = record {
   stops = as_moved old new header end before after at l.stops;

@@ -10,29 +10,28 @@ use Rattle.ng_rig.proofs.Writes_only.{reads_blend, only_sync}
 use Rattle.ng_layout.specs.declared.header.Header.{Header}
 use Rattle.ng_layout.specs.Sectors.{text_of, HoldsText}
 use Rattle.ng_layout.specs.Spare.{IsAmong, SameButSpare}
-use Rattle.ng_layout.specs.Stands.{program_first, program_size, stretch, stands}
+use Rattle.ng_layout.specs.Areas.{program_first, program_size, spare_area}
+use Rattle.ng_layout.specs.Limits.{longest_program}
+use Rattle.ng_layout.specs.Stands.{stretch, stands}
 use Rattle.ng_layout.specs.Stored.{Saved, Standing}
 use Rattle.ng_layout.proofs.Images.{stretch-at, force-frame, stands-frame, written-frame}
 use Rattle.ng_layout.proofs.Snapshots.{text-whole}
 use Rattle.ng_log.specs.AtEnd.{no_records, IsAtEnd}
 use Rattle.ng_journal.specs.AtRest.{IsOwn, IsEither, beside, next_header, Checkpoints}
-use Rattle.ng_journal.specs.Loads.{WritesText, Loads, other_area}
+use Rattle.ng_journal.specs.Loads.{WritesText, Loads}
 use Rattle.ng_journal.proofs.Framing.{among_text}
 
 abbrev In : ℕ → ℕ → List ℕ → Type 0
-In first n c = IsAmong first program_size n
-
-abbrev first_of_other : Header → ℕ
-first_of_other header = program_first (1 - header.area)
+In area n c = IsAmong (program_first area) (program_size area) n
 
 abbrev P : Life → Standing → Image → List Item → Type 0
 P old loaded = IsEither (stands (reads old)) (Ok loaded) (items old)
 
 -- an image of writes to that area alone
-same_but_spare : (old : Life) (header : Header) → IsOwn old header → (image : Image) (handed : List Item) → Blend old (In (first_of_other header)) image handed → SameButSpare header image (reads old)
+same_but_spare : (old : Life) (header : Header) → IsOwn old header → (image : Image) (handed : List Item) → Blend old (In (spare_area header.area)) image handed → SameButSpare header image (reads old)
 same_but_spare old header at image handed p = record { each = λ n. ⊎_elim (λ may. inr (at.synced.one n (image n) may)) (λ among. inl (inr among)) (p.each n) }
 
-blend_is_old : (old : Life) (header : Header) (loaded : Standing) → IsOwn old header → (image : Image) (handed : List Item) → Blend old (In (first_of_other header)) image handed → P old loaded image handed
+blend_is_old : (old : Life) (header : Header) (loaded : Standing) → IsOwn old header → (image : Image) (handed : List Item) → Blend old (In (spare_area header.area)) image handed → P old loaded image handed
 blend_is_old old header loaded at image handed p =
     let same = same_but_spare old header at image handed p in
     record {
@@ -41,18 +40,18 @@ blend_is_old old header loaded at image handed p =
       handed_is = p.handed_is;
     }
 
-after_text : (old mid : Life) (header : Header) (loaded : Standing) → IsOwn old header → WritesOnly (In (first_of_other header)) old mid → Onward old mid (P old loaded)
-after_text old mid header loaded at w = weaker old mid (Blend old (In (first_of_other header))) (P old loaded) w.stops (blend_is_old old header loaded at)
+after_text : (old mid : Life) (header : Header) (loaded : Standing) → IsOwn old header → WritesOnly (In (spare_area header.area)) old mid → Onward old mid (P old loaded)
+after_text old mid header loaded at w = weaker old mid (Blend old (In (spare_area header.area))) (P old loaded) w.stops (blend_is_old old header loaded at)
 
-at_sync : (old mid : Life) (header : Header) (loaded : Standing) → IsOwn old header → WritesOnly (In (first_of_other header)) old mid → Onward old (Synced mid) (P old loaded)
-at_sync old mid header loaded at w = weaker old (Synced mid) (Blend old (In (first_of_other header))) (P old loaded) (only_sync (In (first_of_other header)) old mid w) (blend_is_old old header loaded at)
+at_sync : (old mid : Life) (header : Header) (loaded : Standing) → IsOwn old header → WritesOnly (In (spare_area header.area)) old mid → Onward old (Synced mid) (P old loaded)
+at_sync old mid header loaded at w = weaker old (Synced mid) (Blend old (In (spare_area header.area))) (P old loaded) (only_sync (In (spare_area header.area)) old mid w) (blend_is_old old header loaded at)
 
-same_reads : (old mid : Life) (header : Header) → IsOwn old header → WritesOnly (In (first_of_other header)) old mid → SameButSpare header (reads mid) (reads old)
-same_reads old mid header at w = same_but_spare old header at (reads mid) (items mid) (reads_blend (In (first_of_other header)) old mid w)
+same_reads : (old mid : Life) (header : Header) → IsOwn old header → WritesOnly (In (spare_area header.area)) old mid → SameButSpare header (reads mid) (reads old)
+same_reads old mid header at w = same_but_spare old header at (reads mid) (items mid) (reads_blend (In (spare_area header.area)) old mid w)
 
 -- the device is at rest again, under the same header
-pub own_again : (old mid synced : Life) (first : ℕ) (header : Header) → IsOwn old header → first ≡ first_of_other header → WritesOnly (In first) old mid → synced ≡ Synced mid → IsOwn synced header
-own_again old mid synced first header at place writes is =
+pub own_again : (old mid synced : Life) (area : ℕ) (header : Header) → IsOwn old header → area ≡ spare_area header.area → WritesOnly (In area) old mid → synced ≡ Synced mid → IsOwn synced header
+own_again old mid synced area header at place writes is =
     let w = subst (λ (n : ℕ). WritesOnly (In n) old mid) place writes in
     let same = same_reads old mid header at w in
     subst (λ (l : Life). IsOwn l header) (sym is) (record {
@@ -62,27 +61,27 @@ own_again old mid synced first header at place writes is =
     })
 
 -- the text stands in that area
-text_is : (area : ℕ) (text : List ℕ) (image : Image) → length text ≤ 131_072 → ((j : ℕ) → 512 * j < length text → HoldsText text (512 * j) (image (program_first area + j))) → text_of (length text) (stretch (program_first area) program_size image) ≡ text
-text_is area text image short parts = text-whole text (stretch (program_first area) program_size image) (λ j lt. subst (HoldsText text (512 * j)) (sym (stretch-at (program_first area) program_size image j (omega arith))) (parts j lt))
+text_is : (area : ℕ) (text : List ℕ) (image : Image) → length text ≤ longest_program → ((j : ℕ) → 512 * j < length text → HoldsText text (512 * j) (image (program_first area + j))) → text_of (length text) (stretch (program_first area) (program_size area) image) ≡ text
+text_is area text image short parts = text-whole text (stretch (program_first area) (program_size area) image) (λ j lt. subst (HoldsText text (512 * j)) (sym (stretch-at (program_first area) (program_size area) image j (omega arith))) (parts j lt))
 
-beside_is : (saved : Saved) (area : ℕ) (text : List ℕ) (image : Image) → saved.length ≡ length text → length text ≤ 131_072 → ((j : ℕ) → 512 * j < length text → HoldsText text (512 * j) (image (program_first area + j))) → beside saved area image ≡ record { saved = saved; program = text }
-beside_is saved area text image long short parts = λ i. record { saved = saved; program = (ap (λ (n : ℕ). text_of n (stretch (program_first area) program_size image)) long ∙ text_is area text image short parts) i }
+beside_is : (saved : Saved) (area : ℕ) (text : List ℕ) (image : Image) → saved.length ≡ length text → length text ≤ longest_program → ((j : ℕ) → 512 * j < length text → HoldsText text (512 * j) (image (program_first area + j))) → beside saved area image ≡ record { saved = saved; program = text }
+beside_is saved area text image long short parts = λ i. record { saved = saved; program = (ap (λ (n : ℕ). text_of n (stretch (program_first area) (program_size area) image)) long ∙ text_is area text image short parts) i }
 
 -- The exits.
-pub exit_text : {T E F : Type 0} (e : E) (result : Result T F) (old mid : Life) (first : ℕ) (header : Header) (loaded : Standing) (text : List ℕ) → IsOwn old header → first ≡ first_of_other header → WritesText result first text old mid → Loads {T = T} (Err e) header loaded old mid
-exit_text e result old mid first header loaded text at place w =
-    let writes = subst (λ (n : ℕ). WritesOnly (In n) old mid) place (among_text first text old mid w.writes) in
+pub exit_text : {T E F : Type 0} (e : E) (result : Result T F) (old mid : Life) (area : ℕ) (header : Header) (loaded : Standing) (text : List ℕ) → IsOwn old header → area ≡ spare_area header.area → WritesText result area text old mid → Loads {T = T} (Err e) header loaded old mid
+exit_text e result old mid area header loaded text at place w =
+    let writes = subst (λ (n : ℕ). WritesOnly (In n) old mid) place (among_text area text old mid w.writes) in
     record { stops = after_text old mid header loaded at writes; items_are = w.writes.items_are; at = tt }
 
-pub exit_sync : {T E F : Type 0} (e : E) (result : Result T F) (old mid last : Life) (first : ℕ) (header : Header) (loaded : Standing) (text : List ℕ) → IsOwn old header → first ≡ first_of_other header → WritesText result first text old mid → last ≡ mid → Loads {T = T} (Err e) header loaded old last
-exit_sync {T = T} e result old mid last first header loaded text at place w same = subst (λ (l : Life). Loads {T = T} (Err e) header loaded old l) (sym same) (exit_text e result old mid first header loaded text at place w)
+pub exit_sync : {T E F : Type 0} (e : E) (result : Result T F) (old mid last : Life) (area : ℕ) (header : Header) (loaded : Standing) (text : List ℕ) → IsOwn old header → area ≡ spare_area header.area → WritesText result area text old mid → last ≡ mid → Loads {T = T} (Err e) header loaded old last
+exit_sync {T = T} e result old mid last area header loaded text at place w same = subst (λ (l : Life). Loads {T = T} (Err e) header loaded old l) (sym same) (exit_text e result old mid area header loaded text at place w)
 
-pub loaded_all : {T E U F : Type 0} (result : Result T E) (u : U) (old mid synced last : Life) (first : ℕ) (header next : Header) (saved : Saved) (text : List ℕ) → IsOwn old header → first ≡ first_of_other header → saved.length ≡ length text → length text ≤ 131_072
-    → WritesText {E = F} (Ok u) first text old mid → synced ≡ Synced mid → next ≡ next_header header (1 - header.area) saved.length → Checkpoints result next saved synced last → Loads result header (record { saved = saved; program = text }) old last
-loaded_all {T = T} {E = E} {F = F} result u old mid synced last first header next saved text at place long short w is next_is c_next =
+pub loaded_all : {T E U F : Type 0} (result : Result T E) (u : U) (old mid synced last : Life) (area : ℕ) (header next : Header) (saved : Saved) (text : List ℕ) → IsOwn old header → area ≡ spare_area header.area → saved.length ≡ length text → length text ≤ longest_program
+    → WritesText {E = F} (Ok u) area text old mid → synced ≡ Synced mid → next ≡ next_header header (spare_area header.area) saved.length → Checkpoints result next saved synced last → Loads result header (record { saved = saved; program = text }) old last
+loaded_all {T = T} {E = E} {F = F} result u old mid synced last area header next saved text at place long short w is next_is c_next =
     record {
       stops = joined old synced last (P old loaded) (subst (λ (l : Life). Onward old l (P old loaded)) (sym is) (at_sync old mid header loaded at only))
-          (weaker synced last (IsEither (stands (reads synced)) (Ok (beside saved (1 - header.area) (reads synced))) (items synced)) (P old loaded) c.stops (λ image handed p. record {
+          (weaker synced last (IsEither (stands (reads synced)) (Ok (beside saved (spare_area header.area) (reads synced))) (items synced)) (P old loaded) c.stops (λ image handed p. record {
             state = ⊎_elim (λ b. inl (b ∙ before)) (λ a. inr (a ∙ ap (λ (s : Standing). Ok s) made)) p.state;
             written = p.written;
             handed_is = p.handed_is ∙ same_items;
@@ -91,17 +90,17 @@ loaded_all {T = T} {E = E} {F = F} result u old mid synced last first header nex
       at = go result c.at;
     }
   where
-    c : Checkpoints result (next_header header (1 - header.area) saved.length) saved synced last
+    c : Checkpoints result (next_header header (spare_area header.area) saved.length) saved synced last
     c = subst (λ (h : Header). Checkpoints result h saved synced last) next_is c_next
 
     loaded : Standing
     loaded = record { saved = saved; program = text }
 
-    writes : WritesText {E = F} (Ok u) (first_of_other header) text old mid
+    writes : WritesText {E = F} (Ok u) (spare_area header.area) text old mid
     writes = subst (λ (n : ℕ). WritesText {E = F} (Ok u) n text old mid) place w
 
-    only : WritesOnly (In (first_of_other header)) old mid
-    only = among_text (first_of_other header) text old mid writes.writes
+    only : WritesOnly (In (spare_area header.area)) old mid
+    only = among_text (spare_area header.area) text old mid writes.writes
 
     same_items : items synced ≡ items old
     same_items = ap items is ∙ writes.writes.items_are
@@ -109,9 +108,9 @@ loaded_all {T = T} {E = E} {F = F} result u old mid synced last first header nex
     before : stands (reads synced) ≡ stands (reads old)
     before = ap (λ (l : Life). stands (reads l)) is ∙ stands-frame header (reads mid) (reads old) at.force (same_reads old mid header at only)
 
-    made : beside saved (1 - header.area) (reads synced) ≡ loaded
-    made = ap (λ (l : Life). beside saved (1 - header.area) (reads l)) is ∙ beside_is saved (1 - header.area) text (reads mid) long short writes.parts
+    made : beside saved (spare_area header.area) (reads synced) ≡ loaded
+    made = ap (λ (l : Life). beside saved (spare_area header.area) (reads l)) is ∙ beside_is saved (spare_area header.area) text (reads mid) long short writes.parts
 
-    go : (result : Result T E) → OnOk result (IsAtEnd last (next_header header (1 - header.area) saved.length) (beside saved (1 - header.area) (reads synced)) no_records) → OnOk result (IsAtEnd last (next_header header (other_area header) saved.length) loaded no_records)
+    go : (result : Result T E) → OnOk result (IsAtEnd last (next_header header (spare_area header.area) saved.length) (beside saved (spare_area header.area) (reads synced)) no_records) → OnOk result (IsAtEnd last (next_header header (spare_area header.area) saved.length) loaded no_records)
     go (Err e) at = tt
-    go (Ok v) at = subst (λ (s : Standing). IsAtEnd last (next_header header (1 - header.area) saved.length) s no_records) made at
+    go (Ok v) at = subst (λ (s : Standing). IsAtEnd last (next_header header (spare_area header.area) saved.length) s no_records) made at

@@ -8,9 +8,10 @@ use Rattle.ng_rig.specs.Only.{WritesOnly}
 use Rattle.ng_rig.proofs.Running.{stays, joined, weaker}
 use Rattle.ng_rig.proofs.Writes_only.{only_none, only_more, only_wider, reads_blend}
 use Rattle.ng_layout.specs.declared.header.Header.{Header}
-use Rattle.ng_layout.specs.Log.{parts_for, log_size_of}
+use Rattle.ng_layout.specs.Areas.{log_size_of, program_first, program_size}
+use Rattle.ng_layout.specs.Log.{parts_for}
 use Rattle.ng_layout.specs.Sectors.{text_of}
-use Rattle.ng_layout.specs.Stands.{program_first, program_size, stands, stretch}
+use Rattle.ng_layout.specs.Stands.{stands, stretch}
 use Rattle.ng_layout.specs.Stored.{Saved, Standing}
 use Rattle.ng_log.specs.declared.log_end.LogEnd.{LogEnd}
 use Rattle.ng_log.specs.AtEnd.{no_records, IsAtEnd}
@@ -34,7 +35,7 @@ own at = record { synced = at.synced; force = at.image.force; written = at.image
 pub same_standing : (life : Life) (header : Header) (before : Standing) (end : LogEnd) (saved : Saved) (area : ℕ) → IsAtEnd life header before end → before.saved ≡ saved → area ≡ header.area → beside saved area (reads life) ≡ before
 same_standing life header before end saved area at is area_is =
     (λ i. beside (sym is i) (area_is i) (reads life))
-    ∙ (λ i. record { saved = before.saved; program = (ap (λ (n : ℕ). text_of n (stretch (program_first header.area) program_size (reads life))) at.image.long ∙ at.image.program) i })
+    ∙ (λ i. record { saved = before.saved; program = (ap (λ (n : ℕ). text_of n (stretch (program_first header.area) (program_size header.area) (reads life))) at.image.long ∙ at.image.program) i })
 
 module _ (old new : Life) (header next : Header) (before : Standing) (end : LogEnd) (saved : Saved) (at : IsAtEnd old header before end) (is : before.saved ≡ saved) (area_is : next.area ≡ header.area) where
   same : beside saved next.area (reads old) ≡ before

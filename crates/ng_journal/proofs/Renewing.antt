@@ -14,8 +14,8 @@ use Rattle.ng_layout.specs.Header.{header_in}
 use Rattle.ng_layout.specs.Sectors.{text_of}
 use Rattle.ng_layout.specs.Snapshot.{HoldsPart}
 use Rattle.ng_layout.specs.Spare.{IsAmong, SameButSpare}
-use Rattle.ng_layout.specs.Stands.{snapshot_first, snapshot_size, program_first, program_size, log_first, stretch, in_force, snapshot, stands}
-use Rattle.ng_layout.specs.Log.{log_size}
+use Rattle.ng_layout.specs.Areas.{snapshot_first, snapshot_size, program_first, program_size, log_first, log_size}
+use Rattle.ng_layout.specs.Stands.{stretch, in_force, snapshot, stands}
 use Rattle.ng_layout.specs.Stored.{Saved, Standing}
 use Rattle.ng_layout.proofs.Images.{force-same, force-next, stretch-same, stretch-at, stands-frame, written-frame}
 use Rattle.ng_layout.proofs.Snapshots.{snapshot-new}
@@ -77,8 +77,8 @@ new_image old mid header new saved bytes r image there others =
     let row : (j : ℕ) → j < snapshot_size → stretch (snapshot_first new.epoch) snapshot_size image j ≡ reads mid (area_of header + j) = λ j lt. stretch-at (snapshot_first new.epoch) snapshot_size image j lt ∙ others (snapshot_first new.epoch + j) (λ e. omega (arith, e)) ∙ ap (λ (x : ℕ). reads mid (x + j)) (sym first) in
     let parts : (j : ℕ) → j < snapshot_size → HoldsPart saved j (stretch (snapshot_first new.epoch) snapshot_size image j) = λ j lt. subst (HoldsPart saved j) (sym (row j lt)) (r.parts j lt) in
     let snap = snapshot-new saved (stretch (snapshot_first new.epoch) snapshot_size image) r.table parts in
-    let text = stretch-same (program_first new.area) program_size image (reads old) (λ j lt. others (program_first new.area + j) (λ e. omega (arith, e)) ∙ out (program_first new.area + j) (λ a. omega (arith, a.to))) in
-    ends-new image (reads old) header new saved (text_of saved.length (stretch (program_first new.area) program_size (reads old))) r.at.force r.at.written force (omega (arith, r.epoch)) log
+    let text = stretch-same (program_first new.area) (program_size new.area) image (reads old) (λ j lt. others (program_first new.area + j) (λ e. omega (arith, e)) ∙ out (program_first new.area + j) (λ a. omega (arith, a.to))) in
+    ends-new image (reads old) header new saved (text_of saved.length (stretch (program_first new.area) (program_size new.area) (reads old))) r.at.force r.at.written force (omega (arith, r.epoch)) log
     ((λ i. snapshot (r.long i) (stretch (snapshot_first new.epoch) snapshot_size image)) ∙ snap) (λ i. text_of (r.long i) (text i)) (sym r.long)
 
 -- a stop with the header unsynced

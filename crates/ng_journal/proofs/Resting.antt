@@ -13,21 +13,33 @@ use Rattle.ng_log.specs.declared.log_end.LogEnd.{LogEnd}
 use Rattle.ng_log.specs.AtEnd.{EndsIn, IsAtEnd}
 use Rattle.ng_log.proofs.Ending.{ends-stand}
 use Rattle.ng_journal.specs.declared.storing.Tip.{Tip}
+use Rattle.ng_journal.specs.AtRest.{IsAt}
 use Rattle.ng_journal.specs.Journal.{Logbook, RestsAt, StandsFor, HandsOut}
 use Rattle.ng_journal.specs.Records.{tip_of}
 use Rattle.ng_journal.specs.Storing.{ledger_of}
 
-stands_for : {end : LogEnd} (life : Life) (header : Header) (standing : Standing) (given : List Item) (image : Image) (handed : List Item) → IsAtEnd life header standing end → image ≡ reads life → handed ≡ given → StandsFor standing given image handed
-stands_for {end = end} life header standing given image handed at same is = record {
-  state = ap stands same ∙ ends-stand (reads life) header standing end at.image;
-  written = subst IsWritten (sym same) at.image.written;
+stands_for : (life : Life) (header : Header) (standing : Standing) (given : List Item) (image : Image) (handed : List Item) → IsAt life header standing → image ≡ reads life → handed ≡ given → StandsFor standing given image handed
+stands_for life header standing given image handed at same is = record {
+  state = ap stands same ∙ at.stands_for;
+  written = subst IsWritten (sym same) at.written;
   handed_is = is;
 }
 
-pub alone : {end : LogEnd} (life : Life) (header : Header) (standing : Standing) (image : Image) (handed : List Item) → IsAtEnd life header standing end → StopSince life (moment life) image handed → StandsFor standing (items life) image handed
-alone life header standing image handed at since =
+pub at_rest : {end : LogEnd} (life : Life) (header : Header) (standing : Standing) → IsAtEnd life header standing end → IsAt life header standing
+at_rest {end = end} life header standing at = record {
+  synced = at.synced;
+  force = at.image.force;
+  stands_for = ends-stand (reads life) header standing end at.image;
+  written = at.image.written;
+}
+
+pub rests_alone : (life : Life) (header : Header) (standing : Standing) (image : Image) (handed : List Item) → IsAt life header standing → StopSince life (moment life) image handed → StandsFor standing (items life) image handed
+rests_alone life header standing image handed at since =
     let stop = stop_now life image handed since in
     stands_for life header standing (items life) image handed at (one_image life image handed at.synced stop) stop.1
+
+pub alone : {end : LogEnd} (life : Life) (header : Header) (standing : Standing) (image : Image) (handed : List Item) → IsAtEnd life header standing end → StopSince life (moment life) image handed → StandsFor standing (items life) image handed
+alone life header standing image handed at since = rests_alone life header standing image handed (at_rest life header standing at) since
 
 given_by : {T E : Type 0} (result : Result T E) (item : Item) (old new : Life) → Hands result item old new → OnOk result (items new ≡ items old ++ item ∷ [])
 given_by (Ok v) item old new is = ap items is
@@ -38,7 +50,7 @@ pub handed_out : {R T E : Type 0} (result : Result T E) (journal before : Logboo
 handed_out result journal before standing item old new same saved_is rest is =
     let h = hands result item old new rest.at.synced is in
     record {
-      stops = weaker old new (HasBesides old item) (StandsFor standing (items old ++ item ∷ [])) h.stops (λ image handed p. stands_for old before.header standing (items old ++ item ∷ []) image handed rest.at p.image_is p.handed_is);
+      stops = weaker old new (HasBesides old item) (StandsFor standing (items old ++ item ∷ [])) h.stops (λ image handed p. stands_for old before.header standing (items old ++ item ∷ []) image handed (at_rest old before.header standing rest.at) p.image_is p.handed_is);
       items_are = h.items_are;
       given = given_by result item old new is;
       at = record {

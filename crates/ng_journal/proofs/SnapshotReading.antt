@@ -6,7 +6,8 @@ use Rattle.ng_layout.specs.Log.{Found}
 use Rattle.ng_layout.specs.Sectors.{values}
 use Rattle.ng_layout.specs.Snapshot.{report_in}
 use Rattle.ng_layout.specs.StateField.{field_at}
-use Rattle.ng_layout.specs.Stands.{all_counts, snapshot, snapshot_size, stretch}
+use Rattle.ng_layout.specs.Areas.{snapshot_size}
+use Rattle.ng_layout.specs.Stands.{all_counts, snapshot, stretch}
 use Rattle.ng_layout.specs.Stored.{Report, Saved}
 use Rattle.ng_layout.proofs.Images.{stretch-at}
 use Rattle.ng_journal.specs.Reading.{IsTableOf, IsSnapshotOf}

@@ -3,7 +3,8 @@ use Rattle.std.proofs.Common.{◌≡◌, ℕ, ◌+◌, ◌*◌, ◌<◌, List, �
 use Rattle.ng_rig.specs.Life.{Life, Image, reads}
 use Rattle.ng_layout.specs.Sectors.{TakesValues, IsBeyond}
 use Rattle.ng_layout.specs.Snapshot.{TableTo}
-use Rattle.ng_layout.specs.Stands.{snapshot_size, stretch}
+use Rattle.ng_layout.specs.Areas.{snapshot_size}
+use Rattle.ng_layout.specs.Stands.{stretch}
 use Rattle.ng_layout.proofs.Images.{stretch-at}
 use Rattle.ng_layout.proofs.Snapshots.{table-more, table-whole, table-beyond}
 use Rattle.ng_journal.specs.Reading.{IsTableOf}

@@ -3,7 +3,7 @@ use Rattle.std.specs.Prelude.{◌≡◌, ◌<◌, ◌+◌, ℕ, List, Result, On
 use Rattle.ng_rig.specs.Life.{Life, reads}
 use Rattle.ng_rig.specs.Only.{WritesOnly}
 use Rattle.ng_layout.specs.Snapshot.{HoldsPart}
-use Rattle.ng_layout.specs.Stands.{snapshot_size}
+use Rattle.ng_layout.specs.Areas.{snapshot_size}
 use Rattle.ng_layout.specs.Stored.{Saved}
 
 -- Sector n is one of so many from the first on, and these bytes are right in its place.

@@ -8,7 +8,8 @@ use Rattle.ng_layout.specs.Header.{HoldsHeader}
 use Rattle.ng_layout.specs.Sectors.{text_of}
 use Rattle.ng_layout.specs.Snapshot.{HoldsPart}
 use Rattle.ng_layout.specs.Spare.{IsAmong}
-use Rattle.ng_layout.specs.Stands.{snapshot_first, snapshot_size, program_first, program_size, stretch, in_force, stands, IsWritten}
+use Rattle.ng_layout.specs.Areas.{snapshot_first, snapshot_size, program_first, program_size}
+use Rattle.ng_layout.specs.Stands.{stretch, in_force, stands, IsWritten}
 use Rattle.ng_layout.specs.Stored.{Saved, Standing}
 use Rattle.ng_journal.specs.Area.{BelongsIn}
 use Rattle.ng_log.specs.AtEnd.{no_records, IsAtEnd}
@@ -20,9 +21,16 @@ pub record IsOwn (life : Life) (header : Header) : Type 0 where
   pub force : in_force (reads life) ≡ Some header
   pub written : IsWritten (reads life)
 
+-- one image, under this header, that stands for this, and no record of an epoch to come
+pub record IsAt (life : Life) (header : Header) (standing : Standing) : Type 0 where
+  pub synced : IsSynced life
+  pub force : in_force (reads life) ≡ Some header
+  pub stands_for : stands (reads life) ≡ Ok standing
+  pub written : IsWritten (reads life)
+
 -- what is stored with a program that lies in an area of an image
 abbrev pub beside : Saved → ℕ → Image → Standing
-beside saved area image = record { saved = saved; program = text_of saved.length (stretch (program_first area) program_size image) }
+beside saved area image = record { saved = saved; program = text_of saved.length (stretch (program_first area) (program_size area) image) }
 
 abbrev pub next_header : Header → ℕ → ℕ → Header
 next_header header area length = record { epoch = header.epoch + 1; area = area; length = length }

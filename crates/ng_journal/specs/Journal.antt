@@ -8,8 +8,8 @@ use Rattle.ng_rig.specs.Onward.{Onward}
 use Rattle.ng_layout.specs.declared.header.Header.{Header}
 use Rattle.ng_layout.specs.Header.{IsLawful}
 use Rattle.ng_layout.specs.Limits.{greatest_count}
-use Rattle.ng_layout.specs.Log.{log_size_of}
-use Rattle.ng_layout.specs.Stands.{least_size, stands, IsWritten}
+use Rattle.ng_layout.specs.Areas.{log_size_of, least_size}
+use Rattle.ng_layout.specs.Stands.{stands, IsWritten}
 use Rattle.ng_layout.specs.Storable.{IsStorable}
 use Rattle.ng_layout.specs.Stored.{Saved, Standing}
 use Rattle.ng_log.specs.declared.log_end.LogEnd.{LogEnd}

@@ -1,9 +1,11 @@
 -- What is read of a device (own).
 use Rattle.std.specs.Prelude.{◌≡◌, ℕ, Bool, List, ℤ, Some, None, MatchBool}
 use Rattle.ng_rig.specs.Life.{Image}
+use Rattle.ng_layout.specs.Limits.{parameter_count}
 use Rattle.ng_layout.specs.Sectors.{values}
 use Rattle.ng_layout.specs.Snapshot.{report_in}
-use Rattle.ng_layout.specs.Stands.{all_counts, snapshot, snapshot_size, stretch}
+use Rattle.ng_layout.specs.Areas.{snapshot_size}
+use Rattle.ng_layout.specs.Stands.{all_counts, snapshot, stretch}
 use Rattle.ng_layout.specs.Stored.{Saved}
 pub use Rattle.ng_log.specs.Reading.{Reads}
 
@@ -11,7 +13,7 @@ pub use Rattle.ng_log.specs.Reading.{Reads}
 abbrev pub IsTableOf : ℕ → List ℤ → Image → Bool → Type 0
 IsTableOf first table image is_whole =
     let row = stretch first snapshot_size image in
-    MatchBool is_whole ((table ≡ values 5399 row) × (all_counts (values 5399 row) ≡ Some (values 5399 row))) (all_counts (values 5399 row) ≡ None)
+    MatchBool is_whole ((table ≡ values parameter_count row) × (all_counts (values parameter_count row) ≡ Some (values parameter_count row))) (all_counts (values parameter_count row) ≡ None)
 
 -- what is stored is what the snapshot says, or that is damaged
 abbrev pub IsSnapshotOf : ℕ → ℕ → Saved → Image → Bool → Type 0

@@ -4,8 +4,8 @@ use Rattle.ng_rig.specs.Life.{Image, Life, reads}
 use Rattle.ng_rig.specs.Only.{WritesOnly}
 use Rattle.ng_layout.specs.declared.header.Header.{Header}
 use Rattle.ng_layout.specs.Limits.{greatest_count}
-use Rattle.ng_layout.specs.Log.{parts_for, log_size_of}
-use Rattle.ng_layout.specs.Stands.{log_first}
+use Rattle.ng_layout.specs.Areas.{log_size_of, log_first}
+use Rattle.ng_layout.specs.Log.{parts_for}
 use Rattle.ng_layout.specs.Stored.{HalfDone, Saved}
 use Rattle.ng_log.specs.declared.log_end.LogEnd.{LogEnd}
 use Rattle.ng_log.specs.AtEnd.{no_records}

@@ -1,14 +1,15 @@
 //! A whole state written under the next epoch.
 ghost use Rattle.std.specs.Prelude.{◌≡◌, ◌≤◌, ◌<◌, ◌+◌, ◌%◌, Some};
 ghost use Rattle.ng_rig.specs.Calls.{Promises, Counts};
+ghost use Rattle.ng_layout.specs.Limits.{greatest_count};
+ghost use Rattle.ng_layout.specs.Areas.{least_size, snapshot_size};
 ghost use Rattle.ng_layout.specs.Storable.{IsStorable};
 ghost use Rattle.ng_layout.specs.Header.{header_in, HoldsHeader, IsLawful};
 ghost use Rattle.ng_layout.specs.declared.header.Header.{Header};
 ghost use Rattle.ng_journal.specs.Area.{WritesArea};
 ghost use Rattle.ng_journal.specs.AtRest.{IsOwn, Checkpoints, StoresState, next_header};
 
-use crate::sectors::{SNAPSHOT, snapshot_first};
-use ng_layout::{Header, Stored};
+use ng_layout::{Header, SNAPSHOT_SIZE, Stored, snapshot_first};
 use ng_rig::{Failed, Rig};
 use std::alloc::Allocator;
 
@@ -18,15 +19,15 @@ fn write_snapshot<R: Rig, A: Allocator + Copy + Drop>(
     first: usize,
     stored: &Stored<A>,
 ) -> Result<(), Failed>
-    requires room { first + 86 ≤ R.sectors rig.old }
-    requires small { first ≤ 88 }
-    requires count { stored.now.entries ≤ 1_000_000_000_000 }
+    requires sectors { least_size ≤ R.sectors rig.old }
+    requires within { first + snapshot_size ≤ least_size }
+    requires count { stored.now.entries ≤ greatest_count }
     requires storable { IsStorable stored.now }
     ensures area { Promises (R.honest rig.old) (R.honest rig.new) (WritesArea result first stored.now (R.life rig.old) (R.life rig.new)) }
     ensures size { R.sectors rig.new ≡ R.sectors rig.old }
     ensures failures { Counts result (R.failed rig.old) (R.failed rig.new) }
 {
-    for part in 0..SNAPSHOT {
+    for part in 0..SNAPSHOT_SIZE {
         rig.write(first + part, &stored.sector(part))?;
     }
     Ok(())
@@ -44,7 +45,7 @@ pub(crate) fn header_sector(header: Header) -> [u8; 512]
 
 /// The header of the epoch after this one's, with a program of this length in this area.
 pub(crate) fn next_header(header: Header, area: u64, length: u64) -> Header
-    requires { header.epoch < 1_000_000_000_000 }
+    requires { header.epoch < greatest_count }
     ensures { result ≡ next_header header area length }
 {
     Header {
@@ -60,10 +61,10 @@ pub(crate) fn checkpoint<R: Rig, A: Allocator + Copy + Drop>(
     next: Header,
     stored: &Stored<A>,
 ) -> Result<(), Failed>
-    requires room { 1710 ≤ R.sectors rig.old }
+    requires room { least_size ≤ R.sectors rig.old }
     requires lawful { IsLawful next }
     requires long { stored.now.length ≡ next.length }
-    requires count { stored.now.entries ≤ 1_000_000_000_000 }
+    requires count { stored.now.entries ≤ greatest_count }
     requires storable { IsStorable stored.now }
     ensures stops { Promises (R.honest rig.old) (R.honest rig.new) ((header : Header) → IsOwn (R.life rig.old) header → next.epoch ≡ header.epoch + 1
         → Checkpoints result next stored.now (R.life rig.old) (R.life rig.new)) }

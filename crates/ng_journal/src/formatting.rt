@@ -2,16 +2,16 @@
 ghost use Rattle.std.specs.Prelude.{◌≡◌, ◌≤◌, ◌<◌, ◌+◌, ◌⊎◌, ◌↔◌, replicate, IsErrOf, IfErr};
 ghost use Rattle.ng_num.specs.declared.fault.Fault.TheVariants.{DeviceFailed, NotFormatted};
 ghost use Rattle.ng_rig.specs.Calls.{Promises, Counts};
-ghost use Rattle.ng_layout.specs.Log.{log_size};
+ghost use Rattle.ng_layout.specs.Areas.{log_size, log_first, snapshot_first, snapshot_size, least_size};
 ghost use Rattle.ng_layout.specs.Snapshot.{HoldsPart};
-ghost use Rattle.ng_layout.specs.Stands.{log_first, snapshot_first, snapshot_size};
 ghost use Rattle.ng_layout.specs.Stored.{fresh};
 ghost use Rattle.ng_journal.specs.Formats.{Overwrites, IsEmpty, Formats};
 ghost use Rattle.ng_journal.specs.Journal.{Tells};
 
 use crate::checkpoint::header_sector;
-use crate::sectors::{LEAST, SNAPSHOT, snapshot_first};
-use ng_layout::{BYTES, Header, LOG_FIRST, LONGEST_LOG, fresh_sector};
+use ng_layout::{
+    BYTES, Header, LEAST_SIZE, LOG_FIRST, LONGEST_LOG, SNAPSHOT_SIZE, fresh_sector, snapshot_first,
+};
 use ng_num::Fault;
 use ng_rig::{Failed, Rig};
 
@@ -24,7 +24,7 @@ fn empty_sector() -> [u8; BYTES]
 
 /// Takes the headers away, one after the other.
 fn clear_headers<R: Rig>(rig: &mut R) -> Result<(), Failed>
-    requires { 1710 ≤ R.sectors rig.old }
+    requires { least_size ≤ R.sectors rig.old }
     ensures clears { Promises (R.honest rig.old) (R.honest rig.new) (Overwrites result 0 2 IsEmpty (R.life rig.old) (R.life rig.new)) }
     ensures size { R.sectors rig.new ≡ R.sectors rig.old }
     ensures failures { Counts result (R.failed rig.old) (R.failed rig.new) }
@@ -38,7 +38,7 @@ fn clear_headers<R: Rig>(rig: &mut R) -> Result<(), Failed>
 
 /// Takes all parts of records away.
 fn clear_log<R: Rig>(rig: &mut R) -> Result<(), Failed>
-    requires { 1710 ≤ R.sectors rig.old }
+    requires { least_size ≤ R.sectors rig.old }
     ensures clears { Promises (R.honest rig.old) (R.honest rig.new) (Overwrites result log_first log_size IsEmpty (R.life rig.old) (R.life rig.new)) }
     ensures size { R.sectors rig.new ≡ R.sectors rig.old }
     ensures failures { Counts result (R.failed rig.old) (R.failed rig.new) }
@@ -51,13 +51,13 @@ fn clear_log<R: Rig>(rig: &mut R) -> Result<(), Failed>
 
 /// Writes the snapshot of a fresh controller.
 fn write_fresh_snapshot<R: Rig>(rig: &mut R, first: usize) -> Result<(), Failed>
-    requires room { first + 86 ≤ R.sectors rig.old }
-    requires small { first ≤ 88 }
+    requires sectors { least_size ≤ R.sectors rig.old }
+    requires within { first + snapshot_size ≤ least_size }
     ensures writes { Promises (R.honest rig.old) (R.honest rig.new) (Overwrites result first snapshot_size (HoldsPart fresh) (R.life rig.old) (R.life rig.new)) }
     ensures size { R.sectors rig.new ≡ R.sectors rig.old }
     ensures failures { Counts result (R.failed rig.old) (R.failed rig.new) }
 {
-    for part in 0..SNAPSHOT {
+    for part in 0..SNAPSHOT_SIZE {
         rig.write(first + part, &fresh_sector(part))?;
     }
     Ok(())
@@ -65,7 +65,7 @@ fn write_fresh_snapshot<R: Rig>(rig: &mut R, first: usize) -> Result<(), Failed>
 
 /// Makes a device fresh that is large enough.
 fn make_fresh<R: Rig>(rig: &mut R) -> Result<(), Failed>
-    requires { 1710 ≤ R.sectors rig.old }
+    requires { least_size ≤ R.sectors rig.old }
     ensures formats { Promises (R.honest rig.old) (R.honest rig.new) (Formats result (R.life rig.old) (R.life rig.new)) }
     ensures size { R.sectors rig.new ≡ R.sectors rig.old }
     ensures failures { Counts result (R.failed rig.old) (R.failed rig.new) }
@@ -89,14 +89,14 @@ fn make_fresh<R: Rig>(rig: &mut R) -> Result<(), Failed>
 /// it stands for then, nor of a stop before Ok: it is formatted again. Only the headers' sectors, the log's and the first
 /// epoch's snapshot's are written. Nothing is handed out. It takes no memory.
 pub fn format<R: Rig>(rig: &mut R) -> Result<(), Fault>
-    ensures formats { 1710 ≤ R.sectors rig.old → Promises (R.honest rig.old) (R.honest rig.new) (Formats result (R.life rig.old) (R.life rig.new)) }
-    ensures small { IsErrOf result NotFormatted ↔ (R.sectors rig.old < 1710) }
+    ensures formats { least_size ≤ R.sectors rig.old → Promises (R.honest rig.old) (R.honest rig.new) (Formats result (R.life rig.old) (R.life rig.new)) }
+    ensures small { IsErrOf result NotFormatted ↔ (R.sectors rig.old < least_size) }
     ensures unchanged { IsErrOf result NotFormatted → rig.new ≡ rig.old }
     ensures size { R.sectors rig.new ≡ R.sectors rig.old }
     ensures errors { IfErr result (λ e. (e ≡ NotFormatted) ⊎ (e ≡ DeviceFailed)) }
     ensures failures { Tells result (R.failed rig.old) (R.failed rig.new) }
 {
-    if rig.size() < LEAST {
+    if rig.size() < LEAST_SIZE {
         return Err(Fault::NotFormatted);
     }
     match make_fresh(rig) {

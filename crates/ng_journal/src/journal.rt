@@ -2,7 +2,8 @@
 ghost use Rattle.std.specs.Prelude.{◌≡◌, ◌≤◌, ◌<◌, ◌⊎◌, ◌↔◌, false, true, Some, length, OnOk, IfOk, IfErr, IfSome, IsSome, IsErrOf, IsErrAnd};
 ghost use Rattle.ng_num.specs.declared.fault.Fault.TheVariants.{DeviceFailed, NotFormatted, CountersUsed, ProgramTooLong, OutOfMemory};
 ghost use Rattle.ng_rig.specs.Calls.{Promises, Hands};
-ghost use Rattle.ng_layout.specs.Limits.{greatest_count};
+ghost use Rattle.ng_layout.specs.Areas.{least_size};
+ghost use Rattle.ng_layout.specs.Limits.{greatest_count, longest_program, parameter_count};
 ghost use Rattle.ng_layout.specs.Storable.{CanWait, IsStorable};
 ghost use Rattle.ng_layout.specs.Stored.{Standing};
 ghost use Rattle.ng_log.specs.AtEnd.{no_records};
@@ -17,10 +18,9 @@ use crate::line::{ProgramLine, read_line};
 use crate::lines_before::read_first_kind;
 use crate::loading::load;
 use crate::recovery::restore;
-use crate::sectors::{LEAST, program_first};
-use crate::storing::{Tip, changes_between, store, store_half};
+use crate::storing::{Tip, changes_between, store, store_half, take_changed};
 use ng_canon::Item;
-use ng_layout::{GREATEST_COUNT, Half, LONGEST_PROGRAM, Stored};
+use ng_layout::{GREATEST_COUNT, Half, LEAST_SIZE, LONGEST_PROGRAM, Stored, spare_area};
 use ng_num::Fault;
 use ng_rig::{Failed, Rig};
 use ng_words::Kind;
@@ -57,15 +57,15 @@ pub fn recover<R: Rig, A: Allocator + Copy + Drop>(
     alloc: A,
     mut rig: R,
 ) -> Result<(Journal<R, A>, Stored<A>), (Fault, R)>
-    ensures recovers { let after = rig_of result in 1710 ≤ R.sectors rig → Promises (R.honest rig) (R.honest after) (Recovers result (R.life rig) (R.life after)) }
+    ensures recovers { let after = rig_of result in least_size ≤ R.sectors rig → Promises (R.honest rig) (R.honest after) (Recovers result (R.life rig) (R.life after)) }
     ensures journal { IfOk result (λ x. (x.0.broken ≡ false) × (x.0.saved ≡ x.1) × IsStorable x.1) }
     ensures end { IfOk result (λ x. x.0.end ≡ no_records) }
-    ensures small { R.sectors rig < 1710 → IsErrAnd result (λ e. (e.0 ≡ NotFormatted) × (e.1 ≡ rig)) }
+    ensures small { R.sectors rig < least_size → IsErrAnd result (λ e. (e.0 ≡ NotFormatted) × (e.1 ≡ rig)) }
     ensures memory { IfErr result (λ e. e.0 ≡ OutOfMemory → e.1 ≡ rig) }
     ensures size { let after = rig_of result in R.sectors after ≡ R.sectors rig }
     ensures failures { let after = rig_of result in Tells (fault_of result) (R.failed rig) (R.failed after) }
 {
-    if rig.size() < LEAST {
+    if rig.size() < LEAST_SIZE {
         return Err((Fault::NotFormatted, rig));
     }
     let (mut stored, mut kept) = match two_fresh(alloc) {
@@ -90,7 +90,7 @@ pub fn recover<R: Rig, A: Allocator + Copy + Drop>(
 
 /// Two of what is stored of a fresh controller: one for the journal and one for its caller.
 fn two_fresh<A: Allocator + Copy + Drop>(alloc: A) -> Result<(Stored<A>, Stored<A>), AllocError>
-    ensures { IfOk result (λ x. (length x.0.setup.params ≡ 5399) × (length x.1.setup.params ≡ 5399)) }
+    ensures { IfOk result (λ x. (length x.0.setup.params ≡ parameter_count) × (length x.1.setup.params ≡ parameter_count)) }
 {
     Ok((Stored::fresh(alloc)?, Stored::fresh(alloc)?))
 }
@@ -147,7 +147,7 @@ impl<R: Rig, A: Allocator + Copy + Drop> Journal<R, A> {
         }
         match store(&mut self.rig, self.tip, &self.stored, stored, count) {
             Ok(tip) => {
-                self.stored.take_over(stored);
+                take_changed(&mut self.stored, stored, count);
                 self.tip = tip;
                 Ok(())
             }
@@ -202,7 +202,7 @@ impl<R: Rig, A: Allocator + Copy + Drop> Journal<R, A> {
     #[tactic(auto, unfolding(crate::specs::Storing::UsesUp))]
     pub fn load_program(&mut self, text: &[u8], stored: &Stored<A>) -> Result<(), Fault>
         requires whole { self.old.broken ≡ false }
-        requires storable { length text.now ≤ 131_072 → IsStorable stored.now }
+        requires storable { length text.now ≤ longest_program → IsStorable stored.now }
         requires long { stored.now.length ≡ length text.now }
         ensures stops { Promises (R.honest self.old.rig) (R.honest self.new.rig) ((before : Standing) → RestsAt (R.life self.old.rig) self.old before
             → Moves result self.new before (record { saved = stored.now; program = text.now }) (R.life self.old.rig) (R.life self.new.rig)) }
@@ -211,8 +211,8 @@ impl<R: Rig, A: Allocator + Copy + Drop> Journal<R, A> {
         ensures end { OnOk result (self.new.end ≡ no_records) }
         ensures broken { IsBrokenBy result self.new.broken }
         ensures errors { IfErr result (λ e. (e ≡ ProgramTooLong) ⊎ ((e ≡ CountersUsed) ⊎ (e ≡ DeviceFailed))) }
-        ensures too_long { IsErrOf result ProgramTooLong ↔ (131_072 < length text.now) }
-        ensures used_up { IsErrOf result CountersUsed ↔ ((length text.now ≤ 131_072) × UsesUp (ledger_of self.old) (Load stored.now)) }
+        ensures too_long { IsErrOf result ProgramTooLong ↔ (longest_program < length text.now) }
+        ensures used_up { IsErrOf result CountersUsed ↔ ((length text.now ≤ longest_program) × UsesUp (ledger_of self.old) (Load stored.now)) }
         ensures count { OnOk result (stored.now.entries ≤ greatest_count) }
         ensures unchanged { (IsErrOf result CountersUsed ⊎ IsErrOf result ProgramTooLong) → self.new ≡ self.old }
         ensures size { R.sectors self.new.rig ≡ R.sectors self.old.rig }
@@ -225,7 +225,7 @@ impl<R: Rig, A: Allocator + Copy + Drop> Journal<R, A> {
             return Err(Fault::CountersUsed);
         }
         let header = self.tip.header;
-        let next = next_header(header, 1 - header.area, stored.length);
+        let next = next_header(header, spare_area(header.area), stored.length);
         match load(&mut self.rig, header, text, stored) {
             Ok(()) => {
                 self.stored.take_over(stored);
@@ -270,7 +270,7 @@ impl<R: Rig, A: Allocator + Copy + Drop> Journal<R, A> {
 
     /// Whether the log has no room for a record of so many changes, and the next epoch is beyond its limit.
     fn is_used_up_by(&self, count: usize) -> bool
-        requires { count ≤ 5399 }
+        requires { count ≤ parameter_count }
         ensures { (result ≡ true) ↔ ((greatest_count ≤ self.now.header.epoch) × IsFullFor self.now.header self.now.end count) }
     {
         self.tip.header.epoch >= GREATEST_COUNT && self.tip.is_full_for(count)
@@ -291,8 +291,8 @@ impl<R: Rig, A: Allocator + Copy + Drop> Journal<R, A> {
         ensures size { R.sectors self.new.rig ≡ R.sectors self.old.rig }
         ensures failures { Tells result (R.failed self.old.rig) (R.failed self.new.rig) }
     {
-        let start = program_first(self.tip.header.area);
-        match read_first_kind(&mut self.rig, start, place as usize) {
+        let header = self.tip.header;
+        match read_first_kind(&mut self.rig, header.area, place as usize) {
             Ok(kind) => Ok(kind),
             Err(Failed) => {
                 self.broken = true;
@@ -317,9 +317,9 @@ impl<R: Rig, A: Allocator + Copy + Drop> Journal<R, A> {
         ensures size { R.sectors self.new.rig ≡ R.sectors self.old.rig }
         ensures failures { Tells result (R.failed self.old.rig) (R.failed self.new.rig) }
     {
-        let first = program_first(self.tip.header.area);
-        let program_end = self.tip.header.length as usize;
-        match read_line(&mut self.rig, first, place as usize, program_end) {
+        let header = self.tip.header;
+        let program_end = header.length as usize;
+        match read_line(&mut self.rig, header.area, place as usize, program_end) {
             Ok(line) => Ok(line),
             Err(Failed) => {
                 self.broken = true;

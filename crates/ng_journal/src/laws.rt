@@ -8,14 +8,17 @@ ghost use Rattle.ng_layout.specs.Limits.{greatest_count};
 ghost use Rattle.ng_layout.specs.Stored.{Saved, Standing};
 ghost use Rattle.ng_log.specs.declared.log_end.LogEnd.{LogEnd};
 ghost use Rattle.ng_log.specs.AtEnd.{IsAtEnd};
+ghost use Rattle.ng_journal.specs.AtRest.{IsAt};
 ghost use Rattle.ng_journal.specs.Journal.{StandsFor};
 ghost use Rattle.ng_journal.specs.Storing.{Ledger, Commit, UsesUp};
 
 /// What stops leave of a device at rest.
 pub fn rest()
     // while no call comes, each stands for that alone, and nothing more is handed out
-    ensures alone { (life : Life) (header : Header) (standing : Standing) (end : LogEnd) (image : Image) (handed : List Item) →
-        IsAtEnd life header standing end → StopSince life (moment life) image handed → StandsFor standing (items life) image handed }
+    ensures alone { (life : Life) (header : Header) (standing : Standing) (image : Image) (handed : List Item) →
+        IsAt life header standing → StopSince life (moment life) image handed → StandsFor standing (items life) image handed }
+    // a device whose log ends somewhere is at rest
+    ensures at_end { (life : Life) (header : Header) (standing : Standing) (end : LogEnd) → IsAtEnd life header standing end → IsAt life header standing }
 {}
 
 /// What uses up a counter of a journal, whatever its header.

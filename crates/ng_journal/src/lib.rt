@@ -18,7 +18,6 @@ mod lines_before;
 mod loading;
 mod reading;
 mod recovery;
-mod sectors;
 mod storing;
 
 pub use formatting::format;

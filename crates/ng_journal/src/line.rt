@@ -2,15 +2,17 @@
 ghost use Rattle.std.specs.Prelude.{◌≡◌, ℕ, max, List, [], ◌≤◌, ◌<◌, ◌+◌, ◌*◌, ◌-◌, ◌++◌, take, drop, length, IfOk, IfSome};
 ghost use Rattle.std.specs.Str.Lines.{strip_carriage_return};
 ghost use Rattle.ng_rig.specs.Calls.{Promises, Counts};
+ghost use Rattle.ng_layout.specs.Limits.{longest_program};
 ghost use Rattle.ng_layout.specs.Sectors.{text_of};
-ghost use Rattle.ng_layout.specs.Stands.{program_size, stretch};
+ghost use Rattle.ng_layout.specs.Areas.{program_size, least_size, greatest_area, program_first};
+ghost use Rattle.ng_layout.specs.Stands.{stretch};
 ghost use Rattle.ng_journal.specs.Reading.{Reads};
 ghost use Rattle.ng_layout.specs.Programs.{line_at};
 ghost use Rattle.ng_journal.specs.ProgramLines.{IsPart, TakesPart, IsEnd};
 
 use arrayvec::ArrayVec;
 use memchr::memchr;
-use ng_layout::BYTES;
+use ng_layout::{BYTES, program_first};
 use ng_log::read_sector;
 use ng_rig::{Failed, Rig};
 use std::marker::Model;
@@ -65,7 +67,7 @@ pub(crate) fn part_of(sector: &[u8; BYTES], n: usize, place: usize, program_end:
     requires place { place ≤ program_end }
     requires from { place < 512 * n + 512 }
     requires to { 512 * n < program_end }
-    requires small { program_end ≤ 131_072 }
+    requires small { program_end ≤ longest_program }
     ensures within { max place (512 * n) + length result.now ≤ program_end }
     ensures part { (row : ℕ → List ℕ) → sector.now ≡ row n → IsPart (text_of program_end row) place (512 * n) result.now }
 {
@@ -82,26 +84,27 @@ fn drop_return(text: &mut ArrayVec<u8, LINE>)
     }
 }
 
-/// Reads the line at a place up to its newline, and keeps its bytes; behind how many of them the newline stands, where
-/// there is one.
+/// Reads the line at a place of the program in an area up to its newline, and keeps its bytes; behind how many of them the
+/// newline stands, where there is one.
 fn find_end<R: Rig>(
     rig: &mut R,
-    first: usize,
+    area: u64,
     place: usize,
     program_end: usize,
     text: &mut ArrayVec<u8, LINE>,
 ) -> Result<Option<usize>, Failed>
-    requires room { first + 256 ≤ R.sectors rig.old }
-    requires area { first ≤ 430 }
+    requires sectors { least_size ≤ R.sectors rig.old }
+    requires area { area ≤ greatest_area }
     requires place { place ≤ program_end }
-    requires small { program_end ≤ 131_072 }
+    requires small { program_end ≤ longest_program }
     requires empty { text.old.items ≡ [] }
-    ensures read { Promises (R.honest rig.old) (R.honest rig.new) (Reads result (λ image end. IsEnd (drop place (text_of program_end (stretch first program_size image))) text.new.items end) (R.life rig.old) (R.life rig.new)) }
+    ensures read { Promises (R.honest rig.old) (R.honest rig.new) (Reads result (λ image end. IsEnd (drop place (text_of program_end (stretch (program_first area) (program_size area) image))) text.new.items end) (R.life rig.old) (R.life rig.new)) }
     // without honesty too
     ensures within { IfOk result (λ end. IfSome end (λ n. place + n < program_end)) }
     ensures size { R.sectors rig.new ≡ R.sectors rig.old }
     ensures failures { Counts result (R.failed rig.old) (R.failed rig.new) }
 {
+    let first = program_first(area);
     for n in place / BYTES..program_end.div_ceil(BYTES) {
         let sector = read_sector(rig, first + n)?;
         match take_part(text, part_of(&sector, n, place, program_end)) {
@@ -112,18 +115,18 @@ fn find_end<R: Rig>(
     Ok(None)
 }
 
-/// The line that begins at a place of a program that ends here; none at its end.
+/// The line that begins at a place of the program in an area, which ends here; none at its end.
 pub(crate) fn read_line<R: Rig>(
     rig: &mut R,
-    first: usize,
+    area: u64,
     place: usize,
     program_end: usize,
 ) -> Result<Option<ProgramLine>, Failed>
-    requires room { first + 256 ≤ R.sectors rig.old }
-    requires area { first ≤ 430 }
+    requires sectors { least_size ≤ R.sectors rig.old }
+    requires area { area ≤ greatest_area }
     requires place { place ≤ program_end }
-    requires small { program_end ≤ 131_072 }
-    ensures read { Promises (R.honest rig.old) (R.honest rig.new) (Reads result (λ image line. line ≡ line_at (text_of program_end (stretch first program_size image)) place) (R.life rig.old) (R.life rig.new)) }
+    requires small { program_end ≤ longest_program }
+    ensures read { Promises (R.honest rig.old) (R.honest rig.new) (Reads result (λ image line. line ≡ line_at (text_of program_end (stretch (program_first area) (program_size area) image)) place) (R.life rig.old) (R.life rig.new)) }
     // without honesty too
     ensures next { IfOk result (λ line. IfSome line (λ l. (place < l.next) × (l.next ≤ program_end))) }
     ensures size { R.sectors rig.new ≡ R.sectors rig.old }
@@ -133,7 +136,7 @@ pub(crate) fn read_line<R: Rig>(
         return Ok(None);
     }
     let mut text = ArrayVec::new();
-    match find_end(rig, first, place, program_end, &mut text)? {
+    match find_end(rig, area, place, program_end, &mut text)? {
         Some(end) => {
             if end <= LINE {
                 drop_return(&mut text);

@@ -1,32 +1,31 @@
 //! The kind of the first line before a place of the program in force that isn't blank.
 ghost use Rattle.std.specs.Prelude.{◌≡◌, ◌≤◌, ◌+◌, ℕ};
 ghost use Rattle.ng_rig.specs.Calls.{Promises, Counts};
+ghost use Rattle.ng_layout.specs.Limits.{longest_program};
 ghost use Rattle.ng_layout.specs.Sectors.{text_of};
-ghost use Rattle.ng_layout.specs.Stands.{program_size, stretch};
+ghost use Rattle.ng_layout.specs.Areas.{program_size, least_size, greatest_area, program_first};
+ghost use Rattle.ng_layout.specs.Stands.{stretch};
 ghost use Rattle.ng_journal.specs.Reading.{Reads};
 ghost use Rattle.ng_journal.specs.FirstLines.{kind_in};
 
 use crate::first_line::FirstLine;
 use crate::line::part_of;
-use ng_layout::BYTES;
+use ng_layout::{BYTES, program_first};
 use ng_log::read_sector;
 use ng_rig::{Failed, Rig};
 use ng_words::Kind;
 
-/// The kind of the first line of a program that isn't blank, of its bytes before a place; blank where all lines are. It reads no
+/// The kind of the first line of the program in an area that isn't blank, of its bytes before a place; blank where all lines are. It reads no
 /// further than to that line's end.
-pub(crate) fn read_first_kind<R: Rig>(
-    rig: &mut R,
-    first: usize,
-    place: usize,
-) -> Result<Kind, Failed>
-    requires room { first + 256 ≤ R.sectors rig.old }
-    requires area { first ≤ 430 }
-    requires small { place ≤ 131_072 }
-    ensures read { Promises (R.honest rig.old) (R.honest rig.new) (Reads result (λ image kind. kind ≡ kind_in (text_of place (stretch first program_size image))) (R.life rig.old) (R.life rig.new)) }
+pub(crate) fn read_first_kind<R: Rig>(rig: &mut R, area: u64, place: usize) -> Result<Kind, Failed>
+    requires sectors { least_size ≤ R.sectors rig.old }
+    requires area { area ≤ greatest_area }
+    requires small { place ≤ longest_program }
+    ensures read { Promises (R.honest rig.old) (R.honest rig.new) (Reads result (λ image kind. kind ≡ kind_in (text_of place (stretch (program_first area) (program_size area) image))) (R.life rig.old) (R.life rig.new)) }
     ensures size { R.sectors rig.new ≡ R.sectors rig.old }
     ensures failures { Counts result (R.failed rig.old) (R.failed rig.new) }
 {
+    let first = program_first(area);
     let mut seen = FirstLine::Unseen;
     for n in 0..place.div_ceil(BYTES) {
         let sector = read_sector(rig, first + n)?;

@@ -1,26 +1,27 @@
 //! A program written to the area that isn't in force, and what is stored with it.
 ghost use Rattle.std.specs.Prelude.{◌≡◌, ◌≤◌, ◌<◌, ◌+◌, length};
 ghost use Rattle.ng_rig.specs.Calls.{Promises, Counts};
-ghost use Rattle.ng_layout.specs.Stands.{program_first};
+ghost use Rattle.ng_layout.specs.Limits.{greatest_count, longest_program};
+ghost use Rattle.ng_layout.specs.Areas.{program_first, least_size, greatest_area};
 ghost use Rattle.ng_layout.specs.Storable.{IsStorable};
 ghost use Rattle.ng_journal.specs.AtRest.{IsOwn};
 ghost use Rattle.ng_journal.specs.Loads.{WritesText, Loads, StoresLoad};
 
 use crate::checkpoint::{checkpoint, next_header};
-use crate::sectors::program_first;
-use ng_layout::{BYTES, Header, Stored, text_sector};
+use ng_layout::{BYTES, Header, Stored, program_first, spare_area, text_sector};
 use ng_rig::{Failed, Rig};
 use std::alloc::Allocator;
 
-/// Writes a program's text to the sectors of an area, the first of them here.
-fn write_program<R: Rig>(rig: &mut R, first: usize, text: &[u8]) -> Result<(), Failed>
-    requires room { first + 256 ≤ R.sectors rig.old }
-    requires small { first ≤ 430 }
-    requires short { length text.now ≤ 131_072 }
-    ensures text { Promises (R.honest rig.old) (R.honest rig.new) (WritesText result first text.now (R.life rig.old) (R.life rig.new)) }
+/// Writes a program's text to the sectors of the program area of this number.
+fn write_program<R: Rig>(rig: &mut R, area: u64, text: &[u8]) -> Result<(), Failed>
+    requires sectors { least_size ≤ R.sectors rig.old }
+    requires area { area ≤ greatest_area }
+    requires short { length text.now ≤ longest_program }
+    ensures text { Promises (R.honest rig.old) (R.honest rig.new) (WritesText result area text.now (R.life rig.old) (R.life rig.new)) }
     ensures size { R.sectors rig.new ≡ R.sectors rig.old }
     ensures failures { Counts result (R.failed rig.old) (R.failed rig.new) }
 {
+    let first = program_first(area);
     for n in 0..text.len().div_ceil(BYTES) {
         rig.write(first + n, &text_sector(text, BYTES * n))?;
     }
@@ -34,10 +35,10 @@ pub(crate) fn load<R: Rig, A: Allocator + Copy + Drop>(
     text: &[u8],
     stored: &Stored<A>,
 ) -> Result<(), Failed>
-    requires room { 1710 ≤ R.sectors rig.old }
-    requires counted { header.epoch < 1_000_000_000_000 }
-    requires area { header.area ≤ 1 }
-    requires count { stored.now.entries ≤ 1_000_000_000_000 }
+    requires room { least_size ≤ R.sectors rig.old }
+    requires counted { header.epoch < greatest_count }
+    requires area { header.area ≤ greatest_area }
+    requires count { stored.now.entries ≤ greatest_count }
     requires storable { IsStorable stored.now }
     requires long { stored.now.length ≡ length text.now }
     ensures stops { Promises (R.honest rig.old) (R.honest rig.new) (IsOwn (R.life rig.old) header → Loads result header (record { saved = stored.now; program = text.now }) (R.life rig.old) (R.life rig.new)) }
@@ -45,8 +46,8 @@ pub(crate) fn load<R: Rig, A: Allocator + Copy + Drop>(
     ensures size { R.sectors rig.new ≡ R.sectors rig.old }
     ensures failures { Counts result (R.failed rig.old) (R.failed rig.new) }
 {
-    let area = 1 - header.area;
-    write_program(rig, program_first(area), text)?;
+    let area = spare_area(header.area);
+    write_program(rig, area, text)?;
     rig.sync()?;
     checkpoint(rig, next_header(header, area, stored.length), stored)
 }

@@ -2,16 +2,17 @@
 ghost use Rattle.std.specs.Prelude.{◌≡◌, ◌≤◌, ◌<◌, ◌+◌, ◌*◌, ◌%◌, true, length, IfOk, IfSome};
 ghost use Rattle.std.specs.Bool.{OnTrue};
 ghost use Rattle.ng_rig.specs.Calls.{Promises, Counts};
+ghost use Rattle.ng_layout.specs.Limits.{greatest_count, parameter_count};
 ghost use Rattle.ng_layout.specs.Header.{header_in, IsLawful};
 ghost use Rattle.ng_layout.specs.Report.{report_of};
 ghost use Rattle.ng_layout.specs.StateField.{field_at};
 ghost use Rattle.ng_layout.specs.Sound.{IsSound};
-ghost use Rattle.ng_layout.specs.Stands.{in_force, newer, snapshot_first};
+ghost use Rattle.ng_layout.specs.Areas.{snapshot_first, least_size, snapshot_size};
+ghost use Rattle.ng_layout.specs.Stands.{in_force, newer};
 ghost use Rattle.ng_layout.specs.Storable.{IsStorable};
 ghost use Rattle.ng_journal.specs.Reading.{Reads, IsTableOf, IsSnapshotOf};
 
-use crate::sectors::{SNAPSHOT, snapshot_first};
-use ng_layout::{Header, Reported, StateField, Stored, take_values};
+use ng_layout::{Header, Reported, SNAPSHOT_SIZE, StateField, Stored, snapshot_first, take_values};
 use ng_log::read_sector;
 use ng_params::Params;
 use ng_rig::{Failed, Rig};
@@ -19,7 +20,7 @@ use std::alloc::Allocator;
 
 /// The valid header of sector `k`.
 fn read_header<R: Rig>(rig: &mut R, k: u64) -> Result<Option<Header>, Failed>
-    requires room { 1710 ≤ R.sectors rig.old }
+    requires room { least_size ≤ R.sectors rig.old }
     requires header { k < 2 }
     ensures read { Promises (R.honest rig.old) (R.honest rig.new) (Reads result (λ image header. header ≡ header_in k (image k)) (R.life rig.old) (R.life rig.new)) }
     ensures lawful { IfOk result (λ header. IfSome header IsLawful) }
@@ -47,7 +48,7 @@ fn newer(a: Option<Header>, b: Option<Header>) -> Option<Header>
 /// The header in force.
 #[tactic(auto, unfolding(ng_layout::specs::Stands::in_force))]
 pub(crate) fn header_in_force<R: Rig>(rig: &mut R) -> Result<Option<Header>, Failed>
-    requires { 1710 ≤ R.sectors rig.old }
+    requires { least_size ≤ R.sectors rig.old }
     ensures read { Promises (R.honest rig.old) (R.honest rig.new) (Reads result (λ image header. header ≡ in_force image) (R.life rig.old) (R.life rig.new)) }
     ensures lawful { IfOk result (λ header. IfSome header IsLawful) }
     ensures size { R.sectors rig.new ≡ R.sectors rig.old }
@@ -77,16 +78,16 @@ fn read_table<R: Rig, A: Allocator + Copy + Drop>(
     first: usize,
     table: &mut Params<A>,
 ) -> Result<bool, Failed>
-    requires room { first + 86 ≤ R.sectors rig.old }
-    requires small { first ≤ 88 }
-    requires long { length table.old ≡ 5399 }
+    requires sectors { least_size ≤ R.sectors rig.old }
+    requires within { first + snapshot_size ≤ least_size }
+    requires long { length table.old ≡ parameter_count }
     ensures read { Promises (R.honest rig.old) (R.honest rig.new) (Reads result (IsTableOf first table.new) (R.life rig.old) (R.life rig.new)) }
     // without honesty too
-    ensures long { IfOk result (λ is_whole. OnTrue is_whole (length table.new ≡ 5399)) }
+    ensures long { IfOk result (λ is_whole. OnTrue is_whole (length table.new ≡ parameter_count)) }
     ensures size { R.sectors rig.new ≡ R.sectors rig.old }
     ensures failures { Counts result (R.failed rig.old) (R.failed rig.new) }
 {
-    for n in 0..SNAPSHOT - 1 {
+    for n in 0..SNAPSHOT_SIZE - 1 {
         let sector = read_sector(rig, first + 1 + n)?;
         if !take_values(table, 64 * n, &sector) {
             return Ok(false);
@@ -101,13 +102,13 @@ pub(crate) fn read_snapshot<R: Rig, A: Allocator + Copy + Drop>(
     header: Header,
     stored: &mut Stored<A>,
 ) -> Result<bool, Failed>
-    requires room { 1710 ≤ R.sectors rig.old }
+    requires room { least_size ≤ R.sectors rig.old }
     requires lawful { IsLawful header }
-    requires long { length stored.old.setup.params ≡ 5399 }
+    requires long { length stored.old.setup.params ≡ parameter_count }
     ensures read { Promises (R.honest rig.old) (R.honest rig.new) (Reads result (IsSnapshotOf (snapshot_first header.epoch) header.length stored.new) (R.life rig.old) (R.life rig.new)) }
     // without honesty too
     ensures storable { IfOk result (λ is_whole. OnTrue is_whole (IsStorable stored.new)) }
-    ensures count { IfOk result (λ is_whole. OnTrue is_whole (stored.new.entries ≤ 1_000_000_000_000)) }
+    ensures count { IfOk result (λ is_whole. OnTrue is_whole (stored.new.entries ≤ greatest_count)) }
     ensures long { IfOk result (λ is_whole. OnTrue is_whole (stored.new.length ≡ header.length)) }
     ensures size { R.sectors rig.new ≡ R.sectors rig.old }
     ensures failures { Counts result (R.failed rig.old) (R.failed rig.new) }

@@ -1,6 +1,8 @@
 //! Power on: what the device holds, written again under the next epoch with nothing open.
 ghost use Rattle.std.specs.Prelude.{◌≡◌, ◌≤◌, ◌<◌, ◌+◌, length, IfOk, IfErr, OnOk};
 ghost use Rattle.ng_rig.specs.Calls.{Promises, Counts};
+ghost use Rattle.ng_layout.specs.Limits.{greatest_count, parameter_count};
+ghost use Rattle.ng_layout.specs.Areas.{least_size};
 ghost use Rattle.ng_layout.specs.Header.{IsLawful};
 ghost use Rattle.ng_layout.specs.Storable.{IsStorable};
 ghost use Rattle.ng_journal.specs.Reading.{Reads};
@@ -19,13 +21,13 @@ fn found<R: Rig, A: Allocator + Copy + Drop>(
     rig: &mut R,
     stored: &mut Stored<A>,
 ) -> Result<Result<Header, Fault>, Failed>
-    requires room { 1710 ≤ R.sectors rig.old }
-    requires long { length stored.old.setup.params ≡ 5399 }
+    requires room { least_size ≤ R.sectors rig.old }
+    requires long { length stored.old.setup.params ≡ parameter_count }
     ensures read { Promises (R.honest rig.old) (R.honest rig.new) (Reads result (IsRead stored.new) (R.life rig.old) (R.life rig.new)) }
     // without honesty too
     ensures lawful { IfOk result (λ answer. IfOk answer IsLawful) }
     ensures storable { IfOk result (λ answer. OnOk answer (IsStorable stored.new)) }
-    ensures count { IfOk result (λ answer. OnOk answer (stored.new.entries ≤ 1_000_000_000_000)) }
+    ensures count { IfOk result (λ answer. OnOk answer (stored.new.entries ≤ greatest_count)) }
     ensures long { IfOk result (λ answer. IfOk answer (λ header. stored.new.length ≡ header.length)) }
     ensures faults { IfOk result (λ answer. IfErr answer IsRefusal) }
     ensures size { R.sectors rig.new ≡ R.sectors rig.old }
@@ -52,13 +54,13 @@ pub(crate) fn restore<R: Rig, A: Allocator + Copy + Drop>(
     rig: &mut R,
     stored: &mut Stored<A>,
 ) -> Result<Result<Header, Fault>, Failed>
-    requires room { 1710 ≤ R.sectors rig.old }
-    requires long { length stored.old.setup.params ≡ 5399 }
+    requires room { least_size ≤ R.sectors rig.old }
+    requires long { length stored.old.setup.params ≡ parameter_count }
     ensures restores { Promises (R.honest rig.old) (R.honest rig.new) (Restores result stored.new (R.life rig.old) (R.life rig.new)) }
     // without honesty too
     ensures lawful { IfOk result (λ answer. IfOk answer IsLawful) }
     ensures storable { IfOk result (λ answer. OnOk answer (IsStorable stored.new)) }
-    ensures count { IfOk result (λ answer. OnOk answer (stored.new.entries ≤ 1_000_000_000_000)) }
+    ensures count { IfOk result (λ answer. OnOk answer (stored.new.entries ≤ greatest_count)) }
     ensures long { IfOk result (λ answer. IfOk answer (λ header. stored.new.length ≡ header.length)) }
     ensures faults { IfOk result (λ answer. IfErr answer IsRefusal) }
     ensures size { R.sectors rig.new ≡ R.sectors rig.old }

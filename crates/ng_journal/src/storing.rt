@@ -1,7 +1,8 @@
 //! What is stored, as a record; where the log has no room for it, what stands is checkpointed first.
 ghost use Rattle.std.specs.Prelude.{◌≡◌, ◌≤◌, ◌<◌, ◌+◌, ◌⊎◌, ◌↔◌, true, Some, length, OnOk, IfOk};
 ghost use Rattle.ng_rig.specs.Calls.{Promises, Counts};
-ghost use Rattle.ng_layout.specs.Log.{log_size_of};
+ghost use Rattle.ng_layout.specs.Limits.{greatest_count, parameter_count};
+ghost use Rattle.ng_layout.specs.Areas.{log_size_of, least_size};
 ghost use Rattle.ng_layout.specs.Storable.{CanWait, IsStorable};
 ghost use Rattle.ng_layout.specs.Stored.{Standing};
 ghost use Rattle.ng_log.specs.Appends.{WritesRecord};
@@ -38,7 +39,7 @@ impl Tip {
     /// Whether a record of so many changes would end past the log.
     pub(crate) fn is_full_for(self, count: usize) -> bool
         requires within { self.end.sector ≤ log_size_of self.header }
-        requires few { count ≤ 5399 }
+        requires few { count ≤ parameter_count }
         ensures { (result ≡ true) ↔ IsFullFor self.header self.end count }
     {
         self.end.sector + parts_for(count) > self.header.log_size()
@@ -51,9 +52,28 @@ pub(crate) fn changes_between<A: Allocator + Copy + Drop>(
     stored: &Stored<A>,
 ) -> usize
     ensures count { result ≡ length (differences old.now.setup.params stored.now.setup.params) }
-    ensures few { result ≤ 5399 }
+    ensures few { result ≤ parameter_count }
 {
     difference_count(&old.state.params, &stored.state.params)
+}
+
+/// Makes what is stored equal to another, from which its table differs in so many parameters: with none, the table stays. It takes no
+/// memory.
+pub(crate) fn take_changed<A: Allocator + Copy + Drop>(
+    stored: &mut Stored<A>,
+    other: &Stored<A>,
+    count: usize,
+)
+    requires own { length stored.old.setup.params ≡ parameter_count }
+    requires other { length other.now.setup.params ≡ parameter_count }
+    requires count { count ≡ length (differences stored.old.setup.params other.now.setup.params) }
+    ensures { stored.new ≡ other.now }
+{
+    if count == 0 {
+        stored.take_all_but_parameters(other);
+    } else {
+        stored.take_over(other);
+    }
 }
 
 /// Writes what stands under the next epoch, where the log has no room for a record of so many changes.
@@ -63,11 +83,11 @@ fn make_room<R: Rig, A: Allocator + Copy + Drop>(
     stored: &Stored<A>,
     count: usize,
 ) -> Result<Tip, Failed>
-    requires sectors { 1710 ≤ R.sectors rig.old }
+    requires sectors { least_size ≤ R.sectors rig.old }
     requires tip { IsTip stored.now.length tip.header tip.end }
-    requires few { count ≤ 5399 }
-    requires epoch { IsFullFor tip.header tip.end count → tip.header.epoch < 1_000_000_000_000 }
-    requires entries { stored.now.entries ≤ 1_000_000_000_000 }
+    requires few { count ≤ parameter_count }
+    requires epoch { IsFullFor tip.header tip.end count → tip.header.epoch < greatest_count }
+    requires entries { stored.now.entries ≤ greatest_count }
     requires storable { IsStorable stored.now }
     ensures makes { Promises (R.honest rig.old) (R.honest rig.new) ((before : Standing) → IsAtEnd (R.life rig.old) tip.header before tip.end
         → before.saved ≡ stored.now → MakesRoom result before (R.life rig.old) (R.life rig.new)) }
@@ -94,13 +114,13 @@ fn append_to<R: Rig, A: Allocator + Copy + Drop>(
     stored: &Stored<A>,
     count: usize,
 ) -> Result<Tip, Failed>
-    requires sectors { 1710 ≤ R.sectors rig.old }
+    requires sectors { least_size ≤ R.sectors rig.old }
     requires tip { IsTip stored.now.length tip.header tip.end }
-    requires table { length old.now.setup.params ≡ 5399 }
+    requires table { length old.now.setup.params ≡ parameter_count }
     requires count { count ≡ length (differences old.now.setup.params stored.now.setup.params) }
-    requires few { count ≤ 5399 }
+    requires few { count ≤ parameter_count }
     requires room { HasRoomFor tip.header tip.end count }
-    requires entries { stored.now.entries ≤ 1_000_000_000_000 }
+    requires entries { stored.now.entries ≤ greatest_count }
     requires storable { IsStorable stored.now }
     ensures appends { Promises (R.honest rig.old) (R.honest rig.new) ((before : Standing) → IsAtEnd (R.life rig.old) tip.header before tip.end
         → before.saved.setup.params ≡ old.now.setup.params → Stores result before stored.now (R.life rig.old) (R.life rig.new)) }
@@ -126,14 +146,14 @@ pub(crate) fn store<R: Rig, A: Allocator + Copy + Drop>(
     stored: &Stored<A>,
     count: usize,
 ) -> Result<Tip, Failed>
-    requires sectors { 1710 ≤ R.sectors rig.old }
+    requires sectors { least_size ≤ R.sectors rig.old }
     requires tip { IsTip old.now.length tip.header tip.end }
     requires count { count ≡ length (differences old.now.setup.params stored.now.setup.params) }
-    requires few { count ≤ 5399 }
-    requires epoch { IsFullFor tip.header tip.end count → tip.header.epoch < 1_000_000_000_000 }
-    requires old_entries { old.now.entries ≤ 1_000_000_000_000 }
+    requires few { count ≤ parameter_count }
+    requires epoch { IsFullFor tip.header tip.end count → tip.header.epoch < greatest_count }
+    requires old_entries { old.now.entries ≤ greatest_count }
     requires old_storable { IsStorable old.now }
-    requires entries { stored.now.entries ≤ 1_000_000_000_000 }
+    requires entries { stored.now.entries ≤ greatest_count }
     requires storable { IsStorable stored.now }
     requires long { stored.now.length ≡ old.now.length }
     ensures stops { Promises (R.honest rig.old) (R.honest rig.new) ((before : Standing) → IsAtEnd (R.life rig.old) tip.header before tip.end
@@ -155,10 +175,10 @@ pub(crate) fn store_half<R: Rig, A: Allocator + Copy + Drop>(
     stored: &mut Stored<A>,
     half: &Half,
 ) -> Result<Tip, Failed>
-    requires sectors { 1710 ≤ R.sectors rig.old }
+    requires sectors { least_size ≤ R.sectors rig.old }
     requires tip { IsTip stored.old.length tip.header tip.end }
-    requires epoch { IsFullFor tip.header tip.end 0 → tip.header.epoch < 1_000_000_000_000 }
-    requires entries { stored.old.entries ≤ 1_000_000_000_000 }
+    requires epoch { IsFullFor tip.header tip.end 0 → tip.header.epoch < greatest_count }
+    requires entries { stored.old.entries ≤ greatest_count }
     requires storable { IsStorable stored.old }
     requires half { CanWait half.now }
     ensures stops { Promises (R.honest rig.old) (R.honest rig.new) ((before : Standing) → IsAtEnd (R.life rig.old) tip.header before tip.end

@@ -6,11 +6,12 @@ use Rattle.ng_layout.specs.Fields.{number_at}
 use Rattle.ng_layout.specs.Limits.{greatest_count, longest_program}
 use Rattle.ng_layout.specs.declared.header.Header.{Header}
 use Rattle.ng_layout.specs.Header.{header_at, is_marked, header_in}
-use Rattle.ng_layout.specs.Log.{Label, Place, is_part, parts_stand, parts_for, with_record, next, after_step, run, log_size}
+use Rattle.ng_layout.specs.Areas.{log_size, log_size_under, log_first, snapshot_first, snapshot_size, program_first, program_size, greatest_area}
+use Rattle.ng_layout.specs.Log.{Label, Place, is_part, parts_stand, parts_for, with_record, next, after_step, run}
 use Rattle.ng_layout.specs.Spare.{IsSpare, SameButSpare}
 use Rattle.ng_layout.specs.Report.{and_then}
 use Rattle.ng_layout.specs.Sectors.{text_of}
-use Rattle.ng_layout.specs.Stands.{snapshot_first, snapshot_size, program_first, program_size, log_first, stretch, newer, in_force, snapshot, standing, standing_of, by_header, stands, epoch_in_force, IsWritten}
+use Rattle.ng_layout.specs.Stands.{stretch, newer, in_force, snapshot, standing, standing_of, by_header, stands, epoch_in_force, IsWritten}
 
 abbrev Image : Type 0
 Image = ℕ → List ℕ
@@ -134,15 +135,15 @@ stretch-at first size image n lt = let e : nat_lt n size ≡ true = grind (arith
 header_decides : (h : Header) (n : ℕ) → n < 2 → IsSpare h n → ⊥
 header_decides h n lt spare = ⊎_elim (λ s. omega (arith, s.from)) (λ s. omega (arith, s.from)) spare
 
-snapshot_decides : (h : Header) (j : ℕ) → j < 86 → IsSpare h (snapshot_first h.epoch + j) → ⊥
+snapshot_decides : (h : Header) (j : ℕ) → j < snapshot_size → IsSpare h (snapshot_first h.epoch + j) → ⊥
 snapshot_decides h j lt spare = ⊎_elim
     (λ s. elim (cases_eq (h.epoch % 2) 0) [ inl even ↦ omega (arith, s.from, s.to) | inr odd ↦ omega (arith, s.from, s.to) ])
     (λ s. omega (arith, s.from)) spare
 
-program_decides : (h : Header) (j : ℕ) → h.area ≤ 1 → j < 256 → IsSpare h (program_first h.area + j) → ⊥
+program_decides : (h : Header) (j : ℕ) → h.area ≤ greatest_area → j < program_size h.area → IsSpare h (program_first h.area + j) → ⊥
 program_decides h j area lt spare = ⊎_elim (λ s. omega (arith, s.to)) (λ s. omega (arith, s.from, s.to)) spare
 
-log_decides : (h : Header) (j : ℕ) → j < 1024 → IsSpare h (log_first + j) → ⊥
+log_decides : (h : Header) (j : ℕ) → j < log_size → IsSpare h (log_first + j) → ⊥
 log_decides h j lt spare = ⊎_elim (λ s. omega (arith, s.to)) (λ s. omega (arith, s.to)) spare
 
 pub same-at : (h : Header) (image base : Image) → SameButSpare h image base → (n : ℕ) → (IsSpare h n → ⊥) → image n ≡ base n
@@ -154,7 +155,7 @@ force-frame h image base same = force-same image base (same-at h image base same
 pub log-frame : (h : Header) (image base : Image) → SameButSpare h image base → (m : ℕ) → m < log_size → image (log_first + m) ≡ base (log_first + m)
 log-frame h image base same m lt = same-at h image base same (log_first + m) (log_decides h m lt)
 
-pub program-frame : (h : Header) (image base : Image) → h.area ≤ 1 → SameButSpare h image base → (m : ℕ) → m < program_size → image (program_first h.area + m) ≡ base (program_first h.area + m)
+pub program-frame : (h : Header) (image base : Image) → h.area ≤ greatest_area → SameButSpare h image base → (m : ℕ) → m < program_size h.area → image (program_first h.area + m) ≡ base (program_first h.area + m)
 program-frame h image base area same m lt = same-at h image base same (program_first h.area + m) (program_decides h m area lt)
 
 -- Where images agree on all sectors but the spare ones, they stand for the same.
@@ -164,16 +165,26 @@ stands-frame h image base is same =
     let within = force-within base h is in
     let force = force-frame h image base same ∙ is in
     let area = stretch-same (snapshot_first h.epoch) snapshot_size image base (λ j lt. same-at h image base same (snapshot_first h.epoch + j) (snapshot_decides h j lt)) in
-    let text = stretch-same (program_first h.area) program_size image base (program-frame h image base within.area same) in
+    let text = stretch-same (program_first h.area) (program_size h.area) image base (program-frame h image base within.area same) in
     let log = stretch-same log_first log_size image base (log-frame h image base same) in
-    (λ i. by_header (force i) (λ x. standing_of x (stretch (snapshot_first x.epoch) snapshot_size image) (stretch (program_first x.area) program_size image) (stretch log_first log_size image)))
+    (λ i. by_header (force i) (λ x. standing_of x (stretch (snapshot_first x.epoch) snapshot_size image) (stretch (program_first x.area) (program_size x.area) image) (stretch log_first log_size image)))
     ∙ (λ i. standing_of h (area i) (text i) (log i))
-    ∙ sym (λ i. by_header (is i) (λ x. standing_of x (stretch (snapshot_first x.epoch) snapshot_size base) (stretch (program_first x.area) program_size base) (stretch log_first log_size base)))
+    ∙ sym (λ i. by_header (is i) (λ x. standing_of x (stretch (snapshot_first x.epoch) snapshot_size base) (stretch (program_first x.area) (program_size x.area) base) (stretch log_first log_size base)))
+
+-- The log of the header in force is the longest one.
+log_under : (o : Option Header) → log_size_under o ≡ log_size
+log_under None = refl
+log_under (Some h) = refl
+
+pub is-written : (image : Image) → ((m : ℕ) → m < log_size → number_at 8 0 (image (log_first + m)) ≤ epoch_in_force (in_force image)) → IsWritten image
+is-written image past = record { past = λ m lt. past m (subst (λ (k : ℕ). m < k) (log_under (in_force image)) lt) }
+
+pub written-past : (image : Image) → IsWritten image → (m : ℕ) → m < log_size → number_at 8 0 (image (log_first + m)) ≤ epoch_in_force (in_force image)
+written-past image written m lt = written.past m (subst (λ (k : ℕ). m < k) (sym (log_under (in_force image))) lt)
 
 pub written-frame : (h : Header) (image base : Image) → SameButSpare h image base → IsWritten base → IsWritten image
-written-frame h image base same written = record {
-  past = λ m lt. subst (λ (e : ℕ). number_at 8 0 (image (log_first + m)) ≤ e) (sym (ap epoch_in_force (force-frame h image base same))) (subst (λ (s : List ℕ). number_at 8 0 s ≤ epoch_in_force (in_force base)) (sym (log-frame h image base same m lt)) (written.past m lt));
-}
+written-frame h image base same written =
+    is-written image (λ m lt. subst (λ (e : ℕ). number_at 8 0 (image (log_first + m)) ≤ e) (sym (ap epoch_in_force (force-frame h image base same))) (subst (λ (s : List ℕ). number_at 8 0 s ≤ epoch_in_force (in_force base)) (sym (log-frame h image base same m lt)) (written-past base written m lt)))
 
 -- A log whose first part is of another epoch holds no record of this one.
 first_part : (row : Image) (at : ℕ) (l : Label) (n : ℕ) → number_at 8 0 (row (at + 0)) ≢ l.epoch → parts_stand row at l (suc n) ≡ false
@@ -216,22 +227,20 @@ standing-none h area text log other =
     λ i. standing (after_step (none i) (λ q. run 1023 log_size h.length log h.epoch q) start).found (text_of h.length text) h.length
 
 -- An image under this header that has no record of its epoch.
-pub stands-snapshot : (image : Image) (h : Header) → in_force image ≡ Some h → number_at 8 0 (image log_first) ≢ h.epoch → stands image ≡ standing (snapshot h.length (stretch (snapshot_first h.epoch) snapshot_size image)) (text_of h.length (stretch (program_first h.area) program_size image)) h.length
+pub stands-snapshot : (image : Image) (h : Header) → in_force image ≡ Some h → number_at 8 0 (image log_first) ≢ h.epoch → stands image ≡ standing (snapshot h.length (stretch (snapshot_first h.epoch) snapshot_size image)) (text_of h.length (stretch (program_first h.area) (program_size h.area) image)) h.length
 unfolding stands
 stands-snapshot image h is other =
     let first : stretch log_first log_size image 0 ≡ image (log_first + 0) = stretch-at log_first log_size image 0 (omega arith) in
-    (λ i. by_header (is i) (λ x. standing_of x (stretch (snapshot_first x.epoch) snapshot_size image) (stretch (program_first x.area) program_size image) (stretch log_first log_size image)))
-    ∙ standing-none h (stretch (snapshot_first h.epoch) snapshot_size image) (stretch (program_first h.area) program_size image) (stretch log_first log_size image) (λ e. other (ap (number_at 8 0) (sym first) ∙ e))
+    (λ i. by_header (is i) (λ x. standing_of x (stretch (snapshot_first x.epoch) snapshot_size image) (stretch (program_first x.area) (program_size x.area) image) (stretch log_first log_size image)))
+    ∙ standing-none h (stretch (snapshot_first h.epoch) snapshot_size image) (stretch (program_first h.area) (program_size h.area) image) (stretch log_first log_size image) (λ e. other (ap (number_at 8 0) (sym first) ∙ e))
 
 -- Over an image that has no part of an epoch still to come, a newer header finds none of its own.
 pub none-of-new : (base : Image) (h : Header) → in_force base ≡ Some h → IsWritten base → (m : ℕ) → m < log_size → number_at 8 0 (base (log_first + m)) ≤ h.epoch
-none-of-new base h is written m lt = subst (λ (e : ℕ). number_at 8 0 (base (log_first + m)) ≤ e) (ap epoch_in_force is) (written.past m lt)
+none-of-new base h is written m lt = subst (λ (e : ℕ). number_at 8 0 (base (log_first + m)) ≤ e) (ap epoch_in_force is) (written-past base written m lt)
 
 -- and there is none of one to come after it
 pub written-new : (image base : Image) (h new : Header) → in_force base ≡ Some h → in_force image ≡ Some new → h.epoch ≤ new.epoch → IsWritten base → ((m : ℕ) → m < log_size → image (log_first + m) ≡ base (log_first + m)) → IsWritten image
-written-new image base h new is now later written same = record {
-  past = λ m lt.
-      let e : number_at 8 0 (image (log_first + m)) ≡ number_at 8 0 (base (log_first + m)) = ap (number_at 8 0) (same m lt) in
-      let below = none-of-new base h is written m lt in
-      subst (λ (x : ℕ). number_at 8 0 (image (log_first + m)) ≤ x) (sym (ap epoch_in_force now)) (omega arith);
-}
+written-new image base h new is now later written same = is-written image (λ m lt.
+    let e : number_at 8 0 (image (log_first + m)) ≡ number_at 8 0 (base (log_first + m)) = ap (number_at 8 0) (same m lt) in
+    let below = none-of-new base h is written m lt in
+    subst (λ (x : ℕ). number_at 8 0 (image (log_first + m)) ≤ x) (sym (ap epoch_in_force now)) (omega arith))

@@ -1,5 +1,6 @@
 -- The header of an epoch, where a sector holds a valid one (own).
 use Rattle.std.specs.Prelude.{◌≡◌, ℕ, ◌≤◌, ◌%◌, ◌==◌, ◌&&◌, Bool, true, nat_le, List, Option, Some, None, if◌then◌else◌, codes}
+use Rattle.ng_layout.specs.Areas.{greatest_area}
 use Rattle.ng_layout.specs.Fields.{number_at, AreZero}
 use Rattle.ng_layout.specs.declared.header.Header.{Header}
 use Rattle.ng_layout.specs.Limits.{greatest_count, longest_program}
@@ -13,7 +14,7 @@ unfoldable pub is_marked : List ℕ → Bool
 is_marked sector = (number_at 8 0 sector == number_at 8 0 (codes "RS274NGC")) && (number_at 4 8 sector == 1)
 
 abbrev pub is_within : Header → Bool
-is_within h = nat_le 1 h.epoch && nat_le h.epoch greatest_count && nat_le h.area 1 && nat_le h.length longest_program
+is_within h = nat_le 1 h.epoch && nat_le h.epoch greatest_count && nat_le h.area greatest_area && nat_le h.length longest_program
 
 -- the valid header of sector k: it stands in the sector of its epoch
 unfoldable pub header_in : ℕ → List ℕ → Option Header
@@ -23,7 +24,7 @@ header_in k sector = if is_marked sector && is_within (header_at sector) && (hea
 pub record IsLawful (h : Header) : Type 0 where
   pub counted : 1 ≤ h.epoch
   pub few : h.epoch ≤ greatest_count
-  pub area : h.area ≤ 1
+  pub area : h.area ≤ greatest_area
   pub length : h.length ≤ longest_program
 
 -- The sector is written with this header: its text, its format, its fields, and 0 in each byte that none of these names.

@@ -1,4 +1,4 @@
--- The limits of what is stored (own).
+-- The limits of what is stored, and how many parameters there are (own).
 use Rattle.std.specs.Prelude.{ℕ}
 
 -- of epochs and of the entry count
@@ -16,3 +16,7 @@ greatest_slot = 64
 -- of the bytes of a half-done block's text
 abbrev pub longest_text : ℕ
 longest_text = 256
+
+-- how many parameters there are
+abbrev pub parameter_count : ℕ
+parameter_count = 5399

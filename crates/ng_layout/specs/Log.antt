@@ -3,7 +3,6 @@ use Rattle.std.specs.Prelude.{ℕ, zero, suc, ◌+◌, ◌*◌, ◌/◌, ◌%◌
 use Rattle.ng_params.specs.Numbers.{index_of}
 use Rattle.ng_params.specs.Changes.{with_changes}
 use Rattle.ng_params.specs.declared.change.Change.{Change}
-use Rattle.ng_layout.specs.declared.header.Header.{Header}
 use Rattle.ng_layout.specs.Fields.{number_at, signed_at}
 use Rattle.ng_layout.specs.StateField.{field_at}
 use Rattle.ng_layout.specs.Report.{and_then, count_of, report_of}
@@ -53,14 +52,6 @@ with_record length row at changes before =
 -- how many parts a record of so many changes has
 abbrev pub parts_for : ℕ → ℕ
 parts_for changes = 1 + (changes + 47) / 48
-
--- the most sectors of a log
-abbrev pub log_size : ℕ
-log_size = 1024
-
--- how many sectors the log of this header's format has; each header is of format 1, whose log has the most
-abbrev pub log_size_of : Header → ℕ
-log_size_of h = log_size
 
 -- the place behind the record that begins here, where it is complete and within a log of so many sectors
 unfoldable pub next : ℕ → ℕ → (ℕ → List ℕ) → ℕ → Place → Option Place

@@ -2,6 +2,7 @@
 use Rattle.std.specs.Prelude.{◌≡◌, ℕ, ◌+◌, ◌-◌, ◌*◌, ◌/◌, ◌%◌, ◌<◌, ◌≤◌, List, map, length, get_or, slice_index, ℤ, pos}
 use Rattle.std.specs.List.{range_with_len}
 use Rattle.ng_num.specs.Range.{IsCount}
+use Rattle.ng_layout.specs.Limits.{parameter_count}
 use Rattle.ng_layout.specs.Fields.{signed_at, AreZero}
 
 -- the values of parameters 1 to n in sectors 1, 2 and so on of a row, 64 in each
@@ -14,14 +15,14 @@ text_of n row = map (λ i. get_or (row (i / 512)) (i % 512) 0) (range_with_len 0
 
 -- The sector is written with the 64 values from this index on; past the last parameter all its bytes are 0.
 pub record HoldsValues (table : List ℤ) (first : ℕ) (sector : List ℕ) : Type 0 where
-  pub each : (k : ℕ) → k < 64 → first + k < 5399 → signed_at (8 * k) sector ≡ get_or table (first + k) (pos 0)
-  pub past : (k : ℕ) → k < 64 → 5399 ≤ first + k → AreZero (512 - 8 * k) (8 * k) sector
-  pub counts : (k : ℕ) → k < 64 → first + k < 5399 → IsCount (signed_at (8 * k) sector)
+  pub each : (k : ℕ) → k < 64 → first + k < parameter_count → signed_at (8 * k) sector ≡ get_or table (first + k) (pos 0)
+  pub past : (k : ℕ) → k < 64 → parameter_count ≤ first + k → AreZero (512 - 8 * k) (8 * k) sector
+  pub counts : (k : ℕ) → k < 64 → first + k < parameter_count → IsCount (signed_at (8 * k) sector)
 
 -- The table takes over the 64 values of a sector from this index on, all within the range; all else stays.
 pub record TakesValues (old new : List ℤ) (first : ℕ) (sector : List ℕ) : Type 0 where
-  pub here : (k : ℕ) → k < 64 → first + k < 5399 → first + k < length old → get_or new (first + k) (pos 0) ≡ signed_at (8 * k) sector
-  pub counts : (k : ℕ) → k < 64 → first + k < 5399 → IsCount (signed_at (8 * k) sector)
+  pub here : (k : ℕ) → k < 64 → first + k < parameter_count → first + k < length old → get_or new (first + k) (pos 0) ≡ signed_at (8 * k) sector
+  pub counts : (k : ℕ) → k < 64 → first + k < parameter_count → IsCount (signed_at (8 * k) sector)
   pub before : (p : ℕ) → p < first → get_or new p (pos 0) ≡ get_or old p (pos 0)
   pub long : length new ≡ length old
 
@@ -29,7 +30,7 @@ pub record TakesValues (old new : List ℤ) (first : ℕ) (sector : List ℕ) : 
 pub record IsBeyond (first : ℕ) (sector : List ℕ) : Type 0 where
   pub k : ℕ
   pub within : k < 64
-  pub there : first + k < 5399
+  pub there : first + k < parameter_count
   pub beyond : ¬ IsCount (signed_at (8 * k) sector)
 
 -- the sector holds the 512 bytes from this index on, 0 for those past the end

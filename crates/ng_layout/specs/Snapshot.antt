@@ -1,6 +1,7 @@
 -- What the sectors of a snapshot hold (own).
 use Rattle.std.specs.Prelude.{◌≡◌, ◌+◌, ◌-◌, ◌*◌, ◌/◌, ◌%◌, ◌<◌, ℕ, List, length, get_or, ℤ, pos, Some}
 use Rattle.ng_num.specs.Range.{IsCount}
+use Rattle.ng_layout.specs.Limits.{parameter_count}
 use Rattle.ng_layout.specs.Fields.{signed_at, AreZero}
 use Rattle.ng_layout.specs.StateField.{field_at}
 use Rattle.ng_layout.specs.Report.{report_of}
@@ -26,6 +27,6 @@ pub record HoldsPart (saved : Saved) (part : ℕ) (sector : List ℕ) : Type 0 w
 
 -- The table has the values of the first n sectors of parameters, all within the range.
 pub record TableTo (table : List ℤ) (n : ℕ) (row : ℕ → List ℕ) : Type 0 where
-  pub here : (p : ℕ) → p < 64 * n → p < 5399 → get_or table p (pos 0) ≡ signed_at (8 * (p % 64)) (row (1 + p / 64))
-  pub counts : (p : ℕ) → p < 64 * n → p < 5399 → IsCount (signed_at (8 * (p % 64)) (row (1 + p / 64)))
-  pub long : length table ≡ 5399
+  pub here : (p : ℕ) → p < 64 * n → p < parameter_count → get_or table p (pos 0) ≡ signed_at (8 * (p % 64)) (row (1 + p / 64))
+  pub counts : (p : ℕ) → p < 64 * n → p < parameter_count → IsCount (signed_at (8 * (p % 64)) (row (1 + p / 64)))
+  pub long : length table ≡ parameter_count

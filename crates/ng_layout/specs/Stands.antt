@@ -1,40 +1,20 @@
 -- What an image of a device stands for (own).
-use Rattle.std.specs.Prelude.{ℕ, ◌+◌, ◌*◌, ◌%◌, ◌<◌, ◌≤◌, nat_lt, nat_le, List, [], ℤ, unsigned_abs, Option, Some, None, is_some, Result, Ok, Err, if◌then◌else◌}
+use Rattle.std.specs.Prelude.{ℕ, ◌+◌, ◌<◌, ◌≤◌, nat_lt, nat_le, List, [], ℤ, unsigned_abs, Option, Some, None, is_some, Result, Ok, Err, if◌then◌else◌}
 use Rattle.std.specs.Option.{option_map}
 use Rattle.std.specs.List.{list_all}
 use Rattle.ng_num.specs.Range.{greatest}
 use Rattle.ng_num.specs.declared.fault.Fault.{Fault}
 use Rattle.ng_num.specs.declared.fault.Fault.TheVariants.{NotFormatted, Damaged}
+use Rattle.ng_layout.specs.Limits.{parameter_count}
 use Rattle.ng_layout.specs.Fields.{number_at}
 use Rattle.ng_layout.specs.StateField.{field_at}
 use Rattle.ng_layout.specs.declared.header.Header.{Header}
 use Rattle.ng_layout.specs.Header.{header_in}
 use Rattle.ng_layout.specs.Report.{and_then, report_of}
 use Rattle.ng_layout.specs.Sectors.{values, text_of}
-use Rattle.ng_layout.specs.Log.{Found, run, log_size, log_size_of}
+use Rattle.ng_layout.specs.Areas.{snapshot_size, snapshot_first, program_size, program_first, log_first, log_size_of, log_size_under}
+use Rattle.ng_layout.specs.Log.{Found, run}
 use Rattle.ng_layout.specs.Stored.{HalfDone, Standing}
-
--- The sectors: 0 and 1 headers, then two snapshot areas, two program areas, the log.
-abbrev pub snapshot_size : ℕ
-snapshot_size = 86
-
-abbrev pub program_size : ℕ
-program_size = 256
-
--- the first sector of the snapshot area of an epoch
-abbrev pub snapshot_first : ℕ → ℕ
-snapshot_first epoch = 2 + 86 * (epoch % 2)
-
--- the first sector of a program area, 0 or 1
-abbrev pub program_first : ℕ → ℕ
-program_first area = 174 + 256 * area
-
-abbrev pub log_first : ℕ
-log_first = 686
-
--- how many sectors a device needs
-abbrev pub least_size : ℕ
-least_size = 1710
 
 -- so many sectors of an image from the first on, and nothing past them
 unfoldable pub stretch : ℕ → ℕ → (ℕ → List ℕ) → ℕ → List ℕ
@@ -56,7 +36,7 @@ all_counts params = if list_all (λ n. nat_le (unsigned_abs n) greatest) params 
 
 -- what a snapshot says
 unfoldable pub snapshot : ℕ → (ℕ → List ℕ) → Option Found
-snapshot length row = and_then (report_of length (field_at (row 0))) (λ report. and_then (all_counts (values 5399 row)) (λ params. Some (record { report = report; params = params })))
+snapshot length row = and_then (report_of length (field_at (row 0))) (λ report. and_then (all_counts (values parameter_count row)) (λ params. Some (record { report = report; params = params })))
 
 -- what was found, with the program
 abbrev pub standing : Option Found → List ℕ → ℕ → Result Standing Fault
@@ -75,16 +55,16 @@ by_header None f = Err NotFormatted
 by_header (Some h) f = f h
 
 unfoldable pub stands : (ℕ → List ℕ) → Result Standing Fault
-stands image = by_header (in_force image) (λ h. standing_of h (stretch (snapshot_first h.epoch) snapshot_size image) (stretch (program_first h.area) program_size image) (stretch log_first (log_size_of h) image))
+stands image = by_header (in_force image) (λ h. standing_of h (stretch (snapshot_first h.epoch) snapshot_size image) (stretch (program_first h.area) (program_size h.area) image) (stretch log_first (log_size_of h) image))
 
 -- the epoch in force, 0 where none is
 abbrev pub epoch_in_force : Option Header → ℕ
 epoch_in_force None = 0
 epoch_in_force (Some h) = h.epoch
 
--- No part in the log is of an epoch that is still to come. Each image that the journal leaves is such.
+-- No part in the log of the header in force is of an epoch that is still to come. Each image that the journal leaves is such.
 pub record IsWritten (image : ℕ → List ℕ) : Type 0 where
-  pub past : (m : ℕ) → m < log_size → number_at 8 0 (image (log_first + m)) ≤ epoch_in_force (in_force image)
+  pub past : (m : ℕ) → m < log_size_under (in_force image) → number_at 8 0 (image (log_first + m)) ≤ epoch_in_force (in_force image)
 
 -- nothing open: where something was, it isn't known where the machine stands
 abbrev pub closed : HalfDone → HalfDone

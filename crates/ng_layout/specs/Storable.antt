@@ -1,7 +1,7 @@
 -- What can be stored: the states that an interpreter reaches (own).
 use Rattle.std.specs.Prelude.{◌≡◌, ◌≤◌, ◌≤ℤ◌, pos, length, IsSome, IsNone, IfSome}
 use Rattle.ng_block.specs.declared.machine.Machine.{Machine}
-use Rattle.ng_layout.specs.Limits.{greatest_slot, longest_text, longest_program}
+use Rattle.ng_layout.specs.Limits.{greatest_slot, longest_text, longest_program, parameter_count}
 use Rattle.ng_layout.specs.Stored.{HalfDone, Saved}
 
 -- feed and speed aren't negative, and slots have their numbers
@@ -17,7 +17,7 @@ pub record CanWait (half : HalfDone) : Type 0 where
   pub text : length half.text ≤ longest_text
 
 pub record IsStorable (saved : Saved) : Type 0 where
-  pub table : length saved.setup.params ≡ 5399
+  pub table : length saved.setup.params ≡ parameter_count
   pub machine : CanStand saved.setup.machine
   pub half : IfSome saved.half CanWait
   pub place : saved.place ≤ saved.length

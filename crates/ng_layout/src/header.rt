@@ -1,6 +1,7 @@
 //! The header of an epoch: what names the snapshot and the program in force.
 ghost use Rattle.std.specs.Prelude.{◌≡◌, ◌≤◌, IfSome};
 
+use crate::areas::{GREATEST_AREA, LONGEST_LOG};
 use crate::bytes::{get_u32, get_u64, put_u32, put_u64};
 use crate::report::GREATEST_COUNT;
 
@@ -12,12 +13,6 @@ const FORMAT: u32 = 1;
 
 /// The most bytes of a program.
 pub const LONGEST_PROGRAM: u64 = 131_072;
-
-/// The first sector of the log.
-pub const LOG_FIRST: usize = 686;
-
-/// The most sectors of a log.
-pub const LONGEST_LOG: usize = 1024;
 
 /// The header of an epoch (own).
 #[derive(Clone, Copy, Debug, PartialEq, Eq)]
@@ -32,7 +27,7 @@ pub struct Header {
 
 impl Header {
     ghost use Rattle.ng_layout.specs.Header.{is_within, header_in, IsLawful, HoldsHeader};
-    ghost use Rattle.ng_layout.specs.Log.{log_size_of};
+    ghost use Rattle.ng_layout.specs.Areas.{log_size, log_size_of};
 
     /// The header that sector `k` holds; none where it isn't valid.
     #[tactic(auto, unfolding(crate::specs::Header::header_in, crate::specs::Header::header_at, crate::specs::Header::is_marked))]
@@ -58,14 +53,14 @@ impl Header {
     {
         1 <= self.epoch
             && self.epoch <= GREATEST_COUNT
-            && self.area <= 1
+            && self.area <= GREATEST_AREA
             && self.length <= LONGEST_PROGRAM
     }
 
     /// How many sectors its log has, from `LOG_FIRST` on: `LONGEST_LOG` in the one format that there is.
     pub fn log_size(self) -> usize
         ensures value { result ≡ log_size_of self }
-        ensures most { result ≤ 1024 }
+        ensures most { result ≤ log_size }
     {
         LONGEST_LOG
     }

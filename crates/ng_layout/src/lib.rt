@@ -1,10 +1,11 @@
 //! Where what the journal stores stands in the sectors of a device, and what such sectors stand for (own; docs/DEVICE.md).
 //!
 //! What is written is read back, or refused as damaged exactly where a field is out of its range: `Header`, `StateField`,
-//! `Stored::sector`, `text_sector`, `first_part`, `changes_part`. specs/Stands.antt says what an image of a device stands for. No
-//! device is called here.
+//! `Stored::sector`, `text_sector`, `first_part`, `changes_part`. specs/Stands.antt says what an image of a device stands for,
+//! specs/Areas.antt what lies where. No device is called here.
 #![tactic(auto)]
 
+mod areas;
 mod bytes;
 mod codes;
 mod field;
@@ -16,9 +17,12 @@ mod sectors;
 mod stored;
 mod writing;
 
+pub use areas::{
+    LEAST_SIZE, LOG_FIRST, LONGEST_LOG, SNAPSHOT_SIZE, program_first, snapshot_first, spare_area,
+};
 pub use field::{CodeField, HalfField, KeptField, StateField, Triple};
 pub use half::{Half, Opened, Source, TEXT, text_of};
-pub use header::{Header, LOG_FIRST, LONGEST_LOG, LONGEST_PROGRAM};
+pub use header::{Header, LONGEST_PROGRAM};
 pub use part::{
     CHANGES, PartLabel, changes_part, first_part, parts_for, report_of_part, take_changes,
 };

@@ -3,6 +3,7 @@
 //! A record holds the whole state field in its first part, and its changes of parameters in the others, 48 in each but the last. Each
 //! part begins with the same label but for its own number.
 ghost use Rattle.std.specs.Prelude.{◌≡◌, ◌≤◌, length, drop, replicate, IfSome};
+ghost use Rattle.ng_layout.specs.Limits.{greatest_count};
 ghost use Rattle.ng_layout.specs.Fields.{bytes_at, SameBelow, SameFrom, Puts};
 ghost use Rattle.ng_layout.specs.Log.{is_part, change_at, parts_for};
 ghost use Rattle.ng_layout.specs.Part.{label_of, label_at, HoldsLabel, HoldsState, HoldsChanges, MakesOrDamaged};
@@ -96,7 +97,7 @@ pub fn parts_for(changes: usize) -> usize
 
 /// The first part of a record of what is stored, in which what no field names is 0; its label says part 0. It takes no memory.
 pub fn first_part<A: Allocator + Copy + Drop>(label: PartLabel, stored: &Stored<A>) -> [u8; BYTES]
-    requires count { stored.now.entries ≤ 1_000_000_000_000 }
+    requires count { stored.now.entries ≤ greatest_count }
     requires storable { IsStorable stored.now }
     ensures label { HoldsLabel (label_of label) result }
     ensures state { HoldsState stored.now result }

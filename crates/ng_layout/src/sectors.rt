@@ -2,6 +2,7 @@
 ghost use Rattle.std.specs.Prelude.{◌≡◌, ◌≤◌, ◌<◌, ◌+◌, ◌*◌, ◌-◌, ◌++◌, length, replicate};
 ghost use Rattle.std.specs.Bool.{OnTrue, OnFalse};
 ghost use Rattle.ng_params.specs.Table.{defaults};
+ghost use Rattle.ng_layout.specs.Limits.{longest_program, parameter_count};
 ghost use Rattle.ng_layout.specs.Sectors.{HoldsValues, TakesValues, IsBeyond, HoldsText};
 
 use crate::bytes::{get_i64, put_i64};
@@ -23,7 +24,7 @@ pub(crate) fn values_sector<A: Allocator + Copy + Drop>(
     table: &Params<A>,
     first: usize,
 ) -> [u8; BYTES]
-    requires { first ≤ 5399 }
+    requires { first ≤ parameter_count }
     ensures { HoldsValues table.now first result }
 {
     let mut sector = [0; BYTES];
@@ -41,7 +42,7 @@ const SYSTEM_INDEX: usize = 5219;
 
 /// The same sector of the table of a fresh controller, in which the system in force is 1 and all else 0.
 pub(crate) fn fresh_values_sector(first: usize) -> [u8; BYTES]
-    requires { first ≤ 5399 }
+    requires { first ≤ parameter_count }
     ensures { HoldsValues defaults first result }
 {
     let mut sector = [0; BYTES];
@@ -58,7 +59,7 @@ pub fn take_values<A: Allocator + Copy + Drop>(
     first: usize,
     sector: &[u8; BYTES],
 ) -> bool
-    requires { first ≤ 5399 }
+    requires { first ≤ parameter_count }
     ensures taken { OnTrue result (TakesValues table.old table.new first sector.now) }
     ensures beyond { OnFalse result (IsBeyond first sector.now) }
 {
@@ -75,8 +76,8 @@ pub fn take_values<A: Allocator + Copy + Drop>(
 
 /// Makes one table equal to another, in place.
 pub(crate) fn copy_table<A: Allocator + Copy + Drop>(into: &mut Params<A>, from: &Params<A>)
-    requires into { length into.old ≡ 5399 }
-    requires from { length from.now ≡ 5399 }
+    requires into { length into.old ≡ parameter_count }
+    requires from { length from.now ≡ parameter_count }
     ensures { into.new ≡ from.now }
 {
     for k in 0..PARAMETERS {
@@ -98,7 +99,7 @@ fn padded(bytes: &[u8]) -> [u8; BYTES]
 /// The sector of 512 bytes of a text, the first of them at this index; zeros past the text's end.
 pub fn text_sector(text: &[u8], first: usize) -> [u8; BYTES]
     requires within { first ≤ length text.now }
-    requires small { length text.now ≤ 131_072 }
+    requires small { length text.now ≤ longest_program }
     ensures { HoldsText text.now first result }
 {
     let end = text.len().min(first + BYTES);

@@ -1,6 +1,8 @@
 //! What is stored of a controller.
 ghost use Rattle.std.specs.Prelude.{◌≡◌, ◌≤◌, ◌<◌, length, Some, IfOk};
 ghost use Rattle.std.specs.Option.{option_map};
+ghost use Rattle.ng_layout.specs.Limits.{greatest_count, parameter_count};
+ghost use Rattle.ng_layout.specs.Areas.{snapshot_size};
 ghost use Rattle.ng_layout.specs.Fields.{AreZero};
 ghost use Rattle.ng_layout.specs.StateField.{field_at};
 ghost use Rattle.ng_layout.specs.Storable.{IsStorable};
@@ -45,7 +47,7 @@ impl<A: Allocator + Copy + Drop> Stored<A> {
     /// Of a fresh controller, with no program. `AllocError` where the table found no memory.
     pub fn fresh(alloc: A) -> Result<Stored<A>, AllocError>
         ensures value { IfOk result (λ s. s ≡ fresh) }
-        ensures table { IfOk result (λ s. length s.setup.params ≡ 5399) }
+        ensures table { IfOk result (λ s. length s.setup.params ≡ parameter_count) }
     {
         Ok(Stored {
             entries: 0,
@@ -89,11 +91,19 @@ impl<A: Allocator + Copy + Drop> Stored<A> {
 
     /// Takes over all of another. It takes no memory.
     pub fn take_over(&mut self, other: &Stored<A>)
-        requires own { length self.old.setup.params ≡ 5399 }
-        requires other { length other.now.setup.params ≡ 5399 }
+        requires own { length self.old.setup.params ≡ parameter_count }
+        requires other { length other.now.setup.params ≡ parameter_count }
         ensures { self.new ≡ other.now }
     {
         copy_table(&mut self.state.params, &other.state.params);
+        self.take_all_but_parameters(other);
+    }
+
+    /// Takes over all of another that has the same parameters: these are left as they are. It takes no memory.
+    pub fn take_all_but_parameters(&mut self, other: &Stored<A>)
+        requires { self.old.setup.params ≡ other.now.setup.params }
+        ensures { self.new ≡ other.now }
+    {
         self.state.machine = other.state.machine;
         self.entries = other.entries;
         self.place = other.place;
@@ -106,7 +116,7 @@ impl<A: Allocator + Copy + Drop> Stored<A> {
 
     /// Its state field.
     pub(crate) fn field(&self) -> StateField
-        requires count { self.now.entries ≤ 1_000_000_000_000 }
+        requires count { self.now.entries ≤ greatest_count }
         requires storable { IsStorable self.now }
         ensures is { result ≡ field_of (report_in self.now) }
         ensures means { report_of self.now.length result ≡ Some (report_in self.now) }
@@ -121,8 +131,8 @@ impl<A: Allocator + Copy + Drop> Stored<A> {
 
     /// The sector of a snapshot that holds this part of it: the state field first, then the parameters. What no field names is 0.
     pub fn sector(&self, part: usize) -> [u8; BYTES]
-        requires part { part < 86 }
-        requires count { self.now.entries ≤ 1_000_000_000_000 }
+        requires part { part < snapshot_size }
+        requires count { self.now.entries ≤ greatest_count }
         requires storable { IsStorable self.now }
         ensures { HoldsPart self.now part result }
     {
@@ -136,7 +146,7 @@ impl<A: Allocator + Copy + Drop> Stored<A> {
 
 /// The sector of a fresh controller's snapshot that holds this part of it. It takes no memory.
 pub fn fresh_sector(part: usize) -> [u8; BYTES]
-    requires { part < 86 }
+    requires { part < snapshot_size }
     ensures { HoldsPart fresh part result }
 {
     if part == 0 {

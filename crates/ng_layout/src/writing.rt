@@ -2,6 +2,7 @@
 ghost use Rattle.std.specs.Prelude.{◌≡◌, ◌≤◌, ◌≤ℤ◌, ◌++◌, ◌-◌, ℕ, pos, length, replicate, unsigned_abs, unwrap_or, IfSome, Some, None};
 ghost use Rattle.std.specs.Option.{option_copied};
 ghost use Rattle.ng_num.specs.Range.{IsCount};
+ghost use Rattle.ng_layout.specs.Limits.{greatest_count};
 ghost use Rattle.ng_layout.specs.Report.{point_of, modes_of, kept_of, half_of, report_of};
 ghost use Rattle.ng_layout.specs.Writing.{triple_of, kept_field, kept_bits, codes_of, half_field, field_of};
 ghost use Rattle.ng_layout.specs.Storable.{CanStand, CanWait};
@@ -147,7 +148,7 @@ fn half_field_of(half: Option<&Half>) -> HalfField
 impl StateField {
     /// The state field of what is stored: it says that, beside any program that the place lies in.
     pub fn of(entries: u64, place: u64, machine: &Machine, half: Option<&Half>) -> StateField
-        requires count { entries ≤ 1_000_000_000_000 }
+        requires count { entries ≤ greatest_count }
         requires machine { CanStand machine.now }
         requires half { IfSome half (λ h. CanWait h.now) }
         ensures is { result ≡ field_of (record { entries = entries; place = place; machine = machine.now; half = option_copied half.entry }) }

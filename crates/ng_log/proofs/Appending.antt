@@ -11,9 +11,9 @@ use Rattle.ng_rig.specs.Only.{Blend, WritesOnly}
 use Rattle.ng_rig.proofs.Running.{weaker, is_synced}
 use Rattle.ng_rig.proofs.Writes_only.{only_none, only_write, only_more, only_sync, only_synced, reads_blend}
 use Rattle.ng_layout.specs.declared.header.Header.{Header}
-use Rattle.ng_layout.specs.Log.{Label, parts_for, log_size_of}
+use Rattle.ng_layout.specs.Areas.{log_size_of, log_first}
+use Rattle.ng_layout.specs.Log.{Label, parts_for}
 use Rattle.ng_layout.specs.Part.{piece, HoldsLabel, HoldsState, HoldsChanges, HoldsRecordPart}
-use Rattle.ng_layout.specs.Stands.{log_first}
 use Rattle.ng_layout.specs.Stored.{Saved, Standing}
 use Rattle.ng_log.specs.declared.log_end.LogEnd.{LogEnd}
 use Rattle.ng_log.specs.Appends.{WritesRecord, Appends}

@@ -159,3 +159,11 @@ none_to (suc n) table = suc_same n table table (same_eq (at table (suc n))) ∙ 
 pub differences-none : (table : List ℤ) → differences table table ≡ []
 unfolding differences
 differences-none table = none_to 5399 table
+
+-- and tables that don't differ are the same
+no_changes : (changes : List Change) → length changes ≡ 0 → changes ≡ []
+no_changes [] none = refl
+no_changes (change ∷ changes) none = absurd (omega (arith, none))
+
+pub differences-same : (old new : List ℤ) → length old ≡ 5399 → length new ≡ 5399 → length (differences old new) ≡ 0 → old ≡ new
+differences-same old new all_old all_new none = sym (ap (with_changes old) (no_changes (differences old new) none)) ∙ differences-restore old new all_old all_new

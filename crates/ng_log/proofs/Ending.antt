@@ -6,11 +6,12 @@ use Rattle.ng_rig.specs.Life.{Image, Life, reads}
 use Rattle.ng_rig.specs.Onward.{IsSynced}
 use Rattle.ng_layout.specs.declared.header.Header.{Header}
 use Rattle.ng_layout.specs.Fields.{number_at}
-use Rattle.ng_layout.specs.Log.{Place, log_size_of}
+use Rattle.ng_layout.specs.Areas.{log_size_of, log_first, program_first, program_size, snapshot_first, snapshot_size}
+use Rattle.ng_layout.specs.Log.{Place}
 use Rattle.ng_layout.specs.Sectors.{text_of}
-use Rattle.ng_layout.specs.Stands.{by_header, epoch_in_force, in_force, IsWritten, log_first, program_first, program_size, snapshot, snapshot_first, snapshot_size, standing, standing_of, stands, stretch}
+use Rattle.ng_layout.specs.Stands.{by_header, epoch_in_force, in_force, IsWritten, snapshot, standing, standing_of, stands, stretch}
 use Rattle.ng_layout.specs.Stored.{Saved, Standing}
-use Rattle.ng_layout.proofs.Images.{force-same, force-within, stretch-at, stretch-same}
+use Rattle.ng_layout.proofs.Images.{force-same, force-within, stretch-at, stretch-same, is-written, written-past}
 use Rattle.ng_log.specs.declared.log_end.LogEnd.{LogEnd}
 use Rattle.ng_log.specs.AtEnd.{found_in, place_of, end_behind, EndsIn, IsAtEnd}
 use Rattle.ng_log.specs.Records.{LogRecord, size_of, IsPartOf, BelongsToRecord, record_at}
@@ -20,14 +21,14 @@ use Rattle.ng_log.proofs.Runs.{ends-longest, part-says, run-longest}
 
 -- the longest run decides
 pub stands-longest : (image : Image) (header : Header) (last : Place) → in_force image ≡ Some header → IsLongest (log_size_of header) header.length (log_of header image) header.epoch (beginning image header) last → last.at ≤ log_size_of header
-    → stands image ≡ standing last.found (text_of header.length (stretch (program_first header.area) program_size image)) header.length
+    → stands image ≡ standing last.found (text_of header.length (stretch (program_first header.area) (program_size header.area) image)) header.length
 unfolding stands standing_of
 stands-longest image header last force l room =
-    (λ i. by_header (force i) (λ x. standing_of x (stretch (snapshot_first x.epoch) snapshot_size image) (stretch (program_first x.area) program_size image) (stretch log_first (log_size_of x) image)))
-    ∙ ap (λ (p : Place). standing p.found (text_of header.length (stretch (program_first header.area) program_size image)) header.length) (run-longest (log_size_of header) header.length (log_of header image) header.epoch (beginning image header) last l room)
+    (λ i. by_header (force i) (λ x. standing_of x (stretch (snapshot_first x.epoch) snapshot_size image) (stretch (program_first x.area) (program_size x.area) image) (stretch log_first (log_size_of x) image)))
+    ∙ ap (λ (p : Place). standing p.found (text_of header.length (stretch (program_first header.area) (program_size header.area) image)) header.length) (run-longest (log_size_of header) header.length (log_of header image) header.epoch (beginning image header) last l room)
 
 -- a run that leads to what is stored
-pub stands-saved : (image : Image) (header : Header) (saved : Saved) (program : List ℕ) (end : LogEnd) → in_force image ≡ Some header → IsLongest (log_size_of header) header.length (log_of header image) header.epoch (beginning image header) (place_of end saved) → end.sector ≤ log_size_of header → text_of header.length (stretch (program_first header.area) program_size image) ≡ program → saved.length ≡ header.length
+pub stands-saved : (image : Image) (header : Header) (saved : Saved) (program : List ℕ) (end : LogEnd) → in_force image ≡ Some header → IsLongest (log_size_of header) header.length (log_of header image) header.epoch (beginning image header) (place_of end saved) → end.sector ≤ log_size_of header → text_of header.length (stretch (program_first header.area) (program_size header.area) image) ≡ program → saved.length ≡ header.length
     → stands image ≡ Ok (record { saved = saved; program = program })
 stands-saved image header saved program end force l room text long =
     stands-longest image header (place_of end saved) force l room
@@ -66,10 +67,10 @@ module _ (base image : Image) (header : Header) (before : Standing) (end : LogEn
       let area = stretch-same (snapshot_first header.epoch) snapshot_size image base (λ j lt. outside (snapshot_first header.epoch + j) (omega arith)) in
       λ i. record { at = 0; number = 0; found = snapshot header.length (area i) }
 
-  text : text_of header.length (stretch (program_first header.area) program_size image) ≡ before.program
+  text : text_of header.length (stretch (program_first header.area) (program_size header.area) image) ≡ before.program
   text =
       let within = (force-within base header n.was.force).area in
-      ap (text_of header.length) (stretch-same (program_first header.area) program_size image base (λ j lt. outside (program_first header.area + j) (omega arith))) ∙ n.was.program
+      ap (text_of header.length) (stretch-same (program_first header.area) (program_size header.area) image base (λ j lt. outside (program_first header.area + j) (omega arith))) ∙ n.was.program
 
   in_log : (m : ℕ) → m < log_size_of header → (log_of header image m ≡ log_of header base m) ⊎ IsPartOf e m (log_of header image m)
   in_log m lt =
@@ -102,14 +103,12 @@ module _ (base image : Image) (header : Header) (before : Standing) (end : LogEn
 
   -- and has no part of an epoch to come
   pub blend-written : IsWritten image
-  blend-written = record {
-    past = λ m lt.
-        let in_time : epoch_in_force (in_force base) ≡ header.epoch = ap epoch_in_force n.was.force in
-        subst (λ (k : ℕ). number_at 8 0 (image (log_first + m)) ≤ k) (sym (ap epoch_in_force force)) (⊎_elim
-        (λ same. omega (arith, ap (number_at 8 0) same, n.was.written.past m lt, in_time))
-        (λ p. omega (arith, (part-says _ (image (log_first + m)) p.part.holds.label.is).epoch))
-        (b.each (log_first + m)));
-  }
+  blend-written = is-written image (λ m lt.
+      let in_time : epoch_in_force (in_force base) ≡ header.epoch = ap epoch_in_force n.was.force in
+      subst (λ (k : ℕ). number_at 8 0 (image (log_first + m)) ≤ k) (sym (ap epoch_in_force force)) (⊎_elim
+      (λ same. omega (arith, ap (number_at 8 0) same, written-past base n.was.written m lt, in_time))
+      (λ p. omega (arith, (part-says _ (image (log_first + m)) p.part.holds.label.is).epoch))
+      (b.each (log_first + m))))
 
   -- with all of them its log ends behind the record
   pub blend-ends : ((j : ℕ) → j < size_of e → IsPartOf e (end.sector + j) (image (log_first + (end.sector + j)))) → EndsIn image header (record before { saved = saved }) (end_behind end (length changes))

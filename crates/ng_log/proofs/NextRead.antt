@@ -6,10 +6,10 @@ use Rattle.ng_rig.specs.Life.{Life, Image, reads}
 use Rattle.ng_layout.specs.declared.header.Header.{Header}
 use Rattle.ng_layout.specs.declared.part.PartLabel.{PartLabel}
 use Rattle.ng_layout.specs.Fields.{number_at}
-use Rattle.ng_layout.specs.Log.{Label, is_part, Place, after_step, parts_stand, parts_for, with_record, next, run, log_size_of}
+use Rattle.ng_layout.specs.Areas.{log_size_of, log_first}
+use Rattle.ng_layout.specs.Log.{Label, is_part, Place, after_step, parts_stand, parts_for, with_record, next, run}
 use Rattle.ng_layout.specs.Part.{label_of, label_at}
 use Rattle.ng_layout.specs.Report.{and_then}
-use Rattle.ng_layout.specs.Stands.{log_first}
 use Rattle.ng_layout.specs.Stored.{Saved}
 use Rattle.ng_layout.proofs.Images.{stretch-at}
 use Rattle.ng_log.specs.declared.log_end.LogEnd.{LogEnd}

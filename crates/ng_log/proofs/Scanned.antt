@@ -8,7 +8,7 @@ use Rattle.ng_layout.specs.Log.{Label, is_part, parts_stand, changes_of, Found}
 use Rattle.ng_layout.specs.Part.{changes_in, Makes}
 use Rattle.ng_layout.specs.Report.{and_then, report_of}
 use Rattle.ng_layout.specs.StateField.{field_at}
-use Rattle.ng_layout.specs.Stands.{log_first}
+use Rattle.ng_layout.specs.Areas.{log_first}
 use Rattle.ng_layout.specs.Stored.{Report, Saved}
 use Rattle.std.proofs.lemmas.Bool.{cases_eq}
 use Rattle.std.proofs.lemmas.List.{length-set}

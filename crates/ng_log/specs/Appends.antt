@@ -4,7 +4,7 @@ use Rattle.ng_rig.specs.Life.{Life, reads, items}
 use Rattle.ng_rig.specs.Onward.{Onward}
 use Rattle.ng_rig.specs.Only.{WritesOnly}
 use Rattle.ng_layout.specs.declared.header.Header.{Header}
-use Rattle.ng_layout.specs.Stands.{log_first}
+use Rattle.ng_layout.specs.Areas.{log_first}
 use Rattle.ng_layout.specs.Stored.{Saved, Standing}
 use Rattle.ng_log.specs.declared.log_end.LogEnd.{LogEnd}
 use Rattle.ng_log.specs.AtEnd.{IsAtEnd, IsEither}

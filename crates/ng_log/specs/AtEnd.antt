@@ -5,10 +5,11 @@ use Rattle.ng_canon.specs.declared.item.Item.{Item}
 use Rattle.ng_rig.specs.Life.{Image, Life, reads}
 use Rattle.ng_rig.specs.Onward.{IsSynced}
 use Rattle.ng_layout.specs.declared.header.Header.{Header}
-use Rattle.ng_layout.specs.Log.{Found, Place, parts_for, log_size_of}
+use Rattle.ng_layout.specs.Areas.{log_size_of, program_first, program_size}
+use Rattle.ng_layout.specs.Log.{Found, Place, parts_for}
 use Rattle.ng_layout.specs.Sectors.{text_of}
 use Rattle.ng_layout.specs.Snapshot.{report_in}
-use Rattle.ng_layout.specs.Stands.{program_first, program_size, stretch, in_force, stands, IsWritten}
+use Rattle.ng_layout.specs.Stands.{stretch, in_force, stands, IsWritten}
 use Rattle.ng_layout.specs.Stored.{Saved, Standing}
 use Rattle.ng_log.specs.declared.log_end.LogEnd.{LogEnd}
 use Rattle.ng_log.specs.Runs.{log_of, beginning, EndsAt}
@@ -33,7 +34,7 @@ pub record EndsIn (image : Image) (header : Header) (standing : Standing) (end :
   pub force : in_force image ≡ Some header
   pub written : IsWritten image
   pub ends : EndsAt (log_size_of header) header.length (log_of header image) header.epoch (beginning image header) (place_of end standing.saved)
-  pub program : text_of header.length (stretch (program_first header.area) program_size image) ≡ standing.program
+  pub program : text_of header.length (stretch (program_first header.area) (program_size header.area) image) ≡ standing.program
   pub long : standing.saved.length ≡ header.length
 
 -- The device has one image, and that is such.

@@ -3,6 +3,7 @@ use Rattle.std.specs.Prelude.{◌≡◌, ◌<◌, ◌≤◌, ℕ, zero, suc, if�
 use Rattle.std.specs.Ordering.{int_eq}
 use Rattle.ng_params.specs.Table.{at}
 use Rattle.ng_params.specs.declared.change.Change.{Change}
+use Rattle.ng_layout.specs.Limits.{parameter_count}
 
 -- the new value of a parameter
 abbrev pub change_to : List ℤ → ℕ → Change
@@ -15,11 +16,11 @@ differences_to (suc n) old new = if int_eq (at new (suc n)) (at old (suc n)) the
 
 -- all of them
 unfoldable pub differences : List ℤ → List ℤ → List Change
-differences old new = differences_to 5399 old new
+differences old new = differences_to parameter_count old new
 
 -- These differences are those behind the first so many parameters: 48, or all that are left.
 pub record TakesDifferences (old new : List ℤ) (from next : ℕ) (taken : List Change) : Type 0 where
   pub on : differences_to next old new ≡ differences_to from old new ++ taken
-  pub within : next ≤ 5399
+  pub within : next ≤ parameter_count
   pub few : length taken ≤ 48
-  pub full : next < 5399 → length taken ≡ 48
+  pub full : next < parameter_count → length taken ≡ 48

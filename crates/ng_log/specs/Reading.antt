@@ -2,7 +2,8 @@
 use Rattle.std.specs.Prelude.{◌≡◌, Option, Some, None, Result, IfOk}
 use Rattle.ng_rig.specs.Life.{Life, Image, reads}
 use Rattle.ng_layout.specs.declared.header.Header.{Header}
-use Rattle.ng_layout.specs.Log.{run, log_size_of}
+use Rattle.ng_layout.specs.Areas.{log_size_of}
+use Rattle.ng_layout.specs.Log.{run}
 use Rattle.ng_layout.specs.Stored.{Saved}
 use Rattle.ng_log.specs.declared.log_end.LogEnd.{LogEnd}
 use Rattle.ng_log.specs.AtEnd.{no_records, place_of}

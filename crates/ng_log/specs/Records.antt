@@ -3,7 +3,7 @@ use Rattle.std.specs.Prelude.{◌<◌, ◌≤◌, ◌+◌, ◌-◌, ℕ, List, �
 use Rattle.ng_params.specs.declared.change.Change.{Change}
 use Rattle.ng_layout.specs.Log.{Label, parts_for}
 use Rattle.ng_layout.specs.Part.{HoldsRecordPart}
-use Rattle.ng_layout.specs.Stands.{log_first}
+use Rattle.ng_layout.specs.Areas.{log_first}
 use Rattle.ng_layout.specs.Stored.{Saved}
 use Rattle.ng_log.specs.declared.log_end.LogEnd.{LogEnd}
 use Rattle.ng_log.specs.Differences.{differences}

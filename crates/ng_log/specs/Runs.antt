@@ -3,8 +3,9 @@ use Rattle.std.specs.Prelude.{◌≡◌, ◌≢◌, ◌<◌, ◌≤◌, ℕ, zer
 use Rattle.ng_rig.specs.Life.{Image}
 use Rattle.ng_layout.specs.declared.header.Header.{Header}
 use Rattle.ng_layout.specs.Fields.{number_at}
-use Rattle.ng_layout.specs.Log.{Place, next, log_size_of}
-use Rattle.ng_layout.specs.Stands.{log_first, snapshot, snapshot_first, snapshot_size, stretch}
+use Rattle.ng_layout.specs.Areas.{log_size_of, log_first, snapshot_first, snapshot_size}
+use Rattle.ng_layout.specs.Log.{Place, next}
+use Rattle.ng_layout.specs.Stands.{snapshot, stretch}
 
 -- the log of an image under a header
 abbrev pub log_of : Header → Image → Image

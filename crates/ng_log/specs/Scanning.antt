@@ -4,8 +4,8 @@ use Rattle.ng_params.specs.Changes.{with_changes}
 use Rattle.ng_params.specs.declared.change.Change.{Change}
 use Rattle.ng_rig.specs.Life.{Image}
 use Rattle.ng_layout.specs.declared.header.Header.{Header}
-use Rattle.ng_layout.specs.Log.{Label, Place, is_part, parts_stand, parts_for, changes_of, with_record, next, log_size_of}
-use Rattle.ng_layout.specs.Stands.{log_first}
+use Rattle.ng_layout.specs.Areas.{log_size_of, log_first}
+use Rattle.ng_layout.specs.Log.{Label, Place, is_part, parts_stand, parts_for, changes_of, with_record, next}
 use Rattle.ng_layout.specs.Stored.{Saved}
 use Rattle.ng_log.specs.declared.log_end.LogEnd.{LogEnd}
 use Rattle.ng_log.specs.declared.scanning.Next.{Next}

@@ -1,5 +1,6 @@
 //! How two tables of parameters differ, found with no memory. This file knows no device and no log.
 ghost use Rattle.std.specs.Prelude.{◌≡◌, ◌≤◌, length};
+ghost use Rattle.ng_layout.specs.Limits.{parameter_count};
 ghost use Rattle.ng_log.specs.Differences.{differences, TakesDifferences};
 
 use arrayvec::ArrayVec;
@@ -13,7 +14,7 @@ const PARAMETERS: usize = 5399;
 /// How many parameters have other values in a table than in an older one, 0 to 5399 (own).
 pub fn difference_count<A: Allocator + Copy + Drop>(old: &Params<A>, new: &Params<A>) -> usize
     ensures count { result ≡ length (differences old.now new.now) }
-    ensures few { result ≤ 5399 }
+    ensures few { result ≤ parameter_count }
 {
     let mut count = 0;
     for k in 0..PARAMETERS {
@@ -31,7 +32,7 @@ pub(crate) fn next_differences<A: Allocator + Copy + Drop>(
     new: &Params<A>,
     from: usize,
 ) -> (ArrayVec<Change, CHANGES>, usize)
-    requires { from ≤ 5399 }
+    requires { from ≤ parameter_count }
     ensures { TakesDifferences old.now new.now from result.1 result.0.items }
 {
     let mut taken = ArrayVec::new();

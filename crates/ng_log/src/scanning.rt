@@ -4,8 +4,10 @@
 ghost use Rattle.std.specs.Prelude.{◌≡◌, ◌≤◌, ◌<◌, ◌+◌, length, IfOk, IfSome};
 ghost use Rattle.std.specs.Bool.{OnTrue};
 ghost use Rattle.ng_rig.specs.Calls.{Promises, Counts};
+ghost use Rattle.ng_layout.specs.Limits.{greatest_count, longest_program, parameter_count};
 ghost use Rattle.ng_layout.specs.Header.{IsLawful};
-ghost use Rattle.ng_layout.specs.Log.{parts_for, log_size_of};
+ghost use Rattle.ng_layout.specs.Areas.{log_size_of, least_size, log_size};
+ghost use Rattle.ng_layout.specs.Log.{parts_for};
 ghost use Rattle.ng_layout.specs.Part.{label_of};
 ghost use Rattle.ng_layout.specs.Storable.{IsStorable};
 ghost use Rattle.ng_log.specs.Reading.{Reads, IsRunOf};
@@ -34,7 +36,7 @@ pub(crate) enum Next {
 /// Whether a part with this label begins a record at the end of a log: the next of its epoch, with as many parts as its changes need, and
 /// all of them within the log.
 fn begins_record(first: PartLabel, header: Header, end: LogEnd) -> bool
-    requires { end.sector ≤ 1024 }
+    requires { end.sector ≤ log_size_of header }
     ensures { result ≡ begins (label_of first) header end }
 {
     first.epoch == header.epoch
@@ -46,8 +48,8 @@ fn begins_record(first: PartLabel, header: Header, end: LogEnd) -> bool
 
 /// Whether the parts of a record stand behind its first one, which is in this sector of the log.
 fn later_parts_stand<R: Rig>(rig: &mut R, at: usize, first: PartLabel) -> Result<bool, Failed>
-    requires sectors { 1710 ≤ R.sectors rig.old }
-    requires room { at + first.parts ≤ 1024 }
+    requires sectors { least_size ≤ R.sectors rig.old }
+    requires room { at + first.parts ≤ log_size }
     ensures read { Promises (R.honest rig.old) (R.honest rig.new)
         (Reads result (LaterPartsStand at (label_of first)) (R.life rig.old) (R.life rig.new)) }
     ensures size { R.sectors rig.new ≡ R.sectors rig.old }
@@ -70,14 +72,14 @@ fn take_all_changes<R: Rig, A: Allocator + Copy + Drop>(
     changes: usize,
     table: &mut Params<A>,
 ) -> Result<bool, Failed>
-    requires sectors { 1710 ≤ R.sectors rig.old }
+    requires sectors { least_size ≤ R.sectors rig.old }
     requires few { changes ≤ 65_535 }
-    requires room { at + parts_for changes ≤ 1024 }
-    requires long { length table.old ≡ 5399 }
+    requires room { at + parts_for changes ≤ log_size }
+    requires long { length table.old ≡ parameter_count }
     ensures read { Promises (R.honest rig.old) (R.honest rig.new)
         (Reads result (MakesAllOrDamaged at changes table.old table.new) (R.life rig.old) (R.life rig.new)) }
     // without honesty too
-    ensures long { IfOk result (λ whole. OnTrue whole (length table.new ≡ 5399)) }
+    ensures long { IfOk result (λ whole. OnTrue whole (length table.new ≡ parameter_count)) }
     ensures size { R.sectors rig.new ≡ R.sectors rig.old }
     ensures failures { Counts result (R.failed rig.old) (R.failed rig.new) }
 {
@@ -100,16 +102,16 @@ fn take_record<R: Rig, A: Allocator + Copy + Drop>(
     program: u64,
     stored: &mut Stored<A>,
 ) -> Result<bool, Failed>
-    requires sectors { 1710 ≤ R.sectors rig.old }
+    requires sectors { least_size ≤ R.sectors rig.old }
     requires few { changes ≤ 65_535 }
-    requires room { at + parts_for changes ≤ 1024 }
-    requires program { program ≤ 131_072 }
-    requires long { length stored.old.setup.params ≡ 5399 }
+    requires room { at + parts_for changes ≤ log_size }
+    requires program { program ≤ longest_program }
+    requires long { length stored.old.setup.params ≡ parameter_count }
     ensures read { Promises (R.honest rig.old) (R.honest rig.new)
         (Reads result (TakesRecord program first.now at changes stored.old stored.new) (R.life rig.old) (R.life rig.new)) }
     // without honesty too
     ensures storable { IfOk result (λ whole. OnTrue whole (IsStorable stored.new)) }
-    ensures count { IfOk result (λ whole. OnTrue whole (stored.new.entries ≤ 1_000_000_000_000)) }
+    ensures count { IfOk result (λ whole. OnTrue whole (stored.new.entries ≤ greatest_count)) }
     ensures long { IfOk result (λ whole. OnTrue whole (stored.new.length ≡ program)) }
     ensures size { R.sectors rig.new ≡ R.sectors rig.old }
     ensures failures { Counts result (R.failed rig.old) (R.failed rig.new) }
@@ -133,19 +135,19 @@ fn next_record<R: Rig, A: Allocator + Copy + Drop>(
     end: LogEnd,
     stored: &mut Stored<A>,
 ) -> Result<Next, Failed>
-    requires sectors { 1710 ≤ R.sectors rig.old }
+    requires sectors { least_size ≤ R.sectors rig.old }
     requires lawful { IsLawful header }
     requires room { end.sector ≤ log_size_of header }
     requires number { end.number ≤ end.sector }
     requires storable { IsStorable stored.old }
-    requires count { stored.old.entries ≤ 1_000_000_000_000 }
+    requires count { stored.old.entries ≤ greatest_count }
     requires long { stored.old.length ≡ header.length }
     ensures read { Promises (R.honest rig.old) (R.honest rig.new)
         (Reads result (IsNextOf header end stored.old stored.new) (R.life rig.old) (R.life rig.new)) }
     // without honesty too
     ensures on { IfOk result (IsOn header end) }
     ensures storable { IfOk result (λ next. Goes next (IsStorable stored.new)) }
-    ensures count { IfOk result (λ next. Goes next (stored.new.entries ≤ 1_000_000_000_000)) }
+    ensures count { IfOk result (λ next. Goes next (stored.new.entries ≤ greatest_count)) }
     ensures long { IfOk result (λ next. Goes next (stored.new.length ≡ header.length)) }
     ensures size { R.sectors rig.new ≡ R.sectors rig.old }
     ensures failures { Counts result (R.failed rig.old) (R.failed rig.new) }
@@ -189,10 +191,10 @@ pub fn read_log<R: Rig, A: Allocator + Copy + Drop>(
     header: Header,
     stored: &mut Stored<A>,
 ) -> Result<Option<LogEnd>, Failed>
-    requires sectors { 1710 ≤ R.sectors rig.old }
+    requires sectors { least_size ≤ R.sectors rig.old }
     requires lawful { IsLawful header }
     requires storable { IsStorable stored.old }
-    requires count { stored.old.entries ≤ 1_000_000_000_000 }
+    requires count { stored.old.entries ≤ greatest_count }
     requires long { stored.old.length ≡ header.length }
     ensures read { Promises (R.honest rig.old) (R.honest rig.new)
         (Reads result (IsRunOf header stored.old stored.new) (R.life rig.old) (R.life rig.new)) }
@@ -200,7 +202,7 @@ pub fn read_log<R: Rig, A: Allocator + Copy + Drop>(
     ensures room { IfOk result (λ end. IfSome end (λ e. e.sector ≤ log_size_of header)) }
     ensures number { IfOk result (λ end. IfSome end (λ e. e.number ≤ e.sector)) }
     ensures storable { IfOk result (λ end. IfSome end (λ e. IsStorable stored.new)) }
-    ensures count { IfOk result (λ end. IfSome end (λ e. stored.new.entries ≤ 1_000_000_000_000)) }
+    ensures count { IfOk result (λ end. IfSome end (λ e. stored.new.entries ≤ greatest_count)) }
     ensures long { IfOk result (λ end. IfSome end (λ e. stored.new.length ≡ header.length)) }
     ensures size { R.sectors rig.new ≡ R.sectors rig.old }
     ensures failures { Counts result (R.failed rig.old) (R.failed rig.new) }

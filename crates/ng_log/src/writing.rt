@@ -1,7 +1,9 @@
 //! A record written behind the last one.
 ghost use Rattle.std.specs.Prelude.{◌≡◌, ◌≤◌, ◌+◌, length, IfOk};
 ghost use Rattle.ng_rig.specs.Calls.{Promises, Counts};
-ghost use Rattle.ng_layout.specs.Log.{parts_for, log_size_of};
+ghost use Rattle.ng_layout.specs.Limits.{greatest_count, parameter_count};
+ghost use Rattle.ng_layout.specs.Areas.{log_size_of, least_size, log_size};
+ghost use Rattle.ng_layout.specs.Log.{parts_for};
 ghost use Rattle.ng_layout.specs.Storable.{IsStorable};
 ghost use Rattle.ng_layout.specs.Stored.{Standing};
 ghost use Rattle.ng_log.specs.Appends.{WritesRecord, Appends};
@@ -25,7 +27,7 @@ fn next_changes<A: Allocator + Copy + Drop>(
     stored: &Stored<A>,
     from: usize,
 ) -> (ArrayVec<Change, CHANGES>, usize)
-    requires { from ≤ 5399 }
+    requires { from ≤ parameter_count }
     ensures { TakesDifferences old.now stored.now.setup.params from result.1 result.0.items }
 {
     next_differences(old, &stored.state.params, from)
@@ -40,11 +42,11 @@ fn write_parts<R: Rig, A: Allocator + Copy + Drop>(
     stored: &Stored<A>,
     count: usize,
 ) -> Result<(), Failed>
-    requires sectors { 1710 ≤ R.sectors rig.old }
+    requires sectors { least_size ≤ R.sectors rig.old }
     requires count { count ≡ length (differences old.now stored.now.setup.params) }
-    requires few { count ≤ 5399 }
-    requires room { end.sector + parts_for count ≤ 1024 }
-    requires entries { stored.now.entries ≤ 1_000_000_000_000 }
+    requires few { count ≤ parameter_count }
+    requires room { end.sector + parts_for count ≤ log_size }
+    requires entries { stored.now.entries ≤ greatest_count }
     requires storable { IsStorable stored.now }
     ensures writes { Promises (R.honest rig.old) (R.honest rig.new)
         (WritesRecord result (record_from epoch end old.now stored.now) (R.life rig.old) (R.life rig.new)) }
@@ -89,13 +91,13 @@ pub fn append<R: Rig, A: Allocator + Copy + Drop>(
     stored: &Stored<A>,
     count: usize,
 ) -> Result<LogEnd, Failed>
-    requires sectors { 1710 ≤ R.sectors rig.old }
-    requires table { length old.now ≡ 5399 }
+    requires sectors { least_size ≤ R.sectors rig.old }
+    requires table { length old.now ≡ parameter_count }
     requires count { count ≡ length (differences old.now stored.now.setup.params) }
-    requires few { count ≤ 5399 }
+    requires few { count ≤ parameter_count }
     requires room { end.sector + parts_for count ≤ log_size_of header }
     requires number { end.number ≤ end.sector }
-    requires entries { stored.now.entries ≤ 1_000_000_000_000 }
+    requires entries { stored.now.entries ≤ greatest_count }
     requires storable { IsStorable stored.now }
     requires long { stored.now.length ≡ header.length }
     ensures appends { Promises (R.honest rig.old) (R.honest rig.new) ((before : Standing) → IsAtEnd (R.life rig.old) header before end

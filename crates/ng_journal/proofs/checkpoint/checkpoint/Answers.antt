@@ -1,6 +1,6 @@
 use Rattle.std.proofs.Common.{sym, ◌∙◌, ap}
 use Rattle.std.proofs.lemmas.Result.{err_from_is_err_and}
-use Rattle.ng_layout.specs.Stands.{snapshot_first}
+use Rattle.ng_layout.specs.Areas.{snapshot_first}
 use Rattle.ng_journal.proofs.Framing.{state_area, state_sync, state_header, state_laid, synced_by}
 use Rattle.ng_journal.proofs.Renewing.{exit_area, exit_sync, exit_header, ready, finished}
 use Rattle.ng_journal.proofs.checkpoint.checkpoint.Goals as goal

@@ -1,7 +1,6 @@
 use Rattle.std.proofs.Common.{◌+◌, ◌∙◌, refl}
 use Rattle.std.proofs.lemmas.Result.{err_from_is_err_and}
-use Rattle.ng_layout.specs.Log.{log_size}
-use Rattle.ng_layout.specs.Stands.{log_first}
+use Rattle.ng_layout.specs.Areas.{log_size, log_first}
 use Rattle.ng_journal.specs.Formats.{IsEmpty}
 use Rattle.ng_journal.proofs.Beginning.{written, not_written}
 use Rattle.ng_journal.proofs.formatting.clear_log.Goals as goal

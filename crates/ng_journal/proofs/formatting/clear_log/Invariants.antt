@@ -1,7 +1,6 @@
 use Rattle.std.proofs.Common.{◌≡◌}
 use Rattle.ng_rig.specs.Calls.{Promises}
-use Rattle.ng_layout.specs.Log.{log_size}
-use Rattle.ng_layout.specs.Stands.{log_first}
+use Rattle.ng_layout.specs.Areas.{log_size, log_first}
 use Rattle.ng_journal.specs.Formats.{OverwritesTo, IsEmpty}
 use Rattle.ng_journal.proofs.formatting.clear_log.Given as goal
 

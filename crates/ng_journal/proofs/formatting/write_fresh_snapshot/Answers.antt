@@ -1,7 +1,7 @@
 use Rattle.std.proofs.Common.{◌+◌, ◌∙◌, refl}
 use Rattle.std.proofs.lemmas.Result.{err_from_is_err_and}
 use Rattle.ng_layout.specs.Snapshot.{HoldsPart}
-use Rattle.ng_layout.specs.Stands.{snapshot_size}
+use Rattle.ng_layout.specs.Areas.{snapshot_size}
 use Rattle.ng_layout.specs.Stored.{fresh}
 use Rattle.ng_journal.proofs.Beginning.{written, not_written}
 use Rattle.ng_journal.proofs.formatting.write_fresh_snapshot.Goals as goal

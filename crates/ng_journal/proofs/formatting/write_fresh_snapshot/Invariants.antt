@@ -1,7 +1,7 @@
 use Rattle.std.proofs.Common.{◌≡◌}
 use Rattle.ng_rig.specs.Calls.{Promises}
 use Rattle.ng_layout.specs.Snapshot.{HoldsPart}
-use Rattle.ng_layout.specs.Stands.{snapshot_size}
+use Rattle.ng_layout.specs.Areas.{snapshot_size}
 use Rattle.ng_layout.specs.Stored.{fresh}
 use Rattle.ng_journal.specs.Formats.{OverwritesTo}
 use Rattle.ng_journal.proofs.formatting.write_fresh_snapshot.Given as goal

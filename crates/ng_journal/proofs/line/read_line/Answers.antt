@@ -1,7 +1,8 @@
 use Rattle.std.proofs.Common.{◌∙◌, ◌<◌, List, drop, refl, ap, arith}
 use Rattle.ng_rig.specs.Life.{reads}
 use Rattle.ng_layout.specs.Sectors.{text_of}
-use Rattle.ng_layout.specs.Stands.{program_size, stretch}
+use Rattle.ng_layout.specs.Areas.{program_size, program_first}
+use Rattle.ng_layout.specs.Stands.{stretch}
 use Rattle.ng_rig.proofs.Promise.{promised, meaning}
 use Rattle.ng_journal.proofs.LinesRead.{end_some, end_none, short_line, long_line, last_line, no_line, length-text}
 use Rattle.ng_journal.proofs.line.read_line.Goals.{then-end-le-LINE, else-end-le-LINE}
@@ -9,12 +10,12 @@ use Rattle.ng_journal.proofs.line.read_line.Goals as goal
 
 pub returns-then-place-program_end-clause-read : goal.returns-then-place-program_end-clause-read
 returns-then-place-program_end-clause-read g c =
-    let program : List _ = text_of c.args.program_end (stretch c.args.first program_size (reads (g.R.Rig.life c.args.rig.now))) in
+    let program : List _ = text_of c.args.program_end (stretch (program_first c.args.area) (program_size c.args.area) (reads (g.R.Rig.life c.args.rig.now))) in
     promised (record { same = refl; right = no_line program c.args.place c.args.program_end (length-text c.args.program_end _) c.if-place-program_end.true })
 
 pub returns-after-end-le-LINE-clause-read : goal.returns-after-end-le-LINE-clause-read
 returns-after-end-le-LINE-clause-read g c =
-    let program : List _ = text_of c.args.program_end (stretch c.args.first program_size (reads (g.R.Rig.life c.args.rig.now))) in
+    let program : List _ = text_of c.args.program_end (stretch (program_first c.args.area) (program_size c.args.area) (reads (g.R.Rig.life c.args.rig.now))) in
     meaning c.in_ok-end.ensures.read (λ p.
     let e = end_some (drop c.args.place program) _ c.in_ok-end.field-0 c.in-Some.end c.in-Some.is p.right in
     record {
@@ -27,7 +28,7 @@ returns-after-end-le-LINE-clause-read g c =
 
 pub returns-in-None-clause-read : goal.returns-in-None-clause-read
 returns-in-None-clause-read g c =
-    let program : List _ = text_of c.args.program_end (stretch c.args.first program_size (reads (g.R.Rig.life c.args.rig.now))) in
+    let program : List _ = text_of c.args.program_end (stretch (program_first c.args.area) (program_size c.args.area) (reads (g.R.Rig.life c.args.rig.now))) in
     let before : c.args.place < c.args.program_end = omega (arith, c.requires.place, c.if-place-program_end.false) in
     meaning c.in_ok-end.ensures.read (λ p. record {
       same = p.same;

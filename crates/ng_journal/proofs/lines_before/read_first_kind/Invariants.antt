@@ -2,13 +2,14 @@ use Rattle.std.proofs.Common.{◌≡◌, ◌*◌, take}
 use Rattle.ng_rig.specs.Life.{reads}
 use Rattle.ng_rig.specs.Calls.{Promises}
 use Rattle.ng_layout.specs.Sectors.{text_of}
-use Rattle.ng_layout.specs.Stands.{program_size, stretch}
+use Rattle.ng_layout.specs.Areas.{program_size, program_first}
+use Rattle.ng_layout.specs.Stands.{stretch}
 use Rattle.ng_journal.specs.FirstLines.{Tells}
 use Rattle.ng_journal.proofs.lines_before.read_first_kind.Given as goal
 
 abbrev pub invariant-loop-n : goal.invariant-loop-n
 invariant-loop-n g l = record {
-  read : Promises (g.R.Rig.honest l.initial.rig) (g.R.Rig.honest l.rig) ((g.R.Rig.life l.rig ≡ g.R.Rig.life l.initial.rig) × Tells (take (512 * l.n) (text_of l.place (stretch l.first program_size (reads (g.R.Rig.life l.initial.rig))))) l.seen);
+  read : Promises (g.R.Rig.honest l.initial.rig) (g.R.Rig.honest l.rig) ((g.R.Rig.life l.rig ≡ g.R.Rig.life l.initial.rig) × Tells (take (512 * l.n) (text_of l.place (stretch (program_first l.area) (program_size l.area) (reads (g.R.Rig.life l.initial.rig))))) l.seen);
   size : g.R.Rig.sectors l.rig ≡ g.R.Rig.sectors l.initial.rig;
   failures : g.R.Rig.failed l.rig ≡ g.R.Rig.failed l.initial.rig;
 }

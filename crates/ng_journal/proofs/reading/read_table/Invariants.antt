@@ -2,7 +2,8 @@ use Rattle.std.proofs.Common.{◌≡◌, length}
 use Rattle.ng_rig.specs.Life.{reads}
 use Rattle.ng_rig.specs.Calls.{Promises}
 use Rattle.ng_layout.specs.Snapshot.{TableTo}
-use Rattle.ng_layout.specs.Stands.{snapshot_size, stretch}
+use Rattle.ng_layout.specs.Areas.{snapshot_size}
+use Rattle.ng_layout.specs.Stands.{stretch}
 use Rattle.ng_journal.proofs.reading.read_table.Given as goal
 
 abbrev pub invariant-loop-n : goal.invariant-loop-n

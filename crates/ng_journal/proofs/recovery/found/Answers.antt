@@ -1,7 +1,7 @@
 use Rattle.std.proofs.Common.{◌≡◌, ◌∙◌, subst}
 use Rattle.ng_rig.specs.Life.{Life, reads}
 use Rattle.ng_rig.proofs.Promise.{onto, meaning}
-use Rattle.ng_layout.specs.Stands.{snapshot_first}
+use Rattle.ng_layout.specs.Areas.{snapshot_first}
 use Rattle.ng_log.specs.Reading.{IsRunOf}
 use Rattle.ng_journal.specs.Reading.{IsSnapshotOf}
 use Rattle.ng_journal.proofs.Finding.{none_found, damage_found, Snapped, snapped, log_damaged, all_found}

@@ -1,7 +1,7 @@
 use Rattle.std.proofs.Common.{◌≡◌, ◌≤◌, ◌∙◌, arith}
 use Rattle.ng_rig.proofs.Promise.{onto, meaning}
 use Rattle.ng_rig.specs.Life.{reads}
-use Rattle.ng_layout.specs.Log.{log_size_of}
+use Rattle.ng_layout.specs.Areas.{log_size_of}
 use Rattle.ng_layout.specs.Storable.{IsStorable}
 use Rattle.ng_log.specs.declared.scanning.Next.TheVariants.{Damaged, Behind}
 use Rattle.ng_log.specs.AtEnd.{place_of}

@@ -1,7 +1,7 @@
 use Rattle.std.proofs.Common.{◌≡◌, ◌≤◌}
 use Rattle.ng_rig.specs.Calls.{Promises}
 use Rattle.ng_rig.specs.Life.{reads}
-use Rattle.ng_layout.specs.Log.{log_size_of}
+use Rattle.ng_layout.specs.Areas.{log_size_of}
 use Rattle.ng_layout.specs.Storable.{IsStorable}
 use Rattle.ng_log.specs.AtEnd.{no_records, place_of}
 use Rattle.ng_log.specs.Runs.{log_of}

@@ -5,7 +5,7 @@ use Rattle.ng_journal.proofs.journal.Journal.commit.Goals as goal
 
 pub returns-in-Ok-clause-stops : goal.returns-in-Ok-clause-stops
 returns-in-Ok-clause-stops g c =
-    rw (← c.self.view_is) (meaning c.in-Ok.ensures.stops (λ f. λ before rest. moved _ c.in-Ok.tip _ before c.args.stored.now _ _ refl c.take_over.ensures (f before rest.at rest.saved_is)))
+    rw (← c.self.view_is) (meaning c.in-Ok.ensures.stops (λ f. λ before rest. moved _ c.in-Ok.tip _ before c.args.stored.now _ _ refl c.take_changed.ensures (f before rest.at rest.saved_is)))
 
 pub returns-in-Ok-clause-stores : goal.returns-in-Ok-clause-stores
 returns-in-Ok-clause-stores g c = rw (← c.self.view_is) (meaning c.in-Ok.ensures.stores (λ s. stored_as _ c.in-Ok.tip _ c.args.stored.now _ _ s))

@@ -12,5 +12,5 @@ returns-in-Ok-clause-kind g c =
     rw (← c.self.view_is) (meaning c.in-Ok.ensures.read (λ r. λ standing rest. record {
       same = r.same;
       at = record { at = subst (λ (l : Life). IsAtEnd l c.self.inside.tip.header standing c.self.inside.tip.end) (sym r.same) rest.at; saved_is = rest.saved_is };
-      kind = first_in_force _ c.self.inside.tip.header standing c.program_first-start.result c.args.place c.in-Ok.kind rest.at c.program_first-start.ensures.is within r.right;
+      kind = first_in_force _ c.self.inside.tip.header standing c.args.place c.in-Ok.kind rest.at within r.right;
     }))

@@ -10,7 +10,7 @@ pub returns-in-Ok-clause-stops : goal.returns-in-Ok-clause-stops
 returns-in-Ok-clause-stops g c =
     let header = c.self.inside.tip.header in
     let after : Standing = record { saved = c.args.stored.now; program = c.args.text.now } in
-    let next_is = c.next_header-next.ensures ∙ ap (λ (s : Saved). next_header header (1 - header.area) s.length) c.stored.view_is in
+    let next_is = c.next_header-next.ensures ∙ (λ i. next_header header (c.spare_area.ensures i) (c.stored.view_is i).length) in
     rw (← c.self.view_is) (meaning c.in-Ok.ensures.stops (λ f. λ before rest.
     loaded _ _ _ header c.next_header-next.result c.self.inside.tip.end before after _ _ c.beginning-self-inside.ensures next_is c.take_over.ensures rest.at (f (own rest.at))))
 

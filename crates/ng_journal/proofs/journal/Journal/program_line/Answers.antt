@@ -10,5 +10,5 @@ returns-in-Ok-clause-line g c =
     rw (← c.self.view_is) (meaning c.in-Ok.ensures.read (λ r. λ standing rest. record {
       same = r.same;
       at = record { at = subst (λ (l : Life). IsAtEnd l c.self.inside.tip.header standing c.self.inside.tip.end) (sym r.same) rest.at; saved_is = rest.saved_is };
-      line = line_in_force _ c.self.inside.tip.header standing c.program_first-first.result c.args.place c.in-Ok.line rest.at c.program_first-first.ensures.is r.right;
+      line = line_in_force _ c.self.inside.tip.header standing c.args.place c.in-Ok.line rest.at r.right;
     }))

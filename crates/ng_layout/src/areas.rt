@@ -1,0 +1,47 @@
+//! What lies where on a device: two headers, two snapshot areas, two program areas, the log.
+ghost use Rattle.std.specs.Prelude.{◌≡◌, ◌≤◌, ◌+◌};
+ghost use Rattle.ng_layout.specs.Areas.{least_size, snapshot_size, snapshot_first, greatest_area};
+ghost use Rattle.ng_layout.specs.Areas.{program_size, program_first, spare_area};
+
+/// How many sectors a device needs.
+pub const LEAST_SIZE: usize = 1710;
+
+/// How many sectors a snapshot area has: one for the state field, 85 for the parameters.
+pub const SNAPSHOT_SIZE: usize = 86;
+
+/// How many sectors a program area has.
+const PROGRAM_SIZE: usize = 256;
+
+/// The greatest number of a program area.
+pub(crate) const GREATEST_AREA: u64 = 1;
+
+/// The first sector of the log.
+pub const LOG_FIRST: usize = 686;
+
+/// The most sectors of a log.
+pub const LONGEST_LOG: usize = 1024;
+
+/// The first sector of the snapshot area of an epoch (own).
+pub fn snapshot_first(epoch: u64) -> usize
+    ensures is { result ≡ snapshot_first epoch }
+    ensures within { result + snapshot_size ≤ least_size }
+{
+    2 + SNAPSHOT_SIZE * (epoch % 2) as usize
+}
+
+/// The first sector of the program area of this number, 0 or 1 (own).
+pub fn program_first(area: u64) -> usize
+    requires { area ≤ greatest_area }
+    ensures is { result ≡ program_first area }
+    ensures within { result + program_size area ≤ least_size }
+{
+    174 + PROGRAM_SIZE * area as usize
+}
+
+/// The program area that a load writes while this one, 0 or 1, is in force (own).
+pub fn spare_area(area: u64) -> u64
+    requires { area ≤ greatest_area }
+    ensures { result ≡ spare_area area }
+{
+    1 - area
+}
