@@ -148,7 +148,7 @@ for name, byte, kind, limits in read_device.FIELDS + read_device.HALF:
 
 # Limits, and where the areas lie.
 limits = dict(re.findall(r"\n(greatest_\w+|longest_\w+) = ([\d_]+)", (layout / "specs/Limits.antt").read_text()))
-stands = (layout / "specs/Stands.antt").read_text()
+areas = (layout / "specs/Areas.antt").read_text()
 log = (layout / "specs/Log.antt").read_text()
 bound = lambda row: numbers(row[3])[-1]
 for row, name in [(header[2], "greatest_count"), (header[4], "longest_program"), (fields[0], "greatest_count")]:
@@ -162,13 +162,13 @@ for n, least in enumerate((1, 0, 0)):
         given[n] = number
         same(f"header with {header[2 + n][2]} {number}", ("docs", valid), ("script", is_valid(*given)))
 value = lambda name, text: numbers(re.search(rf"\n{name}[^\n=]* = (.*)", text)[1])
-first, step, _ = value("snapshot_first", stands)
-area, size = value("program_first", stands)
-end, count = value("log_first", stands)[0], value("log_size", log)[0]
+first, step, _ = value("snapshot_first", areas)
+area, size = value("program_first", areas)
+end, count = value("log_first", areas)[0], value("log_size", areas)[0]
 same("sectors", ("docs", [numbers(row[0]) for row in rows("What the journal keeps")]),
      ("definition", [[0, 1], [first, first + step - 1, first + step, first + 2 * step - 1],
                      [area, area + size - 1, area + size, area + 2 * size - 1], [end, end + count - 1]]))
-same("least size", ("sectors", end + count), ("definition", value("least_size", stands)[0]), ("script", read_device.SIZE // 512))
+same("least size", ("sectors", end + count), ("definition", value("least_size", areas)[0]), ("script", read_device.SIZE // 512))
 # How many changes a part has room for, and where the first one stands.
 row = rows("Log")[-1]
 most, index, _, _, value_bits = numbers(row[2])

@@ -1,5 +1,5 @@
 -- A load: the program's text written to the area that isn't in force, a sync, a checkpoint whose header names that area.
-use Rattle.std.proofs.Common.{◌≡◌, inl, inr, ⊎_elim, ℕ, ◌+◌, ◌-◌, ◌*◌, ◌<◌, ◌≤◌, List, Result, Ok, Err, length, sym, ◌∙◌, ap, subst, arith}
+use Rattle.std.proofs.Common.{◌≡◌, inl, inr, ⊎_elim, ℕ, ◌+◌, ◌*◌, ◌<◌, ◌≤◌, List, Result, Ok, Err, length, sym, ◌∙◌, ap, subst, arith}
 use Rattle.std.specs.Prelude.{OnOk}
 use Rattle.ng_canon.specs.declared.item.Item.{Item}
 use Rattle.ng_rig.specs.Life.{Image, Life, Synced, reads, items}

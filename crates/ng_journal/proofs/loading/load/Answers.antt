@@ -1,10 +1,10 @@
-use Rattle.std.proofs.Common.{◌≤◌, ◌-◌, length, ◌∙◌, ap, arith}
+use Rattle.std.proofs.Common.{◌≤◌, length, ◌∙◌, ap, arith}
 use Rattle.std.proofs.lemmas.Result.{err_from_is_err_and}
 use Rattle.ng_journal.proofs.Framing.{among_text, load_text, load_sync, load_state, text_stays, state_under}
 use Rattle.ng_layout.specs.Areas.{spare_area}
 use Rattle.ng_layout.specs.Limits.{longest_program}
 use Rattle.ng_layout.specs.declared.header.Header.{Header}
-use Rattle.ng_layout.specs.Stored.{Saved, Standing}
+use Rattle.ng_layout.specs.Stored.{Standing}
 use Rattle.ng_journal.specs.AtRest.{next_header}
 use Rattle.ng_journal.proofs.Overwriting.{own_again, exit_text, exit_sync, loaded_all}
 use Rattle.ng_journal.proofs.loading.load.Goals as goal

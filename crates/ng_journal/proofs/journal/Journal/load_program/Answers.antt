@@ -1,6 +1,6 @@
-use Rattle.std.proofs.Common.{◌-◌, ◌∙◌, ap}
+use Rattle.std.proofs.Common.{◌∙◌}
 use Rattle.ng_rig.proofs.Promise.{meaning}
-use Rattle.ng_layout.specs.Stored.{Saved, Standing}
+use Rattle.ng_layout.specs.Stored.{Standing}
 use Rattle.ng_journal.specs.AtRest.{next_header}
 use Rattle.ng_journal.proofs.Moving.{loaded, not_loaded}
 use Rattle.ng_journal.proofs.Recording.{own}
