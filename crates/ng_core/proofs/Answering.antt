@@ -1,5 +1,5 @@
 -- The other events, by what their calls promise.
-use Rattle.std.proofs.Common.{◌≡◌, ◌⊎◌, ◌↔◌, inl, inr, ℕ, ◌<◌, ◌≤◌, List, length, Option, Some, None, Result, Ok, Err, refl, sym, ◌∙◌, ap, subst, arith}
+use Rattle.std.proofs.Common.{◌≡◌, ◌⊎◌, ◌↔◌, inl, inr, ℕ, ◌<◌, ◌≤◌, List, length, Option, None, Result, Ok, Err, refl, sym, ◌∙◌, ap, subst, arith}
 use Rattle.std.specs.Prelude.{IsErrOf}
 use Rattle.ng_num.specs.declared.fault.Fault.{Fault}
 use Rattle.ng_num.specs.declared.fault.Fault.TheVariants.{DeviceFailed, CountersUsed, ProgramTooLong}
@@ -10,13 +10,13 @@ use Rattle.ng_layout.specs.Stored.{Saved, Standing}
 use Rattle.ng_journal.specs.Journal.{Logbook, RestsAt, Moves}
 use Rattle.ng_session.specs.Entries.{after_load}
 use Rattle.ng_session.specs.LinesBefore.{IsTrueOf}
-use Rattle.ng_session.specs.Session.{refuses, load, load_unless, load_refusal, loaded, step, IsQuiet}
+use Rattle.ng_session.specs.Session.{load, load_unless, load_refusal, loaded, step, IsQuiet}
 use Rattle.ng_session.specs.declared.event.Event.{Event}
 use Rattle.ng_session.specs.declared.reply.Reply.{Reply}
 use Rattle.ng_session.specs.declared.reply.Reply.TheVariants as reply
 use Rattle.ng_core.specs.Model.{ControllerModel, standing_of_session}
 use Rattle.ng_core.specs.Events.{IsCarriedOutIfHonest, TouchesNothing}
-use Rattle.ng_core.proofs.Quiet.{still, still_step}
+use Rattle.ng_core.proofs.Quiet.{still_step}
 use Rattle.ng_core.proofs.Doing.{does_still, does_moved, does_unmoved, Storing}
 use Rattle.ng_core.proofs.Ticks.{does_on}
 

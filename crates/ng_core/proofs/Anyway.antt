@@ -4,17 +4,17 @@ use Rattle.std.specs.Prelude.{IfErr}
 use Rattle.ng_num.specs.declared.fault.Fault.{Fault}
 use Rattle.ng_num.specs.declared.fault.Fault.TheVariants.{DeviceFailed, CountersUsed}
 use Rattle.ng_canon.specs.declared.item.Item.{Item}
-use Rattle.ng_layout.specs.Stored.{HalfDone, Saved}
+use Rattle.ng_layout.specs.Stored.{Saved}
 use Rattle.ng_journal.specs.Journal.{Logbook}
 use Rattle.ng_journal.specs.Storing.{ledger_of}
 use Rattle.ng_session.specs.Entries.{after_load}
-use Rattle.ng_session.specs.Session.{Underway, Sitting, Outcome, IsBetweenLines, answers, refuses, tick, open_next, end, item_of, handed, opening_of, is_running, rest, committed, load, load_unless, load_refusal, loaded, shown}
+use Rattle.ng_session.specs.Session.{Underway, Sitting, Outcome, answers, tick, end, item_of, handed, is_running, rest, committed, load, load_unless, load_refusal, loaded, shown}
 use Rattle.ng_session.specs.declared.reply.Reply.{Reply}
 use Rattle.ng_session.specs.declared.reply.Reply.TheVariants as reply
 use Rattle.ng_core.specs.Model.{ControllerModel}
 use Rattle.ng_core.specs.Events.{IsAnsweredAnyway, KeepsSession, handing}
 use Rattle.ng_core.proofs.Choosing.{with_session}
-use Rattle.ng_core.proofs.Ticks.{IsDue, opening, tick_held, tick_item, tick_none, rests_there}
+use Rattle.ng_core.proofs.Ticks.{IsDue, tick_held, tick_item, rests_there}
 
 -- nothing was asked of the device, or it failed
 pub stays_same : {R : Type 0} (reads : Type 0) (fault : Fault) (old new : ControllerModel R) → new.session ≡ old.session → (fault ≢ DeviceFailed → new.journal ≡ old.journal) → KeepsSession reads fault old new

@@ -10,11 +10,10 @@ use Rattle.ng_rig.specs.Life.{Life}
 use Rattle.ng_journal.specs.Journal.{Logbook, Tells, IsBrokenBy}
 use Rattle.ng_journal.specs.Storing.{Ledger, ledger_of}
 use Rattle.ng_session.specs.Session.{Underway, Sitting, Outcome, IsBetweenLines, is_busy, is_running, refuses, tick, open_next, item_of, handed, opening_of, shown}
-use Rattle.ng_session.specs.declared.event.Event.{Event}
 use Rattle.ng_session.specs.declared.reply.Reply.{Reply}
 use Rattle.ng_session.specs.declared.reply.Reply.TheVariants as reply
 use Rattle.ng_core.specs.Model.{ControllerModel}
-use Rattle.ng_core.specs.Events.{CarriesOut, CarriesOutEvent, IsCarriedOutIfHonest, handing}
+use Rattle.ng_core.specs.Events.{CarriesOut, IsCarriedOutIfHonest, handing}
 use Rattle.ng_core.specs.Causes.{UsesUpCounter, IsHinderedBy}
 use Rattle.ng_core.proofs.Anyway.{stays_same, unless_lost, comes_by, comes_to, comes_held, comes_item}
 use Rattle.ng_core.proofs.Choosing.{with_session, does_item}

@@ -11,13 +11,13 @@ use Rattle.ng_rig.proofs.Promise.{meaning}
 use Rattle.ng_layout.specs.Programs.{line_at}
 use Rattle.ng_layout.specs.Stored.{HalfDone}
 use Rattle.ng_session.specs.Entries.{Equipment}
-use Rattle.ng_session.specs.Session.{Underway, Sitting, Outcome, tick, open_next, end, begin, item_of, handed, opening_of, opening_on, segment_open, is_running}
+use Rattle.ng_session.specs.Session.{Underway, Sitting, Outcome, tick, end, begin, item_of, handed, opening_of, opening_on, segment_open, is_running}
 use Rattle.ng_session.specs.declared.reply.Reply.{Reply}
 use Rattle.ng_session.specs.declared.stage.Stage.{Stage}
 use Rattle.ng_session.specs.declared.stage.Stage.TheVariants as stage
 use Rattle.ng_core.specs.Model.{ControllerModel}
 use Rattle.ng_core.specs.Events.{IsCarriedOut, IsCarriedOutIfHonest, handing}
-use Rattle.ng_core.proofs.Ticks.{does_on, tick_item, tick_none, opening}
+use Rattle.ng_core.proofs.Ticks.{does_on, tick_item}
 
 -- the same controller with this session
 abbrev pub with_session : {R : Type 0} → ControllerModel R → Sitting → ControllerModel R

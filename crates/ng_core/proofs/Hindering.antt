@@ -5,7 +5,7 @@ use Rattle.std.specs.Prelude.{IsErrOf}
 use Rattle.ng_num.specs.declared.fault.Fault.{Fault}
 use Rattle.ng_num.specs.declared.fault.Fault.TheVariants as fault
 use Rattle.ng_num.specs.declared.fault.Fault.TheVariants.{DeviceFailed, CountersUsed, OutOfMemory}
-use Rattle.ng_layout.specs.Programs.{Line, line_at}
+use Rattle.ng_layout.specs.Programs.{Line}
 use Rattle.ng_layout.specs.Stored.{HalfDone, Saved}
 use Rattle.ng_layout.specs.declared.half.Source.TheVariants as source
 use Rattle.ng_layout.specs.declared.half.Opened.{Opened}
@@ -14,12 +14,11 @@ use Rattle.ng_block.specs.Effects.{Done}
 use Rattle.ng_journal.specs.Storing.{Ledger, Storing, Commit, Open, Load, UsesUp}
 use Rattle.ng_num.specs.declared.point.Point.{Point}
 use Rattle.ng_session.specs.Entries.{Equipment, done_of, done_again, after_load, after_reference, after_abandon}
-use Rattle.ng_session.specs.Session.{Underway, Sitting, Outcome, open_next, end, begin, begin_by, load, load_unless, load_refusal, reference, reference_unless, reference_refusal, abandon, abandon_unless, abandon_refusal, refuses, resume, resume_half, resume_from, resume_by, is_at_rest, opening_of, opening_reply, entry_on, committed, is_running, is_busy, IsBetweenLines}
+use Rattle.ng_session.specs.Session.{Underway, Sitting, Outcome, end, begin, begin_by, load, load_unless, load_refusal, reference, reference_unless, reference_refusal, abandon, abandon_unless, abandon_refusal, refuses, resume, resume_half, resume_from, resume_by, is_at_rest, opening_of, opening_reply, entry_on, committed}
 use Rattle.ng_session.specs.declared.stage.Stage.{Stage}
 use Rattle.ng_session.specs.declared.stage.Stage.TheVariants as stage
 use Rattle.ng_core.specs.Causes.{UsesUpCounter, IsHinderedBy, stored_for, with_entry}
 use Rattle.ng_core.proofs.Ticks.{IsDue, opening}
-use Rattle.ng_core.proofs.Choosing.{begins_there}
 
 -- what hinders the one hinders the other
 pub hindered_as : {m n d e : Type 0} (ledger : Ledger) (told wanted : List ℕ → Outcome) → (m → n) → (d → e) → ((program : List ℕ) → told program ≡ wanted program)

@@ -1,10 +1,9 @@
 -- What came since power on, and what comes after it.
-use Rattle.std.proofs.Common.{◌≡◌, ℕ, Bool, true, false, List, [], ◌∷◌, ◌++◌, Result, Ok, Err, refl, sym, ◌∙◌, ap, subst}
+use Rattle.std.proofs.Common.{◌≡◌, ℕ, false, List, ◌++◌, Result, Ok, Err, refl, sym, ◌∙◌, ap, subst}
 use Rattle.std.specs.Prelude.{IfOk}
 use Rattle.ng_num.specs.declared.fault.Fault.{Fault}
 use Rattle.ng_rig.specs.Calls.{Promises}
 use Rattle.ng_rig.specs.Life.{Life, reads}
-use Rattle.ng_rig.proofs.Promise.{meaning}
 use Rattle.ng_layout.specs.Stands.{stands}
 use Rattle.ng_layout.specs.Stored.{Standing}
 use Rattle.ng_journal.specs.Recovery.{recovered_of}

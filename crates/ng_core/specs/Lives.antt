@@ -87,9 +87,9 @@ pub record LeavesSession (equipment : Equipment) (image : Image) (before : List 
   pub handed_is : handed ≡ before ++ items
   pub session : IsSession equipment image (record { lines = lines; acknowledged = acknowledged; image = left; items = items })
 
--- Whatever power on answers: each stop since it began is one that the device could have had then, and so one of an earlier session; or it
--- leaves a session from what the device read then, with nothing given and nothing acknowledged. Where the device was synced then, as after
--- a cut, each leaves such a session.
+-- Whatever power on answers: each stop since it began is one that the device could have had then, left by what came before; or it leaves a
+-- session from what the device read then, with nothing given and nothing acknowledged. Where the device was synced then, as after a cut,
+-- each leaves such a session.
 abbrev pub SessionsWithinPowerOn : {R : Type 0} → (R → Life) → Type 0
 SessionsWithinPowerOn {R} life = (equipment : Equipment) (x : Standing) (result : PowerOnResult R) (old new : Life) → PowersOnIfHonest result old new → stands (reads old) ≡ Ok x → IsWritten (reads old) →
     AtEachStop old new (λ t image handed. IsStop old image handed ⊎ LeavesSession equipment (reads old) (items old) [] [] image handed)
