@@ -1,0 +1,116 @@
+//! A controller, and the history of what it was given.
+ghost use Rattle.std.specs.Prelude.{◌≡◌, ◌<◌, ◌+◌, ◌++◌, [], ◌∷◌, Some, length, IfOk, IfErr, OnOk};
+ghost use Rattle.ng_num.specs.declared.fault.Fault.TheVariants.{OutOfMemory};
+ghost use Rattle.ng_desk.specs.Calls.{NumberedFrom};
+ghost use Rattle.ng_core.specs.Turns.{IsTurn};
+ghost use Rattle.ng_desk.specs.Running.{RunsFrom};
+
+use crate::call::{Call, copied};
+use crate::origin::Origin;
+use ng_core::{Controller, Event};
+use ng_num::Fault;
+use ng_rig::Rig;
+use std::alloc::Allocator;
+use std::marker::Model;
+use std::sync::ledger;
+use std::sync::ledger::Share;
+
+/// A controller and the history of all that it was given (own). Contracts see a `Booked`. Replies and controller are always what `run`
+/// promises of the history's events, from the controller that the book was made of.
+pub struct Book<R: Rig, A: Allocator + Copy + Drop, O: Origin<R>> {
+    alloc: A,
+    controller: Controller<R, A>,
+    history: Vec<Call<A>, A>,
+    /// Counts the calls of all shares.
+    calls: ledger::Book<O>,
+    /// Of no part, and of no call.
+    spare: Share<O>,
+}
+
+impl<R: Rig, A: Allocator + Copy + Drop, O: Origin<R>> Model for Book<R, A, O> {
+    ghost use Rattle.std.specs.Prelude.{◌≡◌, length};
+    ghost use Rattle.ng_desk.specs.Calls.{NumberedFrom};
+    ghost use Rattle.ng_desk.specs.Running.{Booked, RunsFrom};
+
+    ghost Value = { Booked R A };
+
+    ghost view = { λ b. record { controller = b.controller; history = b.history.items } };
+
+    ghost invariant = { λ b. (length b.history.items ≡ b.calls.total) × (b.spare.parts ≡ 0) × NumberedFrom 0 b.history.items × RunsFrom R.honest R.life R.failed R.sectors O.start b.history.items b.controller };
+}
+
+impl<R: Rig, A: Allocator + Copy + Drop, O: Origin<R>> Book<R, A, O> {
+    /// An empty history at the controller where it starts, and a ledger of no call. It takes no memory.
+    pub fn new(
+        alloc: A,
+        controller: Controller<R, A>,
+        calls: ledger::Book<O>,
+        share: &mut Share<O>,
+    ) -> Book<R, A, O>
+        requires start { O.start ≡ Some controller }
+        requires none { calls.total ≡ 0 }
+        ensures book { result ≡ record { controller = controller; history = [] } }
+        ensures share { share.new ≡ share.old }
+    {
+        Book {
+            alloc,
+            controller,
+            history: Vec::new(alloc),
+            calls,
+            spare: share.empty(),
+        }
+    }
+
+    /// Gives an event to the controller, and appends a call: the event, what was answered, and how many there were before as its number
+    /// (own). It answers a copy of that call, and the share counts it.
+    ///
+    /// M1 where memory is wanting, for the history or for a copy of the event's text: the event isn't given then, and nothing is changed.
+    /// Every other refusal is the call's reply.
+    pub fn give(&mut self, event: &Event<A>, mine: &mut Share<O>) -> Result<Call<A>, Fault>
+        requires { 0 < mine.old.parts }
+        ensures call { IfOk result (λ call. (call.number ≡ length self.old.history) × (call.event ≡ event.now)) }
+        ensures history { IfOk result (λ call. self.new.history ≡ self.old.history ++ call ∷ []) }
+        ensures turn { IfOk result (λ call. IsTurn R.honest R.life R.failed R.sectors event.now call.reply self.old.controller self.new.controller) }
+        ensures size { R.sectors self.new.controller.journal.rig ≡ R.sectors self.old.controller.journal.rig }
+        ensures counted { OnOk result (mine.new.amount ≡ mine.old.amount + 1) }
+        ensures parts { mine.new.parts ≡ mine.old.parts }
+        ensures memory { IfErr result (λ fault. (fault ≡ OutOfMemory) × (self.new ≡ self.old) × (mine.new.amount ≡ mine.old.amount)) }
+    {
+        self.history.reserve(1)?;
+        let kept = copied(self.alloc, event)?;
+        let told = copied(self.alloc, event)?;
+        let given = copied(self.alloc, event)?;
+        let number = self.history.len() as u64;
+        let reply = self.controller.on(given);
+        self.calls.add(mine, 1);
+        self.history.push_reserved(Call::of(number, kept, &reply));
+        Ok(Call::of(number, told, &reply))
+    }
+
+    /// A share of no part and of no call.
+    pub(crate) fn no_share(&mut self) -> Share<O>
+        ensures none { (result.parts ≡ 0) × (result.amount ≡ 0) }
+        ensures same { self.new ≡ self.old }
+    {
+        self.spare.empty()
+    }
+
+    /// The controller and the history, which is as long as what all shares together have counted.
+    pub(crate) fn close(self, all: Share<O>) -> (Controller<R, A>, Vec<Call<A>, A>)
+        requires { all.parts ≡ O.parts }
+        ensures runs { RunsFrom R.honest R.life R.failed R.sectors O.start result.1.items result.0 }
+        ensures numbered { NumberedFrom 0 result.1.items }
+        ensures counted { length result.1.items ≡ all.amount }
+    {
+        let mut all = all;
+        let Book {
+            alloc: _,
+            controller,
+            history,
+            mut calls,
+            spare: _,
+        } = self;
+        calls.audit(&mut all);
+        (controller, history)
+    }
+}
