@@ -5,8 +5,9 @@ usage, at the top of the repository: bench/cut.py [JOBS [SEED]] [--ngc PATH] [--
 
 Each job (100 where JOBS isn't given; made by jobs.py, by chance from SEED) is run to its end once, a tick and a status at a time: that
 gives the segments of each block with their lines of OUT, and the status after each entry. Then it is run again over another device, and
-its process is ended at a moment taken by chance, up to N times (4) over the job: right before its n-th write to the device, its n-th sync, or its n-th line of
-OUT, by strace, and now and then, or where strace isn't there, by the clock. Each time the device is read by examples/read_device.py, and
+its process is ended: first within a `load`, then within power on, right before one of the writes or syncs of that; and then at a moment taken
+by chance, up to N times (4) over the job: right before its n-th write to the device, its n-th sync, or its n-th line of OUT, by strace, and now and
+then, or where strace isn't there, by the clock: then none is surely within a `load`. Each time the device is read by examples/read_device.py, and
 `ngc run` is started again with a new OUT, asked for its status, told where the machine stands (by the pulses of all OUTs; now and then the
 axes were moved by hand besides), and goes on: `resume` where a block is half done, then the rest of the job.
 
@@ -26,17 +27,19 @@ import read_device
 
 STATUS = re.compile(r"status entries (\d+) place (\d+) at (\S+ \S+ \S+) (known|unknown) half (none|\S+ \d+) (\w+)\n")
 OFF = "S 0 0.000000 0 0 0 0\n"
+# The first sector of the log, as docs/DEVICE.md has it.
+LOG = 686
 
 # An entry of the job: "load", "mdi" or "line" of a program, its text (none of a line), its segments as lines of OUT, and after it
-# the place, the point and what the controller does.
-Step = collections.namedtuple("Step", "kind text segments place point activity")
+# the place, the point and what the controller does; and the parts of its record, none of a load.
+Step = collections.namedtuple("Step", "kind text segments place point activity parts")
 # What a device stands for: the entries, the number of steps that are done, the segment of a half-done block, where the machine
 # stands if that is told of it, in steps; the records of its log; and what that is called in the table of cuts.
 State = collections.namedtuple("State", "entries done half at records kind")
 NOTHING, SEGMENT, TOLD, APPROACH, APPROACHED = (
     "nothing half done", "a segment open", "a reference told", "an approach open", "an approach done")
-POWER_ON, MORE, LATE, TORN = "in power on", "one entry more than told done", "after the job's end", "a part of a record"
-# The seconds of power on, and of a call that works() counts.
+POWER_ON, LOAD, MORE, LATE, TORN = "in power on", "in a load", "one entry more than told done", "after the job's end", "a part of a record"
+# The seconds of power on, and of a write, a sync or a line of OUT.
 Pace = collections.namedtuple("Pace", "power_on call")
 # What a session that is cut by its calls counts: writes to the device, syncs, or lines of OUT; and how many of them power on makes.
 CALLS = (("write", 87), ("fsync", 3), ("line", 0))
@@ -150,7 +153,13 @@ def load(text):
 def whole_run(mill, does):
     """The steps of a job, by a run to its end, a tick at a time."""
     child, steps, segments, handed = mill.start(), [], [], 0
-    half = "none"
+    half, end = "none", LOG
+
+    def parts():
+        """How many sectors of the log the last entry's record has, where each of its segments has one."""
+        nonlocal end
+        before, end = end + len(segments), mill.stands().end
+        return end - before
 
     def tick():
         """A tick: what it answered, and the status after it. What it handed out comes after what its segment has."""
@@ -169,13 +178,15 @@ def whole_run(mill, does):
         if kind == "load":
             told = asked(child, load(text))
             _, place, point, _, _, activity = STATUS.fullmatch(told[-1]).groups()
-            steps.append(Step("load", text, [], int(place), point, activity))
+            steps.append(Step("load", text, [], int(place), point, activity, 0))
+            # it leaves an empty log
+            end = LOG
         elif kind == "mdi":
             asked(child, f"mdi {text}\n".encode())
             first = ""
             while not first.startswith("done"):
                 first, after = tick()
-            steps.append(Step("mdi", text, segments, *after))
+            steps.append(Step("mdi", text, segments, *after, parts()))
             segments = []
         else:
             asked(child, b"continue\n" if steps and steps[-1].activity == "stopped" else b"start\n")
@@ -184,7 +195,7 @@ def whole_run(mill, does):
                 first, after = tick()
                 activity = after[2]
                 if first.startswith("done"):
-                    steps.append(Step("line", None, segments, *after))
+                    steps.append(Step("line", None, segments, *after, parts()))
                     segments = []
     child.stdin.close()
     if child.wait() != 0:
@@ -215,11 +226,13 @@ def status_of(steps, state):
 
 
 class Session:
-    """What a session does from a state to the job's end: its commands, and the state at each moment with the number of lines handed out."""
+    """What a session does from a state to the job's end: its commands, the state at each moment with the number of lines handed out, the calls by
+    their kind, and of each load the entries, the calls before it and its own."""
 
     def __init__(self, steps, state, reference):
         # power on leaves an empty log
         self.steps, self.lines, self.moments, self.commands = steps, [], [(state._replace(records=0), 0)], []
+        self.calls, self.loads = [first for _, first in CALLS], []
         going = stopped = False
         first = state.done
         if state.half is not None:
@@ -236,6 +249,8 @@ class Session:
                 going, stopped = step.activity == "running", step.activity == "stopped"
             if step.kind == "load":
                 # which writes the device anew as a whole
+                self.loads.append((self.state().entries, tuple(self.calls), calls_of_load(step)))
+                self.calls = [before + own for before, own in zip(self.calls, calls_of_load(step))]
                 self.comes(entries=self.state().entries + 1, done=self.state().done + 1, half=None, at=None, records=0, kind=NOTHING)
             else:
                 self.work(0)
@@ -246,12 +261,15 @@ class Session:
     def comes(self, **changes):
         self.moments.append((self.state()._replace(**changes), len(self.lines)))
 
-    def records(self, **changes):
-        """A record more."""
+    def records(self, parts=1, **changes):
+        """A record more, of so many parts."""
+        self.calls[0] += parts
+        self.calls[1] += 1
         self.comes(records=self.state().records + 1, **changes)
 
     def hands_out(self, lines):
         for line in lines:
+            self.calls[2] += 1
             self.lines.append(line)
             self.comes()
 
@@ -260,7 +278,8 @@ class Session:
         for n, segment in enumerate(self.steps[self.state().done].segments[first:], first):
             self.records(half=n, at=None, kind=SEGMENT)
             self.hands_out(segment)
-        self.records(entries=self.state().entries + 1, done=self.state().done + 1, half=None, at=None, kind=NOTHING)
+        parts = self.steps[self.state().done].parts
+        self.records(parts, entries=self.state().entries + 1, done=self.state().done + 1, half=None, at=None, kind=NOTHING)
 
     def go_on(self, state, reference):
         """A reference if one is told, the approach, and the rest of the block. Whether the program then goes, and whether it waits."""
@@ -314,21 +333,28 @@ class Cutting:
         takes the record of a reference, two of its own, and then that of the segment."""
         return self.chance.uniform(0, min(4, calls) if state.half is not None and self.chance.random() < 2 / 3 else calls)
 
-    def cut(self, state, pace):
-        """How a session is cut, one in ten times in power on: before a call with its number, or after so many seconds in power on or of the work."""
-        rest, early = self.steps[state.done:], self.chance.random() < 0.1
-        if self.chance.random() < 0.2 or not can_trace():
-            return None, 0, self.chance.uniform(0, pace.power_on) if early else None, pace.call * self.moment(state, sum(works(rest)))
-        kind = self.chance.randrange(2 if early else 3)
+    def cut(self, state, session, pace, within):
+        """How a session is cut, within power on or a load if that is named, else one in ten times in power on: before a call with its number, or after so
+        many seconds in power on or of the work; and the entries before the load that it is in, if it is to be in one."""
+        early = within == POWER_ON or within is None and self.chance.random() < 0.1
+        if not can_trace() or within is None and self.chance.random() < 0.2:
+            most = sum(session.calls) - sum(first for _, first in CALLS)
+            return None, 0, self.chance.uniform(0, pace.power_on) if early else None, pace.call * self.moment(state, most), None
+        kind = self.chance.randrange(2 if early or within else 3)
         call, first = CALLS[kind]
-        number = self.chance.uniform(1, first + 1) if early else first + 1 + self.moment(state, works(rest)[kind] + 1)
-        return call, int(number), None, None
+        if early:
+            return call, self.chance.randint(1, first), None, None, None
+        if within == LOAD and session.loads:
+            entries, before, own = self.chance.choice(session.loads)
+            return call, before[kind] + self.chance.randint(1, own[kind]), None, None, entries
+        return call, int(first + 1 + self.moment(state, session.calls[kind] - first + 1)), None, None, None
 
-    def session(self, pace=None):
-        """A session, cut somewhere if a pace is given. Whether it came to the job's end."""
+    def session(self, pace=None, within=None):
+        """A session, cut somewhere if a pace is given: within power on or a load, if that is named. Whether it came to the job's end."""
         device = self.mill.stands()
         state = self.found(device, shown(device))
-        call, number, in_power_on, later = self.cut(state, pace) if pace else (None, 0, None, None)
+        session = Session(self.steps, state, self.reference(state))
+        call, number, in_power_on, later, in_load = self.cut(state, session, pace, within) if pace else (None, 0, None, None, None)
         child = self.mill.start(call, number)
         timer = None if in_power_on is None else threading.Timer(in_power_on, child.kill)
         if timer:
@@ -342,7 +368,7 @@ class Cutting:
                 if later is not None and not timer:
                     timer = threading.Timer(later, child.kill)
                     begins = timer.start
-                self.goes_on(child, state, begins)
+                self.goes_on(child, state, session, begins)
             elif child.wait() != -9 or self.mill.handed_out():
                 raise Wrong(f"power on ended with status {child.returncode} and handed out {self.mill.handed_out()}")
             else:
@@ -355,7 +381,17 @@ class Cutting:
             child.stdout.close()
             with contextlib.suppress(BrokenPipeError):
                 child.stdin.close()
+        self.was_within(within, in_load, status)
         return child.returncode == 0
+
+    def was_within(self, within, in_load, status):
+        """The cut was where it was to be: in power on before it answered, or in a load after the entries before it were told done."""
+        if within == POWER_ON and can_trace() and status:
+            raise Wrong(f"a cut in power on came after it: {status!r}")
+        if in_load is not None:
+            if (self.told, self.was_cut) != (in_load, True):
+                raise Wrong(f"a cut in a load after {in_load} entries came after {self.told} told done")
+            self.counts[LOAD] += 1
 
     def powered_on(self, before, status):
         """Power on shows what stood, and has written it under the next epoch."""
@@ -375,9 +411,8 @@ class Cutting:
         self.moments = [(state._replace(records=device.records), lines) for state, lines in self.moments if state.records == before.records]
         self.counts[POWER_ON] += 1
 
-    def goes_on(self, child, state, begins):
+    def goes_on(self, child, state, session, begins):
         """Gives all commands up to the job's end, and looks at what was told and handed out until the session ended."""
-        session = Session(self.steps, state, self.reference(state))
         begins()
         written(child, b"".join(session.commands), last=True)
         text = child.stdout.read().decode()
@@ -396,13 +431,9 @@ class Cutting:
         self.moments = session.moments if self.was_cut else session.moments[-1:]
 
 
-def works(steps):
-    """How many writes to the device, syncs and lines of OUT these steps take, about: a record of one part for each segment that is opened and
-    for each entry but a load, which writes its text and the device anew as a whole."""
-    loads = [step for step in steps if step.kind == "load"]
-    records = sum(1 + len(step.segments) for step in steps) - len(loads)
-    writes = records + sum(87 + (len(step.text) + 511) // 512 for step in loads)
-    return writes, records + 3 * len(loads), sum(len(segment) for step in steps for segment in step.segments)
+def calls_of_load(step):
+    """How many writes to the device, syncs and lines of OUT a load makes: it writes its text, and the device anew as a whole."""
+    return 87 + (len(step.text.encode()) + 511) // 512, 3, 0
 
 
 def traced(call, path, number, words):
@@ -450,10 +481,11 @@ def try_job(ngc, folder, chance, counts, cuts):
     took = time.monotonic() - began
     wanted = left(whole)
     power_on = time.monotonic() - began - took
-    pace = Pace(power_on, max(0.0, took - power_on) / sum(works(steps)))
+    calls = Session(steps, State(0, 0, None, None, 0, NOTHING), None).calls
+    pace = Pace(power_on, max(0.0, took - power_on) / (sum(calls) - sum(first for _, first in CALLS)))
     cutting = Cutting(third, steps, chance, counts)
-    for _ in range(chance.randint(1, cuts)):
-        if cutting.session(pace):
+    for within in (LOAD, POWER_ON, *[None] * chance.randint(1, cuts)):
+        if cutting.session(pace, within):
             counts[LATE] += 1
             break
     if not cutting.session():
@@ -489,7 +521,7 @@ def main():
         lines += handed
     kinds = (NOTHING, SEGMENT, TOLD, APPROACH, APPROACHED)
     print(f"{given.jobs} jobs of {segments} segments and {lines} lines of OUT, {counts[LATE]} of them to their end before the next cut")
-    print(f"cut {sum(counts[kind] for kind in (*kinds, POWER_ON))} times: {counts[POWER_ON]} in power on, after which stood what had stood before;")
+    print(f"cut {sum(counts[kind] for kind in (*kinds, POWER_ON))} times: {counts[POWER_ON]} in power on, after which stood what had stood before; {counts[LOAD]} in a load;")
     print("then stood " + ", ".join(f"{kind} {counts[kind]}" for kind in kinds))
     print(f"{counts[MORE]} times {MORE}, {counts[TORN]} times {TORN}, which counted for nothing")
 

@@ -51,10 +51,19 @@ def wide(kind, byte):
     return [(byte, 8, True)] if kind == "i64" else [(byte, sizes[kind], False)]
 
 
+def plain(path):
+    """The text of a file, with numbers in the place of the names that it, the places of a state field, or the limits give them."""
+    text = (layout / path).read_text()
+    known = re.findall(r"const (\w+): \w+ = ([\d_]+);", (layout / "src/field_places.rt").read_text() + text)
+    known += re.findall(r"\n(\w+) = ([\d_]+)\n", (layout / "specs/Limits.antt").read_text())
+    known = {name: number.replace("_", "") for name, number in known}
+    return re.sub(r"(?:field_places::)?\b(\w+)\b", lambda word: known.get(word[1], word[0]), text)
+
+
 def defined(path):
     """The places that a file of definitions names."""
     found = []
-    for word, first, second in re.findall(r"(number_at|signed_at|triple_at|bytes_at) (\d+) (\d+)?", (layout / path).read_text()):
+    for word, first, second in re.findall(r"(number_at|signed_at|triple_at|bytes_at) (\d+) (\d+)?", plain(path)):
         if word in ("number_at", "bytes_at"):
             found += [(int(second), int(first), False)] if second else []
         else:
@@ -64,7 +73,7 @@ def defined(path):
 
 def coded(path, verb):
     """The places that the code gets or puts."""
-    calls = re.findall(rf"{verb}_(\w+)\((?:&mut )?\w+, (\d+)", (layout / path).read_text())
+    calls = re.findall(rf"{verb}_(\w+)\((?:&mut )?\w+, (\d+)", plain(path))
     return sorted(set(place for kind, byte in calls for place in wide(kind, int(byte))))
 
 
@@ -113,17 +122,17 @@ NAMES = {
     112: ("r", "kept R, Z, P, Q"), 144: ("motion", "motion mode"), 145: ("plane", "plane"), 146: ("distance", "distance mode"),
     147: ("feed_mode", "feed mode"), 148: ("unit", "unit"), 149: ("retract", "retract mode"), 150: ("system", "coordinate system"),
     151: ("path", "path mode"), 152: ("spindle", "spindle"), 153: ("mist", "mist"), 154: ("flood", "flood"), 155: ("overrides", "overrides allowed"),
-    156: ("place_known", "machine point"), 157: ("kept", "which of R, Z, P, Q are kept"), 158: ("selected_slot", "selected slot"),
+    156: ("point_known", "machine point"), 157: ("kept", "which of R, Z, P, Q are kept"), 158: ("selected_slot", "selected slot"),
     160: ("spindle_slot", "slot in the spindle"), 162: ("source", "half-done block"), 163: ("opened", "what of it is open"),
     164: ("at_known", "point"), 166: ("length", "bytes of the text"), 168: ("index", "segment"), 176: ("at", "where the machine stands"),
     200: ("text", "text")}
 defined_names = {}
-for name, first, second in re.findall(r"(\w+) = \w+_at (\d+) ?(\d*)", (layout / "specs/StateField.antt").read_text()):
+for name, first, second in re.findall(r"(\w+) = \w+_at (\d+) ?(\d*)", plain("specs/StateField.antt")):
     defined_names[int(second or first)] = name
 defined_names = {byte: defined_names[byte] for byte in sorted(defined_names) if byte not in (120, 128, 136)}
 same("names", ("this script", {byte: names[0] for byte, names in NAMES.items()}), ("definition", defined_names))
 same("kept words", ("this script", ["z", "p", "q"]),
-     ("definition", re.findall(r"(\w) = signed_at 1(?:20|28|36) ", (layout / "specs/StateField.antt").read_text())))
+     ("definition", re.findall(r"(\w) = signed_at 1(?:20|28|36) ", plain("specs/StateField.antt"))))
 words = {numbers(row[0])[0]: row[2] for row in fields}
 script_words = {byte: word for word, byte, _, _ in read_device.FIELDS + read_device.HALF}
 for byte, (_, word) in NAMES.items():
@@ -149,7 +158,7 @@ for name, byte, kind, limits in read_device.FIELDS + read_device.HALF:
 # Limits, and where the areas lie.
 limits = dict(re.findall(r"\n(greatest_\w+|longest_\w+) = ([\d_]+)", (layout / "specs/Limits.antt").read_text()))
 areas = (layout / "specs/Areas.antt").read_text()
-log = (layout / "specs/Log.antt").read_text()
+log = plain("specs/Log.antt")
 bound = lambda row: numbers(row[3])[-1]
 for row, name in [(header[2], "greatest_count"), (header[4], "longest_program"), (fields[0], "greatest_count")]:
     same(row[2], ("docs", bound(row)), ("definition", numbers(limits[name])[0]))
@@ -161,14 +170,14 @@ for n, least in enumerate((1, 0, 0)):
     for number, valid in ((least, True), (bounds[n], True), (bounds[n] + 1, False)) + (((0, False),) if least else ()):
         given[n] = number
         same(f"header with {header[2 + n][2]} {number}", ("docs", valid), ("script", is_valid(*given)))
-value = lambda name, text: numbers(re.search(rf"\n{name}[^\n=]* = (.*)", text)[1])
-first, step, _ = value("snapshot_first", areas)
-area, size = value("program_first", areas)
-end, count = value("log_first", areas)[0], value("log_size", areas)[0]
+value = lambda name: numbers(re.search(rf"\n{name}[^\n=]* = (.*)", areas)[1])[0]
+first, step = value("header_count"), value("snapshot_size")
+area, size = value("program_first"), value("program_size")
+end, count = value("log_first"), value("log_size")
 same("sectors", ("docs", [numbers(row[0]) for row in rows("What the journal keeps")]),
      ("definition", [[0, 1], [first, first + step - 1, first + step, first + 2 * step - 1],
                      [area, area + size - 1, area + size, area + 2 * size - 1], [end, end + count - 1]]))
-same("least size", ("sectors", end + count), ("definition", value("least_size", areas)[0]), ("script", read_device.SIZE // 512))
+same("least size", ("sectors", end + count), ("script", read_device.SIZE // 512))
 # How many changes a part has room for, and where the first one stands.
 row = rows("Log")[-1]
 most, index, _, _, value_bits = numbers(row[2])

@@ -178,7 +178,7 @@ done
 done
 
 # The memory of a cycle that prints 30,000 segments, beside that of one traverse. The program is a pipe, so that its process waits
-# behind that line for more, and its greatest resident size can be read.
+# after that line for more, and its greatest resident size can be read.
 mkfifo "$work/pipe"
 for line in 'G0 X1' 'G83 X0 Z-1000 R0 Q0.1 F100'; do
     python3 - "$work/pipe" "$line" <<'PY'

@@ -35,7 +35,7 @@ python3 "$examples/read_device.py" "$work/device" > "$work/state"
 while read -r line; do
     grep -qxF "$line" "$work/state" || { echo "read_device.py doesn't print of the worked log: $line"; exit 1; }
 done < "$work/lines"
-# without one sector of the log or another: the log as it is behind that many records, and the sectors that are left over
+# without one sector of the log or another: the log as it is after that many records, and the sectors that are left over
 lose() {
     cp "$work/device" "$work/torn"
     for sector in $1; do dd if=/dev/zero of="$work/torn" bs=512 seek="$sector" count=1 conv=notrunc 2> "$work/dd"; done

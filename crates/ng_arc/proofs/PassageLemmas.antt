@@ -5,15 +5,17 @@ use Rattle.std.proofs.lemmas.Nat.{mul-le}
 use Rattle.std.proofs.lemmas.Bool.{cases_order, lt-ltb}
 use Rattle.std.proofs.Math.IntN.{zero-*ℤ, *ℤ-zero}
 use Rattle.std.specs.Prelude.{int_lt, int_le, nat_lt, ◌==◌, ◌&&◌, ◌||◌, if◌then◌else◌}
-use Rattle.ng_canon.specs.declared.plane.Turn.{Turn}
-use Rattle.ng_canon.specs.declared.plane.Turn.TheVariants.{Clockwise, Counterclockwise}
-use Rattle.ng_arc.specs.declared.spot.Spot.{Spot}
-use Rattle.ng_arc.specs.declared.passage.Passage.{Passage}
-use Rattle.ng_arc.specs.declared.quadrant.Quadrant.{Quadrant}
-use Rattle.ng_arc.specs.declared.quadrant.Quadrant.TheVariants.{First, Second, Third, Fourth}
-use Rattle.ng_arc.specs.Extremes.{cross, dot, sweep_by, sweep, is_passed}
-use Rattle.ng_arc.specs.Quadrants.{quadrant, number, direction, mirrored, mirrored_quadrant, changes, is_entered, passes_toward}
-use Rattle.ng_arc.proofs.TurnLemmas.{times_neg, passed_mirrored, cross-turned, dot-turned, passed-turned, place, relative, turned-place, quadrant-place}
+use Rattle.ng_canon.specs.declared.plane.ArcDirection.{ArcDirection}
+use Rattle.ng_canon.specs.declared.plane.ArcDirection.TheVariants.{Clockwise, Counterclockwise}
+use Rattle.ng_canon.specs.declared.plane_point.PlanePoint.{PlanePoint}
+use Rattle.ng_arc.specs.declared.span.ArcSpan.{ArcSpan}
+use Rattle.ng_canon.specs.declared.quadrant.Quadrant.{Quadrant}
+use Rattle.ng_canon.specs.declared.quadrant.Quadrant.TheVariants.{First, Second, Third, Fourth}
+use Rattle.ng_canon.specs.Planes.{cross, dot, mirror}
+use Rattle.ng_arc.specs.Extremes.{sweep_by, sweep, is_passed}
+use Rattle.ng_canon.specs.Quadrants.{quadrant, quadrant_number, same_quadrant, mirror_quadrant}
+use Rattle.ng_arc.specs.Quadrants.{direction, changes, is_entered, passes_toward}
+use Rattle.ng_arc.proofs.TurnLemmas.{times_neg, passed_mirrored, cross-turned, dot-turned, passed-turned, point_of_quadrant, relative, turned-place, quadrant-place}
 
 -- ---- how far it is from a point of the first quadrant
 
@@ -32,11 +34,11 @@ IsToward Third o y = ((y ≡ 1) × (0 < o)) ⊎ ((y ≡ 2) × (o ≡ 0))
 IsToward Fourth o y = y ≡ 3
 
 -- whether an end, which lies so from a direction, comes no earlier than it
-abbrev IsBehind : Quadrant → ℕ → Bool → Type 0
-IsBehind First p b = b ≡ true
-IsBehind Second p b = b ≡ true
-IsBehind Third p b = 0 < p → b ≡ false
-IsBehind Fourth p b = b ≡ false
+abbrev LiesPast : Quadrant → ℕ → Bool → Type 0
+LiesPast First p b = b ≡ true
+LiesPast Second p b = b ≡ true
+LiesPast Third p b = 0 < p → b ≡ false
+LiesPast Fourth p b = b ≡ false
 
 sweep_less : (m n : ℕ) (d : ℤ) → n < m → sweep_by (pos m -ℤ pos n) d ≡ 1
 sweep_less m n d h = grind (arith, ints)
@@ -61,15 +63,15 @@ some_first : (m n k : ℕ) → k < m * n → 0 < m
 some_first zero n k h = absurd (omega arith)
 some_first (suc m) n k h = omega arith
 
-far_first : (i o j p x : ℕ) → x ≡ sweep Counterclockwise (place First i o) (place First j p) → (i * p ≡ o * j) ⊎ ((i * p < o * j) ⊎ (o * j < i * p)) → IsFar First o p x
+far_first : (i o j p x : ℕ) → x ≡ sweep Counterclockwise (point_of_quadrant First i o) (point_of_quadrant First j p) → (i * p ≡ o * j) ⊎ ((i * p < o * j) ⊎ (o * j < i * p)) → IsFar First o p x
 far_first i o j p x is (inl same) = inr (inr (is ∙ sweep_whole (i * p) (o * j) (i * j + o * p) same))
-far_first i o j p x is (inr (inl less)) = inr (inl (is ∙ sweep_more (i * p) (o * j) (dot (place First i o) (place First j p)) less, some_first o j (i * p) less))
-far_first i o j p x is (inr (inr more)) = inl (is ∙ sweep_less (i * p) (o * j) (dot (place First i o) (place First j p)) more, some_factor i p (o * j) more)
+far_first i o j p x is (inr (inl less)) = inr (inl (is ∙ sweep_more (i * p) (o * j) (dot (point_of_quadrant First i o) (point_of_quadrant First j p)) less, some_first o j (i * p) less))
+far_first i o j p x is (inr (inr more)) = inl (is ∙ sweep_less (i * p) (o * j) (dot (point_of_quadrant First i o) (point_of_quadrant First j p)) more, some_factor i p (o * j) more)
 
-cross_third : (i o j p : ℕ) → cross (place First i o) (place Third j p) ≡ pos (o * j) -ℤ pos (i * p)
+cross_third : (i o j p : ℕ) → cross (point_of_quadrant First i o) (point_of_quadrant Third j p) ≡ pos (o * j) -ℤ pos (i * p)
 cross_third i o j p = rw (times_neg (pos i) (pos p), times_neg (pos o) (pos j)) (omega (arith, ints))
 
-dot_third : (i o j p : ℕ) → dot (place First i o) (place Third j p) ≡ neg_ℤ (pos (i * j + o * p))
+dot_third : (i o j p : ℕ) → dot (point_of_quadrant First i o) (point_of_quadrant Third j p) ≡ neg_ℤ (pos (i * j + o * p))
 dot_third i o j p = rw (times_neg (pos i) (pos j), times_neg (pos o) (pos p)) (omega (arith, ints))
 
 far_third_by : (i o j p x : ℕ) (d : ℤ) → 0 < i * j → d ≡ neg_ℤ (pos (i * j + o * p)) → x ≡ sweep_by (pos (o * j) -ℤ pos (i * p)) d → (o * j ≡ i * p) ⊎ ((o * j < i * p) ⊎ (i * p < o * j)) → IsFar Third o p x
@@ -77,38 +79,38 @@ far_third_by i o j p x d some e by (inl same) = inr (inl (by ∙ rw e (sweep_hal
 far_third_by i o j p x d some e by (inr (inl less)) = inr (inr (by ∙ sweep_more (o * j) (i * p) d less, some_factor i p (o * j) less))
 far_third_by i o j p x d some e by (inr (inr more)) = inl (by ∙ sweep_less (o * j) (i * p) d more, some_first o j (i * p) more)
 
-far_third : (i o j p : ℕ) → 0 < i → 0 < j → IsFar Third o p (sweep Counterclockwise (place First i o) (place Third j p))
+far_third : (i o j p : ℕ) → 0 < i → 0 < j → IsFar Third o p (sweep Counterclockwise (point_of_quadrant First i o) (point_of_quadrant Third j p))
 far_third i o j p hi hj =
     far_third_by i o j p _ _ (some_product i j hi hj) (dot_third i o j p) (rw (cross_third i o j p) refl) (cases_order (o * j) (i * p))
 
-cross_second : (i o j p : ℕ) → cross (place First i o) (place Second j p) ≡ pos (i * j + o * p) -ℤ pos 0
+cross_second : (i o j p : ℕ) → cross (point_of_quadrant First i o) (point_of_quadrant Second j p) ≡ pos (i * j + o * p) -ℤ pos 0
 cross_second i o j p = rw (times_neg (pos o) (pos p)) (omega (arith, ints))
 
-cross_fourth : (i o j p : ℕ) → cross (place First i o) (place Fourth j p) ≡ pos 0 -ℤ pos (i * j + o * p)
+cross_fourth : (i o j p : ℕ) → cross (point_of_quadrant First i o) (point_of_quadrant Fourth j p) ≡ pos 0 -ℤ pos (i * j + o * p)
 cross_fourth i o j p = rw (times_neg (pos i) (pos j)) (omega (arith, ints))
 
-far : (r : Quadrant) (i o j p : ℕ) → 0 < i → 0 < j → IsFar r o p (sweep Counterclockwise (place First i o) (place r j p))
+far : (r : Quadrant) (i o j p : ℕ) → 0 < i → 0 < j → IsFar r o p (sweep Counterclockwise (point_of_quadrant First i o) (point_of_quadrant r j p))
 far First i o j p hi hj = far_first i o j p _ refl (cases_order (i * p) (o * j))
-far Second i o j p hi hj = rw (cross_second i o j p) (let some = some_product i j hi hj in sweep_less (i * j + o * p) 0 (dot (place First i o) (place Second j p)) (omega arith))
+far Second i o j p hi hj = rw (cross_second i o j p) (let some = some_product i j hi hj in sweep_less (i * j + o * p) 0 (dot (point_of_quadrant First i o) (point_of_quadrant Second j p)) (omega arith))
 far Third i o j p hi hj = far_third i o j p hi hj
-far Fourth i o j p hi hj = rw (cross_fourth i o j p) (let some = some_product i j hi hj in sweep_more 0 (i * j + o * p) (dot (place First i o) (place Fourth j p)) (omega arith))
+far Fourth i o j p hi hj = rw (cross_fourth i o j p) (let some = some_product i j hi hj in sweep_more 0 (i * j + o * p) (dot (point_of_quadrant First i o) (point_of_quadrant Fourth j p)) (omega arith))
 
-toward_half : (i o : ℕ) → 0 < i → o ≡ 0 → sweep Counterclockwise (place First i o) (place Third 1 0) ≡ 2
+toward_half : (i o : ℕ) → 0 < i → o ≡ 0 → sweep Counterclockwise (point_of_quadrant First i o) (point_of_quadrant Third 1 0) ≡ 2
 toward_half i o h none = rw (cross_third i o 1 0, dot_third i o 1 0) (sweep_half (o * 1) (i * 0) (i * 1 + o * 0) (omega arith) (omega arith))
 
-toward : (k : Quadrant) (i o : ℕ) → 0 < i → IsToward k o (sweep Counterclockwise (place First i o) (place k 1 0))
+toward : (k : Quadrant) (i o : ℕ) → 0 < i → IsToward k o (sweep Counterclockwise (point_of_quadrant First i o) (point_of_quadrant k 1 0))
 toward First i zero h = inr (sweep_whole (i * 0) (0 * 1) (i * 1 + 0 * 0) (omega arith), refl)
-toward First i (suc o) h = inl (sweep_more (i * 0) (suc o * 1) (dot (place First i (suc o)) (place First 1 0)) (omega arith), omega arith)
+toward First i (suc o) h = inl (sweep_more (i * 0) (suc o * 1) (dot (point_of_quadrant First i (suc o)) (point_of_quadrant First 1 0)) (omega arith), omega arith)
 toward Second i o h = far Second i o 1 0 h (omega arith)
 toward Third i zero h = inr (toward_half i zero h refl, refl)
-toward Third i (suc o) h = inl (rw (cross_third i (suc o) 1 0) (sweep_less (suc o * 1) (i * 0) (dot (place First i (suc o)) (place Third 1 0)) (omega arith)), omega arith)
+toward Third i (suc o) h = inl (rw (cross_third i (suc o) 1 0) (sweep_less (suc o * 1) (i * 0) (dot (point_of_quadrant First i (suc o)) (point_of_quadrant Third 1 0)) (omega arith)), omega arith)
 toward Fourth i o h = far Fourth i o 1 0 h (omega arith)
 
-behind_first : (r : Quadrant) (j p : ℕ) → 0 < j → IsBehind r p (int_le (pos 0) (cross (place First 1 0) (place r j p)))
-behind_first First j p h = grind (arith, ints)
-behind_first Second j p h = rw (cross_second 1 0 j p) (grind (arith, ints))
-behind_first Third j p h = λ some. rw (cross_third 1 0 j p) (grind (arith, ints))
-behind_first Fourth j p h = rw (cross_fourth 1 0 j p) (grind (arith, ints))
+lies_past_first : (r : Quadrant) (j p : ℕ) → 0 < j → LiesPast r p (int_le (pos 0) (cross (point_of_quadrant First 1 0) (point_of_quadrant r j p)))
+lies_past_first First j p h = grind (arith, ints)
+lies_past_first Second j p h = rw (cross_second 1 0 j p) (grind (arith, ints))
+lies_past_first Third j p h = λ some. rw (cross_third 1 0 j p) (grind (arith, ints))
+lies_past_first Fourth j p h = rw (cross_fourth 1 0 j p) (grind (arith, ints))
 
 -- ---- the same from a point of any quadrant
 
@@ -118,19 +120,19 @@ relative-self Second = refl
 relative-self Third = refl
 relative-self Fourth = refl
 
-cross-place : (q r : Quadrant) (i o j p : ℕ) → cross (place q i o) (place r j p) ≡ cross (place First i o) (place (relative q r) j p)
-cross-place q r i o j p = sym (cross-turned q (place q i o) (place r j p)) ∙ rw (turned-place q q i o, turned-place q r j p, relative-self q) refl
+cross-place : (q r : Quadrant) (i o j p : ℕ) → cross (point_of_quadrant q i o) (point_of_quadrant r j p) ≡ cross (point_of_quadrant First i o) (point_of_quadrant (relative q r) j p)
+cross-place q r i o j p = sym (cross-turned q (point_of_quadrant q i o) (point_of_quadrant r j p)) ∙ rw (turned-place q q i o, turned-place q r j p, relative-self q) refl
 
-dot-place : (q r : Quadrant) (i o j p : ℕ) → dot (place q i o) (place r j p) ≡ dot (place First i o) (place (relative q r) j p)
-dot-place q r i o j p = sym (dot-turned q (place q i o) (place r j p)) ∙ rw (turned-place q q i o, turned-place q r j p, relative-self q) refl
+dot-place : (q r : Quadrant) (i o j p : ℕ) → dot (point_of_quadrant q i o) (point_of_quadrant r j p) ≡ dot (point_of_quadrant First i o) (point_of_quadrant (relative q r) j p)
+dot-place q r i o j p = sym (dot-turned q (point_of_quadrant q i o) (point_of_quadrant r j p)) ∙ rw (turned-place q q i o, turned-place q r j p, relative-self q) refl
 
 passed-place : (q r k : Quadrant) (i o j p : ℕ)
-    → is_passed Counterclockwise (place q i o) (place r j p) (place k 1 0) ≡ is_passed Counterclockwise (place First i o) (place (relative q r) j p) (place (relative q k) 1 0)
+    → is_passed Counterclockwise (point_of_quadrant q i o) (point_of_quadrant r j p) (point_of_quadrant k 1 0) ≡ is_passed Counterclockwise (point_of_quadrant First i o) (point_of_quadrant (relative q r) j p) (point_of_quadrant (relative q k) 1 0)
 passed-place q r k i o j p =
-    sym (passed-turned q (place q i o) (place r j p) (place k 1 0)) ∙ rw (turned-place q q i o, turned-place q r j p, turned-place q k 1 0, relative-self q) refl
+    sym (passed-turned q (point_of_quadrant q i o) (point_of_quadrant r j p) (point_of_quadrant k 1 0)) ∙ rw (turned-place q q i o, turned-place q r j p, turned-place q k 1 0, relative-self q) refl
 
-behind : (k r : Quadrant) (j p : ℕ) → 0 < j → IsBehind (relative k r) p (int_le (pos 0) (cross (place k 1 0) (place r j p)))
-behind k r j p h = rw (cross-place k r 1 0 j p) (behind_first (relative k r) j p h)
+lies_past : (k r : Quadrant) (j p : ℕ) → 0 < j → LiesPast (relative k r) p (int_le (pos 0) (cross (point_of_quadrant k 1 0) (point_of_quadrant r j p)))
+lies_past k r j p h = rw (cross-place k r 1 0 j p) (lies_past_first (relative k r) j p h)
 
 -- ---- the quadrants that an arc from the first quadrant comes into
 
@@ -143,7 +145,7 @@ changes_first Fourth x = 3
 abbrev within : ℕ → ℕ → Bool → Bool
 within x y b = (x == 4) || (nat_lt y x || ((y == x) && b))
 
-table : (r k : Quadrant) (o p x y : ℕ) (b : Bool) → IsFar r o p x → IsToward k o y → IsBehind (relative k r) p b → within x y b ≡ nat_lt ((number k + 3) % 4) (changes_first r x)
+table : (r k : Quadrant) (o p x y : ℕ) (b : Bool) → IsFar r o p x → IsToward k o y → LiesPast (relative k r) p b → within x y b ≡ nat_lt ((quadrant_number k + 3) % 4) (changes_first r x)
 table First First o p x y b (inl e) (inl f) g = rw (e.0, f.0) refl
 table First First o p x y b (inl e) (inr f) g = rw (e.0, f.0) refl
 table First Second o p x y b (inl e) f g = rw (e.0, f, g) refl
@@ -192,9 +194,9 @@ table Fourth Third o p x y b e (inr f) g = rw (e, f.0) refl
 table Fourth Fourth o p x y b e f g = rw (e, f, g) refl
 
 first_passed : (r k : Quadrant) (i o j p : ℕ) → 0 < i → 0 < j
-    → is_passed Counterclockwise (place First i o) (place r j p) (place k 1 0) ≡ nat_lt ((number k + 3) % 4) (changes_first r (sweep Counterclockwise (place First i o) (place r j p)))
+    → is_passed Counterclockwise (point_of_quadrant First i o) (point_of_quadrant r j p) (point_of_quadrant k 1 0) ≡ nat_lt ((quadrant_number k + 3) % 4) (changes_first r (sweep Counterclockwise (point_of_quadrant First i o) (point_of_quadrant r j p)))
 unfolding is_passed
-first_passed r k i o j p hi hj = table r k o p _ _ _ (far r i o j p hi hj) (toward k i o hi) (behind k r j p hj)
+first_passed r k i o j p hi hj = table r k o p _ _ _ (far r i o j p hi hj) (toward k i o hi) (lies_past k r j p hj)
 
 -- ---- the same of the code's count
 
@@ -227,8 +229,8 @@ not_whole_fourth o p x e = rw e refl
 abbrev changes_by : Quadrant → Quadrant → ℤ → ℤ → ℕ
 changes_by q r c d =
     if sweep_by c d == 4 then 4
-    else if number q == number r then (if int_lt (pos 0) c then 0 else 4)
-    else (number r + 4 - number q) % 4
+    else if same_quadrant q r then (if int_lt (pos 0) c then 0 else 4)
+    else (quadrant_number r + 4 - quadrant_number q) % 4
 
 changes_are : (q r : Quadrant) (c d : ℤ) (o p : ℕ) → IsFar (relative q r) o p (sweep_by c d) → changes_by q r c d ≡ changes_first (relative q r) (sweep_by c d)
 changes_are First First c d o p h = changes_same c d
@@ -249,13 +251,13 @@ changes_are Fourth Third c d o p h = rw (not_whole_fourth o p (sweep_by c d) h) 
 changes_are Fourth Fourth c d o p h = changes_same c d
 
 changes-place : (q r : Quadrant) (i o j p : ℕ) → 0 < i → 0 < j
-    → changes (place q i o) (place r j p) ≡ changes_first (relative q r) (sweep Counterclockwise (place First i o) (place (relative q r) j p))
+    → changes (point_of_quadrant q i o) (point_of_quadrant r j p) ≡ changes_first (relative q r) (sweep Counterclockwise (point_of_quadrant First i o) (point_of_quadrant (relative q r) j p))
 unfolding changes
 changes-place q r i o j p hi hj =
     rw (quadrant-place q i o hi, quadrant-place r j p hj, cross-place q r i o j p, dot-place q r i o j p)
-    (changes_are q r (cross (place First i o) (place (relative q r) j p)) (dot (place First i o) (place (relative q r) j p)) o p (far (relative q r) i o j p hi hj))
+    (changes_are q r (cross (point_of_quadrant First i o) (point_of_quadrant (relative q r) j p)) (dot (point_of_quadrant First i o) (point_of_quadrant (relative q r) j p)) o p (far (relative q r) i o j p hi hj))
 
-turn_number : (q k : Quadrant) → (number k + 7 - number q) % 4 ≡ (number (relative q k) + 3) % 4
+turn_number : (q k : Quadrant) → (quadrant_number k + 7 - quadrant_number q) % 4 ≡ (quadrant_number (relative q k) + 3) % 4
 turn_number First First = refl
 turn_number First Second = refl
 turn_number First Third = refl
@@ -273,14 +275,14 @@ turn_number Fourth Second = refl
 turn_number Fourth Third = refl
 turn_number Fourth Fourth = refl
 
-direction_is : (k : Quadrant) → direction k ≡ place k 1 0
+direction_is : (k : Quadrant) → direction k ≡ point_of_quadrant k 1 0
 direction_is First = refl
 direction_is Second = refl
 direction_is Third = refl
 direction_is Fourth = refl
 
 entered-place : (q r k : Quadrant) (i o j p : ℕ) → 0 < i → 0 < j
-    → is_entered (number (quadrant (place q i o))) (changes (place q i o) (place r j p)) (number k) ≡ is_passed Counterclockwise (place q i o) (place r j p) (direction k)
+    → is_entered (quadrant_number (quadrant (point_of_quadrant q i o))) (changes (point_of_quadrant q i o) (point_of_quadrant r j p)) (quadrant_number k) ≡ is_passed Counterclockwise (point_of_quadrant q i o) (point_of_quadrant r j p) (direction k)
 entered-place q r k i o j p hi hj =
     rw (quadrant-place q i o hi, changes-place q r i o j p hi hj, direction_is k, passed-place q r k i o j p, turn_number q k) (sym (first_passed (relative q r) (relative q k) i o j p hi hj))
 
@@ -289,25 +291,25 @@ entered-place q r k i o j p hi hj =
 rest_below : (m : ℕ) → nat_lt (m % 4) 4 ≡ true
 rest_below m = lt-ltb (m % 4) 4 (omega arith)
 
-whole_entered : (s e : Spot) (k : Quadrant) → sweep_by (cross s e) (dot s e) ≡ 4 → is_entered (number (quadrant s)) (changes s e) (number k) ≡ is_passed Counterclockwise s e (direction k)
+whole_entered : (s e : PlanePoint) (k : Quadrant) → sweep_by (cross s e) (dot s e) ≡ 4 → is_entered (quadrant_number (quadrant s)) (changes s e) (quadrant_number k) ≡ is_passed Counterclockwise s e (direction k)
 unfolding changes is_passed
-whole_entered s e k whole = rw (whole, rest_below (number k + 7 - number (quadrant s))) refl
+whole_entered s e k whole = rw (whole, rest_below (quadrant_number k + 7 - quadrant_number (quadrant s))) refl
 
-from_centre : (e : Spot) → let s : Spot = record { a = pos 0; b = pos 0 } in sweep_by (cross s e) (dot s e) ≡ 4
+from_centre : (e : PlanePoint) → let s : PlanePoint = record { a = pos 0; b = pos 0 } in sweep_by (cross s e) (dot s e) ≡ 4
 from_centre e = rw (zero-*ℤ e.a, zero-*ℤ e.b) refl
 
-to_centre : (s : Spot) → let e : Spot = record { a = pos 0; b = pos 0 } in sweep_by (cross s e) (dot s e) ≡ 4
+to_centre : (s : PlanePoint) → let e : PlanePoint = record { a = pos 0; b = pos 0 } in sweep_by (cross s e) (dot s e) ≡ 4
 to_centre s = rw (*ℤ-zero s.a, *ℤ-zero s.b) refl
 
 -- each point but the centre has its place
-record Placed (p : Spot) : Type 0 where
+record Placed (p : PlanePoint) : Type 0 where
   q : Quadrant
   i : ℕ
   o : ℕ
   some : 0 < i
-  is : p ≡ place q i o
+  is : p ≡ point_of_quadrant q i o
 
-centre_or_placed : (a b : ℤ) → let p : Spot = record { a = a; b = b } in (p ≡ record { a = pos 0; b = pos 0 }) ⊎ Placed p
+centre_or_placed : (a b : ℤ) → let p : PlanePoint = record { a = a; b = b } in (p ≡ record { a = pos 0; b = pos 0 }) ⊎ Placed p
 centre_or_placed (pos zero) (pos zero) = inl refl
 centre_or_placed (pos (suc a)) (pos b) = inr (record { q = First; i = suc a; o = b; some = omega arith; is = refl })
 centre_or_placed (pos zero) (pos (suc b)) = inr (record { q = Second; i = suc b; o = zero; some = omega arith; is = refl })
@@ -316,28 +318,28 @@ centre_or_placed (negsuc a) (pos zero) = inr (record { q = Third; i = suc a; o =
 centre_or_placed (negsuc a) (negsuc b) = inr (record { q = Third; i = suc a; o = suc b; some = omega arith; is = refl })
 centre_or_placed (pos a) (negsuc b) = inr (record { q = Fourth; i = suc b; o = a; some = omega arith; is = refl })
 
-entered_by : (s e : Spot) (k : Quadrant) → (s ≡ record { a = pos 0; b = pos 0 }) ⊎ Placed s → (e ≡ record { a = pos 0; b = pos 0 }) ⊎ Placed e
-    → is_entered (number (quadrant s)) (changes s e) (number k) ≡ is_passed Counterclockwise s e (direction k)
+entered_by : (s e : PlanePoint) (k : Quadrant) → (s ≡ record { a = pos 0; b = pos 0 }) ⊎ Placed s → (e ≡ record { a = pos 0; b = pos 0 }) ⊎ Placed e
+    → is_entered (quadrant_number (quadrant s)) (changes s e) (quadrant_number k) ≡ is_passed Counterclockwise s e (direction k)
 entered_by s e k (inl is) h = whole_entered s e k (rw is (from_centre e))
 entered_by s e k (inr f) (inl is) = whole_entered s e k (rw is (to_centre s))
 entered_by s e k (inr f) (inr g) = rw (f.is, g.is) (entered-place f.q g.q k f.i f.o g.i g.o f.some g.some)
 
-entered : (s e : Spot) (k : Quadrant) → is_entered (number (quadrant s)) (changes s e) (number k) ≡ is_passed Counterclockwise s e (direction k)
+entered : (s e : PlanePoint) (k : Quadrant) → is_entered (quadrant_number (quadrant s)) (changes s e) (quadrant_number k) ≡ is_passed Counterclockwise s e (direction k)
 entered s e k = entered_by s e k (centre_or_placed s.a s.b) (centre_or_placed e.a e.b)
 
--- ---- of the code's passage
+-- ---- of the code's span
 
-mirrored_direction : (turn : Turn) (q : Quadrant) → mirrored turn (direction (mirrored_quadrant turn q)) ≡ direction q
+mirrored_direction : (turn : ArcDirection) (q : Quadrant) → mirror turn (direction (mirror_quadrant turn q)) ≡ direction q
 mirrored_direction Counterclockwise q = refl
 mirrored_direction Clockwise First = refl
 mirrored_direction Clockwise Second = refl
 mirrored_direction Clockwise Third = refl
 mirrored_direction Clockwise Fourth = refl
 
-pub passes_is : (p : Passage) (s e : Spot) (q : Quadrant) → p.from ≡ quadrant (mirrored p.turn s) → p.changes ≡ changes (mirrored p.turn s) (mirrored p.turn e)
+pub passes_is : (p : ArcSpan) (s e : PlanePoint) (q : Quadrant) → p.from ≡ quadrant (mirror p.turn s) → p.changes ≡ changes (mirror p.turn s) (mirror p.turn e)
     → passes_toward p q ≡ is_passed p.turn s e (direction q)
 unfolding passes_toward
 passes_is p s e q from count =
-    rw (from, count) (entered (mirrored p.turn s) (mirrored p.turn e) (mirrored_quadrant p.turn q))
-    ∙ sym (passed_mirrored p.turn s e (direction (mirrored_quadrant p.turn q)))
+    rw (from, count) (entered (mirror p.turn s) (mirror p.turn e) (mirror_quadrant p.turn q))
+    ∙ sym (passed_mirrored p.turn s e (direction (mirror_quadrant p.turn q)))
     ∙ ap (is_passed p.turn s e) (mirrored_direction p.turn q)

@@ -2,13 +2,14 @@
 use Rattle.std.proofs.Common.{arith, ℕ, zero, suc, ◌<◌, ◌≡◌, ◌∙◌, refl, sym, ap, ℤ, pos, negsuc, neg_ℤ, ◌*ℤ◌}
 use Rattle.std.proofs.lemmas.Int.{ints}
 use Rattle.std.proofs.Math.IntN.{*ℤ_comm, neg_ℤ-neg_ℤ, negsuc-*ℤ-pos, pos-*ℤ-negsuc, negsuc-*ℤ-negsuc, zero-*ℤ}
-use Rattle.ng_canon.specs.declared.plane.Turn.{Turn}
-use Rattle.ng_canon.specs.declared.plane.Turn.TheVariants.{Clockwise, Counterclockwise}
-use Rattle.ng_arc.specs.declared.spot.Spot.{Spot}
-use Rattle.ng_arc.specs.declared.quadrant.Quadrant.{Quadrant}
-use Rattle.ng_arc.specs.declared.quadrant.Quadrant.TheVariants.{First, Second, Third, Fourth}
-use Rattle.ng_arc.specs.Extremes.{cross, dot, sweep_by, is_within, is_passed}
-use Rattle.ng_arc.specs.Quadrants.{quadrant, mirrored}
+use Rattle.ng_canon.specs.declared.plane.ArcDirection.{ArcDirection}
+use Rattle.ng_canon.specs.declared.plane.ArcDirection.TheVariants.{Clockwise, Counterclockwise}
+use Rattle.ng_canon.specs.declared.plane_point.PlanePoint.{PlanePoint}
+use Rattle.ng_canon.specs.declared.quadrant.Quadrant.{Quadrant}
+use Rattle.ng_canon.specs.declared.quadrant.Quadrant.TheVariants.{First, Second, Third, Fourth}
+use Rattle.ng_canon.specs.Planes.{cross, dot, mirror}
+use Rattle.ng_arc.specs.Extremes.{sweep_by, is_sweep_within, is_passed}
+use Rattle.ng_canon.specs.Quadrants.{quadrant}
 
 -- ---- products with a sign
 
@@ -24,28 +25,28 @@ times_neg x y = *ℤ_comm x (neg_ℤ y) ∙ neg_times y x ∙ ap neg_ℤ (*ℤ_c
 
 -- ---- an arc seen from the other side
 
-abbrev flip : Spot → Spot
+abbrev flip : PlanePoint → PlanePoint
 flip p = record { a = p.a; b = neg_ℤ p.b }
 
-cross-flip-flip : (p q : Spot) → cross (flip p) (flip q) ≡ cross q p
+cross-flip-flip : (p q : PlanePoint) → cross (flip p) (flip q) ≡ cross q p
 cross-flip-flip p q = rw (times_neg p.a q.b, neg_times p.b q.a, *ℤ_comm p.a q.b, *ℤ_comm p.b q.a) (omega (arith, ints))
 
-dot-flip-flip : (p q : Spot) → dot (flip p) (flip q) ≡ dot p q
+dot-flip-flip : (p q : PlanePoint) → dot (flip p) (flip q) ≡ dot p q
 dot-flip-flip p q = rw (times_neg (neg_ℤ p.b) q.b, neg_times p.b q.b) (omega (arith, ints))
 
-cross-flip : (p q : Spot) → cross (flip p) q ≡ cross (flip q) p
+cross-flip : (p q : PlanePoint) → cross (flip p) q ≡ cross (flip q) p
 cross-flip p q = rw (neg_times p.b q.a, neg_times q.b p.a, *ℤ_comm p.a q.b, *ℤ_comm p.b q.a) (omega (arith, ints))
 
-cross-flip-right : (p q : Spot) → cross p (flip q) ≡ cross q (flip p)
+cross-flip-right : (p q : PlanePoint) → cross p (flip q) ≡ cross q (flip p)
 cross-flip-right p q = rw (times_neg p.a q.b, times_neg q.a p.b, *ℤ_comm p.a q.b, *ℤ_comm p.b q.a) (omega (arith, ints))
 
-dot-flip : (p q : Spot) → dot p (flip q) ≡ dot (flip p) q
+dot-flip : (p q : PlanePoint) → dot p (flip q) ≡ dot (flip p) q
 dot-flip p q = rw (times_neg p.b q.b, neg_times p.b q.b) refl
 
-within_same : (x x' y y' z z' u u' v v' : ℤ) → x ≡ x' → y ≡ y' → z ≡ z' → u ≡ u' → v ≡ v' → is_within (sweep_by x y) (sweep_by z u) v ≡ is_within (sweep_by x' y') (sweep_by z' u') v'
+within_same : (x x' y y' z z' u u' v v' : ℤ) → x ≡ x' → y ≡ y' → z ≡ z' → u ≡ u' → v ≡ v' → is_sweep_within (sweep_by x y) (sweep_by z u) v ≡ is_sweep_within (sweep_by x' y') (sweep_by z' u') v'
 within_same x x' y y' z z' u u' v v' ex ey ez eu ev = rw (ex, ey, ez, eu, ev) refl
 
-pub passed_mirrored : (turn : Turn) (s e d : Spot) → is_passed turn s e (mirrored turn d) ≡ is_passed Counterclockwise (mirrored turn s) (mirrored turn e) d
+pub passed_mirrored : (turn : ArcDirection) (s e d : PlanePoint) → is_passed turn s e (mirror turn d) ≡ is_passed Counterclockwise (mirror turn s) (mirror turn e) d
 unfolding is_passed
 passed_mirrored Counterclockwise s e d = refl
 passed_mirrored Clockwise s e d =
@@ -53,37 +54,37 @@ passed_mirrored Clockwise s e d =
 
 -- ---- an arc turned until it begins in the first quadrant
 
-abbrev pub turned : Quadrant → Spot → Spot
+abbrev pub turned : Quadrant → PlanePoint → PlanePoint
 turned First p = p
 turned Second p = record { a = p.b; b = neg_ℤ p.a }
 turned Third p = record { a = neg_ℤ p.a; b = neg_ℤ p.b }
 turned Fourth p = record { a = neg_ℤ p.b; b = p.a }
 
-pub cross-turned : (q : Quadrant) (p r : Spot) → cross (turned q p) (turned q r) ≡ cross p r
+pub cross-turned : (q : Quadrant) (p r : PlanePoint) → cross (turned q p) (turned q r) ≡ cross p r
 cross-turned First p r = refl
 cross-turned Second p r = rw (times_neg p.b r.a, neg_times p.a r.b) (omega (arith, ints))
 cross-turned Third p r = rw (times_neg (neg_ℤ p.a) r.b, neg_times p.a r.b, times_neg (neg_ℤ p.b) r.a, neg_times p.b r.a) (omega (arith, ints))
 cross-turned Fourth p r = rw (neg_times p.b r.a, times_neg p.a r.b) (omega (arith, ints))
 
-pub dot-turned : (q : Quadrant) (p r : Spot) → dot (turned q p) (turned q r) ≡ dot p r
+pub dot-turned : (q : Quadrant) (p r : PlanePoint) → dot (turned q p) (turned q r) ≡ dot p r
 dot-turned First p r = refl
 dot-turned Second p r = rw (times_neg (neg_ℤ p.a) r.a, neg_times p.a r.a) (omega (arith, ints))
 dot-turned Third p r = rw (times_neg (neg_ℤ p.a) r.a, neg_times p.a r.a, times_neg (neg_ℤ p.b) r.b, neg_times p.b r.b) (omega (arith, ints))
 dot-turned Fourth p r = rw (times_neg (neg_ℤ p.b) r.b, neg_times p.b r.b) (omega (arith, ints))
 
-pub passed-turned : (q : Quadrant) (s e d : Spot) → is_passed Counterclockwise (turned q s) (turned q e) (turned q d) ≡ is_passed Counterclockwise s e d
+pub passed-turned : (q : Quadrant) (s e d : PlanePoint) → is_passed Counterclockwise (turned q s) (turned q e) (turned q d) ≡ is_passed Counterclockwise s e d
 unfolding is_passed
 passed-turned q s e d =
     within_same _ _ _ _ _ _ _ _ _ _ (cross-turned q s e) (dot-turned q s e) (cross-turned q s d) (dot-turned q s d) (cross-turned q d e)
 
 -- the point of a quadrant with these two sizes
-abbrev pub place : Quadrant → ℕ → ℕ → Spot
-place First i o = record { a = pos i; b = pos o }
-place Second i o = record { a = neg_ℤ (pos o); b = pos i }
-place Third i o = record { a = neg_ℤ (pos i); b = neg_ℤ (pos o) }
-place Fourth i o = record { a = pos o; b = neg_ℤ (pos i) }
+abbrev pub point_of_quadrant : Quadrant → ℕ → ℕ → PlanePoint
+point_of_quadrant First i o = record { a = pos i; b = pos o }
+point_of_quadrant Second i o = record { a = neg_ℤ (pos o); b = pos i }
+point_of_quadrant Third i o = record { a = neg_ℤ (pos i); b = neg_ℤ (pos o) }
+point_of_quadrant Fourth i o = record { a = pos o; b = neg_ℤ (pos i) }
 
-spot_same : (a a' b b' : ℤ) → a ≡ a' → b ≡ b' → let p : Spot = record { a = a; b = b } in let q : Spot = record { a = a'; b = b' } in p ≡ q
+spot_same : (a a' b b' : ℤ) → a ≡ a' → b ≡ b' → let p : PlanePoint = record { a = a; b = b } in let q : PlanePoint = record { a = a'; b = b' } in p ≡ q
 spot_same a a' b b' e f = cc
 
 -- where a quadrant lies, seen from another
@@ -105,7 +106,7 @@ relative Fourth Second = Third
 relative Fourth Third = Fourth
 relative Fourth Fourth = First
 
-pub turned-place : (q r : Quadrant) (i o : ℕ) → turned q (place r i o) ≡ place (relative q r) i o
+pub turned-place : (q r : Quadrant) (i o : ℕ) → turned q (point_of_quadrant r i o) ≡ point_of_quadrant (relative q r) i o
 turned-place First First i o = spot_same _ _ _ _ (omega (arith, ints)) (omega (arith, ints))
 turned-place First Second i o = spot_same _ _ _ _ (omega (arith, ints)) (omega (arith, ints))
 turned-place First Third i o = spot_same _ _ _ _ (omega (arith, ints)) (omega (arith, ints))
@@ -123,7 +124,7 @@ turned-place Fourth Second i o = spot_same _ _ _ _ (omega (arith, ints)) (omega 
 turned-place Fourth Third i o = spot_same _ _ _ _ (omega (arith, ints)) (omega (arith, ints))
 turned-place Fourth Fourth i o = spot_same _ _ _ _ (omega (arith, ints)) (omega (arith, ints))
 
-pub quadrant-place : (q : Quadrant) (i o : ℕ) → 0 < i → quadrant (place q i o) ≡ q
+pub quadrant-place : (q : Quadrant) (i o : ℕ) → 0 < i → quadrant (point_of_quadrant q i o) ≡ q
 unfolding quadrant
 quadrant-place First zero o h = absurd (omega arith)
 quadrant-place First (suc i) o h = grind (arith, ints)

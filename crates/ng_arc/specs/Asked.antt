@@ -2,7 +2,7 @@
 use Rattle.std.specs.Prelude.{ℤ, pos, ◌+ℤ◌, Option, Some, None}
 use Rattle.ng_canon.specs.declared.segment.Arc.{Arc}
 use Rattle.ng_arc.specs.declared.asked.AskedArc.{AskedArc}
-use Rattle.ng_arc.specs.Planes.{of_a, of_b}
+use Rattle.ng_canon.specs.Planes.{pick_a, pick_b}
 
 -- the offset of a word; a missing one is 0
 abbrev pub offset_of : Option ℤ → ℤ
@@ -10,10 +10,10 @@ offset_of (Some offset) = offset
 offset_of None = pos 0
 
 abbrev pub centre_a : AskedArc → ℤ
-centre_a asked = of_a asked.plane asked.start.x asked.start.y asked.start.z +ℤ offset_of (of_a asked.plane asked.offsets.i asked.offsets.j asked.offsets.k)
+centre_a asked = pick_a asked.plane asked.start.x asked.start.y asked.start.z +ℤ offset_of (pick_a asked.plane asked.offsets.i asked.offsets.j asked.offsets.k)
 
 abbrev pub centre_b : AskedArc → ℤ
-centre_b asked = of_b asked.plane asked.start.x asked.start.y asked.start.z +ℤ offset_of (of_b asked.plane asked.offsets.i asked.offsets.j asked.offsets.k)
+centre_b asked = pick_b asked.plane asked.start.x asked.start.y asked.start.z +ℤ offset_of (pick_b asked.plane asked.offsets.i asked.offsets.j asked.offsets.k)
 
 abbrev pub arc_of : AskedArc → Arc
 arc_of asked = record {

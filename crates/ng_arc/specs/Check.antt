@@ -9,10 +9,10 @@ use Rattle.ng_num.specs.declared.unit.Unit.{Unit as LengthUnit}
 use Rattle.ng_num.specs.declared.unit.Unit.TheVariants.{Inches, Millimetres}
 use Rattle.ng_canon.specs.declared.segment.Arc.{Arc}
 use Rattle.ng_arc.specs.declared.asked.AskedArc.{AskedArc}
-use Rattle.ng_arc.specs.Planes.{of_a, of_b, spot_of, square_of}
+use Rattle.ng_canon.specs.Planes.{pick_a, pick_b, from_centre, square_of}
 use Rattle.ng_arc.specs.Radii.{are_alike}
 use Rattle.ng_arc.specs.Asked.{centre_a, centre_b, arc_of}
-use Rattle.ng_arc.specs.FirstFault.{first_fault, unless}
+use Rattle.ng_num.specs.Causes.{first_fault, unless}
 
 -- a length that can be told
 abbrev pub is_length : ℤ → Bool
@@ -24,12 +24,12 @@ is_centre_beyond asked = not (is_length (centre_a asked) && is_length (centre_b 
 
 -- C1: no end coordinate in the plane
 abbrev pub has_no_end : AskedArc → Bool
-has_no_end asked = not (of_a asked.plane asked.named.x asked.named.y asked.named.z || of_b asked.plane asked.named.x asked.named.y asked.named.z)
+has_no_end asked = not (pick_a asked.plane asked.named.x asked.named.y asked.named.z || pick_b asked.plane asked.named.x asked.named.y asked.named.z)
 
 -- C2: no offset in the plane
 abbrev pub has_no_centre : AskedArc → Bool
 has_no_centre asked =
-    not (is_some (of_a asked.plane asked.offsets.i asked.offsets.j asked.offsets.k) || is_some (of_b asked.plane asked.offsets.i asked.offsets.j asked.offsets.k))
+    not (is_some (pick_a asked.plane asked.offsets.i asked.offsets.j asked.offsets.k) || is_some (pick_b asked.plane asked.offsets.i asked.offsets.j asked.offsets.k))
 
 -- how much the radii may differ: two thousandths of a millimetre, or of an inch a tenth of that, in nanometres
 abbrev pub tolerance : LengthUnit → ℕ
@@ -38,10 +38,10 @@ tolerance Millimetres = 2_000
 
 -- the squares of the distances of start and end from the centre
 abbrev pub start_square : Arc → ℕ
-start_square arc = square_of (spot_of arc arc.start)
+start_square arc = square_of (from_centre arc arc.start)
 
 abbrev pub end_square : Arc → ℕ
-end_square arc = square_of (spot_of arc arc.end)
+end_square arc = square_of (from_centre arc arc.end)
 
 -- C3: the radii of start and end differ by more than the tolerance
 abbrev pub have_radii_differing : LengthUnit → Arc → Bool

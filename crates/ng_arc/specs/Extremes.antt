@@ -1,22 +1,16 @@
 -- Which extremes of its circle an arc passes, and whether they lie inside the travel (own). An extreme is a point of the circle
 -- that lies farthest along an axis of the plane. How far an arc turns is told by products of the offsets from its centre.
-use Rattle.std.specs.Prelude.{ℕ, ◌*◌, nat_le, nat_lt, ◌==◌, ℤ, pos, negsuc, ◌+ℤ◌, ◌-ℤ◌, ◌*ℤ◌, int_lt, int_le, unsigned_abs, Bool, not, ◌&&◌, ◌||◌, if◌then◌else◌}
+use Rattle.std.specs.Prelude.{ℕ, ◌*◌, nat_le, nat_lt, ◌==◌, ℤ, pos, negsuc, ◌-ℤ◌, int_lt, int_le, unsigned_abs, Bool, not, ◌&&◌, ◌||◌, if◌then◌else◌}
 use Rattle.ng_canon.specs.declared.geometry.Axis.{Axis}
 use Rattle.ng_canon.specs.declared.geometry.Geometry.{Geometry}
-use Rattle.ng_canon.specs.declared.plane.Turn.{Turn}
-use Rattle.ng_canon.specs.declared.plane.Turn.TheVariants.{Clockwise, Counterclockwise}
+use Rattle.ng_canon.specs.declared.plane.ArcDirection.{ArcDirection}
+use Rattle.ng_canon.specs.declared.plane.ArcDirection.TheVariants.{Clockwise, Counterclockwise}
 use Rattle.ng_canon.specs.declared.segment.Arc.{Arc}
-use Rattle.ng_arc.specs.declared.spot.Spot.{Spot}
-use Rattle.ng_arc.specs.Planes.{of_a, of_b, spot_of, square_of}
-
-abbrev pub cross : Spot → Spot → ℤ
-cross p q = p.a *ℤ q.b -ℤ p.b *ℤ q.a
-
-abbrev pub dot : Spot → Spot → ℤ
-dot p q = p.a *ℤ q.a +ℤ p.b *ℤ q.b
+use Rattle.ng_canon.specs.declared.plane_point.PlanePoint.{PlanePoint}
+use Rattle.ng_canon.specs.Planes.{pick_a, pick_b, from_centre, square_of, cross, dot}
 
 -- above 0 where the way round from p to q is less than half a turn, below 0 where it is more, 0 for half a turn and a whole one
-abbrev pub lead : Turn → Spot → Spot → ℤ
+abbrev pub lead : ArcDirection → PlanePoint → PlanePoint → ℤ
 lead Counterclockwise p q = cross p q
 lead Clockwise p q = cross q p
 
@@ -24,31 +18,31 @@ lead Clockwise p q = cross q p
 abbrev pub sweep_by : ℤ → ℤ → ℕ
 sweep_by lead dot = if int_lt (pos 0) lead then 1 else if int_lt lead (pos 0) then 3 else if int_lt dot (pos 0) then 2 else 4
 
-abbrev pub sweep : Turn → Spot → Spot → ℕ
+abbrev pub sweep : ArcDirection → PlanePoint → PlanePoint → ℕ
 sweep turn p q = sweep_by (lead turn p q) (dot p q)
 
 -- of two ways round from one point the second goes no farther than the first: the first is a whole turn, or is more by the
 -- sweeps, or is as much and leads from where the second ends to where it ends
-abbrev pub is_within : ℕ → ℕ → ℤ → Bool
-is_within whole part rest = (whole == 4) || (nat_lt part whole || ((part == whole) && int_le (pos 0) rest))
+abbrev pub is_sweep_within : ℕ → ℕ → ℤ → Bool
+is_sweep_within whole part rest = (whole == 4) || (nat_lt part whole || ((part == whole) && int_le (pos 0) rest))
 
--- an arc from s to e passes the direction d: it comes to it behind s and no later than to e
-unfoldable pub is_passed : Turn → Spot → Spot → Spot → Bool
-is_passed turn s e d = is_within (sweep turn s e) (sweep turn s d) (lead turn d e)
+-- an arc from s to e passes the direction d: it comes to it after s and no later than to e
+unfoldable pub is_passed : ArcDirection → PlanePoint → PlanePoint → PlanePoint → Bool
+is_passed turn s e d = is_sweep_within (sweep turn s e) (sweep turn s d) (lead turn d e)
 
 -- a circle reaches no farther from its centre than this: its radius, whose square is given, is no longer
 abbrev pub has_room : ℕ → ℤ → Bool
 has_room square room = int_le (pos 0) room && nat_le square (unsigned_abs room * unsigned_abs room)
 
 -- the extreme in a direction isn't passed, or lies inside the travel, which goes so far from the centre
-abbrev pub is_kept : Arc → Spot → ℤ → Bool
-is_kept arc d room = not (is_passed arc.turn (spot_of arc arc.start) (spot_of arc arc.end) d) || has_room (square_of (spot_of arc arc.start)) room
+abbrev pub is_kept : Arc → PlanePoint → ℤ → Bool
+is_kept arc d room = not (is_passed arc.turn (from_centre arc arc.start) (from_centre arc arc.end) d) || has_room (square_of (from_centre arc arc.start)) room
 
 abbrev pub axis_a : Arc → Geometry → Axis
-axis_a arc g = of_a arc.plane g.x g.y g.z
+axis_a arc g = pick_a arc.plane g.x g.y g.z
 
 abbrev pub axis_b : Arc → Geometry → Axis
-axis_b arc g = of_b arc.plane g.x g.y g.z
+axis_b arc g = pick_b arc.plane g.x g.y g.z
 
 -- no extreme that the arc passes lies outside
 abbrev pub extremes_inside : Arc → Geometry → Bool

@@ -1,6 +1,4 @@
 pub mod Radii
-pub mod Planes
-pub mod FirstFault
 pub mod Asked
 pub mod Check
 pub mod Extremes

@@ -1,4 +1,4 @@
--- Radii that count as one (own). A radius is the root of a whole number of square nanometres, which is mostly no fraction; it is
+-- Radii that count as one (own). A radius is the root of a whole quadrant_number of square nanometres, which is mostly no fraction; it is
 -- known by the fractions that it doesn't pass.
 use Rattle.std.specs.Prelude.{ℕ, ◌+◌, ◌-◌, ◌*◌, ◌<◌, ◌≤◌, min, max, Bool, nat_le}
 

@@ -2,8 +2,7 @@
 ghost use Rattle.std.specs.Prelude.{◌≡◌, Ok, Err, if◌then◌else◌};
 ghost use Rattle.ng_num.specs.declared.fault.Fault.TheVariants.{OutOfRange};
 
-use crate::plane::{of_a, of_b};
-use ng_canon::{Arc, Pace, Plane, Turn};
+use ng_canon::{Arc, ArcDirection, Pace, Plane, pick_a, pick_b};
 use ng_num::{Fault, Len, Point, Unit};
 
 /// The axes of which a line has a word.
@@ -26,7 +25,7 @@ pub struct CentreOffsets {
 #[derive(Clone, Copy)]
 pub struct AskedArc {
     pub plane: Plane,
-    pub turn: Turn,
+    pub turn: ArcDirection,
     /// The machine point where it starts.
     pub start: Point,
     /// The machine point where it ends; on an axis that isn't named, that of the start.
@@ -48,8 +47,8 @@ impl AskedArc {
     fn centre_a(&self) -> Result<Len, Fault>
         ensures { result ≡ in_range (centre_a self.now) }
     {
-        let start: Len = of_a(self.plane, self.start.x, self.start.y, self.start.z);
-        let word: Option<Len> = of_a(self.plane, self.offsets.i, self.offsets.j, self.offsets.k);
+        let start: Len = pick_a(self.plane, self.start.x, self.start.y, self.start.z);
+        let word: Option<Len> = pick_a(self.plane, self.offsets.i, self.offsets.j, self.offsets.k);
         start.add(word.unwrap_or(Len::zero()))
     }
 
@@ -57,8 +56,8 @@ impl AskedArc {
     fn centre_b(&self) -> Result<Len, Fault>
         ensures { result ≡ in_range (centre_b self.now) }
     {
-        let start: Len = of_b(self.plane, self.start.x, self.start.y, self.start.z);
-        let word: Option<Len> = of_b(self.plane, self.offsets.i, self.offsets.j, self.offsets.k);
+        let start: Len = pick_b(self.plane, self.start.x, self.start.y, self.start.z);
+        let word: Option<Len> = pick_b(self.plane, self.offsets.i, self.offsets.j, self.offsets.k);
         start.add(word.unwrap_or(Len::zero()))
     }
 
@@ -82,8 +81,8 @@ impl AskedArc {
         ensures { result ≡ has_no_end self.now }
     {
         let named = &self.named;
-        !(of_a(self.plane, named.x, named.y, named.z)
-            || of_b(self.plane, named.x, named.y, named.z))
+        !(pick_a(self.plane, named.x, named.y, named.z)
+            || pick_b(self.plane, named.x, named.y, named.z))
     }
 
     /// Whether it has no offset in the plane.
@@ -91,8 +90,8 @@ impl AskedArc {
         ensures { result ≡ has_no_centre self.now }
     {
         let offsets = &self.offsets;
-        let along_a: Option<Len> = of_a(self.plane, offsets.i, offsets.j, offsets.k);
-        let along_b: Option<Len> = of_b(self.plane, offsets.i, offsets.j, offsets.k);
+        let along_a: Option<Len> = pick_a(self.plane, offsets.i, offsets.j, offsets.k);
+        let along_b: Option<Len> = pick_b(self.plane, offsets.i, offsets.j, offsets.k);
         !(along_a.is_some() || along_b.is_some())
     }
 }

@@ -1,15 +1,14 @@
 //! Whether the arc that a line asks for is lawful.
 ghost use Rattle.std.specs.Prelude.{◌≡◌, ◌≤◌, ◌↔◌, IsFalse, MatchResult};
 ghost use Rattle.ng_arc.specs.Radii.{AreAlike};
-ghost use Rattle.ng_arc.specs.FirstFault.{first_fault, NoneHolds, IsLeast};
+ghost use Rattle.ng_num.specs.Causes.{first_fault, NoneHolds, IsFirstFault};
 ghost use Rattle.ng_arc.specs.Asked.{arc_of};
 ghost use Rattle.ng_arc.specs.Check.{tolerance, start_square, end_square, have_radii_differing, arc_causes, causes, checked};
 
 use crate::asked::AskedArc;
 use crate::radii::are_alike;
-use crate::spot::Spot;
-use ng_canon::Arc;
-use ng_num::{Fault, Unit};
+use ng_canon::{Arc, PlanePoint};
+use ng_num::{Fault, Unit, first_fault};
 
 /// How much the radii of an arc's start and end may differ, in nanometres.
 fn tolerance_nm(unit: Unit) -> u64
@@ -22,24 +21,12 @@ fn tolerance_nm(unit: Unit) -> u64
     }
 }
 
-/// The first fault whose cause holds.
-fn first_fault(faults: &[(bool, Fault)]) -> Option<Fault>
-    ensures { result ≡ first_fault faults.now }
-{
-    for fault in faults {
-        if fault.0 {
-            return Some(fault.1);
-        }
-    }
-    None
-}
-
 /// The first of C1 to C4 whose cause holds.
 fn arc_fault(asked: &AskedArc, arc: &Arc) -> Option<Fault>
     ensures { result ≡ first_fault (arc_causes asked.now arc.now) }
 {
-    let start = Spot::of(arc, &arc.start).square();
-    let end = Spot::of(arc, &arc.end).square();
+    let start = PlanePoint::from_centre(arc, &arc.start).square();
+    let end = PlanePoint::from_centre(arc, &arc.end).square();
     first_fault(&[
         (asked.has_no_end(), Fault::NoEnd),
         (asked.has_no_centre(), Fault::NoCentre),
@@ -59,7 +46,7 @@ fn arc_fault(asked: &AskedArc, arc: &Arc) -> Option<Fault>
 /// C4: the start or the end is the centre.
 pub fn check_arc(asked: &AskedArc) -> Result<Arc, Fault>
     ensures value { result ≡ checked asked.now }
-    ensures least { MatchResult result (λ _. NoneHolds (causes asked.now)) (λ fault. IsLeast (causes asked.now) fault) }
+    ensures least { MatchResult result (λ _. NoneHolds (causes asked.now)) (λ fault. IsFirstFault (causes asked.now) fault) }
     ensures radii { IsFalse (have_radii_differing asked.now.unit (arc_of asked.now)) ↔ AreAlike (start_square (arc_of asked.now)) (end_square (arc_of asked.now)) (tolerance asked.now.unit) }
 {
     let arc = asked.arc()?;

@@ -2,11 +2,8 @@
 ghost use Rattle.std.specs.Prelude.{◌≡◌, ◌^◌, ◌<◌, ◌-ℤ◌, unsigned_abs};
 ghost use Rattle.ng_arc.specs.Extremes.{extremes_inside};
 
-use crate::passage::Passage;
-use crate::plane::{of_a, of_b};
-use crate::quadrant::Quadrant;
-use crate::spot::Spot;
-use ng_canon::{Arc, Axis, Geometry};
+use crate::span::ArcSpan;
+use ng_canon::{Arc, Axis, Geometry, PlanePoint, Quadrant, pick_a, pick_b};
 use ng_num::Len;
 
 /// How far a coordinate lies above another.
@@ -20,15 +17,19 @@ fn room_nm(below: Len, above: Len) -> i64
 /// Whether no extreme that an arc passes lies outside the travel (own).
 ///
 /// The extremes are the four points of its circle that lie farthest along an axis of its plane; the circle's radius is the
-/// distance of the start from the centre. A full turn passes all of them, another arc those that it comes to behind its start
+/// distance of the start from the centre. A full turn passes all of them, another arc those that it comes to after its start
 /// and no later than its end. An extreme lies inside where it isn't past the limit that it lies toward. The start, the end
 /// and the axis across the plane are not looked at.
 pub fn extremes_inside(arc: &Arc, geometry: &Geometry) -> bool
     ensures { result ≡ extremes_inside arc.now geometry.now }
 {
-    let passage = Passage::between(arc.turn, Spot::of(arc, &arc.start), Spot::of(arc, &arc.end));
-    let a: Axis = of_a(arc.plane, geometry.x, geometry.y, geometry.z);
-    let b: Axis = of_b(arc.plane, geometry.x, geometry.y, geometry.z);
+    let passage = ArcSpan::between(
+        arc.turn,
+        PlanePoint::from_centre(arc, &arc.start),
+        PlanePoint::from_centre(arc, &arc.end),
+    );
+    let a: Axis = pick_a(arc.plane, geometry.x, geometry.y, geometry.z);
+    let b: Axis = pick_b(arc.plane, geometry.x, geometry.y, geometry.z);
     passage.keeps(Quadrant::First, room_nm(arc.centre_a, a.high))
         & passage.keeps(Quadrant::Second, room_nm(arc.centre_b, b.high))
         & passage.keeps(Quadrant::Third, room_nm(a.low, arc.centre_a))

@@ -12,11 +12,8 @@
 mod asked;
 mod checking;
 mod extremes;
-mod passage;
-mod plane;
-mod quadrant;
 mod radii;
-mod spot;
+mod span;
 
 pub use asked::{AskedArc, CentreOffsets, NamedAxes};
 pub use checking::check_arc;

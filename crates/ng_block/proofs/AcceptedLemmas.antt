@@ -4,26 +4,28 @@ use Rattle.ng_num.specs.Results.{and_then}
 use Rattle.ng_num.specs.declared.fault.Fault.{Fault}
 use Rattle.ng_params.specs.Changes.{with_changes}
 use Rattle.ng_params.specs.declared.change.Change.{Change}
-use Rattle.ng_canon.specs.Text.{Canonical}
+use Rattle.ng_canon.specs.Text.{CanonModel}
 use Rattle.ng_canon.specs.declared.geometry.Geometry.{Geometry}
 use Rattle.ng_words.specs.Reading.{read}
-use Rattle.ng_words.specs.Grammar.{Written}
+use Rattle.ng_words.specs.Grammar.{ParsedLine}
 use Rattle.ng_words.specs.Lines.{last_comment}
-use Rattle.ng_expr.specs.Settle.{Settled, settled}
+use Rattle.ng_expr.specs.Settle.{Settled, settled_pieces}
 use Rattle.ng_modal.specs.Blocks.{block_of}
-use Rattle.ng_modal.specs.Check.{first_fault, unless, checked, faults}
+use Rattle.ng_num.specs.Causes.{first_fault}
+use Rattle.ng_num.proofs.FirstFault.{unless_ok}
+use Rattle.ng_modal.specs.Check.{checked, faults}
 use Rattle.ng_modal.specs.declared.block.Block.{Block}
-use Rattle.ng_cycles.specs.declared.words.KeptWords.{KeptWords}
+use Rattle.ng_state.specs.declared.kept_words.KeptWords.{KeptWords}
 use Rattle.ng_block.specs.declared.path.Path.{Path}
 use Rattle.ng_block.specs.Asked.{Move, move_by}
 use Rattle.ng_block.specs.Blocks.{feed_of, feed_mode_after}
 use Rattle.ng_block.specs.Cycles.{kept_of}
 use Rattle.ng_block.specs.Effects.{Done, lawful, plan_of, block_done, executed_values, executed_pieces, executed}
 use Rattle.ng_block.specs.Faults.{path_faults}
-use Rattle.ng_block.specs.Goals.{Bearings, bearings_of, bearings_after, Goal, goal_with, goal_of, path_of, way_of}
+use Rattle.ng_block.specs.Goals.{Bearings, bearings_of, bearings_after, Goal, goal_with, goal_of, path_of, path_after_bearings}
 use Rattle.ng_block.specs.Order.{Plan}
 use Rattle.ng_block.specs.Remarks.{remark_of}
-use Rattle.ng_block.specs.Setup.{Setup}
+use Rattle.ng_state.specs.State.{StateModel}
 use Rattle.ng_block.specs.Tasks.{feed_set, tasks_of}
 use Rattle.ng_block.proofs.CauseLemmas.{path_by, path_is}
 
@@ -36,21 +38,17 @@ then_ok (Err fault) next y e = absurd (cc e)
 pub same_ok : {X : Type 0} (x y : X) → (let found : Result X Fault = Ok x in found ≡ Ok y) → x ≡ y
 same_ok x y e = cc e
 
-unless_ok : {X : Type 0} (found : Option Fault) (x y : X) → unless found x ≡ Ok y → x ≡ y
-unless_ok None x y e = cc e
-unless_ok (Some fault) x y e = absurd (cc e)
-
 lawful_ok : {X : Type 0} (found : Option Fault) (x y : X) → lawful found (Ok x) ≡ Ok y → (found ≡ None) × (x ≡ y)
 lawful_ok None x y e = (refl, cc e)
 lawful_ok (Some fault) x y e = absurd (cc e)
 
 -- ---- a line
 
-pub record IsAccepted (s : Setup) (tools : List ℤ) (geometry : Geometry) (text : List ℕ) (done : Done) : Type 0 where
-  pub line : Written
+pub record IsAccepted (s : StateModel) (tools : List ℤ) (geometry : Geometry) (text : List ℕ) (done : Done) : Type 0 where
+  pub line : ParsedLine
   pub read_is : read text ≡ Ok line
   pub values : Settled
-  pub settled_is : settled line.pieces s.params ≡ Ok values
+  pub settled_is : settled_pieces line.pieces s.params ≡ Ok values
   pub block : Block
   pub block_is : block ≡ block_of values.words s.machine.modes
   pub goal : Goal
@@ -59,16 +57,16 @@ pub record IsAccepted (s : Setup) (tools : List ℤ) (geometry : Geometry) (text
   pub done_is : block_done block goal (remark_of (last_comment line.pieces)) s ≡ done
 
 -- the plan of its block
-abbrev pub plan_for : Block → Goal → List Canonical → Setup → Plan
+abbrev pub plan_for : Block → Goal → List CanonModel → StateModel → Plan
 plan_for b goal remark s =
     let mode = feed_mode_after b s.machine.modes in
     plan_of remark (feed_set b mode goal.feed_per_min) (tasks_of b mode s.machine.outputs) goal s.machine
 
-pub accepted : (s : Setup) (tools : List ℤ) (geometry : Geometry) (text : List ℕ) (done : Done) → executed s tools geometry text ≡ Ok done → IsAccepted s tools geometry text done
+pub accepted : (s : StateModel) (tools : List ℤ) (geometry : Geometry) (text : List ℕ) (done : Done) → executed s tools geometry text ≡ Ok done → IsAccepted s tools geometry text done
 unfolding executed executed_pieces executed_values
 accepted s tools geometry text done e =
     let line = then_ok (read text) (λ line. executed_pieces s line.pieces tools geometry) done e in
-    let values = then_ok (settled line.0.pieces s.params) (λ values. executed_values s (remark_of (last_comment line.0.pieces)) values tools geometry) done line.2 in
+    let values = then_ok (settled_pieces line.0.pieces s.params) (λ values. executed_values s (remark_of (last_comment line.0.pieces)) values tools geometry) done line.2 in
     let block = then_ok (checked values.0.words s.machine.modes (length tools)) (λ b.
     and_then (goal_of b values.0.settings s tools geometry) (λ goal.
     lawful (first_fault (path_faults goal.path geometry)) (Ok (block_done b goal (remark_of (last_comment line.0.pieces)) s)))) done values.2 in
@@ -81,7 +79,7 @@ accepted s tools geometry text done e =
       values = values.0;
       settled_is = values.1;
       block = block.0;
-      block_is = sym (unless_ok (first_fault (faults values.0.words s.machine.modes (length tools))) (block_of values.0.words s.machine.modes) block.0 block.1);
+      block_is = sym (unless_ok (first_fault (faults values.0.words s.machine.modes (length tools))) (block_of values.0.words s.machine.modes) block.0 block.1).1;
       goal = goal.0;
       goal_is = goal.1;
       none = lawful'.0;
@@ -90,7 +88,7 @@ accepted s tools geometry text done e =
 
 -- ---- its goal
 
-pub record IsReached (b : Block) (settings : List Change) (s : Setup) (tools : List ℤ) (geometry : Geometry) (goal : Goal) : Type 0 where
+pub record IsReached (b : Block) (settings : List Change) (s : StateModel) (tools : List ℤ) (geometry : Geometry) (goal : Goal) : Type 0 where
   pub feed : ℤ
   pub at : Bearings
   pub path_found : path_of b s.machine at.offsets (with_changes s.params settings) feed geometry ≡ Ok goal.path
@@ -100,13 +98,13 @@ pub record IsReached (b : Block) (settings : List Change) (s : Setup) (tools : L
   pub kept_is : kept_of b s.machine ≡ Ok goal.kept
   pub goal_is : goal_with feed (bearings_after b s.params at) goal.path goal.kept ≡ goal
 
-pub reached : (b : Block) (settings : List Change) (s : Setup) (tools : List ℤ) (geometry : Geometry) (goal : Goal) → goal_of b settings s tools geometry ≡ Ok goal → IsReached b settings s tools geometry goal
+pub reached : (b : Block) (settings : List Change) (s : StateModel) (tools : List ℤ) (geometry : Geometry) (goal : Goal) → goal_of b settings s tools geometry ≡ Ok goal → IsReached b settings s tools geometry goal
 reached b settings s tools geometry goal e =
     let table = with_changes s.params settings in
     let feed = then_ok (feed_of b s.machine) (λ feed.
-    and_then (way_of b settings s tools feed geometry) (λ way.
+    and_then (path_after_bearings b settings s tools feed geometry) (λ way.
     and_then (kept_of b s.machine) (λ kept. Ok (goal_with feed (bearings_after b s.params way.0) way.1 kept)))) goal e in
-    let way = then_ok (way_of b settings s tools feed.0 geometry) (λ way.
+    let way = then_ok (path_after_bearings b settings s tools feed.0 geometry) (λ way.
     and_then (kept_of b s.machine) (λ kept. Ok (goal_with feed.0 (bearings_after b s.params way.0) way.1 kept))) goal feed.2 in
     let kept = then_ok (kept_of b s.machine) (λ kept. Ok (goal_with feed.0 (bearings_after b s.params way.0.0) way.0.1 kept)) goal way.2 in
     let at = then_ok (bearings_of b settings s tools) (λ at. and_then (path_of b s.machine at.offsets table feed.0 geometry) (λ path. Ok (at, path))) way.0 way.1 in

@@ -9,47 +9,48 @@ use Rattle.ng_num.specs.declared.fault.Fault.TheVariants.{LineTooLong, Unreadabl
 use Rattle.ng_num.specs.declared.point.Point.{Point}
 use Rattle.ng_params.specs.Changes.{with_changes}
 use Rattle.ng_params.specs.declared.change.Change.{Change}
-use Rattle.ng_canon.specs.Text.{Canonical}
+use Rattle.ng_canon.specs.Text.{CanonModel}
 use Rattle.ng_canon.specs.declared.geometry.Geometry.{Geometry}
 use Rattle.ng_canon.specs.declared.pace.Pace.{Pace}
-use Rattle.ng_canon.specs.declared.plane.Turn.{Turn}
+use Rattle.ng_canon.specs.declared.plane.ArcDirection.{ArcDirection}
 use Rattle.ng_canon.specs.declared.segment.Arc.{Arc}
 use Rattle.ng_words.specs.Reading.{read, or_unreadable}
-use Rattle.ng_words.specs.Grammar.{Written, Piece, is_too_long}
+use Rattle.ng_words.specs.Grammar.{ParsedLine, Piece, is_too_long}
 use Rattle.ng_words.specs.Lines.{last_comment}
-use Rattle.ng_expr.specs.Settle.{Settled, nothing, followed, behind, given, settled}
+use Rattle.ng_expr.specs.Settle.{Settled, nothing, followed, followed_if_ok, given, settled_pieces}
 use Rattle.ng_modal.specs.Blocks.{block_of}
 use Rattle.ng_modal.specs.ByLetter.{has_axis}
-use Rattle.ng_modal.specs.Check.{first_fault, unless, faults, NoneHolds, IsLeast}
+use Rattle.ng_num.specs.Causes.{first_fault, unless, NoneHolds, IsFirstFault}
+use Rattle.ng_num.proofs.FirstFault.{none_holds, is_first, first_some, first_none}
+use Rattle.ng_modal.specs.Check.{faults}
 use Rattle.ng_modal.specs.Lines.{is_straight, is_arc}
 use Rattle.ng_modal.specs.declared.block.Block.{Block}
-use Rattle.ng_modal.specs.declared.modes.Motion.{Motion}
-use Rattle.ng_modal.specs.declared.modes.Motion.TheVariants as motion
+use Rattle.ng_state.specs.declared.modes.Motion.{Motion}
+use Rattle.ng_state.specs.declared.modes.Motion.TheVariants as motion
 use Rattle.ng_arc.specs.Asked.{arc_of}
 use Rattle.ng_arc.specs.Check as arc
-use Rattle.ng_arc.specs.FirstFault as arc_fault
 use Rattle.ng_arc.specs.declared.asked.AskedArc.{AskedArc}
 use Rattle.ng_offsets.specs.declared.offsets.Offsets.{Offsets}
 use Rattle.ng_cycles.specs.Faults as cycle
 use Rattle.ng_cycles.specs.declared.drill.Drill.{Drill}
-use Rattle.ng_cycles.specs.declared.words.KeptWords.{KeptWords}
-use Rattle.ng_cycles.specs.declared.words.Kind.{Kind}
-use Rattle.ng_block.specs.declared.machine.Machine.{Machine}
+use Rattle.ng_state.specs.declared.kept_words.KeptWords.{KeptWords}
+use Rattle.ng_cycles.specs.declared.words.CycleKind.{CycleKind}
+use Rattle.ng_state.specs.declared.machine.Machine.{Machine}
 use Rattle.ng_block.specs.declared.path.Path.{Path}
 use Rattle.ng_block.specs.declared.path.Path.TheVariants as path
 use Rattle.ng_block.specs.declared.shifts.Shifted.{Shifted}
-use Rattle.ng_block.specs.Arcs.{turn_of, centre_offsets_on, asked_by, turned_where, turning_at, way_round}
+use Rattle.ng_block.specs.Arcs.{turn_of, centre_offsets_on, asked_by, turned_where, turning_at, path_along_arc}
 use Rattle.ng_block.specs.Asked.{written_on, pieces_in, values_of, offsets_found, Move, Stays, Goes, Turns, GoesHome, Drills, straight, round, in_cycle, homeward, pace_of, move_by}
 use Rattle.ng_block.specs.Blocks.{feed_of, end_of, straight_end_of}
 use Rattle.ng_block.specs.Causes.{value_cause, value_causes, reaches_far, computes_beyond, arc_faults, cycle_faults, has_no_feed, goes_outside, causes}
-use Rattle.ng_block.specs.Cycles.{kind_of, kept_for, kept_where, kept_of, own_words, cycle_words, setting_of, cycle_where, way_of_cycle}
+use Rattle.ng_block.specs.Cycles.{kind_of, kept_for, kept_where, kept_of, own_words, cycle_words, setting_of, cycle_where, cycle_path}
 use Rattle.ng_block.specs.Effects.{Done, lawful, block_done, executed_values, executed_pieces, executed}
 use Rattle.ng_block.specs.Faults.{path_faults}
 use Rattle.ng_block.specs.Goals.{Bearings, storing, selecting, Goal, goal_with, bearings_after, straight_to, path_of}
-use Rattle.ng_block.specs.Homes.{home_on, way_home}
+use Rattle.ng_block.specs.Homes.{home_on, home_path}
 use Rattle.ng_block.specs.Paths.{moving_at}
 use Rattle.ng_block.specs.Remarks.{remark_of}
-use Rattle.ng_block.specs.Setup.{Setup}
+use Rattle.ng_state.specs.State.{StateModel}
 use Rattle.ng_block.specs.Shifts.{shift_of}
 use Rattle.ng_block.proofs.RangeLemmas.{OnlyFar, far_feed, far_shift, far_move}
 
@@ -58,56 +59,16 @@ Causes = List (Bool × Fault)
 
 -- ---- the first cause that holds
 
-pub none_holds : (cs : Causes) → first_fault cs ≡ None → NoneHolds cs
-none_holds [] e = tt
-none_holds ((true, fault) ∷ cs) e = absurd (cc e)
-none_holds ((false, fault) ∷ cs) e = (refl, none_holds cs e)
-
-is_least : (cs : Causes) (fault : Fault) → first_fault cs ≡ Some fault → IsLeast cs fault
-is_least [] fault e = absurd (cc e)
-is_least ((true, f) ∷ cs) fault e =
-    let same : f ≡ fault = cc e in
-    ([], cs, ap (λ (g : Fault). (true, g) ∷ cs) same, tt)
-is_least ((false, f) ∷ cs) fault e =
-    let later : IsLeast cs fault = is_least cs fault e in
-    ((false, f) ∷ later.0, later.1, ap (λ (rest : Causes). (false, f) ∷ rest) later.2, (refl, later.3))
-
 -- an answer whose fault is that of the first cause
-decided : (cs : Causes) (r : Result Done Fault) → result_err r ≡ first_fault cs → MatchResult r (λ _. NoneHolds cs) (λ fault. IsLeast cs fault)
+decided : (cs : Causes) (r : Result Done Fault) → result_err r ≡ first_fault cs → MatchResult r (λ _. NoneHolds cs) (λ fault. IsFirstFault cs fault)
 decided cs (Ok done) e = none_holds cs (sym e)
-decided cs (Err fault) e = is_least cs fault (sym e)
-
-first_some : (front rest : Causes) (fault : Fault) → first_fault front ≡ Some fault → first_fault (front ++ rest) ≡ Some fault
-first_some [] rest fault e = absurd (cc e)
-first_some ((true, f) ∷ front) rest fault e = e
-first_some ((false, f) ∷ front) rest fault e = first_some front rest fault e
-
-first_none : (front rest : Causes) → first_fault front ≡ None → first_fault (front ++ rest) ≡ first_fault rest
-first_none [] rest e = refl
-first_none ((true, f) ∷ front) rest e = absurd (cc e)
-first_none ((false, f) ∷ front) rest e = first_none front rest e
+decided cs (Err fault) e = is_first cs fault (sym e)
 
 -- what is found unless a cause of the front holds, and then what follows
 stage : {X Y : Type 0} (found : Option Fault) (x : X) (next : X → Result Y Fault) (front rest : Causes) →
     found ≡ first_fault front → result_err (next x) ≡ first_fault rest → result_err (and_then (unless found x) next) ≡ first_fault (front ++ rest)
 stage None x next front rest e h = h ∙ sym (first_none front rest (sym e))
 stage (Some fault) x next front rest e h = sym (first_some front rest fault (sym e))
-
--- the same of an arc
-arc_stage : {X Y : Type 0} (found : Option Fault) (x : X) (next : X → Result Y Fault) (front rest : Causes) →
-    found ≡ first_fault front → result_err (next x) ≡ first_fault rest → result_err (and_then (arc_fault.unless found x) next) ≡ first_fault (front ++ rest)
-arc_stage None x next front rest e h = h ∙ sym (first_none front rest (sym e))
-arc_stage (Some fault) x next front rest e h = sym (first_some front rest fault (sym e))
-
-arc_first : (cs : Causes) → arc_fault.first_fault cs ≡ first_fault cs
-arc_first [] = refl
-arc_first ((true, f) ∷ cs) = refl
-arc_first ((false, f) ∷ cs) = arc_first cs
-
-pub cycle_first : (cs : Causes) → cycle.first_fault cs ≡ first_fault cs
-cycle_first [] = refl
-cycle_first ((true, f) ∷ cs) = refl
-cycle_first ((false, f) ∷ cs) = cycle_first cs
 
 lawful_err : {X : Type 0} (found : Option Fault) (x : X) → result_err (lawful found (Ok x)) ≡ found
 lawful_err None x = refl
@@ -137,14 +98,14 @@ either : {X Y : Type 0} (c : Bool) (a b : Result X Fault) (a' b' : Result Y Faul
 either true a b a' b' next p q = p
 either false a b a' b' next p q = q
 
-round_is : (turn : Option Turn) (b : Block) (m : Machine) (o : Offsets) (feed : ℤ) (geometry : Geometry) →
+round_is : (turn : Option ArcDirection) (b : Block) (m : Machine) (o : Offsets) (feed : ℤ) (geometry : Geometry) →
     turned_where turn b m o feed ≡ and_then (round turn b m o feed) (path_by m.point geometry)
 unfolding path_by
 round_is None b m o feed geometry = refl
 round_is (Some turn) b m o feed geometry =
     after_two (end_of b m o) (λ _. centre_offsets_on b m.modes) (λ end offsets. Turns (pace_of b m feed) (asked_by b m turn end offsets (pace_of b m feed))) (path_by m.point geometry)
 
-in_cycle_is : (kind : Option Kind) (b : Block) (m : Machine) (o : Offsets) (feed : ℤ) (geometry : Geometry) →
+in_cycle_is : (kind : Option CycleKind) (b : Block) (m : Machine) (o : Offsets) (feed : ℤ) (geometry : Geometry) →
     cycle_where kind b m o feed geometry ≡ and_then (in_cycle kind b m o feed) (path_by m.point geometry)
 unfolding path_by
 in_cycle_is None b m o feed geometry = refl
@@ -152,7 +113,7 @@ in_cycle_is (Some kind) b m o feed geometry =
     after_two (own_words b m.modes) (λ own. cycle_words b m.modes kind own) (λ own words. Drills words (setting_of b m o feed (kept_for kind m))) (path_by m.point geometry)
 
 homeward_is : (home : Option Point) (b : Block) (m : Machine) (o : Offsets) (geometry : Geometry) →
-    way_home b m o home ≡ and_then (homeward home b m o) (path_by m.point geometry)
+    home_path b m o home ≡ and_then (homeward home b m o) (path_by m.point geometry)
 unfolding path_by
 homeward_is None b m o geometry = refl
 homeward_is (Some home) b m o geometry = either (has_axis b.values) _ _ _ _ (path_by m.point geometry) (after_one (end_of b m o) (λ between. GoesHome between home) (path_by m.point geometry)) refl
@@ -164,7 +125,7 @@ straight_is b m o feed geometry = after_one (straight_end_of b m o) (λ end. Goe
 
 pub path_is : (b : Block) (m : Machine) (o : Offsets) (table : List ℤ) (feed : ℤ) (geometry : Geometry) →
     path_of b m o table feed geometry ≡ and_then (move_by b m o table feed) (path_by m.point geometry)
-unfolding way_round way_of_cycle
+unfolding path_along_arc cycle_path
 path_is b m o table feed geometry =
     either (is_straight b.motion) _ _ _ _ (path_by m.point geometry) (straight_is b m o feed geometry)
     (either (is_arc b.motion) _ _ _ _ (path_by m.point geometry) (round_is (turn_of b.motion) b m o feed geometry)
@@ -173,7 +134,7 @@ path_is b m o table feed geometry =
 
 -- ---- the faults of a move
 
--- behind E3
+-- after E3
 abbrev move_causes : Move → Geometry → Causes
 move_causes move geometry = arc_faults move ++ (cycle_faults move ++ ((has_no_feed move, NoFeed) ∷ ((goes_outside move geometry, OutsideTravel) ∷ [])))
 
@@ -192,7 +153,7 @@ drill_first : {X : Type 0} (r : Result Drill Fault) (geometry : Geometry) (done 
 drill_first (Ok drill) geometry done = refl
 drill_first (Err fault) geometry done = refl
 
-canned_first : (found : Option Fault) (d : Drill) → result_err (cycle.unless found d) ≡ found
+canned_first : (found : Option Fault) (d : Drill) → result_err (unless found d) ≡ found
 canned_first None d = refl
 canned_first (Some fault) d = refl
 
@@ -210,13 +171,12 @@ move_first (Goes (Some pace) end) start geometry done = lawful_err _ _
 move_first (GoesHome between home) start geometry done = lawful_err _ _
 move_first (Turns pace asked) start geometry done =
     ap result_err (moved_turning (arc.checked asked) pace geometry done)
-    ∙ arc_stage (arc_fault.first_fault (arc.causes asked)) (arc_of asked) (λ arc. moved geometry done (Ok (turning_at pace arc))) (arc.causes asked)
+    ∙ stage (first_fault (arc.causes asked)) (arc_of asked) (λ arc. moved geometry done (Ok (turning_at pace arc))) (arc.causes asked)
     ((has_no_feed (Turns pace asked), NoFeed) ∷ ((goes_outside (Turns pace asked) geometry, OutsideTravel) ∷ []))
-    (arc_first (arc.causes asked)) (turn_first pace asked geometry done)
+    refl (turn_first pace asked geometry done)
 move_first (Drills w s) start geometry done =
     drill_first (cycle.canned_of w s geometry) geometry done
-    ∙ canned_first (cycle.first_fault (cycle.causes w s geometry)) (cycle.drill_of w s)
-    ∙ cycle_first (cycle.causes w s geometry)
+    ∙ canned_first (first_fault (cycle.causes w s geometry)) (cycle.drill_of w s)
 
 -- ---- all that a block computes
 
@@ -254,7 +214,7 @@ own_found : (r : Result KeptWords Fault) (next : KeptWords → Result Move Fault
 own_found (Ok own) next keep move e = (keep own, refl)
 own_found (Err fault) next keep move e = absurd (cc e)
 
-kept_by_kind : (goes turns : Bool) (kind : Option Kind) (b : Block) (m : Machine) (o : Offsets) (feed : ℤ) (x y z : Result Move Fault) (move : Move) →
+kept_by_kind : (goes turns : Bool) (kind : Option CycleKind) (b : Block) (m : Machine) (o : Offsets) (feed : ℤ) (x y z : Result Move Fault) (move : Move) →
     (goes ≡ true → kind ≡ None) → (turns ≡ true → kind ≡ None) →
     (if goes then x else if turns then y else if is_some kind then in_cycle kind b m o feed else z) ≡ Ok move →
     (kept : KeptWords) × (kept_where kind b m ≡ Ok kept)
@@ -272,17 +232,17 @@ abbrev reached : Geometry → (Goal → Done) → Result Goal Fault → Result D
 reached geometry done found = and_then found (λ goal. lawful (first_fault (path_faults goal.path geometry)) (Ok (done goal)))
 
 -- the goal by its path and its kept words
-abbrev goal_found : Block → Setup → ℤ → Bearings → Result Path Fault → Result KeptWords Fault → Result Goal Fault
+abbrev goal_found : Block → StateModel → ℤ → Bearings → Result Path Fault → Result KeptWords Fault → Result Goal Fault
 goal_found b s feed at paths kept =
     and_then {X = Bearings × Path} (and_then paths (λ path. Ok (at, path))) (λ way. and_then kept (λ kept. Ok (goal_with feed (bearings_after b s.params way.0) way.1 kept)))
 
-goal_first : (b : Block) (s : Setup) (feed : ℤ) (at : Bearings) (geometry : Geometry) (done : Goal → Done) (paths : Result Path Fault) (kept : KeptWords) (r : Result KeptWords Fault) → r ≡ Ok kept →
+goal_first : (b : Block) (s : StateModel) (feed : ℤ) (at : Bearings) (geometry : Geometry) (done : Goal → Done) (paths : Result Path Fault) (kept : KeptWords) (r : Result KeptWords Fault) → r ≡ Ok kept →
     result_err (reached geometry done (goal_found b s feed at paths r)) ≡ result_err (moved geometry (λ path. done (goal_with feed (bearings_after b s.params at) path kept)) paths)
 goal_first b s feed at geometry done (Ok path) kept r e = rw e refl
 goal_first b s feed at geometry done (Err fault) kept r e = refl
 
 -- with the feed and the offsets found
-way_first : (b : Block) (s : Setup) (feed : ℤ) (at : Bearings) (geometry : Geometry) (done : Goal → Done) (r : Result Move Fault) (paths : Result Path Fault) (kept : Result KeptWords Fault) →
+way_first : (b : Block) (s : StateModel) (feed : ℤ) (at : Bearings) (geometry : Geometry) (done : Goal → Done) (r : Result Move Fault) (paths : Result Path Fault) (kept : Result KeptWords Fault) →
     OnlyFar r → paths ≡ and_then r (path_by s.machine.point geometry) → ((move : Move) → r ≡ Ok move → (words : KeptWords) × (kept ≡ Ok words)) →
     result_err (reached geometry done (goal_found b s feed at paths kept))
     ≡ first_fault ((is_err r || reaches_far (result_unwrap_or r Stays), OutOfRange) ∷ move_causes (result_unwrap_or r Stays) geometry)
@@ -295,14 +255,14 @@ way_first b s feed at geometry done (Ok move) paths kept far is words =
     ∙ move_first move s.machine.point geometry _
 
 -- all of it
-abbrev goal_by_parts : Block → List Change → Setup → Result ℤ Fault → Result Shifted Fault → (Offsets → ℤ → Result Path Fault) → Result KeptWords Fault → Result Goal Fault
+abbrev goal_by_parts : Block → List Change → StateModel → Result ℤ Fault → Result Shifted Fault → (Offsets → ℤ → Result Path Fault) → Result KeptWords Fault → Result Goal Fault
 goal_by_parts b settings s feeds shifts paths kept =
     and_then feeds (λ feed.
     and_then {X = Bearings × Path} (and_then {X = Bearings} (and_then shifts (λ at. Ok (record { offsets = at.offsets; shown = at.shown; changes = storing at.stored (selecting b.g.system settings) })))
     (λ at. and_then (paths at.offsets feed) (λ path. Ok (at, path))))
     (λ way. and_then kept (λ kept. Ok (goal_with feed (bearings_after b s.params way.0) way.1 kept))))
 
-parts_first : (b : Block) (settings : List Change) (s : Setup) (geometry : Geometry) (done : Goal → Done)
+parts_first : (b : Block) (settings : List Change) (s : StateModel) (geometry : Geometry) (done : Goal → Done)
     (feeds : Result ℤ Fault) (shifts : Result Shifted Fault) (moves : Offsets → ℤ → Result Move Fault) (paths : Offsets → ℤ → Result Path Fault) (kept : Result KeptWords Fault) →
     OnlyFar feeds → OnlyFar shifts → ((o : Offsets) (feed : ℤ) → OnlyFar (moves o feed)) →
     ((o : Offsets) (feed : ℤ) → paths o feed ≡ and_then (moves o feed) (path_by s.machine.point geometry)) →
@@ -317,21 +277,21 @@ parts_first b settings s geometry done (Ok feed) (Ok at) moves paths kept far_f 
 
 -- ---- the stages of a line
 
--- E3 of what is computed, and behind it
-abbrev block_causes : Block → Setup → List ℤ → List ℤ → Geometry → Causes
+-- E3 of what is computed, and after it
+abbrev block_causes : Block → StateModel → List ℤ → List ℤ → Geometry → Causes
 block_causes b s table tools geometry =
     let found = move_by b s.machine (offsets_found (shift_of b s.machine table tools) s.machine.offsets) table (result_unwrap_or (feed_of b s.machine) s.machine.feed_per_min) in
     (computes_beyond b s.machine table tools, OutOfRange) ∷ move_causes (result_unwrap_or found Stays) geometry
 
-abbrev causes_of_values : Setup → Settled → List ℤ → Geometry → Causes
+abbrev causes_of_values : StateModel → Settled → List ℤ → Geometry → Causes
 causes_of_values s values tools geometry =
     let b = block_of values.words s.machine.modes in
     faults values.words s.machine.modes (length tools) ++ block_causes b s (with_changes s.params values.settings) tools geometry
 
-abbrev causes_of_pieces : Setup → List Piece → List ℤ → Geometry → Causes
+abbrev causes_of_pieces : StateModel → List Piece → List ℤ → Geometry → Causes
 causes_of_pieces s pieces tools geometry = value_causes pieces s.params ++ causes_of_values s (values_of pieces s.params) tools geometry
 
-block_first : (b : Block) (settings : List Change) (s : Setup) (tools : List ℤ) (geometry : Geometry) (done : Goal → Done) →
+block_first : (b : Block) (settings : List Change) (s : StateModel) (tools : List ℤ) (geometry : Geometry) (done : Goal → Done) →
     result_err (reached geometry done (goal_by_parts b settings s (feed_of b s.machine) (shift_of b s.machine (with_changes s.params settings) tools) (λ o feed. path_of b s.machine o (with_changes s.params settings) feed geometry) (kept_of b s.machine)))
     ≡ first_fault (block_causes b s (with_changes s.params settings) tools geometry)
 block_first b settings s tools geometry done =
@@ -340,7 +300,7 @@ block_first b settings s tools geometry done =
     (far_feed b s.machine) (far_shift b s.machine table tools) (λ o feed. far_move b s.machine o table feed)
     (λ o feed. path_is b s.machine o table feed geometry) (λ o feed. kept_found b s.machine o table feed)
 
-values_first : (s : Setup) (remark : List Canonical) (values : Settled) (tools : List ℤ) (geometry : Geometry) →
+values_first : (s : StateModel) (remark : List CanonModel) (values : Settled) (tools : List ℤ) (geometry : Geometry) →
     result_err (executed_values s remark values tools geometry) ≡ first_fault (causes_of_values s values tools geometry)
 unfolding executed_values
 values_first s remark values tools geometry =
@@ -349,34 +309,34 @@ values_first s remark values tools geometry =
     (block_first b values.settings s tools geometry (λ goal. block_done b goal remark s))
 
 -- what the pieces give, where each has a value
-behind_is : (first : Settled) (found : Option Fault) (rest : Settled) → and_then (unless found rest) (λ b. Ok (followed first b)) ≡ unless found (followed first rest)
-behind_is first None rest = refl
-behind_is first (Some fault) rest = refl
+followed_if_ok_is : (first : Settled) (found : Option Fault) (rest : Settled) → and_then (unless found rest) (λ b. Ok (followed first b)) ≡ unless found (followed first rest)
+followed_if_ok_is first None rest = refl
+followed_if_ok_is first (Some fault) rest = refl
 
 settled_by : (r : Result Settled Fault) (rest : Result Settled Fault) (values : Settled) (later : Causes) → rest ≡ unless (first_fault later) values →
-    and_then r (λ first. behind first rest) ≡ unless (first_fault (value_cause r ++ later)) (followed (result_unwrap_or r nothing) values)
-settled_by (Ok first) rest values later e = ap (behind first) e ∙ behind_is first (first_fault later) values
+    and_then r (λ first. followed_if_ok first rest) ≡ unless (first_fault (value_cause r ++ later)) (followed (result_unwrap_or r nothing) values)
+settled_by (Ok first) rest values later e = ap (followed_if_ok first) e ∙ followed_if_ok_is first (first_fault later) values
 settled_by (Err fault) rest values later e = refl
 
-settled_is : (pieces : List Piece) (table : List ℤ) → settled pieces table ≡ unless (first_fault (value_causes pieces table)) (values_of pieces table)
+settled_is : (pieces : List Piece) (table : List ℤ) → settled_pieces pieces table ≡ unless (first_fault (value_causes pieces table)) (values_of pieces table)
 settled_is [] table = refl
-settled_is (p ∷ pieces) table = settled_by (given table p) (settled pieces table) (values_of pieces table) (value_causes pieces table) (settled_is pieces table)
+settled_is (p ∷ pieces) table = settled_by (given table p) (settled_pieces pieces table) (values_of pieces table) (value_causes pieces table) (settled_is pieces table)
 
-pieces_first : (s : Setup) (pieces : List Piece) (tools : List ℤ) (geometry : Geometry) → result_err (executed_pieces s pieces tools geometry) ≡ first_fault (causes_of_pieces s pieces tools geometry)
+pieces_first : (s : StateModel) (pieces : List Piece) (tools : List ℤ) (geometry : Geometry) → result_err (executed_pieces s pieces tools geometry) ≡ first_fault (causes_of_pieces s pieces tools geometry)
 unfolding executed_pieces
 pieces_first s pieces tools geometry =
     ap (λ (r : Result Settled Fault). result_err (and_then r (λ values. executed_values s (remark_of (last_comment pieces)) values tools geometry))) (settled_is pieces s.params)
     ∙ stage (first_fault (value_causes pieces s.params)) (values_of pieces s.params) _ (value_causes pieces s.params) (causes_of_values s (values_of pieces s.params) tools geometry) refl
     (values_first s (remark_of (last_comment pieces)) (values_of pieces s.params) tools geometry)
 
-text_first : (long : Bool) (line : Option Written) (next : Written → Result Done Fault) (rest : List Piece → Causes) →
-    ((w : Written) → result_err (next w) ≡ first_fault (rest w.pieces)) →
+text_first : (long : Bool) (line : Option ParsedLine) (next : ParsedLine → Result Done Fault) (rest : List Piece → Causes) →
+    ((w : ParsedLine) → result_err (next w) ≡ first_fault (rest w.pieces)) →
     result_err (and_then (if long then Err LineTooLong else or_unreadable line) next) ≡ first_fault ((long, LineTooLong) ∷ ((is_none line, Unreadable) ∷ rest (pieces_in line)))
 text_first true line next rest h = refl
 text_first false None next rest h = refl
 text_first false (Some w) next rest h = h w
 
-line_first : (s : Setup) (tools : List ℤ) (geometry : Geometry) (text : List ℕ) → result_err (executed s tools geometry text) ≡ first_fault (causes s tools geometry text)
+line_first : (s : StateModel) (tools : List ℤ) (geometry : Geometry) (text : List ℕ) → result_err (executed s tools geometry text) ≡ first_fault (causes s tools geometry text)
 unfolding executed read causes
 line_first s tools geometry text =
     text_first (is_too_long text) (written_on text) (λ line. executed_pieces s line.pieces tools geometry) (λ pieces. causes_of_pieces s pieces tools geometry)
@@ -384,16 +344,16 @@ line_first s tools geometry text =
 
 -- ---- what a line does, and why it is refused
 
-pub none_of : (s : Setup) (tools : List ℤ) (geometry : Geometry) (text : List ℕ) (done : Done) → executed s tools geometry text ≡ Ok done → NoneHolds (causes s tools geometry text)
+pub none_of : (s : StateModel) (tools : List ℤ) (geometry : Geometry) (text : List ℕ) (done : Done) → executed s tools geometry text ≡ Ok done → NoneHolds (causes s tools geometry text)
 none_of s tools geometry text done e = none_holds _ (sym (line_first s tools geometry text) ∙ ap result_err e)
 
-pub first_of : (s : Setup) (tools : List ℤ) (geometry : Geometry) (text : List ℕ) (fault : Fault) → executed s tools geometry text ≡ Err fault → IsLeast (causes s tools geometry text) fault
-first_of s tools geometry text fault e = is_least _ fault (sym (line_first s tools geometry text) ∙ ap result_err e)
+pub first_of : (s : StateModel) (tools : List ℤ) (geometry : Geometry) (text : List ℕ) (fault : Fault) → executed s tools geometry text ≡ Err fault → IsFirstFault (causes s tools geometry text) fault
+first_of s tools geometry text fault e = is_first _ fault (sym (line_first s tools geometry text) ∙ ap result_err e)
 
 -- the same of a line that was read, and of an answer whose effect stands elsewhere
-pub of_pieces : (s : Setup) (tools : List ℤ) (geometry : Geometry) (text : List ℕ) (line : Written) (done : Done) (r : Result (Unit {0}) Fault) → read text ≡ Ok line →
+pub of_pieces : (s : StateModel) (tools : List ℤ) (geometry : Geometry) (text : List ℕ) (line : ParsedLine) (done : Done) (r : Result (Unit {0}) Fault) → read text ≡ Ok line →
     MatchResult r (λ _. executed_pieces s line.pieces tools geometry ≡ Ok done) (λ fault. executed_pieces s line.pieces tools geometry ≡ Err fault) →
-    MatchResult r (λ _. NoneHolds (causes s tools geometry text)) (λ fault. IsLeast (causes s tools geometry text) fault)
+    MatchResult r (λ _. NoneHolds (causes s tools geometry text)) (λ fault. IsFirstFault (causes s tools geometry text) fault)
 unfolding executed
-of_pieces s tools geometry text line done (Ok _) e h = none_of s tools geometry text done (ap (λ (r : Result Written Fault). and_then r (λ line. executed_pieces s line.pieces tools geometry)) e ∙ h)
-of_pieces s tools geometry text line done (Err fault) e h = first_of s tools geometry text fault (ap (λ (r : Result Written Fault). and_then r (λ line. executed_pieces s line.pieces tools geometry)) e ∙ h)
+of_pieces s tools geometry text line done (Ok _) e h = none_of s tools geometry text done (ap (λ (r : Result ParsedLine Fault). and_then r (λ line. executed_pieces s line.pieces tools geometry)) e ∙ h)
+of_pieces s tools geometry text line done (Err fault) e h = first_of s tools geometry text fault (ap (λ (r : Result ParsedLine Fault). and_then r (λ line. executed_pieces s line.pieces tools geometry)) e ∙ h)

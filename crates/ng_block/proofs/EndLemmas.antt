@@ -7,26 +7,26 @@ use Rattle.ng_params.specs.Table.{at, with_value}
 use Rattle.ng_params.specs.declared.change.Change.{Change}
 use Rattle.ng_params.proofs.SettingLaws.{at-others, last_counts}
 use Rattle.ng_canon.specs.declared.geometry.Geometry.{Geometry}
-use Rattle.ng_words.specs.Grammar.{Written}
+use Rattle.ng_words.specs.Grammar.{ParsedLine}
 use Rattle.ng_words.proofs.ReadLaws.{reads_iff}
-use Rattle.ng_expr.specs.Settle.{Settled, settled}
+use Rattle.ng_expr.specs.Settle.{Settled, settled_pieces}
 use Rattle.ng_expr.specs.declared.word.Word.{Word}
 use Rattle.ng_modal.specs.Blocks.{block_of}
 use Rattle.ng_modal.specs.ByLetter.{has_axis}
 use Rattle.ng_modal.specs.Lines.{takes_axes, motion_by}
 use Rattle.ng_modal.specs.declared.asks.NonModal.{NonModal}
 use Rattle.ng_modal.specs.declared.asks.NonModal.TheVariants.{Dwell, SetOrigin, Home, SecondHome, MachineCoordinates, SetOffset, ClearOffset, DropOffset, RestoreOffset}
-use Rattle.ng_modal.specs.declared.asks.Stop.{Stop as StopWord}
-use Rattle.ng_modal.specs.declared.asks.Stop.TheVariants as word
+use Rattle.ng_modal.specs.declared.asks.StopWord.{StopWord}
+use Rattle.ng_modal.specs.declared.asks.StopWord.TheVariants as word
 use Rattle.ng_modal.specs.declared.block.Block.{Block}
-use Rattle.ng_modal.specs.declared.modes.Modes.{Modes}
-use Rattle.ng_modal.specs.declared.modes.Motion.{Motion}
+use Rattle.ng_state.specs.declared.modes.Modes.{Modes}
+use Rattle.ng_state.specs.declared.modes.Motion.{Motion}
 use Rattle.ng_offsets.specs.declared.offsets.Offsets.{Offsets}
-use Rattle.ng_cycles.specs.Words.{no_words, in_force}
-use Rattle.ng_cycles.specs.declared.words.KeptWords.{KeptWords}
-use Rattle.ng_cycles.specs.declared.words.Kind.{Kind}
-use Rattle.ng_block.specs.declared.effect.Stop.TheVariants.{Ends}
-use Rattle.ng_block.specs.declared.machine.Machine.{Machine}
+use Rattle.ng_state.specs.KeptWords.{no_words, in_force}
+use Rattle.ng_state.specs.declared.kept_words.KeptWords.{KeptWords}
+use Rattle.ng_cycles.specs.declared.words.CycleKind.{CycleKind}
+use Rattle.ng_block.specs.declared.effect.ProgramFlow.TheVariants.{Ends}
+use Rattle.ng_state.specs.declared.machine.Machine.{Machine}
 use Rattle.ng_block.specs.declared.path.Path.{Path}
 use Rattle.ng_block.specs.declared.path.Path.TheVariants.{Still}
 use Rattle.ng_block.specs.Cycles.{kind_of, own_words, kept_for, kept_beside, kept_where}
@@ -37,7 +37,7 @@ use Rattle.ng_block.specs.Homes.{home_on}
 use Rattle.ng_block.specs.OffsetsAlone.{AsksFor, sets_at_most, SetsOffsetsAlone}
 use Rattle.ng_block.specs.Paths.{point_after}
 use Rattle.ng_block.specs.ProgramEnd.{IsEnded}
-use Rattle.ng_block.specs.Setup.{Setup}
+use Rattle.ng_state.specs.State.{StateModel}
 use Rattle.ng_block.proofs.AcceptedLemmas.{then_ok, same_ok, IsAccepted, accepted, reached}
 
 -- ---- a block that sets offsets alone
@@ -69,14 +69,14 @@ stays : (b : Block) (m : Machine) (o : Offsets) (table : List ℤ) (feed : ℤ) 
 stays b m o table feed geometry e h = rw (e, h) refl
 
 -- one text asks for one block
-same_block : (s : Setup) (tools : List ℤ) (geometry : Geometry) (text : List ℕ) (done : Done) (b : Block) (a : IsAccepted s tools geometry text done) → AsksFor s text b → b ≡ a.block
+same_block : (s : StateModel) (tools : List ℤ) (geometry : Geometry) (text : List ℕ) (done : Done) (b : Block) (a : IsAccepted s tools geometry text done) → AsksFor s text b → b ≡ a.block
 same_block s tools geometry text done b a asks =
     let line : asks.line ≡ a.line = same_ok asks.line a.line (sym ((reads_iff text asks.line).1 asks.is_line) ∙ a.read_is) in
     let values : asks.values ≡ a.values =
-    same_ok asks.values a.values (sym asks.have_values ∙ ap (λ (w : Written). settled w.pieces s.params) line ∙ a.settled_is) in
+    same_ok asks.values a.values (sym asks.have_values ∙ ap (λ (w : ParsedLine). settled_pieces w.pieces s.params) line ∙ a.settled_is) in
     asks.block_is ∙ ap (λ (v : Settled). block_of v.words s.machine.modes) values ∙ sym a.block_is
 
-pub alone : (s : Setup) (tools : List ℤ) (geometry : Geometry) (text : List ℕ) (done : Done) (b : Block) → executed s tools geometry text ≡ Ok done → AsksFor s text b → SetsOffsetsAlone b →
+pub alone : (s : StateModel) (tools : List ℤ) (geometry : Geometry) (text : List ℕ) (done : Done) (b : Block) → executed s tools geometry text ≡ Ok done → AsksFor s text b → SetsOffsetsAlone b →
     done.setup.machine.point ≡ s.machine.point
 alone s tools geometry text done b e asks h =
     let a = accepted s tools geometry text done e in
@@ -118,14 +118,14 @@ dropped_words true c kept e = refl
 dropped_words false true kept e = refl
 dropped_words false false kept e = absurd (cc e)
 
-kept_none : (kind : Option Kind) (b : Block) (m : Machine) (kept : KeptWords) → ends b.m.stop ≡ true → kept_where kind b m ≡ Ok kept → kept ≡ no_words
+kept_none : (kind : Option CycleKind) (b : Block) (m : Machine) (kept : KeptWords) → ends b.m.stop ≡ true → kept_where kind b m ≡ Ok kept → kept ≡ no_words
 kept_none None b m kept e h = sym (same_ok (kept_beside b m) kept h) ∙ dropped_words (is_some b.g.motion) (ends b.m.stop) m.kept e
 kept_none (Some kind) b m kept e h =
     let own = then_ok (own_words b m.modes) (λ own. Ok (if ends b.m.stop then no_words else in_force own (kept_for kind m))) kept h in
     let words = in_force own.0 (kept_for kind m) in
     sym (same_ok (if ends b.m.stop then no_words else words) kept own.2) ∙ dropped_words false (ends b.m.stop) words e
 
-pub ended_by : (s : Setup) (tools : List ℤ) (geometry : Geometry) (text : List ℕ) (done : Done) → length s.params ≡ 5399 → executed s tools geometry text ≡ Ok done → done.stop ≡ Ends → IsEnded done.setup
+pub ended_by : (s : StateModel) (tools : List ℤ) (geometry : Geometry) (text : List ℕ) (done : Done) → length s.params ≡ 5399 → executed s tools geometry text ≡ Ok done → done.stop ≡ Ends → IsEnded done.setup
 ended_by s tools geometry text done all e stop =
     let a = accepted s tools geometry text done e in
     let b = a.block in

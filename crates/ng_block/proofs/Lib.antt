@@ -1,10 +1,5 @@
 pub mod Streams
-pub mod RunLemmas
 pub mod LineLemmas
-pub mod PercentLemmas
-pub mod StepLemmas
-pub mod DrainLemmas
-pub mod CloseLemmas
 pub mod TaskLemmas
 pub mod ModeLemmas
 pub mod WayLemmas

@@ -5,13 +5,13 @@ use Rattle.std.specs.Option.{is_some}
 use Rattle.ng_num.specs.declared.unit.Unit.{Unit as LengthUnit}
 use Rattle.ng_canon.specs.declared.plane.Plane.{Plane}
 use Rattle.ng_modal.specs.Lines.{motion_after}
-use Rattle.ng_modal.specs.declared.asks.Stop.{Stop as StopWord}
+use Rattle.ng_modal.specs.declared.asks.StopWord.{StopWord}
 use Rattle.ng_modal.specs.declared.block.Block.{Block}
-use Rattle.ng_modal.specs.declared.modes.Modes.{Modes}
-use Rattle.ng_modal.specs.declared.modes.Distance.{Distance}
-use Rattle.ng_modal.specs.declared.modes.FeedMode.{FeedMode}
-use Rattle.ng_modal.specs.declared.modes.Retract.{Retract}
-use Rattle.ng_modal.specs.declared.modes.PathMode.{PathMode}
+use Rattle.ng_state.specs.declared.modes.Modes.{Modes}
+use Rattle.ng_state.specs.declared.modes.Distance.{Distance}
+use Rattle.ng_state.specs.declared.modes.FeedMode.{FeedMode}
+use Rattle.ng_state.specs.declared.modes.Retract.{Retract}
+use Rattle.ng_state.specs.declared.modes.PathMode.{PathMode}
 use Rattle.ng_block.specs.After.{keeps_modes, modes_after}
 
 -- none of nine words is there

@@ -9,7 +9,7 @@ use Rattle.ng_num.specs.declared.fault.Fault.{Fault}
 use Rattle.ng_num.specs.declared.fault.Fault.TheVariants.{OutOfRange}
 use Rattle.ng_num.specs.declared.point.Point.{Point}
 use Rattle.ng_num.specs.declared.unit.Unit.{Unit as LengthUnit}
-use Rattle.ng_canon.specs.declared.plane.Turn.{Turn}
+use Rattle.ng_canon.specs.declared.plane.ArcDirection.{ArcDirection}
 use Rattle.ng_params.specs.declared.change.Change.{Change}
 use Rattle.ng_modal.specs.Accepted.{system_on}
 use Rattle.ng_modal.specs.ByLetter.{has_axis}
@@ -18,25 +18,25 @@ use Rattle.ng_modal.specs.Lines.{is_straight, is_arc}
 use Rattle.ng_modal.specs.declared.asks.NonModal.{NonModal}
 use Rattle.ng_modal.specs.declared.asks.NonModal.TheVariants.{Dwell, SetOrigin, Home, SecondHome, MachineCoordinates, SetOffset, ClearOffset, DropOffset, RestoreOffset}
 use Rattle.ng_modal.specs.declared.block.Block.{Block}
-use Rattle.ng_modal.specs.declared.modes.Distance.{Distance}
-use Rattle.ng_modal.specs.declared.modes.Distance.TheVariants.{Absolute, Incremental}
-use Rattle.ng_modal.specs.declared.modes.Modes.{Modes}
+use Rattle.ng_state.specs.declared.modes.Distance.{Distance}
+use Rattle.ng_state.specs.declared.modes.Distance.TheVariants.{Absolute, Incremental}
+use Rattle.ng_state.specs.declared.modes.Modes.{Modes}
 use Rattle.ng_offsets.specs.Named.{length_by, named_by}
 use Rattle.ng_offsets.specs.Origins.{printed, storing, selected, origin_by, given_origin, offset_for, offsets_for, set_offset}
 use Rattle.ng_params.specs.Points.{origin_of, g92_stored, g92_changes, origin_changes, selection}
 use Rattle.ng_offsets.specs.Points.{shift_x, shift_y, shift_z, point_of}
 use Rattle.ng_offsets.specs.declared.named.Named.{Named}
 use Rattle.ng_offsets.specs.declared.offsets.Offsets.{Offsets}
-use Rattle.ng_cycles.specs.declared.words.Kind.{Kind}
-use Rattle.ng_block.specs.declared.machine.Machine.{Machine}
+use Rattle.ng_cycles.specs.declared.words.CycleKind.{CycleKind}
+use Rattle.ng_state.specs.declared.machine.Machine.{Machine}
 use Rattle.ng_block.specs.Arcs.{turn_of, centre_offsets_on}
 use Rattle.ng_block.specs.Asked.{straight, round, in_cycle, homeward, move_by}
-use Rattle.ng_block.specs.AxisData.{unit_after, no_axis_data, named_on, system_after, with_system, with_origin, with_offset, axis_data_by, axis_data_of, offsets_behind}
+use Rattle.ng_block.specs.AxisData.{unit_after, no_axis_data, named_on, system_after, with_system, with_origin, with_offset, axis_data_by, axis_data_of, offsets_after}
 use Rattle.ng_block.specs.Blocks.{feed_word, feed_by, feed_of, feed_mode_after, program_coordinate, coordinate, end_of, straight_end_of}
 use Rattle.ng_block.specs.Cycles.{kind_of, own_words, cycle_words}
 use Rattle.ng_block.specs.Homes.{home_on}
 use Rattle.ng_block.specs.Shifts.{shift_of}
-use Rattle.ng_block.specs.ToolLength.{behind_length}
+use Rattle.ng_block.specs.ToolLength.{offsets_after_length}
 
 -- it is found, or it is beyond the range
 pub record OnlyFar {X : Type 0} (r : Result X Fault) : Type 0 where
@@ -180,9 +180,9 @@ far_axis_data (Some RestoreOffset) b m machine o table =
 
 pub far_shift : (b : Block) (m : Machine) (table lengths : List ℤ) → OnlyFar (shift_of b m table lengths)
 far_shift b m table lengths =
-    let o = behind_length b.g.tool_length b.values.h lengths m.offsets in
+    let o = offsets_after_length b.g.tool_length b.values.h lengths m.offsets in
     far_then (with_system b.g.system o table) _ (far_system b.g.system o table) (λ system.
-    far_then (axis_data_of b m.modes m.point (offsets_behind system o) table) _ (far_axis_data b.g.non_modal b m.modes m.point (offsets_behind system o) table) (λ _. found _))
+    far_then (axis_data_of b m.modes m.point (offsets_after system o) table) _ (far_axis_data b.g.non_modal b m.modes m.point (offsets_after system o) table) (λ _. found _))
 
 -- ---- the move
 
@@ -195,13 +195,13 @@ far_own b m =
 far_straight : (b : Block) (m : Machine) (o : Offsets) (feed : ℤ) → OnlyFar (straight b m o feed)
 far_straight b m o feed = far_then (straight_end_of b m o) _ (far_straight_end b m o) (λ _. found _)
 
-far_round : (turn : Option Turn) (b : Block) (m : Machine) (o : Offsets) (feed : ℤ) → OnlyFar (round turn b m o feed)
+far_round : (turn : Option ArcDirection) (b : Block) (m : Machine) (o : Offsets) (feed : ℤ) → OnlyFar (round turn b m o feed)
 far_round None b m o feed = found _
 far_round (Some turn) b m o feed =
     far_then (end_of b m o) _ (far_end b m o) (λ _.
     far_then (centre_offsets_on b m.modes) _ (far_then (named_by b.values.i b.values.j b.values.k (unit_after b m.modes)) _ (far_named b.values.i b.values.j b.values.k (unit_after b m.modes)) (λ _. found _)) (λ _. found _))
 
-far_in_cycle : (kind : Option Kind) (b : Block) (m : Machine) (o : Offsets) (feed : ℤ) → OnlyFar (in_cycle kind b m o feed)
+far_in_cycle : (kind : Option CycleKind) (b : Block) (m : Machine) (o : Offsets) (feed : ℤ) → OnlyFar (in_cycle kind b m o feed)
 far_in_cycle None b m o feed = found _
 far_in_cycle (Some kind) b m o feed =
     far_then (own_words b m.modes) _ (far_own b m.modes) (λ own.

@@ -8,11 +8,11 @@ use Rattle.ng_canon.specs.declared.outputs.Spindle.{Spindle}
 use Rattle.ng_canon.specs.declared.plane.Plane.{Plane}
 use Rattle.ng_modal.specs.declared.asks.Coolant.{Coolant}
 use Rattle.ng_modal.specs.declared.asks.NonModal.{NonModal}
-use Rattle.ng_modal.specs.declared.asks.Stop.{Stop as StopWord}
+use Rattle.ng_modal.specs.declared.asks.StopWord.{StopWord}
 use Rattle.ng_modal.specs.declared.block.Block.{Block}
-use Rattle.ng_modal.specs.declared.modes.FeedMode.{FeedMode}
-use Rattle.ng_modal.specs.declared.modes.FeedMode.TheVariants.{PerMinute, InverseTime}
-use Rattle.ng_modal.specs.declared.modes.Motion.{Motion}
+use Rattle.ng_state.specs.declared.modes.FeedMode.{FeedMode}
+use Rattle.ng_state.specs.declared.modes.FeedMode.TheVariants.{PerMinute, InverseTime}
+use Rattle.ng_state.specs.declared.modes.Motion.{Motion}
 use Rattle.ng_block.specs.Blocks.{is_inverse, time_word}
 use Rattle.ng_block.specs.Tasks.{tasks_of, no_tasks, gives_nothing}
 

@@ -14,33 +14,33 @@ use Rattle.ng_canon.specs.declared.geometry.Geometry.{Geometry}
 use Rattle.ng_canon.specs.declared.outputs.Outputs.{Outputs}
 use Rattle.ng_canon.specs.declared.pace.Pace.{Pace}
 use Rattle.ng_canon.specs.declared.pace.Pace.TheVariants as pace
-use Rattle.ng_canon.specs.declared.plane.Turn.{Turn}
+use Rattle.ng_canon.specs.declared.plane.ArcDirection.{ArcDirection}
 use Rattle.ng_canon.specs.declared.segment.Arc.{Arc}
 use Rattle.ng_canon.specs.declared.segment.Segment.{Segment}
 use Rattle.ng_canon.specs.declared.segment.Segment.TheVariants as segment
 use Rattle.ng_words.specs.Lines.{last_comment}
-use Rattle.ng_modal.specs.Check.{first_fault}
+use Rattle.ng_num.specs.Causes.{first_fault}
+use Rattle.ng_num.proofs.FirstFault.{none_holds, unless_ok}
 use Rattle.ng_modal.specs.ByLetter.{has_axis}
 use Rattle.ng_modal.specs.Lines.{is_straight, is_arc}
 use Rattle.ng_modal.specs.declared.block.Block.{Block}
 use Rattle.ng_arc.specs.Asked.{arc_of}
 use Rattle.ng_arc.specs.Check as arc
 use Rattle.ng_arc.specs.Extremes.{extremes_inside}
-use Rattle.ng_arc.specs.FirstFault as arc_fault
 use Rattle.ng_offsets.specs.declared.offsets.Offsets.{Offsets}
 use Rattle.ng_cycles.specs.Faults as cycle
-use Rattle.ng_cycles.specs.Segments.{stand_after, behind, begin, traced, cycle_segments, segments_of as stroke_segments, line_to}
+use Rattle.ng_cycles.specs.Segments.{after_segment, after_segments, begin, traced, cycle_segments, segments_of as stroke_segments, line_to}
 use Rattle.ng_cycles.specs.Strokes.{Stroke, Across, ToR, TraverseTo, FeedTo, Wait, Turn as TurnSpindle, strokes}
 use Rattle.ng_cycles.specs.declared.drill.Drill.{Drill}
-use Rattle.ng_cycles.specs.declared.standing.Standing.{Standing}
+use Rattle.ng_cycles.specs.declared.motion_state.MotionState.{MotionState}
 use Rattle.ng_cycles.specs.declared.words.CycleWords.{CycleWords}
-use Rattle.ng_cycles.specs.declared.words.Kind.{Kind}
+use Rattle.ng_cycles.specs.declared.words.CycleKind.{CycleKind}
 use Rattle.ng_cycles.specs.declared.words.Setting.{Setting}
-use Rattle.ng_block.specs.declared.machine.Machine.{Machine}
+use Rattle.ng_state.specs.declared.machine.Machine.{Machine}
 use Rattle.ng_block.specs.declared.path.Path.{Path}
 use Rattle.ng_block.specs.declared.path.Path.TheVariants as path
-use Rattle.ng_block.specs.declared.steps.Step.{Step}
-use Rattle.ng_block.specs.declared.steps.Step.TheVariants as step
+use Rattle.ng_block.specs.declared.steps.BlockStep.{BlockStep}
+use Rattle.ng_block.specs.declared.steps.BlockStep.TheVariants as step
 use Rattle.ng_block.specs.declared.tasks.Tasks.{Tasks}
 use Rattle.ng_block.specs.Arcs.{turn_of, turning_at, centre_offsets_on, asked_by}
 use Rattle.ng_block.specs.Asked.{Move, Stays, Goes, Turns, GoesHome, Drills, pace_of, straight, round, in_cycle, homeward, move_by}
@@ -52,13 +52,13 @@ use Rattle.ng_block.specs.Homes.{home_on}
 use Rattle.ng_block.specs.Order.{Plan, switch_where, dwell_segments, task_segments, outputs_through, segments_at, segments_through, segments_of}
 use Rattle.ng_block.specs.Paths.{moving_at, point_after, path_segments}
 use Rattle.ng_block.specs.Remarks.{remark_of}
-use Rattle.ng_block.specs.Setup.{Setup}
+use Rattle.ng_state.specs.State.{StateModel}
 use Rattle.ng_block.specs.Steps.{before_motion}
 use Rattle.ng_block.specs.Travel.{Joins, NoneMoves, StaysInside}
 use Rattle.ng_block.proofs.AcceptedLemmas.{same_ok, then_ok, plan_for, accepted, reached}
-use Rattle.ng_block.proofs.CauseLemmas.{path_by, none_holds, cycle_first}
+use Rattle.ng_block.proofs.CauseLemmas.{path_by}
 
--- ---- lists of segments, one behind the other
+-- ---- lists of segments, one after the other
 
 joins_on : (p q r : Point) (xs ys : List Segment) → Joins p xs q → Joins q ys r → Joins p (xs ++ ys) r
 joins_on p q r [] ys h k = subst (λ (x : Point). Joins x ys r) h k
@@ -112,11 +112,11 @@ all_inside g (x ∷ xs) h (suc k) d low = all_inside g xs h.1 k d (omega arith)
 -- ---- the steps of a block
 
 -- none but the motion moves
-abbrev IsQuiet : Step → Type 0
+abbrev IsQuiet : BlockStep → Type 0
 IsQuiet step.Motion = ⊥
 IsQuiet _ = Unit {0}
 
-abbrev AreQuiet : List Step → Type 0
+abbrev AreQuiet : List BlockStep → Type 0
 AreQuiet [] = Unit {0}
 AreQuiet (s ∷ steps) = IsQuiet s × AreQuiet steps
 
@@ -128,7 +128,7 @@ dwell_still : (seconds : Option ℤ) → NoneMoves (dwell_segments seconds)
 dwell_still None = tt
 dwell_still (Some seconds) = tt
 
-task_still : (t : Tasks) (now : Outputs) (s : Step) → NoneMoves (task_segments t now s)
+task_still : (t : Tasks) (now : Outputs) (s : BlockStep) → NoneMoves (task_segments t now s)
 task_still t now step.SpindleSpeed = switch_still _ now
 task_still t now step.SelectTool = switch_still _ now
 task_still t now step.ChangeTool = switch_still _ now
@@ -138,7 +138,7 @@ task_still t now step.Dwell = dwell_still t.dwell
 task_still t now step.Stop = switch_still _ now
 task_still t now _ = tt
 
-quiet_still : (p : Plan) (now : Outputs) (s : Step) → IsQuiet s → NoneMoves (segments_at p now s)
+quiet_still : (p : Plan) (now : Outputs) (s : BlockStep) → IsQuiet s → NoneMoves (segments_at p now s)
 quiet_still p now step.Motion h = absurd h
 quiet_still p now step.SpindleSpeed h = task_still p.tasks now step.SpindleSpeed
 quiet_still p now step.SelectTool h = task_still p.tasks now step.SelectTool
@@ -149,9 +149,9 @@ quiet_still p now step.Dwell h = task_still p.tasks now step.Dwell
 quiet_still p now step.Stop h = task_still p.tasks now step.Stop
 quiet_still p now _ h = tt
 
--- what holds behind quiet steps holds of all
+-- what holds after quiet steps holds of all
 through : (Holds : List Segment → Type 0) → ((xs ys : List Segment) → NoneMoves xs → Holds ys → Holds (xs ++ ys)) →
-    (p : Plan) (steps rest : List Step) (o : Outputs) → AreQuiet steps → ((now : Outputs) → Holds (segments_through p now rest)) → Holds (segments_through p o (steps ++ rest))
+    (p : Plan) (steps rest : List BlockStep) (o : Outputs) → AreQuiet steps → ((now : Outputs) → Holds (segments_through p now rest)) → Holds (segments_through p o (steps ++ rest))
 through Holds on p [] rest o quiet h = h o
 through Holds on p (s ∷ steps) rest o quiet h = on _ _ (quiet_still p _ s quiet.0) (through Holds on p steps rest (outputs_through p.tasks o s) quiet.1 h)
 
@@ -168,11 +168,11 @@ of_path Holds on p h =
 
 -- ---- a cycle
 
-to_r_joins : (c : Bool) (at : Standing) (end : Point) (pace : Pace) → (let xs : List Segment = if c then [] else line_to pace at.point end ∷ [] in Joins at.point xs (behind at xs).point)
+to_r_joins : (c : Bool) (at : MotionState) (end : Point) (pace : Pace) → (let xs : List Segment = if c then [] else line_to pace at.point end ∷ [] in Joins at.point xs (after_segments at xs).point)
 to_r_joins true at end pace = refl
 to_r_joins false at end pace = (refl, refl)
 
-stroke_joins : (d : Drill) (at : Standing) (s : Stroke) → Joins at.point (stroke_segments d at s) (behind at (stroke_segments d at s)).point
+stroke_joins : (d : Drill) (at : MotionState) (s : Stroke) → Joins at.point (stroke_segments d at s) (after_segments at (stroke_segments d at s)).point
 stroke_joins d at (Across r) = (refl, refl)
 stroke_joins d at ToR = to_r_joins (int_eq at.point.z d.r) at _ _
 stroke_joins d at (TraverseTo z) = (refl, refl)
@@ -180,17 +180,17 @@ stroke_joins d at (FeedTo z) = (refl, refl)
 stroke_joins d at (Wait seconds) = refl
 stroke_joins d at (TurnSpindle spindle) = refl
 
-traced_joins : (d : Drill) (at : Standing) (ss : List Stroke) → Joins at.point (traced d at ss) (behind at (traced d at ss)).point
+traced_joins : (d : Drill) (at : MotionState) (ss : List Stroke) → Joins at.point (traced d at ss) (after_segments at (traced d at ss)).point
 traced_joins d at [] = refl
 traced_joins d at (s ∷ ss) =
     let here = stroke_segments d at s in
-    let next = behind at here in
-    let all : behind at (here ++ traced d next ss) ≡ behind next (traced d next ss) = fold-append stand_after at here (traced d next ss) in
-    subst (λ (end : Standing). Joins at.point (here ++ traced d next ss) end.point) (sym all)
-    (joins_on at.point next.point (behind next (traced d next ss)).point here (traced d next ss) (stroke_joins d at s) (traced_joins d next ss))
+    let next = after_segments at here in
+    let all : after_segments at (here ++ traced d next ss) ≡ after_segments next (traced d next ss) = fold-append after_segment at here (traced d next ss) in
+    subst (λ (end : MotionState). Joins at.point (here ++ traced d next ss) end.point) (sym all)
+    (joins_on at.point next.point (after_segments next (traced d next ss)).point here (traced d next ss) (stroke_joins d at s) (traced_joins d next ss))
 
-drill_joins : (start : Point) (d : Drill) → d.start ≡ start → Joins start (cycle_segments d) (behind (begin d) (cycle_segments d)).point
-drill_joins start d e = subst (λ (p : Point). Joins p (cycle_segments d) (behind (begin d) (cycle_segments d)).point) e (traced_joins d (begin d) (strokes d))
+drill_joins : (start : Point) (d : Drill) → d.start ≡ start → Joins start (cycle_segments d) (after_segments (begin d) (cycle_segments d)).point
+drill_joins start d e = subst (λ (p : Point). Joins p (cycle_segments d) (after_segments (begin d) (cycle_segments d)).point) e (traced_joins d (begin d) (strokes d))
 
 -- ---- a path
 
@@ -204,14 +204,6 @@ turning_joins : (start : Point) (pace : Option Pace) (arc : Arc) → arc.start �
 turning_joins start None arc e = refl
 turning_joins start (Some pace) arc e = (e, refl)
 
-arc_unless : (found : Option Fault) (x y : Arc) → arc_fault.unless found x ≡ Ok y → x ≡ y
-arc_unless None x y e = cc e
-arc_unless (Some fault) x y e = absurd (cc e)
-
-cycle_unless : (found : Option Fault) (x y : Drill) → cycle.unless found x ≡ Ok y → (found ≡ None) × (x ≡ y)
-cycle_unless None x y e = (refl, cc e)
-cycle_unless (Some fault) x y e = absurd (cc e)
-
 path_joins : (start : Point) (geometry : Geometry) (move : Move) (p : Path) → BeginsAt start move → path_by start geometry move ≡ Ok p → Joins start (path_segments p) (point_after p start)
 unfolding path_by
 path_joins start geometry Stays p h e = subst (λ (q : Path). Joins start (path_segments q) (point_after q start)) (same_ok path.Still p e) refl
@@ -220,11 +212,11 @@ path_joins start geometry (Goes (Some pace) end) p h e = subst (λ (q : Path). J
 path_joins start geometry (GoesHome between home) p h e = subst (λ (q : Path). Joins start (path_segments q) (point_after q start)) (same_ok (path.Homing (record { start = start; between = between; home = home })) p e) (refl, (refl, refl))
 path_joins start geometry (Turns pace asked) p h e =
     let found = then_ok (arc.checked asked) (λ a. Ok (turning_at pace a)) p e in
-    let is : arc_of asked ≡ found.0 = arc_unless (arc_fault.first_fault (arc.causes asked)) (arc_of asked) found.0 found.1 in
+    let is : arc_of asked ≡ found.0 = (unless_ok (first_fault (arc.causes asked)) (arc_of asked) found.0 found.1).1 in
     subst (λ (q : Path). Joins start (path_segments q) (point_after q start)) (same_ok (turning_at pace found.0) p found.2) (turning_joins start pace found.0 (ap (λ (a : Arc). a.start) (sym is) ∙ h))
 path_joins start geometry (Drills w s) p h e =
     let found = then_ok (cycle.canned_of w s geometry) (λ d. Ok (path.Cycle d)) p e in
-    let is = cycle_unless (cycle.first_fault (cycle.causes w s geometry)) (cycle.drill_of w s) found.0 found.1 in
+    let is = unless_ok (first_fault (cycle.causes w s geometry)) (cycle.drill_of w s) found.0 found.1 in
     subst (λ (q : Path). Joins start (path_segments q) (point_after q start)) (same_ok (path.Cycle found.0) p found.2) (drill_joins start found.0 (ap (λ (d : Drill). d.start) (sym is.1) ∙ h))
 
 -- what is found begins there
@@ -245,14 +237,14 @@ begins_then start (Err fault) next h move e = absurd (cc e)
 straight_begins : (b : Block) (m : Machine) (o : Offsets) (feed : ℤ) → Begins m.point (straight b m o feed)
 straight_begins b m o feed = begins_then m.point (straight_end_of b m o) _ (λ end. begins_ok m.point (Goes (pace_of b m feed) end) tt)
 
-round_begins : (turn : Option Turn) (b : Block) (m : Machine) (o : Offsets) (feed : ℤ) → Begins m.point (round turn b m o feed)
+round_begins : (turn : Option ArcDirection) (b : Block) (m : Machine) (o : Offsets) (feed : ℤ) → Begins m.point (round turn b m o feed)
 round_begins None b m o feed = begins_ok m.point Stays tt
 round_begins (Some turn) b m o feed =
     begins_then m.point (end_of b m o) _ (λ end.
     begins_then m.point (centre_offsets_on b m.modes) _ (λ offsets.
     begins_ok m.point (Turns (pace_of b m feed) (asked_by b m turn end offsets (pace_of b m feed))) refl))
 
-in_cycle_begins : (kind : Option Kind) (b : Block) (m : Machine) (o : Offsets) (feed : ℤ) → Begins m.point (in_cycle kind b m o feed)
+in_cycle_begins : (kind : Option CycleKind) (b : Block) (m : Machine) (o : Offsets) (feed : ℤ) → Begins m.point (in_cycle kind b m o feed)
 in_cycle_begins None b m o feed = begins_ok m.point Stays tt
 in_cycle_begins (Some kind) b m o feed =
     begins_then m.point (own_words b m.modes) _ (λ own.
@@ -276,7 +268,7 @@ move_begins b m o table feed =
 joins_before : (p q : Point) (xs ys : List Segment) → Joins p xs q → NoneMoves ys → Joins p (xs ++ ys) q
 joins_before p q xs ys h k = joins_on p q q xs ys h (still_joins q ys k)
 
-pub joined : (s : Setup) (tools : List ℤ) (geometry : Geometry) (text : List ℕ) (done : Done) → executed s tools geometry text ≡ Ok done → Joins s.machine.point done.segments done.setup.machine.point
+pub joined : (s : StateModel) (tools : List ℤ) (geometry : Geometry) (text : List ℕ) (done : Done) → executed s tools geometry text ≡ Ok done → Joins s.machine.point done.segments done.setup.machine.point
 joined s tools geometry text done e =
     let a = accepted s tools geometry text done e in
     let g = reached a.block a.values.settings s tools geometry a.goal a.goal_is in
@@ -287,7 +279,7 @@ joined s tools geometry text done e =
     (of_path (λ xs. Joins start xs end) (λ xs ys still k. joins_on start start end xs ys (still_joins start xs still) k) (plan_for a.block a.goal (remark_of (last_comment a.line.pieces)) s)
     (λ ys still. joins_before start end (path_segments a.goal.path) ys h still))
 
-pub still : (s : Setup) (tools : List ℤ) (geometry : Geometry) (text : List ℕ) (done : Done) → executed s tools geometry text ≡ Ok done → NoneMoves done.segments →
+pub still : (s : StateModel) (tools : List ℤ) (geometry : Geometry) (text : List ℕ) (done : Done) → executed s tools geometry text ≡ Ok done → NoneMoves done.segments →
     done.setup.machine.point ≡ s.machine.point
 still s tools geometry text done e h = joins_still s.machine.point done.setup.machine.point done.segments (joined s tools geometry text done e) h
 
@@ -314,7 +306,7 @@ to_r_inside : (c : Bool) (g : Geometry) (pace : Pace) (start end : Point) → li
 to_r_inside true g pace start end e = tt
 to_r_inside false g pace start end e = line_inside g pace start end e
 
-stroke_inside : (g : Geometry) (d : Drill) (at : Standing) (s : Stroke) → list_any (cycle.ends_outside g) (stroke_segments d at s) ≡ false → AreInside g (stroke_segments d at s)
+stroke_inside : (g : Geometry) (d : Drill) (at : MotionState) (s : Stroke) → list_any (cycle.ends_outside g) (stroke_segments d at s) ≡ false → AreInside g (stroke_segments d at s)
 stroke_inside g d at (Across r) e = line_inside g pace.Traverse at.point _ e
 stroke_inside g d at ToR e = to_r_inside (int_eq at.point.z d.r) g pace.Traverse at.point _ e
 stroke_inside g d at (TraverseTo z) e = line_inside g pace.Traverse at.point _ e
@@ -322,17 +314,17 @@ stroke_inside g d at (FeedTo z) e = line_inside g (pace.Feed d.rate) at.point _ 
 stroke_inside g d at (Wait seconds) e = (tt, tt)
 stroke_inside g d at (TurnSpindle spindle) e = (tt, tt)
 
-traced_inside : (g : Geometry) (d : Drill) (at : Standing) (ss : List Stroke) → list_any (cycle.ends_outside g) (traced d at ss) ≡ false → AreInside g (traced d at ss)
+traced_inside : (g : Geometry) (d : Drill) (at : MotionState) (ss : List Stroke) → list_any (cycle.ends_outside g) (traced d at ss) ≡ false → AreInside g (traced d at ss)
 traced_inside g d at [] e = tt
 traced_inside g d at (s ∷ ss) e =
     let here = stroke_segments d at s in
-    let next = behind at here in
+    let next = after_segments at here in
     let parts = neither (list_any (cycle.ends_outside g) here) (list_any (cycle.ends_outside g) (traced d next ss)) (sym (list_any-append (cycle.ends_outside g) here (traced d next ss)) ∙ e) in
     inside_on g here (traced d next ss) (stroke_inside g d at s parts.0) (traced_inside g d next ss parts.1)
 
 -- a lawful cycle leaves no travel
-lawful_stays : (w : CycleWords) (s : Setting) (g : Geometry) → cycle.first_fault (cycle.causes w s g) ≡ None → cycle.leaves_travel g (cycle.drill_of w s) ≡ false
-lawful_stays w s g e = (none_holds (cycle.causes w s g) (sym (cycle_first (cycle.causes w s g)) ∙ e)).1.1.1.1.1.1.1.1.1.1.0
+lawful_stays : (w : CycleWords) (s : Setting) (g : Geometry) → first_fault (cycle.causes w s g) ≡ None → cycle.leaves_travel g (cycle.drill_of w s) ≡ false
+lawful_stays w s g e = (none_holds (cycle.causes w s g) e).1.1.1.1.1.1.1.1.1.1.0
 
 no_drill_goes : (pace : Option Pace) (start end : Point) (d : Drill) → moving_at pace start end ≡ path.Cycle d → ⊥
 no_drill_goes None start end d e = cc e
@@ -352,7 +344,7 @@ drilled start g (Turns pace asked) d e =
     absurd (no_drill_turns pace found.0 d (same_ok (turning_at pace found.0) (path.Cycle d) found.2))
 drilled start g (Drills w s) d e =
     let found = then_ok (cycle.canned_of w s g) (λ x. Ok (path.Cycle x)) (path.Cycle d) e in
-    let is = cycle_unless (cycle.first_fault (cycle.causes w s g)) (cycle.drill_of w s) found.0 found.1 in
+    let is = unless_ok (first_fault (cycle.causes w s g)) (cycle.drill_of w s) found.0 found.1 in
     let same : found.0 ≡ d = cc (found.2) in
     subst (λ (x : Drill). cycle.leaves_travel g x ≡ false) (is.1 ∙ same) (lawful_stays w s g is.0)
 
@@ -370,7 +362,7 @@ path_inside g (path.Homing way) e h =
     (inside.0, (inside.1, tt))
 path_inside g (path.Cycle d) e h = traced_inside g d (begin d) (strokes d) (h d refl)
 
-pub inside : (s : Setup) (tools : List ℤ) (geometry : Geometry) (text : List ℕ) (done : Done) → executed s tools geometry text ≡ Ok done → All (StaysInside geometry) done.segments
+pub inside : (s : StateModel) (tools : List ℤ) (geometry : Geometry) (text : List ℕ) (done : Done) → executed s tools geometry text ≡ Ok done → All (StaysInside geometry) done.segments
 inside s tools geometry text done e =
     let a = accepted s tools geometry text done e in
     let g = reached a.block a.values.settings s tools geometry a.goal a.goal_is in

@@ -8,8 +8,8 @@ use Rattle.ng_canon.specs.declared.geometry.Geometry.{Geometry}
 use Rattle.ng_modal.specs.declared.asks.NonModal.{NonModal}
 use Rattle.ng_modal.specs.declared.asks.ToolLength.{ToolLength}
 use Rattle.ng_modal.specs.declared.block.Block.{Block}
-use Rattle.ng_block.specs.Goals.{plain_path_of, way_of}
-use Rattle.ng_block.specs.Setup.{Setup}
+use Rattle.ng_block.specs.Goals.{plain_path_of, path_after_bearings}
+use Rattle.ng_state.specs.State.{StateModel}
 use Rattle.ng_block.specs.Shifts.{keeps_offsets, nothing_shown}
 
 -- none of three words is there
@@ -24,8 +24,8 @@ missing (Some _) system word h = absurd (cc h)
 missing None (Some _) word h = absurd (cc h)
 missing None None (Some _) h = absurd (cc h)
 
-pub way_kept : (b : Block) (settings : List Change) (s : Setup) (lengths : List ℤ) (feed : ℤ) (geometry : Geometry) → keeps_offsets b ≡ true →
-    way_of b settings s lengths feed geometry
+pub way_kept : (b : Block) (settings : List Change) (s : StateModel) (lengths : List ℤ) (feed : ℤ) (geometry : Geometry) → keeps_offsets b ≡ true →
+    path_after_bearings b settings s lengths feed geometry
     ≡ and_then (plain_path_of b s.machine feed geometry) (λ path. Ok (record { offsets = s.machine.offsets; shown = nothing_shown; changes = settings }, path))
 way_kept b settings s lengths feed geometry h =
     let n = missing b.g.tool_length b.g.system b.g.non_modal h in

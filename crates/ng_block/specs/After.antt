@@ -4,17 +4,17 @@ use Rattle.std.specs.Option.{is_some}
 use Rattle.ng_canon.specs.declared.plane.Plane.TheVariants.{Xy}
 use Rattle.ng_modal.specs.Lines.{motion_after, plane_after}
 use Rattle.ng_modal.specs.declared.block.Block.{Block}
-use Rattle.ng_modal.specs.declared.modes.Modes.{Modes}
-use Rattle.ng_modal.specs.declared.modes.Motion.TheVariants.{Feed}
-use Rattle.ng_modal.specs.declared.modes.Distance.TheVariants.{Absolute}
-use Rattle.ng_modal.specs.declared.modes.FeedMode.TheVariants.{PerMinute}
-use Rattle.ng_block.specs.declared.machine.Machine.{Machine}
+use Rattle.ng_state.specs.declared.modes.Modes.{Modes}
+use Rattle.ng_state.specs.declared.modes.Motion.TheVariants.{Feed}
+use Rattle.ng_state.specs.declared.modes.Distance.TheVariants.{Absolute}
+use Rattle.ng_state.specs.declared.modes.FeedMode.TheVariants.{PerMinute}
+use Rattle.ng_state.specs.declared.machine.Machine.{Machine}
 use Rattle.ng_block.specs.declared.tasks.Tasks.{Tasks}
 use Rattle.ng_block.specs.AxisData.{system_after}
 use Rattle.ng_block.specs.Blocks.{feed_mode_after}
 use Rattle.ng_block.specs.Ends.{ends}
 use Rattle.ng_block.specs.Goals.{Goal}
-use Rattle.ng_block.specs.Order.{outputs_behind}
+use Rattle.ng_block.specs.Order.{outputs_after}
 use Rattle.ng_block.specs.Paths.{point_after}
 use Rattle.ng_block.specs.Steps.{order}
 
@@ -42,9 +42,9 @@ abbrev pub machine_after : Block → Goal → Tasks → Machine → Machine
 machine_after b goal tasks m = record {
   modes = modes_after b m.modes;
   feed_per_min = goal.feed_per_min;
-  outputs = outputs_behind tasks m.outputs order;
+  outputs = outputs_after tasks m.outputs order;
   offsets = goal.offsets;
   kept = goal.kept;
   point = point_after goal.path m.point;
-  place_known = m.place_known;
+  point_known = m.point_known;
 }

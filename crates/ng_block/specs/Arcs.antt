@@ -6,8 +6,8 @@ use Rattle.ng_num.specs.declared.point.Point.{Point}
 use Rattle.ng_num.specs.declared.fault.Fault.{Fault}
 use Rattle.ng_canon.specs.declared.pace.Pace.{Pace}
 use Rattle.ng_canon.specs.declared.pace.Pace.TheVariants.{Traverse}
-use Rattle.ng_canon.specs.declared.plane.Turn.{Turn}
-use Rattle.ng_canon.specs.declared.plane.Turn.TheVariants.{Clockwise, Counterclockwise}
+use Rattle.ng_canon.specs.declared.plane.ArcDirection.{ArcDirection}
+use Rattle.ng_canon.specs.declared.plane.ArcDirection.TheVariants.{Clockwise, Counterclockwise}
 use Rattle.ng_canon.specs.declared.segment.Arc.{Arc}
 use Rattle.ng_arc.specs.Check.{checked}
 use Rattle.ng_arc.specs.declared.asked.AskedArc.{AskedArc}
@@ -16,19 +16,19 @@ use Rattle.ng_arc.specs.declared.asked.CentreOffsets.{CentreOffsets}
 use Rattle.ng_modal.specs.Lines.{plane_after}
 use Rattle.ng_modal.specs.declared.block.Block.{Block}
 use Rattle.ng_modal.specs.declared.by_letter.ByLetter.{ByLetter}
-use Rattle.ng_modal.specs.declared.modes.Modes.{Modes}
-use Rattle.ng_modal.specs.declared.modes.Motion.{Motion}
-use Rattle.ng_modal.specs.declared.modes.Motion.TheVariants.{ClockwiseArc, CounterclockwiseArc}
+use Rattle.ng_state.specs.declared.modes.Modes.{Modes}
+use Rattle.ng_state.specs.declared.modes.Motion.{Motion}
+use Rattle.ng_state.specs.declared.modes.Motion.TheVariants.{ClockwiseArc, CounterclockwiseArc}
 use Rattle.ng_offsets.specs.Named.{named_by}
 use Rattle.ng_offsets.specs.declared.offsets.Offsets.{Offsets}
-use Rattle.ng_block.specs.declared.machine.Machine.{Machine}
+use Rattle.ng_state.specs.declared.machine.Machine.{Machine}
 use Rattle.ng_block.specs.declared.path.Path.{Path}
 use Rattle.ng_block.specs.declared.path.Path.TheVariants.{Still, WithoutFeed, Round}
 use Rattle.ng_block.specs.AxisData.{unit_after}
 use Rattle.ng_block.specs.Blocks.{feed_mode_after, pace_by, end_of}
 
 -- the way round that a motion goes; none where it is no arc
-abbrev pub turn_of : Option Motion → Option Turn
+abbrev pub turn_of : Option Motion → Option ArcDirection
 turn_of (Some ClockwiseArc) = Some Clockwise
 turn_of (Some CounterclockwiseArc) = Some Counterclockwise
 turn_of _ = None
@@ -44,7 +44,7 @@ centre_offsets_on b m =
     Ok (record { i = named.x; j = named.y; k = named.z }))
 
 -- the arc from where the machine stands; what it goes at decides none of the faults that its shape may have
-abbrev pub asked_by : Block → Machine → Turn → Point → CentreOffsets → Option Pace → AskedArc
+abbrev pub asked_by : Block → Machine → ArcDirection → Point → CentreOffsets → Option Pace → AskedArc
 asked_by b m turn end offsets pace = record {
   plane = plane_after b m.modes;
   turn = turn;
@@ -62,7 +62,7 @@ turning_at None arc = WithoutFeed
 turning_at (Some pace) arc = Round arc
 
 -- round to the line's end; or that a computed length, the centre's too, is beyond the range, or else the first of C1 to C4
-abbrev pub turned : Block → Machine → Offsets → Option Pace → Turn → Result Path Fault
+abbrev pub turned : Block → Machine → Offsets → Option Pace → ArcDirection → Result Path Fault
 turned b m o pace turn =
     and_then (end_of b m o) (λ end.
     and_then (centre_offsets_on b m.modes) (λ offsets.
@@ -70,9 +70,9 @@ turned b m o pace turn =
     Ok (turning_at pace arc))))
 
 -- the same of a line's motion, with the feed after the line; still where it is no arc
-abbrev pub turned_where : Option Turn → Block → Machine → Offsets → ℤ → Result Path Fault
+abbrev pub turned_where : Option ArcDirection → Block → Machine → Offsets → ℤ → Result Path Fault
 turned_where None b m o feed = Ok Still
 turned_where (Some turn) b m o feed = turned b m o (pace_by b.motion (feed_mode_after b m.modes) feed b.values.f) turn
 
-unfoldable pub way_round : Block → Machine → Offsets → ℤ → Result Path Fault
-way_round b m o feed = turned_where (turn_of b.motion) b m o feed
+unfoldable pub path_along_arc : Block → Machine → Offsets → ℤ → Result Path Fault
+path_along_arc b m o feed = turned_where (turn_of b.motion) b m o feed

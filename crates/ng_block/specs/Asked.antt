@@ -7,10 +7,10 @@ use Rattle.ng_num.specs.declared.fault.Fault.{Fault}
 use Rattle.ng_num.specs.declared.point.Point.{Point}
 use Rattle.ng_canon.specs.declared.pace.Pace.{Pace}
 use Rattle.ng_canon.specs.declared.pace.Pace.TheVariants.{Traverse}
-use Rattle.ng_canon.specs.declared.plane.Turn.{Turn}
+use Rattle.ng_canon.specs.declared.plane.ArcDirection.{ArcDirection}
 use Rattle.ng_words.specs.Plain.{plain}
-use Rattle.ng_words.specs.Reading.{line_at}
-use Rattle.ng_words.specs.Grammar.{Written, Piece}
+use Rattle.ng_words.specs.Reading.{parse_line}
+use Rattle.ng_words.specs.Grammar.{ParsedLine, Piece}
 use Rattle.ng_expr.specs.Settle.{Settled, nothing, followed, given}
 use Rattle.ng_arc.specs.declared.asked.AskedArc.{AskedArc}
 use Rattle.ng_modal.specs.ByLetter.{has_axis}
@@ -18,9 +18,9 @@ use Rattle.ng_modal.specs.Lines.{is_straight, is_arc}
 use Rattle.ng_modal.specs.declared.block.Block.{Block}
 use Rattle.ng_offsets.specs.declared.offsets.Offsets.{Offsets}
 use Rattle.ng_cycles.specs.declared.words.CycleWords.{CycleWords}
-use Rattle.ng_cycles.specs.declared.words.Kind.{Kind}
+use Rattle.ng_cycles.specs.declared.words.CycleKind.{CycleKind}
 use Rattle.ng_cycles.specs.declared.words.Setting.{Setting}
-use Rattle.ng_block.specs.declared.machine.Machine.{Machine}
+use Rattle.ng_state.specs.declared.machine.Machine.{Machine}
 use Rattle.ng_block.specs.declared.shifts.Shifted.{Shifted}
 use Rattle.ng_block.specs.Arcs.{turn_of, centre_offsets_on, asked_by}
 use Rattle.ng_block.specs.Blocks.{feed_of, feed_mode_after, pace_by, end_of, straight_end_of}
@@ -31,10 +31,10 @@ use Rattle.ng_block.specs.Shifts.{shift_of}
 -- ---- its values
 
 -- what is written on a text, however long it is; nothing where it is no line
-abbrev pub written_on : List ℕ → Option Written
-written_on text = line_at (plain false text)
+abbrev pub written_on : List ℕ → Option ParsedLine
+written_on text = parse_line (plain false text)
 
-abbrev pub pieces_in : Option Written → List Piece
+abbrev pub pieces_in : Option ParsedLine → List Piece
 pieces_in None = []
 pieces_in (Some line) = line.pieces
 
@@ -72,14 +72,14 @@ pace_of b m feed = pace_by b.motion (feed_mode_after b m.modes) feed b.values.f
 abbrev pub straight : Block → Machine → Offsets → ℤ → Result Move Fault
 straight b m o feed = and_then (straight_end_of b m o) (λ end. Ok (Goes (pace_of b m feed) end))
 
-abbrev pub round : Option Turn → Block → Machine → Offsets → ℤ → Result Move Fault
+abbrev pub round : Option ArcDirection → Block → Machine → Offsets → ℤ → Result Move Fault
 round None b m o feed = Ok Stays
 round (Some turn) b m o feed =
     and_then (end_of b m o) (λ end.
     and_then (centre_offsets_on b m.modes) (λ offsets.
     Ok (Turns (pace_of b m feed) (asked_by b m turn end offsets (pace_of b m feed)))))
 
-abbrev pub in_cycle : Option Kind → Block → Machine → Offsets → ℤ → Result Move Fault
+abbrev pub in_cycle : Option CycleKind → Block → Machine → Offsets → ℤ → Result Move Fault
 in_cycle None b m o feed = Ok Stays
 in_cycle (Some kind) b m o feed =
     and_then (own_words b m.modes) (λ own.

@@ -12,7 +12,7 @@ use Rattle.ng_modal.specs.Accepted.{system_on}
 use Rattle.ng_modal.specs.declared.asks.NonModal.{NonModal}
 use Rattle.ng_modal.specs.declared.asks.NonModal.TheVariants.{SetOrigin, SetOffset, ClearOffset, DropOffset, RestoreOffset}
 use Rattle.ng_modal.specs.declared.block.Block.{Block}
-use Rattle.ng_modal.specs.declared.modes.Modes.{Modes}
+use Rattle.ng_state.specs.declared.modes.Modes.{Modes}
 use Rattle.ng_offsets.specs.Named.{named_by}
 use Rattle.ng_offsets.specs.Origins.{selected, given_origin, set_offset, dropped, restored}
 use Rattle.ng_offsets.specs.declared.named.Named.{Named}
@@ -31,10 +31,10 @@ system_after b m = unwrap_or b.g.system m.system
 abbrev pub named_on : Block → Modes → Result Named Fault
 named_on b m = named_by b.values.x b.values.y b.values.z (unit_after b m)
 
--- the offsets behind a step that may give new ones, and what it prints of them
-abbrev pub offsets_behind : Option NewOffsets → Offsets → Offsets
-offsets_behind None o = o
-offsets_behind (Some new) o = new.offsets
+-- the offsets after a step that may give new ones, and what it prints of them
+abbrev pub offsets_after : Option NewOffsets → Offsets → Offsets
+offsets_after None o = o
+offsets_after (Some new) o = new.offsets
 
 abbrev pub offsets_shown : Option NewOffsets → Option Point
 offsets_shown new = option_map (λ n. n.shown) new
@@ -62,7 +62,7 @@ with_offset b m machine o =
     and_then (set_offset o named machine) (λ found.
     Ok (record { new = Some found.0; stored = Some found.1 })))
 
--- what a word of group 0 makes of the offsets that are in force behind the line's system, and which parameters it stores
+-- what a word of group 0 makes of the offsets that are in force after the line's system, and which parameters it stores
 abbrev pub axis_data_by : Option NonModal → Block → Modes → Point → Offsets → List ℤ → Result AxisData Fault
 axis_data_by (Some SetOrigin) b m machine o table = with_origin (system_on b.values.p) b m o table
 axis_data_by (Some SetOffset) b m machine o table = with_offset b m machine o

@@ -1,12 +1,11 @@
--- Why a line is refused: all faults, each behind its cause, in the order in which they are looked for (own; NISTIR 6556, 3.3 to 3.8).
+-- Why a line is refused: all faults, each with its cause before it, in the order in which they are looked for (own; NISTIR 6556, 3.3 to 3.8).
 -- Each cause is said of what the line asks for, whatever else forbids it.
-use Rattle.std.specs.Prelude.{ℕ, ℤ, int_lt, Bool, true, false, not, ◌&&◌, ◌||◌, List, [], ◌∷◌, ◌++◌, length, is_none, is_err, Result, Ok, Err}
+use Rattle.std.specs.Prelude.{ℕ, ℤ, int_lt, Bool, true, false, ◌||◌, List, [], ◌∷◌, ◌++◌, length, is_none, is_err, Result, Ok, Err}
 use Rattle.std.specs.List.{list_any}
 use Rattle.std.specs.Result.{result_unwrap_or}
 use Rattle.ng_num.specs.declared.fault.Fault.{Fault}
 use Rattle.ng_num.specs.declared.fault.Fault.TheVariants.{LineTooLong, Unreadable, OutOfRange, CycleNoAxis, NoZ, NoR, RBelowZ, InverseTime, NoFeed, OutsideTravel}
 use Rattle.ng_params.specs.Changes.{with_changes}
-use Rattle.ng_canon.specs.Inside.{is_inside}
 use Rattle.ng_canon.specs.Rates.{above_zero}
 use Rattle.ng_canon.specs.declared.geometry.Geometry.{Geometry}
 use Rattle.ng_words.specs.Grammar.{Piece, is_too_long}
@@ -18,14 +17,14 @@ use Rattle.ng_arc.specs.Asked.{arc_of}
 use Rattle.ng_arc.specs.Check.{is_centre_beyond, arc_causes}
 use Rattle.ng_cycles.specs.Faults.{drill_of, names_no_axis, work_causes, leaves_travel}
 use Rattle.ng_cycles.specs.Lengths.{lengths, is_far}
-use Rattle.ng_cycles.specs.Words.{in_force}
+use Rattle.ng_state.specs.KeptWords.{in_force}
 use Rattle.ng_cycles.specs.declared.words.CycleWords.{CycleWords}
 use Rattle.ng_cycles.specs.declared.words.Setting.{Setting}
-use Rattle.ng_block.specs.declared.machine.Machine.{Machine}
+use Rattle.ng_state.specs.declared.machine.Machine.{Machine}
 use Rattle.ng_block.specs.Asked.{written_on, pieces_in, values_of, Move, Stays, Goes, Turns, GoesHome, Drills, move_on}
 use Rattle.ng_block.specs.Blocks.{feed_of}
-use Rattle.ng_block.specs.Faults.{stays_inside}
-use Rattle.ng_block.specs.Setup.{Setup}
+use Rattle.ng_block.specs.Faults.{ends_outside, turns_outside, homes_outside}
+use Rattle.ng_state.specs.State.{StateModel}
 use Rattle.ng_block.specs.Shifts.{shift_of}
 
 -- E3 to E5: a piece has no value; why, is its value's to say
@@ -77,17 +76,16 @@ has_no_feed (Turns pace asked) = is_none pace
 has_no_feed (Drills w s) = is_none (above_zero s.feed_per_min)
 has_no_feed _ = false
 
--- X2: a straight move ends outside the travel; on the way home one of two does, in a cycle one of all; an arc also where an extreme
--- that it passes lies outside
+-- X2, of a straight move, an arc and a way home; in a cycle one of all its moves ends outside the travel
 abbrev pub goes_outside : Move → Geometry → Bool
 goes_outside Stays geometry = false
-goes_outside (Goes pace end) geometry = not (is_inside geometry end)
-goes_outside (Turns pace asked) geometry = not (stays_inside (arc_of asked) geometry)
-goes_outside (GoesHome between home) geometry = not (is_inside geometry between && is_inside geometry home)
+goes_outside (Goes pace end) geometry = ends_outside geometry end
+goes_outside (Turns pace asked) geometry = turns_outside geometry (arc_of asked)
+goes_outside (GoesHome between home) geometry = homes_outside geometry between home
 goes_outside (Drills w s) geometry = leaves_travel geometry (drill_of w s)
 
 -- E2, E1, E3 to E5 of each piece in line order, B1 to B19, E3 of what is computed, C1 to C4, Y1 to Y8, X1, X2
-unfoldable pub causes : Setup → List ℤ → Geometry → List ℕ → List (Bool × Fault)
+unfoldable pub causes : StateModel → List ℤ → Geometry → List ℕ → List (Bool × Fault)
 causes s tools geometry text =
     let pieces = pieces_in (written_on text) in
     let values = values_of pieces s.params in

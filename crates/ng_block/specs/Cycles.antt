@@ -7,34 +7,34 @@ use Rattle.ng_canon.specs.declared.geometry.Geometry.{Geometry}
 use Rattle.ng_canon.specs.declared.outputs.Outputs.{Outputs}
 use Rattle.ng_modal.specs.Accepted.{repeats_on}
 use Rattle.ng_modal.specs.declared.block.Block.{Block}
-use Rattle.ng_modal.specs.declared.modes.Modes.{Modes}
-use Rattle.ng_modal.specs.declared.modes.Motion.{Motion}
-use Rattle.ng_modal.specs.declared.modes.Motion.TheVariants as motion
-use Rattle.ng_modal.specs.declared.modes.Distance.{Distance}
-use Rattle.ng_modal.specs.declared.modes.Distance.TheVariants.{Absolute, Incremental}
-use Rattle.ng_modal.specs.declared.modes.Retract.{Retract}
-use Rattle.ng_modal.specs.declared.modes.Retract.TheVariants.{OldZ, ToR}
+use Rattle.ng_state.specs.declared.modes.Modes.{Modes}
+use Rattle.ng_state.specs.declared.modes.Motion.{Motion}
+use Rattle.ng_state.specs.declared.modes.Motion.TheVariants as motion
+use Rattle.ng_state.specs.declared.modes.Distance.{Distance}
+use Rattle.ng_state.specs.declared.modes.Distance.TheVariants.{Absolute, Incremental}
+use Rattle.ng_state.specs.declared.modes.Retract.{Retract}
+use Rattle.ng_state.specs.declared.modes.Retract.TheVariants.{OldZ, ToR}
 use Rattle.ng_offsets.specs.Named.{length_by}
 use Rattle.ng_offsets.specs.declared.offsets.Offsets.{Offsets}
 use Rattle.ng_cycles.specs.Faults.{canned_of}
-use Rattle.ng_cycles.specs.Words.{no_words, in_force}
+use Rattle.ng_state.specs.KeptWords.{no_words, in_force}
 use Rattle.ng_cycles.specs.declared.words.CycleWords.{CycleWords}
-use Rattle.ng_cycles.specs.declared.words.KeptWords.{KeptWords}
-use Rattle.ng_cycles.specs.declared.words.Kind.{Kind}
-use Rattle.ng_cycles.specs.declared.words.Kind.TheVariants.{Drilling, DrillingWithDwell, PeckDrilling, Boring, BoringWithStop, BoringWithDwell}
+use Rattle.ng_state.specs.declared.kept_words.KeptWords.{KeptWords}
+use Rattle.ng_cycles.specs.declared.words.CycleKind.{CycleKind}
+use Rattle.ng_cycles.specs.declared.words.CycleKind.TheVariants.{Drilling, DrillingWithDwell, PeckDrilling, Boring, BoringWithStop, BoringWithDwell}
 use Rattle.ng_cycles.specs.declared.words.Setting.{Setting}
-use Rattle.ng_block.specs.declared.machine.Machine.{Machine}
+use Rattle.ng_state.specs.declared.machine.Machine.{Machine}
 use Rattle.ng_block.specs.declared.path.Path.{Path}
 use Rattle.ng_block.specs.declared.path.Path.TheVariants.{Still, Cycle}
 use Rattle.ng_block.specs.AxisData.{unit_after, named_on}
 use Rattle.ng_block.specs.Blocks.{feed_mode_after, is_inverse}
 use Rattle.ng_block.specs.Ends.{ends}
-use Rattle.ng_block.specs.Order.{outputs_behind}
+use Rattle.ng_block.specs.Order.{outputs_after}
 use Rattle.ng_block.specs.Steps.{before_motion}
 use Rattle.ng_block.specs.Tasks.{tasks_of}
 
 -- the kind of cycle that a motion is; none where it is no cycle
-abbrev pub kind_of : Option Motion → Option Kind
+abbrev pub kind_of : Option Motion → Option CycleKind
 kind_of (Some motion.Drilling) = Some Drilling
 kind_of (Some motion.DrillingWithDwell) = Some DrillingWithDwell
 kind_of (Some motion.PeckDrilling) = Some PeckDrilling
@@ -43,7 +43,7 @@ kind_of (Some motion.BoringWithStop) = Some BoringWithStop
 kind_of (Some motion.BoringWithDwell) = Some BoringWithDwell
 kind_of _ = None
 
-abbrev pub is_same : Kind → Kind → Bool
+abbrev pub is_same : CycleKind → CycleKind → Bool
 is_same Drilling Drilling = true
 is_same DrillingWithDwell DrillingWithDwell = true
 is_same PeckDrilling PeckDrilling = true
@@ -63,11 +63,11 @@ own_words b m =
     Ok (record { r = r; z = z; p = b.values.p; q = q }))))
 
 -- the words that were kept for a cycle: none where the motion mode before the line is another
-abbrev pub kept_by : Kind → Option Kind → KeptWords → KeptWords
+abbrev pub kept_by : CycleKind → Option CycleKind → KeptWords → KeptWords
 kept_by kind None kept = no_words
 kept_by kind (Some before) kept = if is_same kind before then kept else no_words
 
-abbrev pub kept_for : Kind → Machine → KeptWords
+abbrev pub kept_for : CycleKind → Machine → KeptWords
 kept_for kind m = kept_by kind (kind_of (Some m.modes.motion)) m.kept
 
 -- another motion, G80 and the program's end drop the words that were kept
@@ -75,11 +75,11 @@ abbrev pub kept_beside : Block → Machine → KeptWords
 kept_beside b m = if is_some b.g.motion || ends b.m.stop then no_words else m.kept
 
 -- a cycle keeps its own words, and those that were kept for it where the line has none
-abbrev pub kept_in : Kind → Block → Machine → Result KeptWords Fault
+abbrev pub kept_in : CycleKind → Block → Machine → Result KeptWords Fault
 kept_in kind b m = and_then (own_words b m.modes) (λ own. Ok (if ends b.m.stop then no_words else in_force own (kept_for kind m)))
 
 -- the words kept after the line
-abbrev pub kept_where : Option Kind → Block → Machine → Result KeptWords Fault
+abbrev pub kept_where : Option CycleKind → Block → Machine → Result KeptWords Fault
 kept_where None b m = Ok (kept_beside b m)
 kept_where (Some kind) b m = kept_in kind b m
 
@@ -88,7 +88,7 @@ kept_of b m = kept_where (kind_of b.motion) b m
 
 -- ---- the cycle
 
-abbrev pub cycle_words : Block → Modes → Kind → KeptWords → Result CycleWords Fault
+abbrev pub cycle_words : Block → Modes → CycleKind → KeptWords → Result CycleWords Fault
 cycle_words b m kind own =
     and_then (named_on b m) (λ named.
     Ok (record { kind = kind; x = named.x; y = named.y; own = own; repeats = repeats_on b.values.l }))
@@ -101,9 +101,9 @@ abbrev pub is_old_z : Retract → Bool
 is_old_z OldZ = true
 is_old_z ToR = false
 
--- the outputs that the motion meets: behind the line's spindle, tool and coolant words
+-- the outputs that the motion meets: after the line's spindle, tool and coolant words
 abbrev pub outputs_at_motion : Block → Machine → Outputs
-outputs_at_motion b m = outputs_behind (tasks_of b (feed_mode_after b m.modes) m.outputs) m.outputs before_motion
+outputs_at_motion b m = outputs_after (tasks_of b (feed_mode_after b m.modes) m.outputs) m.outputs before_motion
 
 -- what the cycle meets: the offsets, the feed, the modes and the outputs after the line's other words
 abbrev pub setting_of : Block → Machine → Offsets → ℤ → KeptWords → Setting
@@ -119,7 +119,7 @@ setting_of b m o feed kept = record {
 }
 
 -- the cycle; or that a computed length is beyond the range, or else the first of Y1 to Y8, X1 and X2
-abbrev pub cycle_of : Block → Machine → Offsets → ℤ → Geometry → Kind → Result Path Fault
+abbrev pub cycle_of : Block → Machine → Offsets → ℤ → Geometry → CycleKind → Result Path Fault
 cycle_of b m o feed geometry kind =
     and_then (own_words b m.modes) (λ own.
     and_then (cycle_words b m.modes kind own) (λ words.
@@ -127,9 +127,9 @@ cycle_of b m o feed geometry kind =
     Ok (Cycle drill))))
 
 -- the same of a line's motion; still where it is no cycle
-abbrev pub cycle_where : Option Kind → Block → Machine → Offsets → ℤ → Geometry → Result Path Fault
+abbrev pub cycle_where : Option CycleKind → Block → Machine → Offsets → ℤ → Geometry → Result Path Fault
 cycle_where None b m o feed geometry = Ok Still
 cycle_where (Some kind) b m o feed geometry = cycle_of b m o feed geometry kind
 
-unfoldable pub way_of_cycle : Block → Machine → Offsets → ℤ → Geometry → Result Path Fault
-way_of_cycle b m o feed geometry = cycle_where (kind_of b.motion) b m o feed geometry
+unfoldable pub cycle_path : Block → Machine → Offsets → ℤ → Geometry → Result Path Fault
+cycle_path b m o feed geometry = cycle_where (kind_of b.motion) b m o feed geometry

@@ -1,7 +1,7 @@
 -- What a line does in a state (NISTIR 6556, 3.8).
 use Rattle.std.specs.Prelude.{ℕ, ℤ, List, length, Option, Some, None, Result, Ok, Err}
 use Rattle.ng_num.specs.declared.fault.Fault.{Fault}
-use Rattle.ng_canon.specs.Text.{Canonical}
+use Rattle.ng_canon.specs.Text.{CanonModel}
 use Rattle.ng_canon.specs.declared.outputs.Outputs.{Outputs}
 use Rattle.ng_canon.specs.declared.segment.Segment.{Segment}
 use Rattle.ng_canon.specs.declared.geometry.Geometry.{Geometry}
@@ -9,14 +9,15 @@ use Rattle.ng_words.specs.Reading.{read}
 use Rattle.ng_words.specs.Grammar.{Piece}
 use Rattle.ng_words.specs.Lines.{last_comment}
 use Rattle.ng_num.specs.Results.{and_then}
-use Rattle.ng_expr.specs.Settle.{Settled, settled}
-use Rattle.ng_modal.specs.Check.{checked, first_fault}
+use Rattle.ng_expr.specs.Settle.{Settled, settled_pieces}
+use Rattle.ng_num.specs.Causes.{first_fault}
+use Rattle.ng_modal.specs.Check.{checked}
 use Rattle.ng_modal.specs.declared.block.Block.{Block}
 use Rattle.ng_block.specs.declared.effect.Effect.{Effect}
-use Rattle.ng_block.specs.declared.effect.Stop.{Stop}
-use Rattle.ng_block.specs.declared.machine.Machine.{Machine}
+use Rattle.ng_block.specs.declared.effect.ProgramFlow.{ProgramFlow}
+use Rattle.ng_state.specs.declared.machine.Machine.{Machine}
 use Rattle.ng_block.specs.declared.tasks.Tasks.{Tasks}
-use Rattle.ng_block.specs.Setup.{Setup, changed}
+use Rattle.ng_state.specs.State.{StateModel, changed}
 use Rattle.ng_block.specs.Remarks.{remark_of, said_by}
 use Rattle.ng_block.specs.Blocks.{feed_mode_after}
 use Rattle.ng_block.specs.Ends.{stop_of}
@@ -29,24 +30,24 @@ use Rattle.ng_block.specs.Order.{Plan, commands_of, segments_of}
 
 -- what a line has done: the new state, the outputs that it began with, its segments and commands in their order, and how the program goes on
 pub record Done : Type 0 where
-  pub setup : Setup
+  pub setup : StateModel
   pub before : Outputs
   pub segments : List Segment
-  pub commands : List Canonical
-  pub stop : Stop
+  pub commands : List CanonModel
+  pub stop : ProgramFlow
 
 -- what is kept of a line
 abbrev pub plan_by : Effect → Plan
 plan_by e = record { remark = said_by e.plan.remark; feed = e.plan.feed; tasks = tasks_in e.plan.tasks; shown = shown_in e.plan.shown; path = e.plan.path; origin = e.machine.offsets.origin; before = e.plan.before }
 
-abbrev pub commands_by : Effect → List Canonical
+abbrev pub commands_by : Effect → List CanonModel
 commands_by e = commands_of (plan_by e)
 
 abbrev pub segments_by : Effect → List Segment
 segments_by e = segments_of (plan_by e)
 
 -- an effect, in the state that it was found in
-abbrev pub in_state : Setup → Effect → Done
+abbrev pub in_state : StateModel → Effect → Done
 in_state s e = record { setup = changed s e.machine e.changes.items; before = e.plan.before; segments = segments_by e; commands = commands_by e; stop = e.stop }
 
 -- ---- what a line does
@@ -56,11 +57,11 @@ abbrev pub lawful : {X : Type 0} → Option Fault → Result X Fault → Result 
 lawful None answer = answer
 lawful (Some fault) answer = Err fault
 
-abbrev pub plan_of : List Canonical → Option ℤ → Tasks → Goal → Machine → Plan
+abbrev pub plan_of : List CanonModel → Option ℤ → Tasks → Goal → Machine → Plan
 plan_of remark feed tasks goal m = record { remark = remark; feed = feed; tasks = tasks; shown = goal.shown; path = goal.path; origin = goal.offsets.origin; before = m.outputs }
 
 -- what a lawful block does
-abbrev pub block_done : Block → Goal → List Canonical → Setup → Done
+abbrev pub block_done : Block → Goal → List CanonModel → StateModel → Done
 block_done b goal remark s =
     let mode = feed_mode_after b s.machine.modes in
     let tasks = tasks_of b mode s.machine.outputs in
@@ -69,16 +70,16 @@ block_done b goal remark s =
 
 -- what the values of a line do. It is refused by B1 to B19 of its words, then for a computed length or offset (E3), then for the shape
 -- of its arc (C1 to C4) or for its cycle (Y1 to Y8), then for its move (X1, X2); of each of these by the first whose cause holds
-unfoldable pub executed_values : Setup → List Canonical → Settled → List ℤ → Geometry → Result Done Fault
+unfoldable pub executed_values : StateModel → List CanonModel → Settled → List ℤ → Geometry → Result Done Fault
 executed_values s remark values tools geometry =
     and_then (checked values.words s.machine.modes (length tools)) (λ b.
     and_then (goal_of b values.settings s tools geometry) (λ goal.
     lawful (first_fault (path_faults goal.path geometry)) (Ok (block_done b goal remark s))))
 
 -- what the pieces of a line do: the faults of their values come first
-unfoldable pub executed_pieces : Setup → List Piece → List ℤ → Geometry → Result Done Fault
-executed_pieces s pieces tools geometry = and_then (settled pieces s.params) (λ values. executed_values s (remark_of (last_comment pieces)) values tools geometry)
+unfoldable pub executed_pieces : StateModel → List Piece → List ℤ → Geometry → Result Done Fault
+executed_pieces s pieces tools geometry = and_then (settled_pieces pieces s.params) (λ values. executed_values s (remark_of (last_comment pieces)) values tools geometry)
 
 -- what a line does, or why it is refused
-unfoldable pub executed : Setup → List ℤ → Geometry → List ℕ → Result Done Fault
+unfoldable pub executed : StateModel → List ℤ → Geometry → List ℕ → Result Done Fault
 executed s tools geometry text = and_then (read text) (λ line. executed_pieces s line.pieces tools geometry)

@@ -1,6 +1,7 @@
 -- The faults of a move (own numbers; NISTIR 6556, 3.5.2, 3.5.19), in the order in which they are looked for.
 use Rattle.std.specs.Prelude.{Bool, true, false, not, ◌&&◌, List, [], ◌∷◌}
 use Rattle.ng_num.specs.declared.fault.Fault.{Fault}
+use Rattle.ng_num.specs.declared.point.Point.{Point}
 use Rattle.ng_num.specs.declared.fault.Fault.TheVariants.{NoFeed, OutsideTravel}
 use Rattle.ng_arc.specs.Extremes.{extremes_inside}
 use Rattle.ng_canon.specs.Inside.{is_inside}
@@ -9,22 +10,34 @@ use Rattle.ng_canon.specs.declared.segment.Arc.{Arc}
 use Rattle.ng_block.specs.declared.path.Path.{Path}
 use Rattle.ng_block.specs.declared.path.Path.TheVariants.{WithoutFeed, Straight, Round, Homing}
 
--- X1: it moves at a feed, and under G94 the feed is 0, under G93 the line has no F above 0
-abbrev pub lacks_feed : Path → Bool
-lacks_feed WithoutFeed = true
-lacks_feed _ = false
-
 -- an arc ends within the travel, and passes no extreme outside it
 unfoldable pub stays_inside : Arc → Geometry → Bool
 stays_inside arc geometry = is_inside geometry arc.end && extremes_inside arc geometry
 
--- X2: a move ends outside the travel; on the way home each of two; an arc also where an extreme that it passes does. A cycle is found
--- within the travel, and with a feed, or not at all
-abbrev pub leaves_travel : Path → Geometry → Bool
-leaves_travel (Straight line) geometry = not (is_inside geometry line.end)
-leaves_travel (Round arc) geometry = not (stays_inside arc geometry)
-leaves_travel (Homing way) geometry = not (is_inside geometry way.between && is_inside geometry way.home)
-leaves_travel _ geometry = false
+-- X2 of a straight move: it ends outside the travel
+abbrev pub ends_outside : Geometry → Point → Bool
+ends_outside geometry end = not (is_inside geometry end)
+
+-- X2 of an arc: it ends outside the travel, or passes an extreme there
+abbrev pub turns_outside : Geometry → Arc → Bool
+turns_outside geometry arc = not (stays_inside arc geometry)
+
+-- X2 of a way home: one of its two moves ends outside the travel
+abbrev pub homes_outside : Geometry → (between home : Point) → Bool
+homes_outside geometry between home = not (is_inside geometry between && is_inside geometry home)
+
+-- X1 of a path: it is found without a feed where its move has none (`has_no_feed` of specs/Causes.antt). A cycle is found with a feed,
+-- and within the travel, or not at all
+abbrev pub is_without_feed : Path → Bool
+is_without_feed WithoutFeed = true
+is_without_feed _ = false
+
+-- X2 of a path
+abbrev pub path_outside : Path → Geometry → Bool
+path_outside (Straight line) geometry = ends_outside geometry line.end
+path_outside (Round arc) geometry = turns_outside geometry arc
+path_outside (Homing way) geometry = homes_outside geometry way.between way.home
+path_outside _ geometry = false
 
 abbrev pub path_faults : Path → Geometry → List (Bool × Fault)
-path_faults p geometry = (lacks_feed p, NoFeed) ∷ (leaves_travel p geometry, OutsideTravel) ∷ []
+path_faults p geometry = (is_without_feed p, NoFeed) ∷ (path_outside p geometry, OutsideTravel) ∷ []

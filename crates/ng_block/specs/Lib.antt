@@ -1,5 +1,3 @@
-pub mod Fresh
-pub mod Setup
 pub mod Ends
 pub mod Paths
 pub mod ToolLength
@@ -11,7 +9,7 @@ pub mod Arcs
 pub mod Faults
 pub mod Remarks
 pub mod Tasks
-pub mod Moves
+pub mod PathSegments
 pub mod Steps
 pub mod Order
 pub mod Cycles
@@ -24,8 +22,7 @@ pub mod Travel
 pub mod OffsetsAlone
 pub mod ProgramEnd
 pub mod Commands
-pub mod Segments
-pub mod Course
+pub mod SegmentsWithOutputs
+pub mod BlockSegments
 pub mod Resuming
-pub mod Dry
-pub mod Parts
+pub mod Program

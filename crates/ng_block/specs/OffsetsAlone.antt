@@ -1,21 +1,21 @@
 -- Lines that set offsets alone (NISTIR 6556, 3.5.5, 3.5.11, 3.5.13, 3.5.18).
 use Rattle.std.specs.Prelude.{◌≡◌, ℕ, List, Bool, true, false, not, ◌&&◌, Option, Some, None, Ok}
-use Rattle.ng_words.specs.Grammar.{Written, IsLine}
-use Rattle.ng_expr.specs.Settle.{Settled, settled}
+use Rattle.ng_words.specs.Grammar.{ParsedLine, IsLineOf}
+use Rattle.ng_expr.specs.Settle.{Settled, settled_pieces}
 use Rattle.ng_modal.specs.Blocks.{block_of}
 use Rattle.ng_modal.specs.ByLetter.{has_axis}
 use Rattle.ng_modal.specs.Lines.{takes_axes}
 use Rattle.ng_modal.specs.declared.asks.NonModal.{NonModal}
 use Rattle.ng_modal.specs.declared.asks.NonModal.TheVariants.{SetOrigin, SetOffset, ClearOffset, DropOffset, RestoreOffset}
 use Rattle.ng_modal.specs.declared.block.Block.{Block}
-use Rattle.ng_block.specs.Setup.{Setup}
+use Rattle.ng_state.specs.State.{StateModel}
 
 -- a text is a line whose words have values, and in a state these ask for a block
-pub record AsksFor (s : Setup) (text : List ℕ) (b : Block) : Type 0 where
-  pub line : Written
-  pub is_line : IsLine text line
+pub record AsksFor (s : StateModel) (text : List ℕ) (b : Block) : Type 0 where
+  pub line : ParsedLine
+  pub is_line : IsLineOf text line
   pub values : Settled
-  pub have_values : settled line.pieces s.params ≡ Ok values
+  pub have_values : settled_pieces line.pieces s.params ≡ Ok values
   pub block_is : b ≡ block_of values.words s.machine.modes
 
 -- of group 0 no word but G10, G92 and its three others

@@ -6,14 +6,14 @@ use Rattle.ng_params.specs.Points.{origin_of}
 use Rattle.ng_params.specs.Table.{at}
 use Rattle.ng_canon.specs.declared.outputs.Spindle.TheVariants.{Stopped}
 use Rattle.ng_canon.specs.declared.plane.Plane.TheVariants.{Xy}
-use Rattle.ng_modal.specs.declared.modes.Motion.TheVariants.{Feed}
-use Rattle.ng_modal.specs.declared.modes.Distance.TheVariants.{Absolute}
-use Rattle.ng_modal.specs.declared.modes.FeedMode.TheVariants.{PerMinute}
-use Rattle.ng_cycles.specs.Words.{no_words}
-use Rattle.ng_block.specs.Setup.{Setup}
+use Rattle.ng_state.specs.declared.modes.Motion.TheVariants.{Feed}
+use Rattle.ng_state.specs.declared.modes.Distance.TheVariants.{Absolute}
+use Rattle.ng_state.specs.declared.modes.FeedMode.TheVariants.{PerMinute}
+use Rattle.ng_state.specs.KeptWords.{no_words}
+use Rattle.ng_state.specs.State.{StateModel}
 
 -- G40 leaves nothing to say: there is no cutter radius compensation
-pub record IsEnded (s : Setup) : Type 0 where
+pub record IsEnded (s : StateModel) : Type 0 where
   pub g92_2 : s.machine.offsets.g92 ≡ zero_point
   pub g54 : s.machine.modes.system ≡ 1
   pub g54_stored : at s.params system_in_force ≡ pos 1_000_000

@@ -2,30 +2,30 @@
 use Rattle.std.specs.Prelude.{◌≡◌, ℕ, ◌-◌, List, length, take, drop}
 use Rattle.ng_num.specs.declared.point.Point.{Point}
 use Rattle.ng_canon.specs.declared.segment.Segment.{Segment}
-use Rattle.ng_cycles.specs.declared.standing.Standing.{Standing}
-use Rattle.ng_cycles.specs.Segments.{behind}
+use Rattle.ng_cycles.specs.declared.motion_state.MotionState.{MotionState}
+use Rattle.ng_cycles.specs.Segments.{after_segments}
 use Rattle.ng_block.specs.declared.effect.Effect.{Effect}
-use Rattle.ng_block.specs.declared.course.resuming.Passing.{Passing}
-use Rattle.ng_block.specs.declared.steps.Step.{Step}
+use Rattle.ng_block.specs.declared.block_segments.resuming.Passing.{Passing}
+use Rattle.ng_block.specs.declared.steps.BlockStep.{BlockStep}
 use Rattle.ng_block.specs.Effects.{segments_by}
 use Rattle.ng_block.specs.Order.{outputs_through}
 use Rattle.ng_block.specs.Tasks.{tasks_in}
 
 -- before the block, which begins at a point
-abbrev pub standing_before : Effect → Point → Standing
+abbrev pub standing_before : Effect → Point → MotionState
 standing_before e start = record { point = start; outputs = e.plan.before }
 
 -- before segment n, counted from 0: each segment before it leaves the machine where it ends, and a switch leaves its outputs
-abbrev pub standing_at : Effect → Point → ℕ → Standing
-standing_at e start n = behind (standing_before e start) (take n (segments_by e))
+abbrev pub standing_at : Effect → Point → ℕ → MotionState
+standing_at e start n = after_segments (standing_before e start) (take n (segments_by e))
 
 -- ---- a cursor that passes segments
 
-abbrev pub begun_step : Passing → Step → Passing
-begun_step p s = record p { rest = record p.rest { behind = outputs_through (tasks_in p.rest.tasks) p.rest.behind s } }
+abbrev pub begun_step : Passing → BlockStep → Passing
+begun_step p s = record p { rest = record p.rest { outputs = outputs_through (tasks_in p.rest.tasks) p.rest.outputs s } }
 
 -- some segments are passed as far as so many go, and what is left of them comes next
-pub record Passes (segments : List Segment) (old new : Passing) : Type 0 where
+pub record SkipSpec (segments : List Segment) (old new : Passing) : Type 0 where
   pub rest : new.rest ≡ record old.rest { moves = drop old.left segments }
-  pub standing : new.standing ≡ behind old.standing (take old.left segments)
+  pub standing : new.standing ≡ after_segments old.standing (take old.left segments)
   pub left : new.left ≡ old.left - length segments

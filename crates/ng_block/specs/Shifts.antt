@@ -5,20 +5,20 @@ use Rattle.std.specs.Option.{is_some}
 use Rattle.ng_num.specs.Results.{and_then}
 use Rattle.ng_num.specs.declared.fault.Fault.{Fault}
 use Rattle.ng_modal.specs.declared.block.Block.{Block}
-use Rattle.ng_block.specs.declared.machine.Machine.{Machine}
+use Rattle.ng_state.specs.declared.machine.Machine.{Machine}
 use Rattle.ng_block.specs.declared.shifts.Shown.{Shown}
 use Rattle.ng_block.specs.declared.shifts.Shifted.{Shifted}
-use Rattle.ng_block.specs.ToolLength.{behind_length, length_shown}
-use Rattle.ng_block.specs.AxisData.{with_system, axis_data_of, offsets_behind, offsets_shown}
+use Rattle.ng_block.specs.ToolLength.{offsets_after_length, length_shown}
+use Rattle.ng_block.specs.AxisData.{with_system, axis_data_of, offsets_after, offsets_shown}
 
 -- the offsets, what each step prints of them, and the changes that store them; or that one is beyond the range
 abbrev pub shift_of : Block → Machine → List ℤ → List ℤ → Result Shifted Fault
 shift_of b m table lengths =
-    let o = behind_length b.g.tool_length b.values.h lengths m.offsets in
+    let o = offsets_after_length b.g.tool_length b.values.h lengths m.offsets in
     and_then (with_system b.g.system o table) (λ system.
-    and_then (axis_data_of b m.modes m.point (offsets_behind system o) table) (λ axis.
+    and_then (axis_data_of b m.modes m.point (offsets_after system o) table) (λ axis.
     Ok (record {
-      offsets = offsets_behind axis.new (offsets_behind system o);
+      offsets = offsets_after axis.new (offsets_after system o);
       shown = record { tool_length = length_shown b.g.tool_length o; system = offsets_shown system; axis_data = offsets_shown axis.new };
       stored = axis.stored;
     })))

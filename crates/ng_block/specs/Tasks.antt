@@ -5,7 +5,7 @@ use Rattle.ng_canon.specs.declared.outputs.Outputs.{Outputs}
 use Rattle.ng_modal.specs.Accepted.{slot_on}
 use Rattle.ng_modal.specs.Causes.{is_dwell}
 use Rattle.ng_modal.specs.declared.block.Block.{Block}
-use Rattle.ng_modal.specs.declared.modes.FeedMode.{FeedMode}
+use Rattle.ng_state.specs.declared.modes.FeedMode.{FeedMode}
 use Rattle.ng_block.specs.declared.tasks.Tasks.{Tasks}
 use Rattle.ng_block.specs.Blocks.{is_inverse, feed_word, time_word}
 

@@ -12,11 +12,11 @@ abbrev pub slot_by : ToolLength → Option ℤ → ℕ
 slot_by OfSlot h = unwrap_or (slot_on h) 0
 slot_by Zero h = 0
 
--- the offsets behind the tool length
-abbrev pub behind_length : Option ToolLength → Option ℤ → List ℤ → Offsets → Offsets
-behind_length None h lengths o = o
-behind_length (Some word) h lengths o = with_tool o (slot_by word h) lengths
+-- the offsets after the tool length
+abbrev pub offsets_after_length : Option ToolLength → Option ℤ → List ℤ → Offsets → Offsets
+offsets_after_length None h lengths o = o
+offsets_after_length (Some word) h lengths o = with_tool o (slot_by word h) lengths
 
--- what the word prints: the tool length behind it
+-- what the word prints: the tool length after it
 abbrev pub length_shown : Option ToolLength → Offsets → Option ℤ
-length_shown word behind = option_map (λ _. behind.tool_length) word
+length_shown word after = option_map (λ _. after.tool_length) word

@@ -6,8 +6,9 @@ use crate::axis_data::system_after;
 use crate::ends::ends;
 use crate::goal::feed_mode_after;
 use ng_canon::Plane;
-use ng_modal::{Block, Distance, FeedMode, Modes, Motion};
+use ng_modal::Block;
 use ng_params::System;
+use ng_state::{Distance, FeedMode, Modes, Motion};
 
 /// Whether no word of a block changes a mode but the motion.
 #[inline]

@@ -1,24 +1,24 @@
 //! G2 and G3: the arc that a line asks for (NISTIR 6556, 3.5.3).
 ghost use Rattle.std.specs.Prelude.{◌≡◌};
-ghost use Rattle.ng_block.specs.Arcs.{turn_of, axes_on, centre_offsets_on, asked_by, turned, way_round};
+ghost use Rattle.ng_block.specs.Arcs.{turn_of, axes_on, centre_offsets_on, asked_by, turned, path_along_arc};
 
 use crate::axis_data::unit_after;
 use crate::goal::{end_of, feed_mode_after, pace_by};
-use crate::machine::Machine;
 use crate::path::Path;
 use ng_arc::{AskedArc, CentreOffsets, NamedAxes, check_arc};
-use ng_canon::{Pace, Turn};
-use ng_modal::{Block, ByLetter, Modes, Motion};
+use ng_canon::{ArcDirection, Pace};
+use ng_modal::{Block, ByLetter};
 use ng_num::{Fault, Len, Point};
 use ng_offsets::{Named, Offsets};
+use ng_state::{Machine, Modes, Motion};
 
 /// The way round that a motion goes; none where it is no arc.
-fn turn_of(motion: Option<Motion>) -> Option<Turn>
+fn turn_of(motion: Option<Motion>) -> Option<ArcDirection>
     ensures { result ≡ turn_of motion }
 {
     match motion {
-        Some(Motion::ClockwiseArc) => Some(Turn::Clockwise),
-        Some(Motion::CounterclockwiseArc) => Some(Turn::Counterclockwise),
+        Some(Motion::ClockwiseArc) => Some(ArcDirection::Clockwise),
+        Some(Motion::CounterclockwiseArc) => Some(ArcDirection::Counterclockwise),
         _ => None,
     }
 }
@@ -51,7 +51,7 @@ fn centre_offsets_on(block: &Block, modes: &Modes) -> Result<CentreOffsets, Faul
 fn asked_by(
     block: &Block,
     machine: &Machine,
-    turn: Turn,
+    turn: ArcDirection,
     end: Point,
     offsets: CentreOffsets,
     pace: &Option<Pace>,
@@ -79,7 +79,7 @@ fn turned(
     machine: &Machine,
     offsets: &Offsets,
     pace: Option<Pace>,
-    turn: Turn,
+    turn: ArcDirection,
 ) -> Result<Path, Fault>
     ensures { result ≡ turned block.now machine.now offsets.now pace turn }
 {
@@ -97,14 +97,14 @@ fn turned(
 /// coordinate of its end or its centre is beyond the range, else C1 to C4: an arc without an end or without an offset in its
 /// plane, with radii that differ, or with none.
 #[inline(never)]
-#[tactic(auto, unfolding(crate::specs::Arcs::way_round))]
-pub fn way_round(
+#[tactic(auto, unfolding(crate::specs::Arcs::path_along_arc))]
+pub fn path_along_arc(
     block: &Block,
     machine: &Machine,
     offsets: &Offsets,
     feed_per_min: Len,
 ) -> Result<Path, Fault>
-    ensures { result ≡ way_round block.now machine.now offsets.now feed_per_min }
+    ensures { result ≡ path_along_arc block.now machine.now offsets.now feed_per_min }
 {
     let Some(turn) = turn_of(block.motion) else {
         return Ok(Path::Still);

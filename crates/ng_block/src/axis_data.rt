@@ -3,11 +3,11 @@ ghost use Rattle.std.specs.Prelude.{◌≡◌};
 ghost use Rattle.ng_params.specs.Changes.{with_changes};
 ghost use Rattle.ng_block.specs.AxisData.{unit_after, system_after, named_on, with_origin, with_offset, axis_data_of};
 
-use crate::machine::Machine;
-use ng_modal::{Block, Modes, NonModal};
+use ng_modal::{Block, NonModal};
 use ng_num::{Fault, Point, Unit};
 use ng_offsets::{Named, NewOffsets, Offsets};
 use ng_params::{Change, Params, System};
+use ng_state::{Machine, Modes};
 use std::alloc::Allocator;
 
 /// What axis data do.
@@ -86,7 +86,7 @@ fn with_offset(
     })
 }
 
-/// What a line's word of group 0 makes of the offsets that are in force behind its coordinate system, in the table that its
+/// What a line's word of group 0 makes of the offsets that are in force after its coordinate system, in the table that its
 /// settings leave. E3 where an offset, or a sum that is printed, is beyond the range.
 pub fn axis_data_of<A: Allocator + Copy + Drop>(
     block: &Block,

@@ -3,7 +3,7 @@
 ghost use Rattle.std.specs.Prelude.{◌≡◌, ◌≤◌, ◌+◌, ◌++◌, length, Ok, Err, MatchResult, OnOk};
 ghost use Rattle.ng_modal.specs.Accepted.{IsSlot};
 ghost use Rattle.ng_block.specs.Paths.{moving_at};
-ghost use Rattle.ng_block.specs.Goals.{selecting, storing, bearings_of, way_of, ended, goal_of, bearings_by, way_by, goal_by};
+ghost use Rattle.ng_block.specs.Goals.{selecting, storing, bearings_of, path_after_bearings, ended, goal_of, bearings_by, path_with_bearings, goal_by};
 
 use crate::cycles::{kept_beside, kept_in, kind_of};
 use crate::effect::{CHANGES, Changes, Effect};
@@ -13,12 +13,12 @@ use crate::goal::{
 };
 use crate::path::Path;
 use crate::shifts::{keeps_offsets, shift_of};
-use crate::state::State;
 use ng_canon::{Geometry, Pace, StraightMove};
 use ng_modal::Block;
 use ng_num::{Fault, Len, Point};
 use ng_offsets::{Offsets, Tools};
 use ng_params::{Change, Params, System};
+use ng_state::State;
 use std::alloc::Allocator;
 
 /// Adds changes of parameters.
@@ -55,7 +55,7 @@ fn put_stored(stored: &Option<[Change; 3]>, changes: &mut Changes)
 }
 
 impl Effect {
-    /// Finds the offsets behind a block's axis data, and adds the changes of parameters to those of the settings.
+    /// Finds the offsets after a block's axis data, and adds the changes of parameters to those of the settings.
     fn find_bearings<A: Allocator + Copy + Drop>(
         &mut self,
         state: &State<A>,
@@ -91,7 +91,7 @@ impl Effect {
     /// Finds the offsets and the path of a block that has a word for offsets or of group 0. A call of its own, so that nearly all
     /// lines pass by its places.
     #[inline(never)]
-    fn find_way<A: Allocator + Copy + Drop>(
+    fn find_path<A: Allocator + Copy + Drop>(
         &mut self,
         state: &State<A>,
         block: &Block,
@@ -103,7 +103,7 @@ impl Effect {
         requires short { length settings.now ≤ 128 }
         requires settings { self.old.changes.items ≡ settings.now }
         requires slot { IsSlot block.now.values.h (length tools.now) }
-        ensures value { MatchResult result (λ _. way_of block.now settings.now state.now tools.now feed_per_min geometry.now ≡ Ok (way_by self.new)) (λ fault. way_of block.now settings.now state.now tools.now feed_per_min geometry.now ≡ Err fault) }
+        ensures value { MatchResult result (λ _. path_after_bearings block.now settings.now state.now tools.now feed_per_min geometry.now ≡ Ok (path_with_bearings self.new)) (λ fault. path_after_bearings block.now settings.now state.now tools.now feed_per_min geometry.now ≡ Err fault) }
         ensures room { OnOk result (length self.new.changes.items ≤ 132) }
     {
         self.find_bearings(state, block, settings, tools)?;
@@ -115,7 +115,7 @@ impl Effect {
     /// The same of any block. Most lines leave the offsets as they are, so this is looked at first.
     #[inline]
     #[tactic(auto, using(crate::proofs::WayLemmas::way_kept))]
-    fn find_any_way<A: Allocator + Copy + Drop>(
+    fn find_any_path<A: Allocator + Copy + Drop>(
         &mut self,
         state: &State<A>,
         block: &Block,
@@ -126,13 +126,13 @@ impl Effect {
     ) -> Result<(), Fault>
         requires short { length settings.now ≤ 128 }
         requires slot { IsSlot block.now.values.h (length tools.now) }
-        ensures value { MatchResult result (λ _. way_of block.now settings.now state.now tools.now feed_per_min geometry.now ≡ Ok (way_by self.new)) (λ fault. way_of block.now settings.now state.now tools.now feed_per_min geometry.now ≡ Err fault) }
+        ensures value { MatchResult result (λ _. path_after_bearings block.now settings.now state.now tools.now feed_per_min geometry.now ≡ Ok (path_with_bearings self.new)) (λ fault. path_after_bearings block.now settings.now state.now tools.now feed_per_min geometry.now ≡ Err fault) }
         ensures room { OnOk result (length self.new.changes.items ≤ 132) }
     {
         self.changes.clear();
         put_changes(settings, &mut self.changes);
         if !keeps_offsets(block) {
-            return self.find_way(state, block, settings, tools, feed_per_min, geometry);
+            return self.find_path(state, block, settings, tools, feed_per_min, geometry);
         }
         self.machine.offsets = state.machine.offsets;
         self.plan.shown = None;
@@ -179,7 +179,7 @@ impl Effect {
         ensures { MatchResult result (λ _. goal_of block.now settings.now state.now tools.now geometry.now ≡ Ok (goal_by self.new)) (λ fault. goal_of block.now settings.now state.now tools.now geometry.now ≡ Err fault) }
     {
         let feed_per_min = feed_of(block, &state.machine)?;
-        self.find_any_way(state, block, settings, tools, feed_per_min, geometry)?;
+        self.find_any_path(state, block, settings, tools, feed_per_min, geometry)?;
         if ends(block.m.stop) {
             self.end_bearings(&state.params);
         }

@@ -1,60 +1,59 @@
 //! A block's commands, one at a time.
-ghost use Rattle.std.specs.Prelude.{◌≡◌, ◌∷◌, ◌++◌, [], map, MatchOption, IfSome};
+ghost use Rattle.std.specs.Prelude.{◌≡◌, ◌∷◌, ◌++◌, [], map, MatchOption};
 ghost use Rattle.ng_canon.specs.Text.{canonical, numeric};
 ghost use Rattle.ng_block.specs.Commands.{begun_commands, rest_commands};
 ghost use Rattle.ng_block.specs.Effects.{plan_by, commands_by};
-ghost use Rattle.ng_block.specs.Paths.{pace_command};
 ghost use Rattle.ng_block.specs.Tasks.{tasks_in};
 ghost use Rattle.ng_block.specs.Shifts.{shown_in};
 ghost use Rattle.ng_block.specs.Order.{commands_at, numeric_at, command_for, command_at, task_commands, coolant_commands, stop_commands};
 
 use crate::effect::Effect;
-use crate::path::{Moves, Path, command_of, spindle_command};
+use crate::path::{PathSegments, command_of, spindle_command};
 use crate::shifts::Shown;
-use crate::steps::{ORDER, Step};
+use crate::steps::{BlockStep, ORDER};
 use crate::tasks::Tasks;
 use arrayvec::ArrayVec;
-use ng_canon::{Canon, Command, Plane, StraightMove};
-use ng_modal::{Coolant, Stop as StopWord};
+use ng_canon::{Canon, CanonicalCommand, Plane};
+use ng_modal::{Coolant, StopWord};
 use ng_num::{Len, Point};
 use std::marker::Model;
 
 /// The most commands of a step but the motion.
 const MOST: usize = 8;
 
-type OfStep = ArrayVec<Command, MOST>;
+type OfStep = ArrayVec<CanonicalCommand, MOST>;
 
 fn put_feed(feed_per_min: Option<Len>, commands: &mut OfStep)
     requires { commands.old.items ≡ [] }
-    ensures { commands.new.items ≡ command_for Command.FeedRate feed_per_min }
+    ensures { commands.new.items ≡ command_for CanonicalCommand.FeedRate feed_per_min }
 {
     if let Some(feed_per_min) = feed_per_min {
-        commands.push(Command::FeedRate(feed_per_min));
+        commands.push(CanonicalCommand::FeedRate(feed_per_min));
     }
 }
 
 fn put_length(shown: &Option<Shown>, commands: &mut OfStep)
     requires { commands.old.items ≡ [] }
-    ensures { commands.new.items ≡ command_for Command.ToolLength (shown_in shown.now).tool_length }
+    ensures { commands.new.items ≡ command_for CanonicalCommand.ToolLength (shown_in shown.now).tool_length }
 {
     let Some(shown) = shown else { return };
     if let Some(tool_length) = shown.tool_length {
-        commands.push(Command::ToolLength(tool_length));
+        commands.push(CanonicalCommand::ToolLength(tool_length));
     }
 }
 
 fn put_offsets(offsets: Option<Point>, commands: &mut OfStep)
     requires { commands.old.items ≡ [] }
-    ensures { commands.new.items ≡ command_for Command.OriginOffsets offsets }
+    ensures { commands.new.items ≡ command_for CanonicalCommand.OriginOffsets offsets }
 {
     if let Some(offsets) = offsets {
-        commands.push(Command::OriginOffsets(offsets));
+        commands.push(CanonicalCommand::OriginOffsets(offsets));
     }
 }
 
 fn put_system(shown: &Option<Shown>, commands: &mut OfStep)
     requires { commands.old.items ≡ [] }
-    ensures { commands.new.items ≡ command_for Command.OriginOffsets (shown_in shown.now).system }
+    ensures { commands.new.items ≡ command_for CanonicalCommand.OriginOffsets (shown_in shown.now).system }
 {
     if let Some(shown) = shown {
         put_offsets(shown.system, commands);
@@ -63,7 +62,7 @@ fn put_system(shown: &Option<Shown>, commands: &mut OfStep)
 
 fn put_axis_data(shown: &Option<Shown>, commands: &mut OfStep)
     requires { commands.old.items ≡ [] }
-    ensures { commands.new.items ≡ command_for Command.OriginOffsets (shown_in shown.now).axis_data }
+    ensures { commands.new.items ≡ command_for CanonicalCommand.OriginOffsets (shown_in shown.now).axis_data }
 {
     if let Some(shown) = shown {
         put_offsets(shown.axis_data, commands);
@@ -71,18 +70,18 @@ fn put_axis_data(shown: &Option<Shown>, commands: &mut OfStep)
 }
 
 /// The command of a step that has at most one.
-fn command_at(tasks: &Tasks, step: Step) -> Option<Command>
+fn command_at(tasks: &Tasks, step: BlockStep) -> Option<CanonicalCommand>
     ensures { MatchOption result (command_at tasks.now step ≡ []) (λ command. command_at tasks.now step ≡ command ∷ []) }
 {
     let command = match step {
-        Step::SpindleSpeed => Command::SpindleSpeed(tasks.speed?),
-        Step::SelectTool => Command::SelectTool(tasks.selected_slot?),
-        Step::ChangeTool => Command::ChangeTool(tasks.changed_slot?),
-        Step::Spindle => spindle_command(tasks.spindle?),
-        Step::Dwell => Command::Dwell(tasks.dwell?),
-        Step::Plane => Command::SelectPlane(tasks.plane?),
-        Step::Units => Command::LengthUnits(tasks.unit?),
-        Step::Motion => Command::InverseTime(tasks.time?),
+        BlockStep::SpindleSpeed => CanonicalCommand::SpindleSpeed(tasks.speed?),
+        BlockStep::SelectTool => CanonicalCommand::SelectTool(tasks.selected_slot?),
+        BlockStep::ChangeTool => CanonicalCommand::ChangeTool(tasks.changed_slot?),
+        BlockStep::Spindle => spindle_command(tasks.spindle?),
+        BlockStep::Dwell => CanonicalCommand::Dwell(tasks.dwell?),
+        BlockStep::Plane => CanonicalCommand::SelectPlane(tasks.plane?),
+        BlockStep::Units => CanonicalCommand::LengthUnits(tasks.unit?),
+        BlockStep::Motion => CanonicalCommand::InverseTime(tasks.time?),
         _ => return None,
     };
     Some(command)
@@ -94,11 +93,11 @@ fn put_coolant(coolant: Option<Coolant>, commands: &mut OfStep)
 {
     match coolant {
         None => {}
-        Some(Coolant::Mist) => commands.push(Command::MistOn),
-        Some(Coolant::Flood) => commands.push(Command::FloodOn),
+        Some(Coolant::Mist) => commands.push(CanonicalCommand::MistOn),
+        Some(Coolant::Flood) => commands.push(CanonicalCommand::FloodOn),
         Some(Coolant::Off) => {
-            commands.push(Command::MistOff);
-            commands.push(Command::FloodOff);
+            commands.push(CanonicalCommand::MistOff);
+            commands.push(CanonicalCommand::FloodOff);
         }
     }
 }
@@ -106,13 +105,13 @@ fn put_coolant(coolant: Option<Coolant>, commands: &mut OfStep)
 /// The commands of the program's end, but for its shuttle and its last one.
 fn put_end(origin: Point, commands: &mut OfStep)
     requires { commands.old.items ≡ [] }
-    ensures { commands.new.items ≡ Command.OriginOffsets origin ∷ Command.SelectPlane Plane.Xy ∷ Command.StopSpindle ∷ Command.MistOff ∷ Command.FloodOff ∷ [] }
+    ensures { commands.new.items ≡ CanonicalCommand.OriginOffsets origin ∷ CanonicalCommand.SelectPlane Plane.Xy ∷ CanonicalCommand.StopSpindle ∷ CanonicalCommand.MistOff ∷ CanonicalCommand.FloodOff ∷ [] }
 {
-    commands.push(Command::OriginOffsets(origin));
-    commands.push(Command::SelectPlane(Plane::Xy));
-    commands.push(Command::StopSpindle);
-    commands.push(Command::MistOff);
-    commands.push(Command::FloodOff);
+    commands.push(CanonicalCommand::OriginOffsets(origin));
+    commands.push(CanonicalCommand::SelectPlane(Plane::Xy));
+    commands.push(CanonicalCommand::StopSpindle);
+    commands.push(CanonicalCommand::MistOff);
+    commands.push(CanonicalCommand::FloodOff);
 }
 
 fn put_stop(word: Option<StopWord>, origin: Point, commands: &mut OfStep)
@@ -121,33 +120,33 @@ fn put_stop(word: Option<StopWord>, origin: Point, commands: &mut OfStep)
 {
     match word {
         None => {}
-        Some(StopWord::Program) => commands.push(Command::ProgramStop),
-        Some(StopWord::Optional) => commands.push(Command::OptionalStop),
+        Some(StopWord::Program) => commands.push(CanonicalCommand::ProgramStop),
+        Some(StopWord::Optional) => commands.push(CanonicalCommand::OptionalStop),
         Some(StopWord::Shuttle) => {
-            commands.push(Command::PalletShuttle);
-            commands.push(Command::ProgramStop);
+            commands.push(CanonicalCommand::PalletShuttle);
+            commands.push(CanonicalCommand::ProgramStop);
         }
         Some(StopWord::End) => {
             put_end(origin, commands);
-            commands.push(Command::ProgramEnd);
+            commands.push(CanonicalCommand::ProgramEnd);
         }
         Some(StopWord::EndWithShuttle) => {
             put_end(origin, commands);
-            commands.push(Command::PalletShuttle);
-            commands.push(Command::ProgramEnd);
+            commands.push(CanonicalCommand::PalletShuttle);
+            commands.push(CanonicalCommand::ProgramEnd);
         }
     }
 }
 
 /// Puts the commands of a step, but for its remark and its moves.
-fn put_tasks(tasks: &Option<Tasks>, origin: Point, step: Step, commands: &mut OfStep)
+fn put_tasks(tasks: &Option<Tasks>, origin: Point, step: BlockStep, commands: &mut OfStep)
     requires { commands.old.items ≡ [] }
     ensures { commands.new.items ≡ task_commands (tasks_in tasks.now) origin step }
 {
     let Some(tasks) = tasks else { return };
     match step {
-        Step::Coolant => put_coolant(tasks.coolant, commands),
-        Step::Stop => put_stop(tasks.stop, origin, commands),
+        BlockStep::Coolant => put_coolant(tasks.coolant, commands),
+        BlockStep::Stop => put_stop(tasks.stop, origin, commands),
         _ => if let Some(command) = command_at(tasks, step) {
             commands.push(command);
         },
@@ -162,9 +161,9 @@ struct CommandsLeft<'a> {
     waiting: OfStep,
     taken: usize,
     /// The segments of the motion, where that has begun.
-    moves: Moves,
+    moves: PathSegments,
     /// The steps that haven't begun.
-    steps: &'a [Step],
+    steps: &'a [BlockStep],
 }
 
 /// The commands that are left of a block, in their order.
@@ -175,10 +174,10 @@ pub struct Commands<'a> {
 
 impl<'a> Model for Commands<'a> {
     ghost use Rattle.std.specs.Prelude.{List};
-    ghost use Rattle.ng_canon.specs.Text.{Canonical};
+    ghost use Rattle.ng_canon.specs.Text.{CanonModel};
     ghost use Rattle.ng_block.specs.Commands.{rest_commands};
 
-    ghost Value = { List Canonical };
+    ghost Value = { List CanonModel };
 
     ghost view = { λ c. rest_commands c.rest };
 }
@@ -193,35 +192,16 @@ impl Effect {
                 effect: self,
                 waiting: ArrayVec::new(),
                 taken: 0,
-                moves: Moves::none(),
+                moves: PathSegments::none(),
                 steps: &ORDER,
             },
-        }
-    }
-
-    /// The one move of a block that only goes straight, behind the feed that it sets; none of any other.
-    #[inline]
-    pub(crate) fn only_move(&self) -> Option<&StraightMove>
-        ensures { IfSome result (λ move. commands_by self.now ≡ map numeric (command_for Command.FeedRate self.now.plan.feed ++ pace_command move.now.pace move.now.end ∷ [])) }
-    {
-        let plan = &self.plan;
-        if plan.tasks.is_some() | plan.shown.is_some() | plan.remark.manner.is_some() {
-            return None;
-        }
-        match &self.plan.path {
-            Path::Straight(line) => Some(line),
-            Path::Still => None,
-            Path::WithoutFeed => None,
-            Path::Round(_) => None,
-            Path::Homing(_) => None,
-            Path::Cycle(_) => None,
         }
     }
 }
 
 impl<'a> CommandsLeft<'a> {
     /// The next command of the step that has begun.
-    fn next_begun(&mut self) -> Option<Command>
+    fn next_begun(&mut self) -> Option<CanonicalCommand>
         ensures effect { self.new.effect ≡ self.old.effect }
         ensures steps { self.new.steps ≡ self.old.steps }
         ensures next { MatchOption result ((begun_commands self.old ≡ []) × (begun_commands self.new ≡ []) × (self.new.moves ≡ [])) (λ command. begun_commands self.old ≡ command ∷ begun_commands self.new) }
@@ -238,7 +218,7 @@ impl<'a> CommandsLeft<'a> {
     }
 
     /// Begins a step, but for its remark.
-    fn begin(&mut self, step: Step)
+    fn begin(&mut self, step: BlockStep)
         requires { self.old.moves ≡ [] }
         ensures effect { self.new.effect ≡ self.old.effect }
         ensures steps { self.new.steps ≡ self.old.steps }
@@ -249,26 +229,26 @@ impl<'a> CommandsLeft<'a> {
         let plan = &self.effect.plan;
         let origin = self.effect.machine.offsets.origin;
         match step {
-            Step::Feed => put_feed(plan.feed, &mut self.waiting),
-            Step::ToolLength => put_length(&plan.shown, &mut self.waiting),
-            Step::CoordinateSystem => put_system(&plan.shown, &mut self.waiting),
-            Step::AxisData => put_axis_data(&plan.shown, &mut self.waiting),
+            BlockStep::Feed => put_feed(plan.feed, &mut self.waiting),
+            BlockStep::ToolLength => put_length(&plan.shown, &mut self.waiting),
+            BlockStep::CoordinateSystem => put_system(&plan.shown, &mut self.waiting),
+            BlockStep::AxisData => put_axis_data(&plan.shown, &mut self.waiting),
             _ => put_tasks(&plan.tasks, origin, step, &mut self.waiting),
         }
-        if let Step::Motion = step {
-            self.moves = Moves::of(&plan.path);
+        if let BlockStep::Motion = step {
+            self.moves = PathSegments::of(&plan.path);
         }
     }
 
     /// Begins a step, and gives its first command.
-    fn first_in(&mut self, step: Step) -> Option<Canon<'a>>
+    fn first_in(&mut self, step: BlockStep) -> Option<Canon<'a>>
         requires begun { begun_commands self.old ≡ [] }
         requires moves { self.old.moves ≡ [] }
         ensures effect { self.new.effect ≡ self.old.effect }
         ensures steps { self.new.steps ≡ self.old.steps }
         ensures next { MatchOption result ((commands_at (plan_by self.old.effect.now) step ≡ []) × (begun_commands self.new ≡ []) × (self.new.moves ≡ [])) (λ canon. commands_at (plan_by self.old.effect.now) step ≡ canonical canon ∷ map numeric (begun_commands self.new)) }
     {
-        if let Step::Remark = step {
+        if let BlockStep::Remark = step {
             return self.effect.plan.remark.command();
         }
         self.begin(step);
@@ -285,8 +265,8 @@ impl<'a> CommandsLeft<'a> {
         if let Some(command) = self.next_begun() {
             return Some(Canon::Command(command));
         }
-        while let [step, behind @ ..] = self.steps {
-            self.steps = behind;
+        while let [step, later @ ..] = self.steps {
+            self.steps = later;
             match self.first_in(*step) {
                 Some(canon) => return Some(canon),
                 None => {}

@@ -1,47 +1,47 @@
 //! G81 to G89: the canned cycle that a line asks for, and the words that it keeps (NISTIR 6556, 3.5.16).
 ghost use Rattle.std.specs.Prelude.{◌≡◌, ◌≤◌, IfOk};
 ghost use Rattle.ng_offsets.specs.Named.{length_by};
-ghost use Rattle.ng_block.specs.Cycles.{kind_of, is_same, own_words, kept_for, kept_beside, kept_in, cycle_words, is_incremental, is_old_z, outputs_at_motion, setting_of, way_of_cycle};
+ghost use Rattle.ng_block.specs.Cycles.{kind_of, is_same, own_words, kept_for, kept_beside, kept_in, cycle_words, is_incremental, is_old_z, outputs_at_motion, setting_of, cycle_path};
 
 use crate::axis_data::{named_on, unit_after};
 use crate::ends::ends;
 use crate::goal::{feed_mode_after, is_inverse};
-use crate::machine::Machine;
 use crate::path::Path;
 use crate::switches::outputs_before_motion;
 use crate::tasks::Tasks;
 use ng_canon::{Geometry, Outputs};
-use ng_cycles::{Canned, CycleWords, KeptWords, Kind, Setting};
-use ng_modal::{Block, Distance, Modes, Motion, Retract};
+use ng_cycles::{Canned, CycleKind, CycleWords, Setting};
+use ng_modal::Block;
 use ng_num::{Fault, Len, Num, Unit, nm_of};
 use ng_offsets::Offsets;
+use ng_state::{Distance, KeptWords, Machine, Modes, Motion, Retract};
 
 /// The kind of cycle that a motion is; none where it is no cycle.
 #[inline]
-pub fn kind_of(motion: Option<Motion>) -> Option<Kind>
+pub fn kind_of(motion: Option<Motion>) -> Option<CycleKind>
     ensures { result ≡ kind_of motion }
 {
     match motion {
-        Some(Motion::Drilling) => Some(Kind::Drilling),
-        Some(Motion::DrillingWithDwell) => Some(Kind::DrillingWithDwell),
-        Some(Motion::PeckDrilling) => Some(Kind::PeckDrilling),
-        Some(Motion::Boring) => Some(Kind::Boring),
-        Some(Motion::BoringWithStop) => Some(Kind::BoringWithStop),
-        Some(Motion::BoringWithDwell) => Some(Kind::BoringWithDwell),
+        Some(Motion::Drilling) => Some(CycleKind::Drilling),
+        Some(Motion::DrillingWithDwell) => Some(CycleKind::DrillingWithDwell),
+        Some(Motion::PeckDrilling) => Some(CycleKind::PeckDrilling),
+        Some(Motion::Boring) => Some(CycleKind::Boring),
+        Some(Motion::BoringWithStop) => Some(CycleKind::BoringWithStop),
+        Some(Motion::BoringWithDwell) => Some(CycleKind::BoringWithDwell),
         _ => None,
     }
 }
 
-fn is_same(one: Kind, other: Kind) -> bool
+fn is_same(one: CycleKind, other: CycleKind) -> bool
     ensures { result ≡ is_same one other }
 {
     match (one, other) {
-        (Kind::Drilling, Kind::Drilling)
-        | (Kind::DrillingWithDwell, Kind::DrillingWithDwell)
-        | (Kind::PeckDrilling, Kind::PeckDrilling)
-        | (Kind::Boring, Kind::Boring)
-        | (Kind::BoringWithStop, Kind::BoringWithStop)
-        | (Kind::BoringWithDwell, Kind::BoringWithDwell) => true,
+        (CycleKind::Drilling, CycleKind::Drilling)
+        | (CycleKind::DrillingWithDwell, CycleKind::DrillingWithDwell)
+        | (CycleKind::PeckDrilling, CycleKind::PeckDrilling)
+        | (CycleKind::Boring, CycleKind::Boring)
+        | (CycleKind::BoringWithStop, CycleKind::BoringWithStop)
+        | (CycleKind::BoringWithDwell, CycleKind::BoringWithDwell) => true,
         _ => false,
     }
 }
@@ -74,7 +74,7 @@ fn own_words(block: &Block, modes: &Modes) -> Result<KeptWords, Fault>
 }
 
 /// The words that were kept for a cycle: none where the motion mode before the line is another.
-fn kept_for(kind: Kind, machine: &Machine) -> KeptWords
+fn kept_for(kind: CycleKind, machine: &Machine) -> KeptWords
     ensures { result ≡ kept_for kind machine.now }
 {
     match kind_of(Some(machine.modes.motion)) {
@@ -102,7 +102,7 @@ pub fn kept_beside(block: &Block, machine: &Machine) -> KeptWords
 /// The words kept after a cycle's line: its own, and those that were kept for it where the line has none; the program's end drops
 /// them. E3 where a length of its own is beyond the range.
 #[inline(never)]
-pub fn kept_in(kind: Kind, block: &Block, machine: &Machine) -> Result<KeptWords, Fault>
+pub fn kept_in(kind: CycleKind, block: &Block, machine: &Machine) -> Result<KeptWords, Fault>
     ensures { result ≡ kept_in kind block.now machine.now }
 {
     let own = own_words(block, &machine.modes)?;
@@ -117,7 +117,7 @@ pub fn kept_in(kind: Kind, block: &Block, machine: &Machine) -> Result<KeptWords
 fn cycle_words(
     block: &Block,
     modes: &Modes,
-    kind: Kind,
+    kind: CycleKind,
     own: KeptWords,
 ) -> Result<CycleWords, Fault>
     ensures words { result ≡ cycle_words block.now modes.now kind own }
@@ -151,7 +151,7 @@ fn is_old_z(retract: Retract) -> bool
     }
 }
 
-/// The outputs that a line's motion meets: behind its spindle, tool and coolant words.
+/// The outputs that a line's motion meets: after its spindle, tool and coolant words.
 fn outputs_at_motion(block: &Block, machine: &Machine) -> Outputs
     ensures { result ≡ outputs_at_motion block.now machine.now }
 {
@@ -187,15 +187,15 @@ fn setting_of(
 /// that it computes is beyond the range, else the first of Y1 to Y8, X1 and X2: the extreme coordinates decide it, and neither
 /// repeats nor pecks are walked.
 #[inline(never)]
-#[tactic(auto, unfolding(crate::specs::Cycles::way_of_cycle))]
-pub fn way_of_cycle(
+#[tactic(auto, unfolding(crate::specs::Cycles::cycle_path))]
+pub fn cycle_path(
     block: &Block,
     machine: &Machine,
     offsets: &Offsets,
     feed_per_min: Len,
     geometry: &Geometry,
 ) -> Result<Path, Fault>
-    ensures { result ≡ way_of_cycle block.now machine.now offsets.now feed_per_min geometry.now }
+    ensures { result ≡ cycle_path block.now machine.now offsets.now feed_per_min geometry.now }
 {
     let Some(kind) = kind_of(block.motion) else {
         return Ok(Path::Still);

@@ -1,26 +1,30 @@
-//! What a block leaves behind: the machine, the parameters that it changes, how the program goes on, and the plan of its
+//! What a block leaves after: the machine, the parameters that it changes, how the program goes on, and the plan of its
 //! commands and segments.
-ghost use Rattle.std.specs.Prelude.{◌≡◌, ◌≤◌, [], Ok, Err, length, IfSome, MatchResult, None};
+ghost use Rattle.std.specs.Prelude.{◌≡◌, ◌≤◌, ◌∷◌, ◌++◌, [], map, Ok, Err, length, IfSome, MatchResult, None};
+ghost use Rattle.ng_canon.specs.Text.{numeric};
 ghost use Rattle.std.specs.Option.{option_map};
 ghost use Rattle.ng_block.specs.Goals.{goal_by};
 ghost use Rattle.ng_block.specs.Effects.{block_done, segments_by, commands_by, in_state};
+ghost use Rattle.ng_block.specs.Order.{command_for};
+ghost use Rattle.ng_block.specs.Paths.{pace_command};
 ghost use Rattle.ng_block.specs.Remarks.{remark_of};
-ghost use Rattle.ng_block.specs.Dry.{idle};
-ghost use Rattle.ng_block.specs.declared.effect.Stop.TheVariants.{GoesOn};
+ghost use Rattle.ng_block.specs.Program.{idle};
+ghost use Rattle.ng_block.specs.declared.effect.ProgramFlow.TheVariants.{GoesOn};
 
 use crate::after::put_modes_after;
 use crate::ends::{ends, stop_of};
 use crate::goal::feed_mode_after;
-use crate::machine::Machine;
 use crate::path::Path;
 use crate::plan::Plan;
 use crate::remark::Remark;
-use crate::state::State;
 use crate::switches::put_outputs_after;
 use crate::tasks::{feed_set, put_tasks};
 use arrayvec::ArrayVec;
+use ng_canon::{CanonicalCommand, StraightMove};
 use ng_modal::Block;
+use ng_num::Len;
 use ng_params::Change;
+use ng_state::{Machine, State};
 use std::alloc::Allocator;
 
 /// The most changes of parameters that a line makes: a setting for each of its pieces, and those of its words.
@@ -29,9 +33,9 @@ pub const CHANGES: usize = 136;
 /// The parameters that a line changes, in order.
 pub type Changes = ArrayVec<Change, CHANGES>;
 
-/// How the program goes on behind a line.
+/// How the program goes on after a line.
 #[derive(Clone, Copy, Debug, PartialEq, Eq)]
-pub enum Stop {
+pub enum ProgramFlow {
     GoesOn,
     /// M0, M60.
     Stops,
@@ -47,7 +51,7 @@ pub struct Effect {
     pub machine: Machine,
     /// The parameters that it sets, taken in order.
     pub changes: Changes,
-    pub stop: Stop,
+    pub stop: ProgramFlow,
     pub(crate) plan: Plan,
 }
 
@@ -64,7 +68,7 @@ impl Effect {
         Effect {
             machine,
             changes: Changes::new(),
-            stop: Stop::GoesOn,
+            stop: ProgramFlow::GoesOn,
             plan: Plan {
                 remark: Remark::none(),
                 feed: None,
@@ -76,8 +80,28 @@ impl Effect {
         }
     }
 
+    /// The one move of a block that only goes straight, after the feed that it sets, if any; none of any other block. So the
+    /// commands of nearly every line are had without a cursor.
+    #[inline]
+    pub fn only_move(&self) -> Option<(Option<Len>, &StraightMove)>
+        ensures { IfSome result (λ x. commands_by self.now ≡ map numeric (command_for CanonicalCommand.FeedRate x.0 ++ pace_command x.1.now.pace x.1.now.end ∷ [])) }
+    {
+        let plan = &self.plan;
+        if plan.tasks.is_some() | plan.shown.is_some() | plan.remark.manner.is_some() {
+            return None;
+        }
+        match &plan.path {
+            Path::Straight(line) => Some((plan.feed, line)),
+            Path::Still => None,
+            Path::WithoutFeed => None,
+            Path::Round(_) => None,
+            Path::Homing(_) => None,
+            Path::Cycle(_) => None,
+        }
+    }
+
     /// Becomes that of a line which does nothing in a state.
-    pub(crate) fn leave<A: Allocator + Copy + Drop>(&mut self, state: &State<A>, stop: Stop)
+    pub(crate) fn leave<A: Allocator + Copy + Drop>(&mut self, state: &State<A>, stop: ProgramFlow)
         ensures { in_state state.now self.new ≡ idle state.now stop }
     {
         self.machine = state.machine;
@@ -113,7 +137,7 @@ impl Effect {
         self.plan
             .path
             .put_point_after(&machine.point, &mut self.machine.point);
-        self.machine.place_known = machine.place_known;
+        self.machine.point_known = machine.point_known;
         self.stop = stop_of(block.m.stop);
         self.plan.remark.take(comment);
         self.plan.feed = feed_set(block, mode, self.machine.feed_per_min);

@@ -1,9 +1,9 @@
-//! How the program goes on behind a line (NISTIR 6556, 3.6.1).
+//! How the program goes on after a line (NISTIR 6556, 3.6.1).
 ghost use Rattle.std.specs.Prelude.{◌≡◌};
 ghost use Rattle.ng_block.specs.Ends.{ends, stop_of};
 
-use crate::effect::Stop;
-use ng_modal::Stop as StopWord;
+use crate::effect::ProgramFlow;
+use ng_modal::StopWord;
 
 /// Whether a word ends the program: M2, M30.
 #[inline]
@@ -16,15 +16,15 @@ pub fn ends(word: Option<StopWord>) -> bool
     }
 }
 
-/// How the program goes on behind a line with this word.
+/// How the program goes on after a line with this word.
 #[inline]
-pub fn stop_of(word: Option<StopWord>) -> Stop
+pub fn stop_of(word: Option<StopWord>) -> ProgramFlow
     ensures { result ≡ stop_of word }
 {
     match word {
-        None => Stop::GoesOn,
-        Some(StopWord::Program) | Some(StopWord::Shuttle) => Stop::Stops,
-        Some(StopWord::Optional) => Stop::StopsIfWanted,
-        Some(StopWord::End) | Some(StopWord::EndWithShuttle) => Stop::Ends,
+        None => ProgramFlow::GoesOn,
+        Some(StopWord::Program) | Some(StopWord::Shuttle) => ProgramFlow::Stops,
+        Some(StopWord::Optional) => ProgramFlow::StopsIfWanted,
+        Some(StopWord::End) | Some(StopWord::EndWithShuttle) => ProgramFlow::Ends,
     }
 }

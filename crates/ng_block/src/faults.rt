@@ -1,6 +1,6 @@
 //! The faults of a move, in the order in which they are looked for.
 ghost use Rattle.std.specs.Prelude.{◌≡◌};
-ghost use Rattle.ng_modal.specs.Check.{first_fault};
+ghost use Rattle.ng_num.specs.Causes.{first_fault};
 ghost use Rattle.ng_block.specs.Faults.{stays_inside, path_faults};
 
 use crate::path::Path;

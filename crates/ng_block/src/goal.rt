@@ -7,18 +7,17 @@ ghost use Rattle.ng_modal.specs.Lines.{is_straight, is_arc};
 ghost use Rattle.ng_block.specs.Blocks.{feed_mode_after, is_inverse, is_fed, feed_word, time_word, feed_of, fed_pace, pace_by, program_coordinate, coordinate, end_of, machine_end_of, straight_end_of};
 ghost use Rattle.ng_block.specs.Goals.{straight_to, turning_path_of, path_of};
 
-use crate::arcs::way_round;
+use crate::arcs::path_along_arc;
 use crate::axis_data::{named_on, unit_after};
-use crate::cycles::{kind_of, way_of_cycle};
-use crate::homes::{home_on, way_home};
-use crate::machine::Machine;
+use crate::cycles::{cycle_path, kind_of};
+use crate::homes::{home_on, home_path};
 use crate::path::Path;
-use crate::state::State;
 use ng_canon::{Geometry, InverseTime, Pace, Rate};
-use ng_modal::{Block, Distance, FeedMode, Modes, Motion, NonModal};
+use ng_modal::{Block, NonModal};
 use ng_num::{Fault, Len, Num, Point, Unit, nm_of};
 use ng_offsets::{Offsets, Shift};
 use ng_params::Change;
+use ng_state::{Distance, FeedMode, Machine, Modes, Motion, State};
 use std::alloc::Allocator;
 
 /// What a line's axis words are read by.
@@ -254,10 +253,10 @@ pub fn turning_path_of(
     ensures { result ≡ turning_path_of block.now machine.now feed_per_min geometry.now }
 {
     if is_arc(block.motion) {
-        return way_round(block, machine, &machine.offsets, feed_per_min);
+        return path_along_arc(block, machine, &machine.offsets, feed_per_min);
     }
     if kind_of(block.motion).is_some() {
-        return way_of_cycle(block, machine, &machine.offsets, feed_per_min, geometry);
+        return cycle_path(block, machine, &machine.offsets, feed_per_min, geometry);
     }
     Ok(Path::Still)
 }
@@ -276,14 +275,14 @@ pub fn path_of<A: Allocator + Copy + Drop>(
 {
     let machine = &state.machine;
     if is_arc(block.motion) {
-        return way_round(block, machine, offsets, feed_per_min);
+        return path_along_arc(block, machine, offsets, feed_per_min);
     }
     if kind_of(block.motion).is_some() {
-        return way_of_cycle(block, machine, offsets, feed_per_min, geometry);
+        return cycle_path(block, machine, offsets, feed_per_min, geometry);
     }
     if !is_straight(block.motion) {
         let home = home_on(block.g.non_modal, &state.params, settings);
-        return way_home(block, machine, offsets, home);
+        return home_path(block, machine, offsets, home);
     }
     let end = straight_end_of(block, machine, offsets)?;
     Ok(straight_to(block, machine, feed_per_min, end))

@@ -3,15 +3,15 @@ ghost use Rattle.std.specs.Prelude.{◌≡◌, ◌≤◌};
 ghost use Rattle.ng_params.specs.Changes.{with_changes};
 ghost use Rattle.ng_params.specs.Points.{point_at};
 ghost use Rattle.ng_params.specs.Table.{at};
-ghost use Rattle.ng_block.specs.Homes.{home_on, way_home};
+ghost use Rattle.ng_block.specs.Homes.{home_on, home_path};
 
 use crate::goal::end_of;
-use crate::machine::Machine;
-use crate::path::{Path, WayHome, traverse};
+use crate::path::{HomePath, Path, traverse};
 use ng_modal::{Block, NonModal};
 use ng_num::{Fault, Len, Point};
 use ng_offsets::Offsets;
 use ng_params::{Change, Index, Params};
+use ng_state::Machine;
 use std::alloc::Allocator;
 
 /// The length in a parameter, which holds millimetres.
@@ -63,13 +63,13 @@ pub fn home_on<A: Allocator + Copy + Drop>(
 /// The way to a home, through the point that a line's axis words name; still, where it goes to none. E3 where a coordinate of
 /// that point is beyond the range.
 #[inline(never)]
-pub fn way_home(
+pub fn home_path(
     block: &Block,
     machine: &Machine,
     offsets: &Offsets,
     home: Option<Point>,
 ) -> Result<Path, Fault>
-    ensures { result ≡ way_home block.now machine.now offsets.now home }
+    ensures { result ≡ home_path block.now machine.now offsets.now home }
 {
     let Some(home) = home else {
         return Ok(Path::Still);
@@ -79,7 +79,7 @@ pub fn way_home(
         return Ok(Path::Straight(traverse(start, home)));
     }
     let between = end_of(block, machine, offsets)?;
-    Ok(Path::Homing(WayHome {
+    Ok(Path::Homing(HomePath {
         start,
         between,
         home,

@@ -3,16 +3,16 @@ ghost use Rattle.std.specs.Prelude.{◌≡◌, ℕ, ℤ, List, length, Ok, Err};
 ghost use Rattle.std.specs.List.{All};
 ghost use Rattle.ng_num.specs.declared.fault.Fault.{Fault};
 ghost use Rattle.ng_canon.specs.declared.geometry.Geometry.{Geometry};
-ghost use Rattle.ng_modal.specs.Check.{NoneHolds, IsLeast};
+ghost use Rattle.ng_num.specs.Causes.{NoneHolds, IsFirstFault};
 ghost use Rattle.ng_modal.specs.declared.block.Block.{Block};
-ghost use Rattle.ng_block.specs.Setup.{Setup};
+ghost use Rattle.ng_state.specs.State.{StateModel};
 ghost use Rattle.ng_block.specs.Causes.{causes};
 ghost use Rattle.ng_block.specs.Effects.{Done, executed};
 ghost use Rattle.ng_block.specs.OffsetsAlone.{AsksFor, SetsOffsetsAlone};
 ghost use Rattle.ng_block.specs.ProgramEnd.{IsEnded};
 ghost use Rattle.ng_block.specs.Steps.{order};
 ghost use Rattle.ng_block.specs.Travel.{Joins, NoneMoves, StaysInside};
-ghost use Rattle.ng_block.specs.declared.effect.Stop.TheVariants.{Ends};
+ghost use Rattle.ng_block.specs.declared.effect.ProgramFlow.TheVariants.{Ends};
 
 use crate::steps::ORDER;
 
@@ -23,29 +23,29 @@ pub fn order()
 
 /// A line is refused exactly where a cause holds, by the first that does (own).
 pub fn refusals()
-    ensures accepted { (setup : Setup) (tools : List ℤ) (geometry : Geometry) (text : List ℕ) (done : Done) → executed setup tools geometry text ≡ Ok done → NoneHolds (causes setup tools geometry text) }
-    ensures refused { (setup : Setup) (tools : List ℤ) (geometry : Geometry) (text : List ℕ) (fault : Fault) → executed setup tools geometry text ≡ Err fault → IsLeast (causes setup tools geometry text) fault }
+    ensures accepted { (setup : StateModel) (tools : List ℤ) (geometry : Geometry) (text : List ℕ) (done : Done) → executed setup tools geometry text ≡ Ok done → NoneHolds (causes setup tools geometry text) }
+    ensures refused { (setup : StateModel) (tools : List ℤ) (geometry : Geometry) (text : List ℕ) (fault : Fault) → executed setup tools geometry text ≡ Err fault → IsFirstFault (causes setup tools geometry text) fault }
 {}
 
 /// The segments of a lawful block join: each that moves begins where the one before it ended, the first where the machine stood, and the
 /// last ends where it stands after the block (own).
 pub fn segments_join()
-    ensures { (setup : Setup) (tools : List ℤ) (geometry : Geometry) (text : List ℕ) (done : Done) → executed setup tools geometry text ≡ Ok done → Joins setup.machine.point done.segments done.setup.machine.point }
+    ensures { (setup : StateModel) (tools : List ℤ) (geometry : Geometry) (text : List ℕ) (done : Done) → executed setup tools geometry text ≡ Ok done → Joins setup.machine.point done.segments done.setup.machine.point }
 {}
 
 /// No offset moves the machine: a lawful block of which no segment moves keeps the machine's point, and so does one that sets offsets
 /// alone (NISTIR 6556, 3.5.5, 3.5.11, 3.5.13, 3.5.18).
 pub fn offsets_move_nothing()
-    ensures still { (setup : Setup) (tools : List ℤ) (geometry : Geometry) (text : List ℕ) (done : Done) → executed setup tools geometry text ≡ Ok done → NoneMoves done.segments → done.setup.machine.point ≡ setup.machine.point }
-    ensures alone { (setup : Setup) (tools : List ℤ) (geometry : Geometry) (text : List ℕ) (done : Done) (block : Block) → executed setup tools geometry text ≡ Ok done → AsksFor setup text block → SetsOffsetsAlone block → done.setup.machine.point ≡ setup.machine.point }
+    ensures still { (setup : StateModel) (tools : List ℤ) (geometry : Geometry) (text : List ℕ) (done : Done) → executed setup tools geometry text ≡ Ok done → NoneMoves done.segments → done.setup.machine.point ≡ setup.machine.point }
+    ensures alone { (setup : StateModel) (tools : List ℤ) (geometry : Geometry) (text : List ℕ) (done : Done) (block : Block) → executed setup tools geometry text ≡ Ok done → AsksFor setup text block → SetsOffsetsAlone block → done.setup.machine.point ≡ setup.machine.point }
 {}
 
 /// Each segment of a lawful block stays inside the travel (own).
 pub fn travel()
-    ensures { (setup : Setup) (tools : List ℤ) (geometry : Geometry) (text : List ℕ) (done : Done) → executed setup tools geometry text ≡ Ok done → All (StaysInside geometry) done.segments }
+    ensures { (setup : StateModel) (tools : List ℤ) (geometry : Geometry) (text : List ℕ) (done : Done) → executed setup tools geometry text ≡ Ok done → All (StaysInside geometry) done.segments }
 {}
 
 /// A line that ends the program leaves what M2 and M30 do, in a table of all 5,399 parameters (NISTIR 6556, 3.6.1).
 pub fn program_end()
-    ensures { (setup : Setup) (tools : List ℤ) (geometry : Geometry) (text : List ℕ) (done : Done) → length setup.params ≡ 5399 → executed setup tools geometry text ≡ Ok done → done.stop ≡ Ends → IsEnded done.setup }
+    ensures { (setup : StateModel) (tools : List ℤ) (geometry : Geometry) (text : List ℕ) (done : Done) → length setup.params ≡ 5399 → executed setup tools geometry text ≡ Ok done → done.stop ≡ Ends → IsEnded done.setup }
 {}

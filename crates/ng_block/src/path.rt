@@ -1,20 +1,20 @@
 //! The path of a block's motion, and its segments one at a time.
 ghost use Rattle.std.specs.Prelude.{◌≡◌, ◌∷◌, [], MatchOption};
-ghost use Rattle.ng_cycles.specs.Segments.{begin, behind, cycle_segments};
-ghost use Rattle.ng_block.specs.Moves.{left_in};
+ghost use Rattle.ng_cycles.specs.Segments.{begin, after_segments, cycle_segments};
+ghost use Rattle.ng_block.specs.PathSegments.{left_in};
 ghost use Rattle.ng_block.specs.Paths.{moving_at, point_after, traverse, path_segments, pace_command, spindle_command, command_of};
 
 mod later;
 
-pub use later::stand_after;
-use ng_canon::{Arc, ArcFeed, Command, Pace, Segment, Spindle, StraightMove};
+pub use later::after_segment;
+use ng_canon::{Arc, ArcFeed, CanonicalCommand, Pace, Segment, Spindle, StraightMove};
 use ng_cycles::{Canned, Cycle};
 use ng_num::Point;
 use std::marker::Model;
 
 /// The way home: to a point between, and on from there, both at the traverse rate.
 #[derive(Clone, Copy)]
-pub struct WayHome {
+pub struct HomePath {
     pub start: Point,
     pub between: Point,
     pub home: Point,
@@ -29,15 +29,15 @@ pub enum Path {
     WithoutFeed,
     Straight(StraightMove),
     Round(Arc),
-    Homing(WayHome),
+    Homing(HomePath),
     /// A canned cycle that nothing forbids.
     Cycle(Canned),
 }
 
-/// Puts into a place where the machine stands behind a cycle.
+/// Puts into a place where the machine stands after a cycle.
 #[inline(never)]
 fn put_end(canned: &Canned, place: &mut Point)
-    ensures { place.new ≡ (behind (begin canned.now) (cycle_segments canned.now)).point }
+    ensures { place.new ≡ (after_segments (begin canned.now) (cycle_segments canned.now)).point }
 {
     *place = canned.end();
 }
@@ -54,7 +54,7 @@ impl Path {
         }
     }
 
-    /// Puts into a place where the machine stands behind it, from where it stood before.
+    /// Puts into a place where the machine stands after it, from where it stood before.
     #[inline]
     pub fn put_point_after(&self, start: &Point, place: &mut Point)
         ensures { place.new ≡ point_after self.now start.now }
@@ -94,64 +94,64 @@ fn next_in(cycle: &mut Option<Cycle>) -> Option<Segment>
 
 /// The segments that are left of a path.
 #[derive(Drop)]
-pub struct Moves {
+pub struct PathSegments {
     next: Option<Segment>,
-    /// The straight move behind the next segment.
-    behind: Option<StraightMove>,
+    /// The straight move after the next segment.
+    after_next: Option<StraightMove>,
     /// The segments that are left of a cycle.
     cycle: Option<Cycle>,
 }
 
-impl Model for Moves {
+impl Model for PathSegments {
     ghost use Rattle.std.specs.Prelude.{List, ◌++◌};
     ghost use Rattle.ng_canon.specs.declared.segment.Segment.{Segment};
-    ghost use Rattle.ng_block.specs.Moves.{left_of, left_in};
+    ghost use Rattle.ng_block.specs.PathSegments.{left_of, left_in};
 
     ghost Value = { List Segment };
 
-    ghost view = { λ m. left_of m.next m.behind ++ left_in m.cycle };
+    ghost view = { λ m. left_of m.next m.after_next ++ left_in m.cycle };
 }
 
-impl Moves {
+impl PathSegments {
     /// No segment.
-    pub fn none() -> Moves
+    pub fn none() -> PathSegments
         ensures { result ≡ [] }
     {
-        Moves {
+        PathSegments {
             next: None,
-            behind: None,
+            after_next: None,
             cycle: None,
         }
     }
 
     /// One segment.
-    fn one(segment: Segment) -> Moves
+    fn one(segment: Segment) -> PathSegments
         ensures { result ≡ segment ∷ [] }
     {
-        Moves {
+        PathSegments {
             next: Some(segment),
-            behind: None,
+            after_next: None,
             cycle: None,
         }
     }
 
     /// All segments of a path.
-    pub fn of(path: &Path) -> Moves
+    pub fn of(path: &Path) -> PathSegments
         ensures { result ≡ path_segments path.now }
     {
         match path {
-            Path::Still => Moves::none(),
-            Path::WithoutFeed => Moves::none(),
-            Path::Straight(line) => Moves::one(Segment::Line(*line)),
-            Path::Round(arc) => Moves::one(Segment::Arc(*arc)),
-            Path::Homing(way) => Moves {
+            Path::Still => PathSegments::none(),
+            Path::WithoutFeed => PathSegments::none(),
+            Path::Straight(line) => PathSegments::one(Segment::Line(*line)),
+            Path::Round(arc) => PathSegments::one(Segment::Arc(*arc)),
+            Path::Homing(way) => PathSegments {
                 next: Some(Segment::Line(traverse(way.start, way.between))),
-                behind: Some(traverse(way.between, way.home)),
+                after_next: Some(traverse(way.between, way.home)),
                 cycle: None,
             },
-            Path::Cycle(canned) => Moves {
+            Path::Cycle(canned) => PathSegments {
                 next: None,
-                behind: None,
+                after_next: None,
                 cycle: Some(Cycle::of(canned)),
             },
         }
@@ -162,17 +162,17 @@ impl Moves {
         ensures { MatchOption result ((self.old ≡ []) × (self.new ≡ [])) (λ segment. self.old ≡ segment ∷ self.new) }
     {
         let next = self.next;
-        let behind = self.behind;
+        let after_next = self.after_next;
         self.next = None;
-        self.behind = None;
+        self.after_next = None;
         match next {
             Some(_) => {
-                if let Some(line) = behind {
+                if let Some(line) = after_next {
                     self.next = Some(Segment::Line(line));
                 }
                 next
             }
-            None => match behind {
+            None => match after_next {
                 Some(line) => Some(Segment::Line(line)),
                 None => next_in(&mut self.cycle),
             },
@@ -182,21 +182,21 @@ impl Moves {
 
 /// The command of a straight move.
 #[inline]
-pub fn pace_command(pace: Pace, end: Point) -> Command
+pub fn pace_command(pace: Pace, end: Point) -> CanonicalCommand
     ensures { result ≡ pace_command pace end }
 {
     match pace {
-        Pace::Traverse => Command::Traverse(end),
-        Pace::Feed(_) => Command::Feed(end),
-        Pace::InverseTime(_) => Command::Feed(end),
+        Pace::Traverse => CanonicalCommand::Traverse(end),
+        Pace::Feed(_) => CanonicalCommand::Feed(end),
+        Pace::InverseTime(_) => CanonicalCommand::Feed(end),
     }
 }
 
 /// The command of an arc.
-fn arc_command(arc: &Arc) -> Command
-    ensures { result ≡ Command.ArcFeed (record { end = arc.now.end; centre_a = arc.now.centre_a; centre_b = arc.now.centre_b; turn = arc.now.turn }) }
+fn arc_command(arc: &Arc) -> CanonicalCommand
+    ensures { result ≡ CanonicalCommand.ArcFeed (record { end = arc.now.end; centre_a = arc.now.centre_a; centre_b = arc.now.centre_b; turn = arc.now.turn }) }
 {
-    Command::ArcFeed(ArcFeed {
+    CanonicalCommand::ArcFeed(ArcFeed {
         end: arc.end,
         centre_a: arc.centre_a,
         centre_b: arc.centre_b,
@@ -205,24 +205,24 @@ fn arc_command(arc: &Arc) -> Command
 }
 
 /// The command of a spindle that is switched.
-pub fn spindle_command(spindle: Spindle) -> Command
+pub fn spindle_command(spindle: Spindle) -> CanonicalCommand
     ensures { result ≡ spindle_command spindle }
 {
     match spindle {
-        Spindle::Stopped => Command::StopSpindle,
-        Spindle::Clockwise => Command::StartSpindleClockwise,
-        Spindle::Counterclockwise => Command::StartSpindleCounterclockwise,
+        Spindle::Stopped => CanonicalCommand::StopSpindle,
+        Spindle::Clockwise => CanonicalCommand::StartSpindleClockwise,
+        Spindle::Counterclockwise => CanonicalCommand::StartSpindleCounterclockwise,
     }
 }
 
 /// The command of a path's segment.
-pub fn command_of(segment: &Segment) -> Command
+pub fn command_of(segment: &Segment) -> CanonicalCommand
     ensures { result ≡ command_of segment.now }
 {
     match segment {
         Segment::Line(line) => pace_command(line.pace, line.end),
         Segment::Arc(arc) => arc_command(arc),
-        Segment::Dwell(seconds) => Command::Dwell(*seconds),
+        Segment::Dwell(seconds) => CanonicalCommand::Dwell(*seconds),
         Segment::Switch(outputs) => spindle_command(outputs.spindle),
     }
 }

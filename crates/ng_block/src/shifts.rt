@@ -4,30 +4,30 @@ ghost use Rattle.std.specs.Prelude.{◌≡◌, ◌≤◌, length};
 ghost use Rattle.std.specs.Option.{option_map};
 ghost use Rattle.ng_params.specs.Changes.{with_changes};
 ghost use Rattle.ng_modal.specs.Accepted.{IsSlot};
-ghost use Rattle.ng_block.specs.ToolLength.{slot_by, behind_length, length_shown};
-ghost use Rattle.ng_block.specs.AxisData.{offsets_behind, offsets_shown, with_system};
+ghost use Rattle.ng_block.specs.ToolLength.{slot_by, offsets_after_length, length_shown};
+ghost use Rattle.ng_block.specs.AxisData.{offsets_after, offsets_shown, with_system};
 ghost use Rattle.ng_block.specs.Shifts.{shift_of, keeps_offsets};
 
 use crate::axis_data::axis_data_of;
-use crate::machine::Machine;
 use ng_modal::{Block, ToolLength};
 use ng_num::{Fault, Len, Point};
 use ng_offsets::{NewOffsets, Offsets, Tools};
 use ng_params::{Change, Params, System};
+use ng_state::Machine;
 use std::alloc::Allocator;
 
 /// What the steps of a line print of the offsets; none where a step leaves them as they are.
 #[derive(Clone, Copy)]
 pub struct Shown {
-    /// The tool length behind G43 or G49.
+    /// The tool length after G43 or G49.
     pub tool_length: Option<Len>,
-    /// Origin plus G92 offset behind G54 to G59.3.
+    /// Origin plus G92 offset after G54 to G59.3.
     pub system: Option<Point>,
-    /// The same behind G92 and its three others, and behind G10 of the system in force.
+    /// The same after G92 and its three others, and after G10 of the system in force.
     pub axis_data: Option<Point>,
 }
 
-/// The offsets behind a line's words.
+/// The offsets after a line's words.
 #[derive(Clone, Copy)]
 pub struct Shifted {
     pub offsets: Offsets,
@@ -55,10 +55,10 @@ fn slot_by(word: ToolLength, block: &Block) -> u8
     }
 }
 
-/// The offsets behind the tool length of a line.
-fn behind_length(block: &Block, tools: &Tools, offsets: &Offsets) -> Offsets
+/// The offsets after the tool length of a line.
+fn offsets_after_length(block: &Block, tools: &Tools, offsets: &Offsets) -> Offsets
     requires { IsSlot block.now.values.h (length tools.now) }
-    ensures { result ≡ behind_length block.now.g.tool_length block.now.values.h tools.now offsets.now }
+    ensures { result ≡ offsets_after_length block.now.g.tool_length block.now.values.h tools.now offsets.now }
 {
     match block.g.tool_length {
         None => *offsets,
@@ -67,18 +67,18 @@ fn behind_length(block: &Block, tools: &Tools, offsets: &Offsets) -> Offsets
 }
 
 /// What the word of a tool length prints.
-fn length_shown(word: Option<ToolLength>, behind: &Offsets) -> Option<Len>
-    ensures { result ≡ length_shown word behind.now }
+fn length_shown(word: Option<ToolLength>, after: &Offsets) -> Option<Len>
+    ensures { result ≡ length_shown word after.now }
 {
     match word {
         None => None,
-        Some(_) => Some(behind.tool_length),
+        Some(_) => Some(after.tool_length),
     }
 }
 
-/// The offsets behind a step that may give new ones.
-fn offsets_behind(new: &Option<NewOffsets>, offsets: Offsets) -> Offsets
-    ensures { result ≡ offsets_behind new.now offsets }
+/// The offsets after a step that may give new ones.
+fn offsets_after(new: &Option<NewOffsets>, offsets: Offsets) -> Offsets
+    ensures { result ≡ offsets_after new.now offsets }
 {
     match new {
         None => offsets,
@@ -114,7 +114,7 @@ fn with_system<A: Allocator + Copy + Drop>(
     }
 }
 
-/// The offsets behind a line's words, in the table that its settings leave. E3 where one of them, or a sum that is printed, is
+/// The offsets after a line's words, in the table that its settings leave. E3 where one of them, or a sum that is printed, is
 /// beyond the range.
 #[inline(never)]
 pub fn shift_of<A: Allocator + Copy + Drop>(
@@ -127,12 +127,12 @@ pub fn shift_of<A: Allocator + Copy + Drop>(
     requires { IsSlot block.now.values.h (length tools.now) }
     ensures { result ≡ shift_of block.now machine.now (with_changes params.now settings.now) tools.now }
 {
-    let lengthened = behind_length(block, tools, &machine.offsets);
+    let lengthened = offsets_after_length(block, tools, &machine.offsets);
     let system = with_system(block.g.system, &lengthened, params, settings)?;
-    let placed = offsets_behind(&system, lengthened);
+    let placed = offsets_after(&system, lengthened);
     let data = axis_data_of(block, machine, &placed, params, settings)?;
     Ok(Shifted {
-        offsets: offsets_behind(&data.new, placed),
+        offsets: offsets_after(&data.new, placed),
         shown: Shown {
             tool_length: length_shown(block.g.tool_length, &lengthened),
             system: offsets_shown(&system),

@@ -3,7 +3,7 @@
 
 /// The steps of a block.
 #[derive(Clone, Copy)]
-pub enum Step {
+pub enum BlockStep {
     /// The last comment of the line, or the message that it is.
     Remark,
     FeedMode,
@@ -29,26 +29,26 @@ pub enum Step {
 }
 
 /// The steps in their order.
-pub const ORDER: [Step; 21] = [
-    Step::Remark,
-    Step::FeedMode,
-    Step::Feed,
-    Step::SpindleSpeed,
-    Step::SelectTool,
-    Step::ChangeTool,
-    Step::Spindle,
-    Step::Coolant,
-    Step::Overrides,
-    Step::Dwell,
-    Step::Plane,
-    Step::Units,
-    Step::CutterRadius,
-    Step::ToolLength,
-    Step::CoordinateSystem,
-    Step::PathMode,
-    Step::DistanceMode,
-    Step::RetractMode,
-    Step::AxisData,
-    Step::Motion,
-    Step::Stop,
+pub const ORDER: [BlockStep; 21] = [
+    BlockStep::Remark,
+    BlockStep::FeedMode,
+    BlockStep::Feed,
+    BlockStep::SpindleSpeed,
+    BlockStep::SelectTool,
+    BlockStep::ChangeTool,
+    BlockStep::Spindle,
+    BlockStep::Coolant,
+    BlockStep::Overrides,
+    BlockStep::Dwell,
+    BlockStep::Plane,
+    BlockStep::Units,
+    BlockStep::CutterRadius,
+    BlockStep::ToolLength,
+    BlockStep::CoordinateSystem,
+    BlockStep::PathMode,
+    BlockStep::DistanceMode,
+    BlockStep::RetractMode,
+    BlockStep::AxisData,
+    BlockStep::Motion,
+    BlockStep::Stop,
 ];

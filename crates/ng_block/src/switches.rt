@@ -1,14 +1,14 @@
-//! The outputs behind each step of a block, its switches and its dwell.
+//! The outputs after each step of a block, its switches and its dwell.
 ghost use Rattle.std.specs.Prelude.{◌≡◌, ◌∷◌, [], MatchOption};
 ghost use Rattle.ng_block.specs.Tasks.{tasks_in};
-ghost use Rattle.ng_block.specs.Order.{speed_outputs, selected_outputs, changed_outputs, spindle_outputs, coolant_outputs, stop_outputs, outputs_through, outputs_behind, switch_where, task_segments};
+ghost use Rattle.ng_block.specs.Order.{speed_outputs, selected_outputs, changed_outputs, spindle_outputs, coolant_outputs, stop_outputs, outputs_through, outputs_after, switch_where, task_segments};
 ghost use Rattle.ng_block.specs.Steps.{before_motion, order};
 
 use crate::ends::ends;
-use crate::steps::Step;
+use crate::steps::BlockStep;
 use crate::tasks::Tasks;
 use ng_canon::{Outputs, Segment, Spindle};
-use ng_modal::{Coolant, Stop as StopWord};
+use ng_modal::{Coolant, StopWord};
 use ng_num::Num;
 
 fn speed_outputs(speed: Option<Num>, outputs: Outputs) -> Outputs
@@ -32,7 +32,7 @@ fn selected_outputs(slot: Option<u8>, outputs: Outputs) -> Outputs
     }
 }
 
-/// The outputs behind a change of the tool, which stops the spindle (own).
+/// The outputs after a change of the tool, which stops the spindle (own).
 fn changed_outputs(slot: Option<u8>, outputs: Outputs) -> Outputs
     ensures { result ≡ changed_outputs slot outputs }
 {
@@ -55,7 +55,7 @@ fn spindle_outputs(spindle: Option<Spindle>, outputs: Outputs) -> Outputs
     }
 }
 
-/// The outputs behind a coolant word: mist and flood may both be on.
+/// The outputs after a coolant word: mist and flood may both be on.
 fn coolant_outputs(coolant: Option<Coolant>, outputs: Outputs) -> Outputs
     ensures { result ≡ coolant_outputs coolant outputs }
 {
@@ -77,7 +77,7 @@ fn coolant_outputs(coolant: Option<Coolant>, outputs: Outputs) -> Outputs
     }
 }
 
-/// The outputs behind a stop: the program's end stops the spindle and the coolant.
+/// The outputs after a stop: the program's end stops the spindle and the coolant.
 fn stop_outputs(word: Option<StopWord>, outputs: Outputs) -> Outputs
     ensures { result ≡ stop_outputs word outputs }
 {
@@ -93,25 +93,25 @@ fn stop_outputs(word: Option<StopWord>, outputs: Outputs) -> Outputs
     }
 }
 
-/// The outputs behind a step.
-pub fn outputs_through(tasks: &Option<Tasks>, outputs: Outputs, step: Step) -> Outputs
+/// The outputs after a step.
+pub fn outputs_through(tasks: &Option<Tasks>, outputs: Outputs, step: BlockStep) -> Outputs
     ensures { result ≡ outputs_through (tasks_in tasks.now) outputs step }
 {
     let Some(tasks) = tasks else { return outputs };
     match step {
-        Step::SpindleSpeed => speed_outputs(tasks.speed, outputs),
-        Step::SelectTool => selected_outputs(tasks.selected_slot, outputs),
-        Step::ChangeTool => changed_outputs(tasks.changed_slot, outputs),
-        Step::Spindle => spindle_outputs(tasks.spindle, outputs),
-        Step::Coolant => coolant_outputs(tasks.coolant, outputs),
-        Step::Stop => stop_outputs(tasks.stop, outputs),
+        BlockStep::SpindleSpeed => speed_outputs(tasks.speed, outputs),
+        BlockStep::SelectTool => selected_outputs(tasks.selected_slot, outputs),
+        BlockStep::ChangeTool => changed_outputs(tasks.changed_slot, outputs),
+        BlockStep::Spindle => spindle_outputs(tasks.spindle, outputs),
+        BlockStep::Coolant => coolant_outputs(tasks.coolant, outputs),
+        BlockStep::Stop => stop_outputs(tasks.stop, outputs),
         _ => outputs,
     }
 }
 
-/// The outputs behind all steps before the motion.
+/// The outputs after all steps before the motion.
 pub fn outputs_before_motion(tasks: &Tasks, before: Outputs) -> Outputs
-    ensures { result ≡ outputs_behind tasks.now before before_motion }
+    ensures { result ≡ outputs_after tasks.now before before_motion }
 {
     let turning = speed_outputs(tasks.speed, before);
     let selected = selected_outputs(tasks.selected_slot, turning);
@@ -120,18 +120,18 @@ pub fn outputs_before_motion(tasks: &Tasks, before: Outputs) -> Outputs
     coolant_outputs(tasks.coolant, spun)
 }
 
-/// The outputs behind all steps.
+/// The outputs after all steps.
 #[inline(never)]
 fn outputs_of(tasks: &Tasks, before: Outputs) -> Outputs
-    ensures { result ≡ outputs_behind tasks.now before order }
+    ensures { result ≡ outputs_after tasks.now before order }
 {
     stop_outputs(tasks.stop, outputs_before_motion(tasks, before))
 }
 
-/// Puts the outputs behind all steps into a place.
+/// Puts the outputs after all steps into a place.
 #[inline]
 pub fn put_outputs_after(tasks: &Option<Tasks>, before: &Outputs, place: &mut Outputs)
-    ensures { place.new ≡ outputs_behind (tasks_in tasks.now) before.now order }
+    ensures { place.new ≡ outputs_after (tasks_in tasks.now) before.now order }
 {
     match tasks {
         None => *place = *before,
@@ -150,22 +150,22 @@ fn switch_where(there: bool, now: Outputs) -> Option<Segment>
     }
 }
 
-/// The switch of a step, by the outputs behind it, or its dwell.
-pub fn segment_at(tasks: &Option<Tasks>, now: Outputs, step: Step) -> Option<Segment>
+/// The switch of a step, by the outputs after it, or its dwell.
+pub fn segment_at(tasks: &Option<Tasks>, now: Outputs, step: BlockStep) -> Option<Segment>
     ensures { MatchOption result (task_segments (tasks_in tasks.now) now step ≡ []) (λ segment. task_segments (tasks_in tasks.now) now step ≡ segment ∷ []) }
 {
     let Some(tasks) = tasks else { return None };
     match step {
-        Step::SpindleSpeed => switch_where(tasks.speed.is_some(), now),
-        Step::SelectTool => switch_where(tasks.selected_slot.is_some(), now),
-        Step::ChangeTool => switch_where(tasks.changed_slot.is_some(), now),
-        Step::Spindle => switch_where(tasks.spindle.is_some(), now),
-        Step::Coolant => switch_where(tasks.coolant.is_some(), now),
-        Step::Dwell => match tasks.dwell {
+        BlockStep::SpindleSpeed => switch_where(tasks.speed.is_some(), now),
+        BlockStep::SelectTool => switch_where(tasks.selected_slot.is_some(), now),
+        BlockStep::ChangeTool => switch_where(tasks.changed_slot.is_some(), now),
+        BlockStep::Spindle => switch_where(tasks.spindle.is_some(), now),
+        BlockStep::Coolant => switch_where(tasks.coolant.is_some(), now),
+        BlockStep::Dwell => match tasks.dwell {
             Some(seconds) => Some(Segment::Dwell(seconds)),
             None => None,
         },
-        Step::Stop => switch_where(ends(tasks.stop), now),
+        BlockStep::Stop => switch_where(ends(tasks.stop), now),
         _ => None,
     }
 }

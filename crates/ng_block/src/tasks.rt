@@ -5,8 +5,9 @@ ghost use Rattle.ng_block.specs.Tasks.{feed_set, tasks_of, tasks_in, gives_nothi
 
 use crate::goal::{feed_word, is_inverse, time_word};
 use ng_canon::{Outputs, Plane, Spindle};
-use ng_modal::{Block, Coolant, FeedMode, NonModal, Stop as StopWord};
+use ng_modal::{Block, Coolant, NonModal, StopWord};
 use ng_num::{Len, Num, Unit};
+use ng_state::FeedMode;
 
 /// What words give the steps of a block to do.
 #[derive(Clone, Copy)]

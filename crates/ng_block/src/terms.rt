@@ -2,7 +2,7 @@ use ng_canon::Geometry;
 use ng_offsets::Tools;
 use std::marker::Model;
 
-/// What a dry run is run with.
+/// What a program is run with.
 #[derive(Drop)]
 pub struct Terms<'a> {
     /// Whether lines that begin with a slash are deleted.
@@ -13,9 +13,9 @@ pub struct Terms<'a> {
 }
 
 impl<'a> Model for Terms<'a> {
-    ghost use Rattle.ng_block.specs.Dry.{Terms as Stated};
+    ghost use Rattle.ng_block.specs.Program.{TermsModel};
 
-    ghost Value = { Stated };
+    ghost Value = { TermsModel };
 
     ghost view = { λ t. record { block_delete = t.block_delete; tools = t.tools.now; geometry = t.geometry.now } };
 }

@@ -6,11 +6,11 @@ use Rattle.ng_num.specs.declared.unit.Unit.{Unit as LengthUnit}
 use Rattle.ng_num.specs.declared.unit.Unit.TheVariants.{Inches, Millimetres}
 use Rattle.ng_canon.specs.declared.plane.Plane.{Plane}
 use Rattle.ng_canon.specs.declared.plane.Plane.TheVariants.{Xy, Xz, Yz}
-use Rattle.ng_canon.specs.declared.plane.Turn.{Turn}
-use Rattle.ng_canon.specs.declared.plane.Turn.TheVariants.{Clockwise, Counterclockwise}
+use Rattle.ng_canon.specs.declared.plane.ArcDirection.{ArcDirection}
+use Rattle.ng_canon.specs.declared.plane.ArcDirection.TheVariants.{Clockwise, Counterclockwise}
 use Rattle.ng_canon.specs.declared.command.ArcFeed.{ArcFeed as Arc}
-use Rattle.ng_canon.specs.declared.command.Command.{Command}
-use Rattle.ng_canon.specs.declared.command.Command.TheVariants.{FeedRate, InverseTime, SpindleSpeed, SelectTool, ChangeTool, StartSpindleClockwise, StartSpindleCounterclockwise, StopSpindle, MistOn, MistOff, FloodOn, FloodOff, Dwell, SelectPlane, LengthUnits, ToolLength, OriginOffsets, Traverse, Feed, ArcFeed, ProgramStop, OptionalStop, PalletShuttle, ProgramEnd}
+use Rattle.ng_canon.specs.declared.command.CanonicalCommand.{CanonicalCommand}
+use Rattle.ng_canon.specs.declared.command.CanonicalCommand.TheVariants.{FeedRate, InverseTime, SpindleSpeed, SelectTool, ChangeTool, StartSpindleClockwise, StartSpindleCounterclockwise, StopSpindle, MistOn, MistOff, FloodOn, FloodOff, Dwell, SelectPlane, LengthUnits, ToolLength, OriginOffsets, Traverse, Feed, ArcFeed, ProgramStop, OptionalStop, PalletShuttle, ProgramEnd}
 use Rattle.ng_canon.specs.declared.command.Canon.{Canon}
 use Rattle.ng_canon.specs.declared.command.Canon.TheVariants.{Comment, Message, Command as Numeric}
 
@@ -23,7 +23,7 @@ abbrev pub unit_text : LengthUnit → List ℕ
 unit_text Inches = codes "INCHES"
 unit_text Millimetres = codes "MM"
 
-abbrev pub turn_text : Turn → List ℕ
+abbrev pub turn_text : ArcDirection → List ℕ
 turn_text Clockwise = codes "CW"
 turn_text Counterclockwise = codes "CCW"
 
@@ -32,7 +32,7 @@ abbrev pub round_text : Arc → List ℕ
 round_text arc = number_text arc.centre_a ++ codes ", " ++ number_text arc.centre_b ++ codes ", " ++ turn_text arc.turn
 
 -- a command whose arguments are numbers
-unfoldable pub command_text : Command → List ℕ
+unfoldable pub command_text : CanonicalCommand → List ℕ
 command_text (FeedRate rate) = codes "SET_FEED_RATE(" ++ number_text rate ++ codes ")\n"
 command_text (InverseTime number) = codes "INVERSE_TIME(" ++ number_text number ++ codes ")\n"
 command_text (SpindleSpeed speed) = codes "SET_SPINDLE_SPEED(" ++ number_text speed ++ codes ")\n"
@@ -59,17 +59,17 @@ command_text PalletShuttle = codes "PALLET_SHUTTLE()\n"
 command_text ProgramEnd = codes "PROGRAM_END()\n"
 
 -- a canonical command, wherever its words lie
-pub data Canonical : Type 0 where
-  comment : List ℕ → Canonical
-  message : List ℕ → Canonical
-  numeric : Command → Canonical
+pub data CanonModel : Type 0 where
+  comment : List ℕ → CanonModel
+  message : List ℕ → CanonModel
+  numeric : CanonicalCommand → CanonModel
 
-abbrev pub canonical : Canon → Canonical
+abbrev pub canonical : Canon → CanonModel
 canonical (Comment words) = comment words.now
 canonical (Message words) = message words.now
 canonical (Numeric command) = numeric command
 
-unfoldable pub canonical_text : Canonical → List ℕ
+unfoldable pub canonical_text : CanonModel → List ℕ
 canonical_text (comment words) = codes "COMMENT(" ++ words ++ codes ")\n"
 canonical_text (message words) = codes "MESSAGE(" ++ words ++ codes ")\n"
 canonical_text (numeric command) = command_text command

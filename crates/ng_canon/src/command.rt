@@ -1,4 +1,4 @@
-use crate::plane::{Plane, Turn};
+use crate::plane::{ArcDirection, Plane};
 use ng_num::{Len, Num, Point, Unit};
 
 /// The arguments of ARC_FEED: machine coordinates.
@@ -9,12 +9,12 @@ pub struct ArcFeed {
     pub centre_a: Len,
     /// The centre on the plane's axis b.
     pub centre_b: Len,
-    pub turn: Turn,
+    pub turn: ArcDirection,
 }
 
 /// A canonical command whose arguments are numbers (NISTIR 6556, 4.3, in this project's profile).
 #[derive(Clone, Copy, Debug, PartialEq, Eq)]
-pub enum Command {
+pub enum CanonicalCommand {
     /// SET_FEED_RATE: a length a minute.
     FeedRate(Len),
     /// INVERSE_TIME (own): the F word.
@@ -51,9 +51,9 @@ pub enum Command {
     ProgramEnd,
 }
 
-impl Default for Command {
+impl Default for CanonicalCommand {
     fn default() -> Self {
-        Command::ProgramEnd
+        CanonicalCommand::ProgramEnd
     }
 }
 
@@ -62,7 +62,7 @@ impl Default for Command {
 pub enum Canon<'a> {
     /// COMMENT: the bytes between the parentheses.
     Comment(&'a [u8]),
-    /// MESSAGE: the bytes behind `MSG,`.
+    /// MESSAGE: the bytes after `MSG,`.
     Message(&'a [u8]),
-    Command(Command),
+    Command(CanonicalCommand),
 }

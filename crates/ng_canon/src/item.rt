@@ -2,7 +2,7 @@ use crate::outputs::Outputs;
 
 /// What a pulse moves an axis by.
 #[derive(Clone, Copy, Debug, PartialEq, Eq)]
-pub enum Step {
+pub enum AxisStep {
     Backward,
     Still,
     Forward,
@@ -11,9 +11,9 @@ pub enum Step {
 /// One pulse: at most one step of each axis, and the time until the next.
 #[derive(Clone, Copy, Debug, PartialEq, Eq)]
 pub struct Pulse {
-    pub x: Step,
-    pub y: Step,
-    pub z: Step,
+    pub x: AxisStep,
+    pub y: AxisStep,
+    pub z: AxisStep,
     pub period_us: u64,
 }
 

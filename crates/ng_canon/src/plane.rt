@@ -1,3 +1,7 @@
+//! The axes of an arc's plane, and the way round it.
+ghost use Rattle.std.specs.Prelude.{◌≡◌};
+ghost use Rattle.ng_canon.specs.Planes.{pick_a, pick_b};
+
 /// A plane of arcs and cycles (NISTIR 6556, 3.5.6). Its axes (a, b) are X Y, Z X and Y Z.
 #[derive(Clone, Copy, Debug, PartialEq, Eq)]
 pub enum Plane {
@@ -11,9 +15,31 @@ pub enum Plane {
 
 /// The way round an arc, seen from the positive end of the axis across its plane (NISTIR 6556, 3.5.3).
 #[derive(Clone, Copy, Debug, PartialEq, Eq)]
-pub enum Turn {
+pub enum ArcDirection {
     /// G2.
     Clockwise,
     /// G3.
     Counterclockwise,
+}
+
+/// What belongs to the plane's axis a, of what belongs to X, Y and Z.
+pub fn pick_a<T: Copy>(plane: Plane, x: T, y: T, z: T) -> T
+    ensures { result ≡ pick_a plane x y z }
+{
+    match plane {
+        Plane::Xy => x,
+        Plane::Xz => z,
+        Plane::Yz => y,
+    }
+}
+
+/// What belongs to the plane's axis b.
+pub fn pick_b<T: Copy>(plane: Plane, x: T, y: T, z: T) -> T
+    ensures { result ≡ pick_b plane x y z }
+{
+    match plane {
+        Plane::Xy => y,
+        Plane::Xz => x,
+        Plane::Yz => z,
+    }
 }

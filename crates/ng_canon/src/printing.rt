@@ -4,8 +4,8 @@ ghost use Rattle.std.specs.Fmt.{decimal};
 ghost use Rattle.ng_num.specs.Text.{number_text, point_text};
 ghost use Rattle.ng_canon.specs.Text.{canonical, canonical_text, command_text, plane_text, round_text, turn_text, unit_text, StaysWithin};
 
-use crate::command::{ArcFeed, Canon, Command};
-use crate::plane::{Plane, Turn};
+use crate::command::{ArcFeed, Canon, CanonicalCommand};
+use crate::plane::{ArcDirection, Plane};
 use ng_num::{Len, Num, Point, Unit, print_length, print_number, print_point, print_whole};
 use std::alloc::{AllocError, Allocator};
 
@@ -94,14 +94,14 @@ fn push_unit<A: Allocator + Copy + Drop>(
 /// Appends the way round an arc, and the end of its line.
 fn push_turn<A: Allocator + Copy + Drop>(
     text: &mut Vec<u8, A>,
-    turn: Turn,
+    turn: ArcDirection,
 ) -> Result<(), AllocError>
     ensures ok { OnOk result (text.new.items ≡ text.old.items ++ (turn_text turn ++ codes ")\n")) }
     ensures err { OnErr result (text.new.items ≡ text.old.items) }
 {
     match turn {
-        Turn::Clockwise => text.extend_from_slice(b"CW)\n"),
-        Turn::Counterclockwise => text.extend_from_slice(b"CCW)\n"),
+        ArcDirection::Clockwise => text.extend_from_slice(b"CW)\n"),
+        ArcDirection::Counterclockwise => text.extend_from_slice(b"CCW)\n"),
     }
 }
 
@@ -149,38 +149,44 @@ fn push_words<A: Allocator + Copy + Drop>(
 #[tactic(auto, unfolding(crate::specs::Text::command_text))]
 fn push_command<A: Allocator + Copy + Drop>(
     text: &mut Vec<u8, A>,
-    command: &Command,
+    command: &CanonicalCommand,
 ) -> Result<(), AllocError>
     ensures ok { OnOk result (text.new.items ≡ text.old.items ++ command_text command.now) }
     ensures err { OnErr result (StaysWithin text.old.items text.new.items) }
 {
     match *command {
-        Command::FeedRate(rate) => push_offset(text, b"SET_FEED_RATE(", rate),
-        Command::InverseTime(number) => push_number(text, b"INVERSE_TIME(", number),
-        Command::SpindleSpeed(speed) => push_number(text, b"SET_SPINDLE_SPEED(", speed),
-        Command::SelectTool(slot) => push_slot(text, b"SELECT_TOOL(", slot),
-        Command::ChangeTool(slot) => push_slot(text, b"CHANGE_TOOL(", slot),
-        Command::StartSpindleClockwise => text.extend_from_slice(b"START_SPINDLE_CLOCKWISE()\n"),
-        Command::StartSpindleCounterclockwise => {
+        CanonicalCommand::FeedRate(rate) => push_offset(text, b"SET_FEED_RATE(", rate),
+        CanonicalCommand::InverseTime(number) => push_number(text, b"INVERSE_TIME(", number),
+        CanonicalCommand::SpindleSpeed(speed) => push_number(text, b"SET_SPINDLE_SPEED(", speed),
+        CanonicalCommand::SelectTool(slot) => push_slot(text, b"SELECT_TOOL(", slot),
+        CanonicalCommand::ChangeTool(slot) => push_slot(text, b"CHANGE_TOOL(", slot),
+        CanonicalCommand::StartSpindleClockwise => text.extend_from_slice(
+            b"START_SPINDLE_CLOCKWISE()\n",
+        ),
+        CanonicalCommand::StartSpindleCounterclockwise => {
             text.extend_from_slice(b"START_SPINDLE_COUNTERCLOCKWISE()\n")
         }
-        Command::StopSpindle => text.extend_from_slice(b"STOP_SPINDLE_TURNING()\n"),
-        Command::MistOn => text.extend_from_slice(b"MIST_ON()\n"),
-        Command::MistOff => text.extend_from_slice(b"MIST_OFF()\n"),
-        Command::FloodOn => text.extend_from_slice(b"FLOOD_ON()\n"),
-        Command::FloodOff => text.extend_from_slice(b"FLOOD_OFF()\n"),
-        Command::Dwell(seconds) => push_number(text, b"DWELL(", seconds),
-        Command::SelectPlane(plane) => push_plane(text, plane),
-        Command::LengthUnits(unit) => push_unit(text, unit),
-        Command::ToolLength(offset) => push_offset(text, b"USE_TOOL_LENGTH_OFFSET(", offset),
-        Command::OriginOffsets(point) => push_point(text, b"SET_ORIGIN_OFFSETS(", point),
-        Command::Traverse(point) => push_point(text, b"STRAIGHT_TRAVERSE(", point),
-        Command::Feed(point) => push_point(text, b"STRAIGHT_FEED(", point),
-        Command::ArcFeed(arc) => push_arc(text, arc),
-        Command::ProgramStop => text.extend_from_slice(b"PROGRAM_STOP()\n"),
-        Command::OptionalStop => text.extend_from_slice(b"OPTIONAL_PROGRAM_STOP()\n"),
-        Command::PalletShuttle => text.extend_from_slice(b"PALLET_SHUTTLE()\n"),
-        Command::ProgramEnd => text.extend_from_slice(b"PROGRAM_END()\n"),
+        CanonicalCommand::StopSpindle => text.extend_from_slice(b"STOP_SPINDLE_TURNING()\n"),
+        CanonicalCommand::MistOn => text.extend_from_slice(b"MIST_ON()\n"),
+        CanonicalCommand::MistOff => text.extend_from_slice(b"MIST_OFF()\n"),
+        CanonicalCommand::FloodOn => text.extend_from_slice(b"FLOOD_ON()\n"),
+        CanonicalCommand::FloodOff => text.extend_from_slice(b"FLOOD_OFF()\n"),
+        CanonicalCommand::Dwell(seconds) => push_number(text, b"DWELL(", seconds),
+        CanonicalCommand::SelectPlane(plane) => push_plane(text, plane),
+        CanonicalCommand::LengthUnits(unit) => push_unit(text, unit),
+        CanonicalCommand::ToolLength(offset) => push_offset(
+            text,
+            b"USE_TOOL_LENGTH_OFFSET(",
+            offset,
+        ),
+        CanonicalCommand::OriginOffsets(point) => push_point(text, b"SET_ORIGIN_OFFSETS(", point),
+        CanonicalCommand::Traverse(point) => push_point(text, b"STRAIGHT_TRAVERSE(", point),
+        CanonicalCommand::Feed(point) => push_point(text, b"STRAIGHT_FEED(", point),
+        CanonicalCommand::ArcFeed(arc) => push_arc(text, arc),
+        CanonicalCommand::ProgramStop => text.extend_from_slice(b"PROGRAM_STOP()\n"),
+        CanonicalCommand::OptionalStop => text.extend_from_slice(b"OPTIONAL_PROGRAM_STOP()\n"),
+        CanonicalCommand::PalletShuttle => text.extend_from_slice(b"PALLET_SHUTTLE()\n"),
+        CanonicalCommand::ProgramEnd => text.extend_from_slice(b"PROGRAM_END()\n"),
     }
 }
 
@@ -223,7 +229,7 @@ pub fn print<A: Allocator + Copy + Drop>(
 /// refused growth leaves the text as it was.
 pub fn print_command<A: Allocator + Copy + Drop>(
     text: &mut Vec<u8, A>,
-    command: &Command,
+    command: &CanonicalCommand,
 ) -> Result<(), AllocError>
     ensures ok { OnOk result (text.new.items ≡ text.old.items ++ command_text command.now) }
     ensures err { OnErr result (text.new.items ≡ text.old.items) }
@@ -265,7 +271,7 @@ pub fn print_traverse<A: Allocator + Copy + Drop>(
     text: &mut Vec<u8, A>,
     end: Point,
 ) -> Result<(), AllocError>
-    ensures ok { OnOk result (text.new.items ≡ text.old.items ++ command_text (Command.Traverse end)) }
+    ensures ok { OnOk result (text.new.items ≡ text.old.items ++ command_text (CanonicalCommand.Traverse end)) }
     ensures err { OnErr result (text.new.items ≡ text.old.items) }
 {
     print_at(text, b"STRAIGHT_TRAVERSE(", end)
@@ -277,7 +283,7 @@ pub fn print_feed<A: Allocator + Copy + Drop>(
     text: &mut Vec<u8, A>,
     end: Point,
 ) -> Result<(), AllocError>
-    ensures ok { OnOk result (text.new.items ≡ text.old.items ++ command_text (Command.Feed end)) }
+    ensures ok { OnOk result (text.new.items ≡ text.old.items ++ command_text (CanonicalCommand.Feed end)) }
     ensures err { OnErr result (text.new.items ≡ text.old.items) }
 {
     print_at(text, b"STRAIGHT_FEED(", end)

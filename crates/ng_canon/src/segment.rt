@@ -1,6 +1,6 @@
 use crate::outputs::Outputs;
 use crate::pace::Pace;
-use crate::plane::{Plane, Turn};
+use crate::plane::{ArcDirection, Plane};
 use ng_num::{Len, Num, Point};
 
 /// A straight move between two machine points, perhaps of no length.
@@ -15,7 +15,7 @@ pub struct StraightMove {
 #[derive(Clone, Copy, Debug, PartialEq, Eq)]
 pub struct Arc {
     pub plane: Plane,
-    pub turn: Turn,
+    pub turn: ArcDirection,
     pub start: Point,
     pub end: Point,
     /// The centre's machine coordinate on the plane's axis a: X, Z, Y.

@@ -1,22 +1,22 @@
 -- Which commands the front of a line leaves.
 use Rattle.std.proofs.Common.{◌≡◌, ◌≢◌, ◌≤◌, ℕ, List, ◌++◌, length, drop, get_or, codes, Option, Some, None, MatchOption, sym, ◌∙◌, ap, subst, arith}
 use Rattle.ng_num.specs.declared.point.Point.{Point}
-use Rattle.ng_commands.specs.Commands.{Asks, IsNoCommand, IsNoSwitch, IsPlain, Writes, WritesPoint, turned}
-use Rattle.ng_commands.specs.declared.asked.Command.{Command}
-use Rattle.ng_commands.specs.declared.asked.Command.TheVariants.{Load, Start, Hold, Continue, Mdi, Reference, Resume, Abandon, OptionalStop, BlockDelete, Tick, Status, Quit}
+use Rattle.ng_commands.specs.Commands.{SpellsCommand, IsNoCommand, IsNoSwitch, IsPlain, AreDigitsOf, SpellsPoint, switch_word}
+use Rattle.ng_commands.specs.declared.asked.ConsoleCommand.{ConsoleCommand}
+use Rattle.ng_commands.specs.declared.asked.ConsoleCommand.TheVariants.{Load, Start, Hold, Continue, Mdi, Reference, Resume, Abandon, OptionalStop, BlockDelete, Tick, Status, Quit}
 
 -- a line can't be two texts that begin otherwise
 apart : (line xs ys : List ℕ) → line ≡ xs → line ≡ ys → get_or xs 0 0 ≢ get_or ys 0 0 → ⊥
 apart line xs ys is also differ = differ (ap (λ l. get_or l 0 0) (sym is ∙ also))
 
 -- nor two whose third bytes differ
-apart_behind : (line xs ys : List ℕ) → line ≡ xs → line ≡ ys → get_or xs 2 0 ≢ get_or ys 2 0 → ⊥
-apart_behind line xs ys is also differ = differ (ap (λ l. get_or l 2 0) (sym is ∙ also))
+apart_after : (line xs ys : List ℕ) → line ≡ xs → line ≡ ys → get_or xs 2 0 ≢ get_or ys 2 0 → ⊥
+apart_after line xs ys is also differ = differ (ap (λ l. get_or l 2 0) (sym is ∙ also))
 
-pub not_loaded : (line digits : List ℕ) → line ≡ codes "load " ++ digits → ((n : ℕ) → Writes digits n → length digits ≤ 7 → ⊥) → IsNoCommand line
+pub not_loaded : (line digits : List ℕ) → line ≡ codes "load " ++ digits → ((n : ℕ) → AreDigitsOf digits n → length digits ≤ 7 → ⊥) → IsNoCommand line
 not_loaded line digits is none (Load n) (short, asks) =
     let same : digits ≡ asks.0 = ap (λ l. drop 5 l) (sym is ∙ asks.1) in
-    let P : List ℕ → Type 0 = λ ds. Writes ds n in
+    let P : List ℕ → Type 0 = λ ds. AreDigitsOf ds n in
     let Q : List ℕ → Type 0 = λ ds. length ds ≤ 7 in
     none n (subst P (sym same) asks.2) (subst Q (sym same) asks.3)
 not_loaded line digits is none Start (short, asks) = apart line (codes "load " ++ digits) (codes "start") is asks (omega arith)
@@ -26,16 +26,16 @@ not_loaded line digits is none (Mdi text) (short, asks) = apart line (codes "loa
 not_loaded line digits is none (Reference point) (short, asks) = apart line (codes "load " ++ digits) (codes "reference " ++ asks.0) is asks.1 (omega arith)
 not_loaded line digits is none Resume (short, asks) = apart line (codes "load " ++ digits) (codes "resume") is asks (omega arith)
 not_loaded line digits is none Abandon (short, asks) = apart line (codes "load " ++ digits) (codes "abandon") is asks (omega arith)
-not_loaded line digits is none (OptionalStop is_on) (short, asks) = apart line (codes "load " ++ digits) (codes "optional " ++ turned is_on) is asks (omega arith)
-not_loaded line digits is none (BlockDelete is_on) (short, asks) = apart line (codes "load " ++ digits) (codes "delete " ++ turned is_on) is asks (omega arith)
+not_loaded line digits is none (OptionalStop is_on) (short, asks) = apart line (codes "load " ++ digits) (codes "optional " ++ switch_word is_on) is asks (omega arith)
+not_loaded line digits is none (BlockDelete is_on) (short, asks) = apart line (codes "load " ++ digits) (codes "delete " ++ switch_word is_on) is asks (omega arith)
 not_loaded line digits is none (Tick n) (short, asks) = apart line (codes "load " ++ digits) (codes "tick " ++ asks.0) is asks.1 (omega arith)
 not_loaded line digits is none Status (short, asks) = apart line (codes "load " ++ digits) (codes "status") is asks (omega arith)
 not_loaded line digits is none Quit (short, asks) = apart line (codes "load " ++ digits) (codes "quit") is asks (omega arith)
 
-pub not_ticked : (line digits : List ℕ) → line ≡ codes "tick " ++ digits → ((n : ℕ) → Writes digits n → 1 ≤ n → n ≤ 1_000_000 → ⊥) → IsNoCommand line
+pub not_ticked : (line digits : List ℕ) → line ≡ codes "tick " ++ digits → ((n : ℕ) → AreDigitsOf digits n → 1 ≤ n → n ≤ 1_000_000 → ⊥) → IsNoCommand line
 not_ticked line digits is none (Tick n) (short, asks) =
     let same : digits ≡ asks.0 = ap (λ l. drop 5 l) (sym is ∙ asks.1) in
-    let P : List ℕ → Type 0 = λ ds. Writes ds n in
+    let P : List ℕ → Type 0 = λ ds. AreDigitsOf ds n in
     none n (subst P (sym same) asks.2) asks.3 asks.4
 not_ticked line digits is none (Load n) (short, asks) = apart line (codes "tick " ++ digits) (codes "load " ++ asks.0) is asks.1 (omega arith)
 not_ticked line digits is none Start (short, asks) = apart line (codes "tick " ++ digits) (codes "start") is asks (omega arith)
@@ -45,32 +45,32 @@ not_ticked line digits is none (Mdi text) (short, asks) = apart line (codes "tic
 not_ticked line digits is none (Reference point) (short, asks) = apart line (codes "tick " ++ digits) (codes "reference " ++ asks.0) is asks.1 (omega arith)
 not_ticked line digits is none Resume (short, asks) = apart line (codes "tick " ++ digits) (codes "resume") is asks (omega arith)
 not_ticked line digits is none Abandon (short, asks) = apart line (codes "tick " ++ digits) (codes "abandon") is asks (omega arith)
-not_ticked line digits is none (OptionalStop is_on) (short, asks) = apart line (codes "tick " ++ digits) (codes "optional " ++ turned is_on) is asks (omega arith)
-not_ticked line digits is none (BlockDelete is_on) (short, asks) = apart line (codes "tick " ++ digits) (codes "delete " ++ turned is_on) is asks (omega arith)
+not_ticked line digits is none (OptionalStop is_on) (short, asks) = apart line (codes "tick " ++ digits) (codes "optional " ++ switch_word is_on) is asks (omega arith)
+not_ticked line digits is none (BlockDelete is_on) (short, asks) = apart line (codes "tick " ++ digits) (codes "delete " ++ switch_word is_on) is asks (omega arith)
 not_ticked line digits is none Status (short, asks) = apart line (codes "tick " ++ digits) (codes "status") is asks (omega arith)
 not_ticked line digits is none Quit (short, asks) = apart line (codes "tick " ++ digits) (codes "quit") is asks (omega arith)
 
-pub not_placed : (line words : List ℕ) → line ≡ codes "reference " ++ words → ((p : Point) → WritesPoint words p → ⊥) → IsNoCommand line
+pub not_placed : (line words : List ℕ) → line ≡ codes "reference " ++ words → ((p : Point) → SpellsPoint words p → ⊥) → IsNoCommand line
 not_placed line words is none (Reference point) (short, asks) =
     let same : words ≡ asks.0 = ap (λ l. drop 10 l) (sym is ∙ asks.1) in
-    let P : List ℕ → Type 0 = λ ws. WritesPoint ws point in
+    let P : List ℕ → Type 0 = λ ws. SpellsPoint ws point in
     none point (subst P (sym same) asks.2)
 not_placed line words is none (Load n) (short, asks) = apart line (codes "reference " ++ words) (codes "load " ++ asks.0) is asks.1 (omega arith)
 not_placed line words is none Start (short, asks) = apart line (codes "reference " ++ words) (codes "start") is asks (omega arith)
 not_placed line words is none Hold (short, asks) = apart line (codes "reference " ++ words) (codes "hold") is asks (omega arith)
 not_placed line words is none Continue (short, asks) = apart line (codes "reference " ++ words) (codes "continue") is asks (omega arith)
 not_placed line words is none (Mdi text) (short, asks) = apart line (codes "reference " ++ words) (codes "mdi " ++ text.now) is asks (omega arith)
-not_placed line words is none Resume (short, asks) = apart_behind line (codes "reference " ++ words) (codes "resume") is asks (omega arith)
+not_placed line words is none Resume (short, asks) = apart_after line (codes "reference " ++ words) (codes "resume") is asks (omega arith)
 not_placed line words is none Abandon (short, asks) = apart line (codes "reference " ++ words) (codes "abandon") is asks (omega arith)
-not_placed line words is none (OptionalStop is_on) (short, asks) = apart line (codes "reference " ++ words) (codes "optional " ++ turned is_on) is asks (omega arith)
-not_placed line words is none (BlockDelete is_on) (short, asks) = apart line (codes "reference " ++ words) (codes "delete " ++ turned is_on) is asks (omega arith)
+not_placed line words is none (OptionalStop is_on) (short, asks) = apart line (codes "reference " ++ words) (codes "optional " ++ switch_word is_on) is asks (omega arith)
+not_placed line words is none (BlockDelete is_on) (short, asks) = apart line (codes "reference " ++ words) (codes "delete " ++ switch_word is_on) is asks (omega arith)
 not_placed line words is none (Tick n) (short, asks) = apart line (codes "reference " ++ words) (codes "tick " ++ asks.0) is asks.1 (omega arith)
 not_placed line words is none Status (short, asks) = apart line (codes "reference " ++ words) (codes "status") is asks (omega arith)
 not_placed line words is none Quit (short, asks) = apart line (codes "reference " ++ words) (codes "quit") is asks (omega arith)
 
 -- a line that begins with no word before a number or a text, and has no fixed words
 pub not_asked : (line : List ℕ) → ((rest : List ℕ) → line ≢ codes "mdi " ++ rest) → ((rest : List ℕ) → line ≢ codes "load " ++ rest) → ((rest : List ℕ) → line ≢ codes "tick " ++ rest)
-    → ((rest : List ℕ) → line ≢ codes "reference " ++ rest) → ((c : Command) → IsPlain c → Asks line c → ⊥) → IsNoCommand line
+    → ((rest : List ℕ) → line ≢ codes "reference " ++ rest) → ((c : ConsoleCommand) → IsPlain c → SpellsCommand line c → ⊥) → IsNoCommand line
 not_asked line mdi load tick place plain (Load n) (short, asks) = load asks.0 asks.1
 not_asked line mdi load tick place plain Start (short, asks) = plain Start tt asks
 not_asked line mdi load tick place plain Hold (short, asks) = plain Hold tt asks
@@ -86,7 +86,7 @@ not_asked line mdi load tick place plain Status (short, asks) = plain Status tt 
 not_asked line mdi load tick place plain Quit (short, asks) = plain Quit tt asks
 
 no_plain : (line : List ℕ) → line ≢ codes "start" → line ≢ codes "hold" → line ≢ codes "continue" → line ≢ codes "resume" → line ≢ codes "abandon" → line ≢ codes "status" → line ≢ codes "quit" → IsNoSwitch line
-    → (c : Command) → IsPlain c → Asks line c → ⊥
+    → (c : ConsoleCommand) → IsPlain c → SpellsCommand line c → ⊥
 no_plain line start hold goes resume abandon status quit switch (Load n) plain asks = plain
 no_plain line start hold goes resume abandon status quit switch Start plain asks = start asks
 no_plain line start hold goes resume abandon status quit switch Hold plain asks = hold asks
@@ -102,7 +102,7 @@ no_plain line start hold goes resume abandon status quit switch Status plain ask
 no_plain line start hold goes resume abandon status quit switch Quit plain asks = quit asks
 
 -- a switch's words, where no other words are fixed
-pub plain_of : (line : List ℕ) (r : Option Command) → line ≢ codes "start" → line ≢ codes "hold" → line ≢ codes "continue" → line ≢ codes "resume" → line ≢ codes "abandon" → line ≢ codes "status" → line ≢ codes "quit"
-    → MatchOption r (IsNoSwitch line) (Asks line) → MatchOption r ((c : Command) → IsPlain c → Asks line c → ⊥) (Asks line)
+pub plain_of : (line : List ℕ) (r : Option ConsoleCommand) → line ≢ codes "start" → line ≢ codes "hold" → line ≢ codes "continue" → line ≢ codes "resume" → line ≢ codes "abandon" → line ≢ codes "status" → line ≢ codes "quit"
+    → MatchOption r (IsNoSwitch line) (SpellsCommand line) → MatchOption r ((c : ConsoleCommand) → IsPlain c → SpellsCommand line c → ⊥) (SpellsCommand line)
 plain_of line None start hold goes resume abandon status quit switch = no_plain line start hold goes resume abandon status quit switch
 plain_of line (Some c) start hold goes resume abandon status quit asks = asks

@@ -1,16 +1,16 @@
--- A word without blanks is a number exactly where it is one behind a letter on a line of a program.
+-- A word without blanks is a number exactly where it is one after a letter on a line of a program.
 use Rattle.std.proofs.Common.{◌≡◌, ◌≢◌, ◌≤◌, ◌<◌, ℕ, ℤ, Bool, true, false, if◌then◌else◌, ◌==◌, nat_eq, List, [], ◌∷◌, ◌++◌, length, drop, get_or, Option, Some, None, MatchOption, refl, sym, ◌∙◌, ap, subst, inl, inr, arith, append-nil}
 use Rattle.std.proofs.lemmas.Bool.Decides.{nat_tests}
 use Rattle.std.specs.List.{list_any}
 use Rattle.ng_words.specs.Plain.{plain, is_blank, capital}
-use Rattle.ng_words.specs.Grammar.{AreDigits, IsUnsigned, IsNumber, IsLine, IsBlockNumber, Reads, Piece, Tree, Written, Writes, code, count_of, number, slash, word}
+use Rattle.ng_words.specs.Grammar.{AreDigits, IsUnsigned, IsNumber, IsLineOf, IsBlockNumber, SpellsPieces, Piece, Tree, ParsedLine, SpellsLine, code, count_of, number, slash, word}
 use Rattle.ng_words.specs.Kept.{IsTree, postfix, tree_by}
 use Rattle.ng_words.proofs.Kept.{tree_by-postfix}
 use Rattle.ng_words.specs.declared.letter.Letter.{Letter}
 use Rattle.ng_words.specs.declared.letter.Letter.TheVariants as letter
 use Rattle.ng_words.specs.declared.tree.Node.{Node}
 use Rattle.ng_words.specs.declared.tree.Node.TheVariants as node
-use Rattle.ng_commands.specs.Commands.{AreNumber, HasNo, WritesLength}
+use Rattle.ng_commands.specs.Commands.{AreNumber, HasNo, SpellsLength}
 
 -- ---- the bytes of numbers: digits, signs and points
 
@@ -34,12 +34,12 @@ unsigned_bytes bytes n u = elim u.spelled [
 
 number_bytes : (bytes : List ℕ) (z : ℤ) → IsNumber bytes z → AreBytes bytes
 number_bytes bytes z is =
-    let behind : AreBytes is.1 = unsigned_bytes is.1 is.0 is.2 in
+    let bytes : AreBytes is.1 = unsigned_bytes is.1 is.0 is.2 in
     elim is.3 [
-      | inl e ↦ subst AreBytes (sym e.0) behind
+      | inl e ↦ subst AreBytes (sym e.0) bytes
       | inr other ↦ elim other [
-        | inl e ↦ subst AreBytes (sym e.0) (omega arith, omega arith, behind)
-        | inr e ↦ subst AreBytes (sym e.0) (omega arith, omega arith, behind)
+        | inl e ↦ subst AreBytes (sym e.0) (omega arith, omega arith, bytes)
+        | inr e ↦ subst AreBytes (sym e.0) (omega arith, omega arith, bytes)
       ]
     ]
 
@@ -67,18 +67,18 @@ bytes_again (b ∷ text) blanks tabs are =
     let rest : AreBytes (plain false text) = subst (λ (t : Bool). AreBytes (plain t text)) goes found.2 in
     rw (counts, same, goes) (ap (λ l. b ∷ l) (bytes_again text blanks.1 tabs.1 rest))
 
--- ---- behind a letter
+-- ---- after a letter
 
--- the line that has this number behind an X
-abbrev named : ℤ → Written
+-- the line that has this number after an X
+abbrev named : ℤ → ParsedLine
 named z = record { deletable = false; number = None; pieces = word letter.X (number (count_of z)) ∷ [] }
 
--- a number behind a letter is a line of a program
-number_line : (bytes text : List ℕ) (z : ℤ) → bytes ≡ 88 ∷ text → length text ≤ 255 → IsNumber text z → IsLine bytes (named z)
+-- a number after a letter is a line of a program
+number_line : (bytes text : List ℕ) (z : ℤ) → bytes ≡ 88 ∷ text → length text ≤ 255 → IsNumber text z → IsLineOf bytes (named z)
 number_line bytes text z lettered short is =
-    let whole : Writes (88 ∷ text) (named z) = ([], 88 ∷ text, refl, refl, (88 ∷ text, [], sym (append-nil (88 ∷ text)), (text, refl, ((z, is, refl), refl)), refl)) in
+    let whole : SpellsLine (88 ∷ text) (named z) = ([], 88 ∷ text, refl, refl, (88 ∷ text, [], sym (append-nil (88 ∷ text)), (text, refl, ((z, is, refl), refl)), refl)) in
     let counts : plain false (88 ∷ text) ≡ 88 ∷ text = ap (λ l. 88 ∷ l) (plain_bytes text (number_bytes text z is)) in
-    subst (λ (l : List ℕ). IsLine l (named z)) (sym lettered) (omega (arith, short), subst (λ (l : List ℕ). Writes l (named z)) (sym counts) whole)
+    subst (λ (l : List ℕ). IsLineOf l (named z)) (sym lettered) (omega (arith, short), subst (λ (l : List ℕ). SpellsLine l (named z)) (sym counts) whole)
 
 -- the number of a line that is one word
 record Spelled (bytes : List ℕ) (n : ℤ) : Type 0 where
@@ -86,42 +86,42 @@ record Spelled (bytes : List ℕ) (n : ℤ) : Type 0 where
   is : IsNumber bytes value
   count : count_of value ≡ Some n
 
-spelled_last : (bytes : List ℕ) (n : ℤ) (first : Letter) → Reads (88 ∷ bytes) (word first (number (Some n)) ∷ []) → Spelled bytes n
+spelled_last : (bytes : List ℕ) (n : ℤ) (first : Letter) → SpellsPieces (88 ∷ bytes) (word first (number (Some n)) ∷ []) → Spelled bytes n
 spelled_last bytes n first (front, rest, parts, (spelled, is_front, ((z, is, count), loose)), ends) =
     let same : 88 ∷ bytes ≡ code first ∷ spelled = parts ∙ ap (λ l. front ++ l) ends ∙ append-nil front ∙ is_front in
     record { value = z; is = subst (λ (l : List ℕ). IsNumber l z) (sym (ap (drop 1) same)) is; count = sym count }
 
-spelled_line : (bytes : List ℕ) (n : ℤ) (line : Written) → Writes (88 ∷ bytes) line → AreNumber line.pieces n → Spelled bytes n
+spelled_line : (bytes : List ℕ) (n : ℤ) (line : ParsedLine) → SpellsLine (88 ∷ bytes) line → AreNumber line.pieces n → Spelled bytes n
 spelled_line bytes n line writes are = spelled_from bytes n line.deletable line.number line.pieces writes.0 writes.1 writes.2 writes.3 writes.4 are.0 are.1
   where
     spelled_from : (bytes : List ℕ) (n : ℤ) (deletable : Bool) (number_of : Option ℕ) (pieces : List Piece) (front rest : List ℕ) → 88 ∷ bytes ≡ slash deletable ++ (front ++ rest)
-        → IsBlockNumber front number_of → Reads rest pieces → (first : Letter) → pieces ≡ word first (number (Some n)) ∷ [] → Spelled bytes n
+        → IsBlockNumber front number_of → SpellsPieces rest pieces → (first : Letter) → pieces ≡ word first (number (Some n)) ∷ [] → Spelled bytes n
     spelled_from bytes n true o pieces front rest parts block reads first are = absurd (let differ : 88 ≡ 47 = ap (λ l. get_or l 0 0) parts in omega (arith, differ))
     spelled_from bytes n false None pieces front rest parts block reads first are =
         let whole : 88 ∷ bytes ≡ rest = parts ∙ ap (λ l. l ++ rest) block in
-        spelled_last bytes n first (subst (λ (l : List ℕ). Reads l (word first (number (Some n)) ∷ [])) (sym whole) (subst (λ (ps : List Piece). Reads rest ps) are reads))
+        spelled_last bytes n first (subst (λ (l : List ℕ). SpellsPieces l (word first (number (Some n)) ∷ [])) (sym whole) (subst (λ (ps : List Piece). SpellsPieces rest ps) are reads))
     spelled_from bytes n false (Some k) pieces front rest parts block reads first are =
         absurd (let differ : 88 ≡ 78 = ap (λ l. get_or l 0 0) (parts ∙ ap (λ l. l ++ rest) block.1) in omega (arith, differ))
 
 -- a word of a line is a number as it stands
-pub line_number : (text : List ℕ) (n : ℤ) (line : Written) → length text ≤ 255 → HasNo 32 text → HasNo 9 text → IsLine (88 ∷ text) line → AreNumber line.pieces n → WritesLength text n
+pub line_number : (text : List ℕ) (n : ℤ) (line : ParsedLine) → length text ≤ 255 → HasNo 32 text → HasNo 9 text → IsLineOf (88 ∷ text) line → AreNumber line.pieces n → SpellsLength text n
 line_number text n line short blanks tabs is are =
     let found = spelled_line (plain false text) n line is.1 are in
     let same : plain false text ≡ text = bytes_again text blanks tabs (number_bytes (plain false text) found.value found.is) in
     (short, (found.value, subst (λ (l : List ℕ). IsNumber l found.value) same found.is, found.count))
 
--- what is read of a text behind a letter
-pub number_read : (bytes text : List ℕ) (line : Written) (r : Option ℤ) → bytes ≡ 88 ∷ text → length text ≤ 255 → HasNo 32 text → HasNo 9 text → IsLine bytes line
-    → ((other : Written) → IsLine bytes other → other ≡ line) → MatchOption r ((n : ℤ) → AreNumber line.pieces n → ⊥) (AreNumber line.pieces)
-    → MatchOption r ((n : ℤ) → WritesLength text n → ⊥) (WritesLength text)
+-- what is read of a text after a letter
+pub number_read : (bytes text : List ℕ) (line : ParsedLine) (r : Option ℤ) → bytes ≡ 88 ∷ text → length text ≤ 255 → HasNo 32 text → HasNo 9 text → IsLineOf bytes line
+    → ((other : ParsedLine) → IsLineOf bytes other → other ≡ line) → MatchOption r ((n : ℤ) → AreNumber line.pieces n → ⊥) (AreNumber line.pieces)
+    → MatchOption r ((n : ℤ) → SpellsLength text n → ⊥) (SpellsLength text)
 number_read bytes text line None is short blanks tabs reads only none = λ n writes.
     let z : ℤ = writes.1.0 in
     let same : named z ≡ line = only (named z) (number_line bytes text z is short writes.1.1) in
-    none n (letter.X, sym (ap (λ (l : Written). l.pieces) same) ∙ ap (λ v. word letter.X (number v) ∷ []) writes.1.2)
+    none n (letter.X, sym (ap (λ (l : ParsedLine). l.pieces) same) ∙ ap (λ v. word letter.X (number v) ∷ []) writes.1.2)
 number_read bytes text line (Some n) is short blanks tabs reads only are =
-    line_number text n line short blanks tabs (subst (λ (l : List ℕ). IsLine l line) is reads) are
+    line_number text n line short blanks tabs (subst (λ (l : List ℕ). IsLineOf l line) is reads) are
 
-pub number_unread : (bytes text : List ℕ) → bytes ≡ 88 ∷ text → ((line : Written) → IsLine bytes line → ⊥) → (n : ℤ) → WritesLength text n → ⊥
+pub number_unread : (bytes text : List ℕ) → bytes ≡ 88 ∷ text → ((line : ParsedLine) → IsLineOf bytes line → ⊥) → (n : ℤ) → SpellsLength text n → ⊥
 number_unread bytes text is none n writes =
     none (named writes.1.0) (number_line bytes text writes.1.0 is writes.0 writes.1.1)
 
@@ -151,7 +151,7 @@ has_some b [] some none = absurd cc
 has_some b (c ∷ text) some none = has_some b text (grind (arith, nat_tests, some, none.0)) none.1
 
 -- a length has room on a line of a program, and no blank or tab
-pub length_whole : (text : List ℕ) (nm : ℤ) → WritesLength text nm → (length text ≤ 255) × HasNo 32 text × HasNo 9 text
+pub length_whole : (text : List ℕ) (nm : ℤ) → SpellsLength text nm → (length text ≤ 255) × HasNo 32 text × HasNo 9 text
 length_whole text nm writes =
     let are : AreBytes text = number_bytes text writes.1.0 writes.1.1 in
     (writes.0, bytes_without 32 text (omega arith) are, bytes_without 9 text (omega arith) are)

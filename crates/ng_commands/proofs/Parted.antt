@@ -2,7 +2,7 @@
 use Rattle.std.proofs.Common.{◌≡◌, ◌≢◌, ◌≤◌, ◌<◌, ◌+◌, ◌-◌, ℕ, zero, suc, List, [], ◌∷◌, ◌++◌, length, take, drop, get_or, Option, Some, None, MatchOption, refl, sym, ◌∙◌, ap, subst, arith}
 use Rattle.std.proofs.lemmas.List.{take_all}
 use Rattle.ng_num.specs.declared.point.Point.{Point}
-use Rattle.ng_commands.specs.Commands.{HasNo, WritesLength, WritesPoint}
+use Rattle.ng_commands.specs.Commands.{HasNo, SpellsLength, SpellsPoint}
 use Rattle.ng_commands.proofs.Numbers.{length_whole}
 
 blank_within : (words : List ℕ) (n m : ℕ) → n < length words → m ≡ n + 1 → get_or words n 0 ≢ 32 → HasNo 32 (take n words) → HasNo 32 (take m words)
@@ -12,8 +12,8 @@ blank_within (b ∷ words) zero (suc zero) less next none before = (none, tt)
 blank_within (b ∷ words) zero (suc (suc m)) less next none before = absurd (omega (arith, next))
 blank_within (b ∷ words) (suc n) (suc m) less next none before = (before.0, blank_within words n m (omega (arith, less)) (omega (arith, next)) none before.1)
 
-pub blank_behind : (words : List ℕ) (n : ℕ) → n < length words → get_or words n 0 ≢ 32 → HasNo 32 (take n words) → HasNo 32 (take (n + 1) words)
-blank_behind words n less none before = blank_within words n (n + 1) less refl none before
+pub blank_after : (words : List ℕ) (n : ℕ) → n < length words → get_or words n 0 ≢ 32 → HasNo 32 (take n words) → HasNo 32 (take (n + 1) words)
+blank_after words n less none before = blank_within words n (n + 1) less refl none before
 
 pub none_among : (words : List ℕ) (n : ℕ) → length words ≤ n → HasNo 32 (take n words) → HasNo 32 words
 none_among words n end before = subst (HasNo 32) (take_all n words end) before
@@ -47,22 +47,22 @@ not_whole (c ∷ words) [] xs none is = none.0 (ap (λ l. get_or l 0 0) is)
 not_whole (c ∷ words) (b ∷ x) xs none is = not_whole words x xs none.1 (ap (drop 1) is)
 
 -- the lengths of a point stand where its words are parted
-pub placed : (words x others y z : List ℕ) → words ≡ x ++ 32 ∷ others → HasNo 32 x → others ≡ y ++ 32 ∷ z → HasNo 32 y → (p : Point) → WritesPoint words p
-    → WritesLength x p.x × WritesLength y p.y × WritesLength z p.z
+pub placed : (words x others y z : List ℕ) → words ≡ x ++ 32 ∷ others → HasNo 32 x → others ≡ y ++ 32 ∷ z → HasNo 32 y → (p : Point) → SpellsPoint words p
+    → SpellsLength x p.x × SpellsLength y p.y × SpellsLength z p.z
 placed words x others y z is bare also bare_too p (x_as, y_as, z_as, are, writes_x, writes_y, writes_z) =
     let first = one_part x x_as others (y_as ++ 32 ∷ z_as) bare (length_whole x_as p.x writes_x).1 (sym is ∙ are) in
     let second = one_part y y_as z z_as bare_too (length_whole y_as p.y writes_y).1 (sym also ∙ first.1) in
-    (subst (λ (l : List ℕ). WritesLength l p.x) (sym first.0) writes_x, subst (λ (l : List ℕ). WritesLength l p.y) (sym second.0) writes_y, subst (λ (l : List ℕ). WritesLength l p.z) (sym second.1) writes_z)
+    (subst (λ (l : List ℕ). SpellsLength l p.x) (sym first.0) writes_x, subst (λ (l : List ℕ). SpellsLength l p.y) (sym second.0) writes_y, subst (λ (l : List ℕ). SpellsLength l p.z) (sym second.1) writes_z)
 
 -- words without a first or a second blank write no point
-pub one_word : (words : List ℕ) → HasNo 32 words → (p : Point) → WritesPoint words p → ⊥
+pub one_word : (words : List ℕ) → HasNo 32 words → (p : Point) → SpellsPoint words p → ⊥
 one_word words none p writes = not_whole words writes.0 (writes.1 ++ 32 ∷ writes.2) none writes.3
 
-pub two_words : (words x others : List ℕ) → words ≡ x ++ 32 ∷ others → HasNo 32 x → HasNo 32 others → (p : Point) → WritesPoint words p → ⊥
+pub two_words : (words x others : List ℕ) → words ≡ x ++ 32 ∷ others → HasNo 32 x → HasNo 32 others → (p : Point) → SpellsPoint words p → ⊥
 two_words words x others is bare none p writes =
     let first = one_part x writes.0 others (writes.1 ++ 32 ∷ writes.2) bare (length_whole writes.0 p.x writes.4).1 (sym is ∙ writes.3) in
     not_whole others writes.1 writes.2 none first.1
 
-pub refused : (words : List ℕ) (r : Option Point) → r ≡ None → ((p : Point) → WritesPoint words p → ⊥) → MatchOption r ((p : Point) → WritesPoint words p → ⊥) (WritesPoint words)
+pub refused : (words : List ℕ) (r : Option Point) → r ≡ None → ((p : Point) → SpellsPoint words p → ⊥) → MatchOption r ((p : Point) → SpellsPoint words p → ⊥) (SpellsPoint words)
 refused words None e none = none
 refused words (Some p) e none = absurd cc

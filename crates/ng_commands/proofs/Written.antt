@@ -3,7 +3,7 @@ use Rattle.std.proofs.Common.{◌≡◌, ◌≤◌, ◌<◌, ◌+◌, ◌-◌, �
 use native.Mathlib.Nat.{pow-le-pow_right}
 use Rattle.ng_words.specs.Grammar.{AreDigits, written_after}
 use Rattle.ng_words.proofs.Round.{written_lt}
-use Rattle.ng_commands.specs.Commands.{Writes}
+use Rattle.ng_commands.specs.Commands.{AreDigitsOf}
 
 -- more digits write no smaller number
 pub written_grows : (n : ℕ) (digits : List ℕ) → n ≤ written_after n digits
@@ -14,7 +14,7 @@ written_grows n (d ∷ ds) =
 
 -- where the first digits write more than the greatest, all of them do
 pub too_great : (greatest value : ℕ) (rest digits : List ℕ) → greatest < value → written_after value rest ≡ written_after 0 digits
-    → (n : ℕ) → n ≤ greatest → Writes digits n → ⊥
+    → (n : ℕ) → n ≤ greatest → AreDigitsOf digits n → ⊥
 too_great greatest value rest digits great same n small writes =
     let grows : value ≤ written_after value rest = written_grows value rest in
     let is : n ≡ written_after 0 digits = writes.2 in
@@ -27,7 +27,7 @@ seven_digits digits are short =
     omega (arith, most, below)
 
 -- digits that write no number up to that of seven nines are no length
-pub no_length : (digits : List ℕ) → ((n : ℕ) → n ≤ 9_999_999 → Writes digits n → ⊥) → (n : ℕ) → Writes digits n → length digits ≤ 7 → ⊥
+pub no_length : (digits : List ℕ) → ((n : ℕ) → n ≤ 9_999_999 → AreDigitsOf digits n → ⊥) → (n : ℕ) → AreDigitsOf digits n → length digits ≤ 7 → ⊥
 no_length digits none n writes short =
     let small : written_after 0 digits ≤ 9_999_999 = seven_digits digits writes.0 short in
     let is : n ≡ written_after 0 digits = writes.2 in

@@ -3,53 +3,53 @@ use Rattle.std.specs.Prelude.{◌≡◌, ◌≢◌, ◌≤◌, ◌<◌, ℕ, ℤ
 use Rattle.ng_num.specs.declared.point.Point.{Point}
 use Rattle.ng_words.specs.Grammar.{AreDigits, IsNumber, Piece, count_of, number, word, written_after}
 use Rattle.ng_words.specs.declared.letter.Letter.{Letter}
-use Rattle.ng_commands.specs.declared.asked.Command.{Command}
-use Rattle.ng_commands.specs.declared.asked.Command.TheVariants.{Load, Start, Hold, Continue, Mdi, Reference, Resume, Abandon, OptionalStop, BlockDelete, Tick, Status, Quit}
+use Rattle.ng_commands.specs.declared.asked.ConsoleCommand.{ConsoleCommand}
+use Rattle.ng_commands.specs.declared.asked.ConsoleCommand.TheVariants.{Load, Start, Hold, Continue, Mdi, Reference, Resume, Abandon, OptionalStop, BlockDelete, Tick, Status, Quit}
 
 -- digits, leading zeros and all, that write this number
-abbrev pub Writes : List ℕ → ℕ → Type 0
-Writes digits n = AreDigits digits × (0 < length digits) × (n ≡ written_after 0 digits)
+abbrev pub AreDigitsOf : List ℕ → ℕ → Type 0
+AreDigitsOf digits n = AreDigits digits × (0 < length digits) × (n ≡ written_after 0 digits)
 
--- A text writes a length in millimetres, this many nanometres: it is a number as it stands behind a letter on a line of a program, and
+-- A text writes a length in millimetres, this many nanometres: it is a number as it stands after a letter on a line of a program, and
 -- its rounded value is in range.
-abbrev pub WritesLength : List ℕ → ℤ → Type 0
-WritesLength text nm = (length text ≤ 255) × ((value : ℤ) × IsNumber text value × (count_of value ≡ Some nm))
+abbrev pub SpellsLength : List ℕ → ℤ → Type 0
+SpellsLength text nm = (length text ≤ 255) × ((value : ℤ) × IsNumber text value × (count_of value ≡ Some nm))
 
 -- three words, parted by one blank, write the coordinates of a point
-abbrev pub WritesPoint : List ℕ → Point → Type 0
-WritesPoint words p =
-    (x y z : List ℕ) × (words ≡ x ++ (codes " " ++ (y ++ (codes " " ++ z)))) × WritesLength x p.x × WritesLength y p.y × WritesLength z p.z
+abbrev pub SpellsPoint : List ℕ → Point → Type 0
+SpellsPoint words p =
+    (x y z : List ℕ) × (words ≡ x ++ (codes " " ++ (y ++ (codes " " ++ z)))) × SpellsLength x p.x × SpellsLength y p.y × SpellsLength z p.z
 
-abbrev pub turned : Bool → List ℕ
-turned true = codes "on"
-turned false = codes "off"
+abbrev pub switch_word : Bool → List ℕ
+switch_word true = codes "on"
+switch_word false = codes "off"
 
 -- the words ask for this
-abbrev pub Asks : List ℕ → Command → Type 0
-Asks words (Load n) = (digits : List ℕ) × (words ≡ codes "load " ++ digits) × Writes digits n × (length digits ≤ 7)
-Asks words Start = words ≡ codes "start"
-Asks words Hold = words ≡ codes "hold"
-Asks words Continue = words ≡ codes "continue"
-Asks words (Mdi line) = words ≡ codes "mdi " ++ line.now
-Asks words (Reference point) = (coordinates : List ℕ) × (words ≡ codes "reference " ++ coordinates) × WritesPoint coordinates point
-Asks words Resume = words ≡ codes "resume"
-Asks words Abandon = words ≡ codes "abandon"
-Asks words (OptionalStop is_on) = words ≡ codes "optional " ++ turned is_on
-Asks words (BlockDelete is_on) = words ≡ codes "delete " ++ turned is_on
-Asks words (Tick n) = (digits : List ℕ) × (words ≡ codes "tick " ++ digits) × Writes digits n × (1 ≤ n) × (n ≤ 1_000_000)
-Asks words Status = words ≡ codes "status"
-Asks words Quit = words ≡ codes "quit"
+abbrev pub SpellsCommand : List ℕ → ConsoleCommand → Type 0
+SpellsCommand words (Load n) = (digits : List ℕ) × (words ≡ codes "load " ++ digits) × AreDigitsOf digits n × (length digits ≤ 7)
+SpellsCommand words Start = words ≡ codes "start"
+SpellsCommand words Hold = words ≡ codes "hold"
+SpellsCommand words Continue = words ≡ codes "continue"
+SpellsCommand words (Mdi line) = words ≡ codes "mdi " ++ line.now
+SpellsCommand words (Reference point) = (coordinates : List ℕ) × (words ≡ codes "reference " ++ coordinates) × SpellsPoint coordinates point
+SpellsCommand words Resume = words ≡ codes "resume"
+SpellsCommand words Abandon = words ≡ codes "abandon"
+SpellsCommand words (OptionalStop is_on) = words ≡ codes "optional " ++ switch_word is_on
+SpellsCommand words (BlockDelete is_on) = words ≡ codes "delete " ++ switch_word is_on
+SpellsCommand words (Tick n) = (digits : List ℕ) × (words ≡ codes "tick " ++ digits) × AreDigitsOf digits n × (1 ≤ n) × (n ≤ 1_000_000)
+SpellsCommand words Status = words ≡ codes "status"
+SpellsCommand words Quit = words ≡ codes "quit"
 
 -- a line is this command; one of over 300 bytes is none
-abbrev pub IsCommand : List ℕ → Command → Type 0
-IsCommand line command = (length line ≤ 300) × Asks line command
+abbrev pub IsCommand : List ℕ → ConsoleCommand → Type 0
+IsCommand line command = (length line ≤ 300) × SpellsCommand line command
 
 -- a line is no command
 abbrev pub IsNoCommand : List ℕ → Type 0
-IsNoCommand line = (command : Command) → IsCommand line command → ⊥
+IsNoCommand line = (command : ConsoleCommand) → IsCommand line command → ⊥
 
 -- a command of fixed words
-abbrev pub IsPlain : Command → Type 0
+abbrev pub IsPlain : ConsoleCommand → Type 0
 IsPlain (Load n) = ⊥
 IsPlain Start = Unit {0}
 IsPlain Hold = Unit {0}
@@ -66,7 +66,7 @@ IsPlain Quit = Unit {0}
 
 -- a line turns no switch
 abbrev pub IsNoSwitch : List ℕ → Type 0
-IsNoSwitch line = (is_on : Bool) → (line ≢ codes "optional " ++ turned is_on) × (line ≢ codes "delete " ++ turned is_on)
+IsNoSwitch line = (is_on : Bool) → (line ≢ codes "optional " ++ switch_word is_on) × (line ≢ codes "delete " ++ switch_word is_on)
 
 -- no byte of a text is this one
 abbrev pub HasNo : ℕ → List ℕ → Type 0

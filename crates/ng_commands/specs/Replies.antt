@@ -14,9 +14,9 @@ use Rattle.ng_session.specs.declared.reply.Status.{Status}
 use Rattle.ng_session.specs.declared.reply.Reply.{Reply}
 use Rattle.ng_session.specs.declared.reply.Reply.TheVariants as reply
 
--- X, Y and Z in millimetres, a blank behind each
-abbrev pub place_text : Point → List ℕ
-place_text p = (number_text p.x ++ codes " ") ++ (number_text p.y ++ codes " ") ++ (number_text p.z ++ codes " ")
+-- X, Y and Z in millimetres, a blank after each
+abbrev pub point_text : Point → List ℕ
+point_text p = (number_text p.x ++ codes " ") ++ (number_text p.y ++ codes " ") ++ (number_text p.z ++ codes " ")
 
 -- whether the machine is known to stand there
 abbrev pub known_text : Bool → List ℕ
@@ -39,23 +39,23 @@ condition_text condition.Stopped = codes " stopped\n"
 condition_text condition.Held = codes " held\n"
 condition_text condition.Broken = codes " broken\n"
 
--- a number with words before and behind it
+-- a number with words before and after it
 abbrev pub between : List ℕ → ℕ → List ℕ → List ℕ
-between before n behind = before ++ decimal n ++ behind
+between before n after = before ++ decimal n ++ after
 
 abbrev pub counts_text : Status → List ℕ
 counts_text s = between (codes "status entries ") s.entries (codes " place ") ++ between [] s.place (codes " at ")
 
-abbrev pub standing_text : Status → List ℕ
-standing_text s = place_text s.point ++ known_text s.place_known ++ codes " half "
+abbrev pub machine_text : Status → List ℕ
+machine_text s = point_text s.point ++ known_text s.point_known ++ codes " half "
 
 abbrev pub status_line : Status → List ℕ
-status_line s = counts_text s ++ standing_text s ++ half_text s.half ++ condition_text s.condition
+status_line s = counts_text s ++ machine_text s ++ half_text s.half ++ condition_text s.condition
 
 abbrev pub refused_line : Fault → List ℕ
 refused_line fault = codes "refused " ++ fault_text fault ++ codes "\n"
 
--- the count of entries behind one that was committed
+-- the count of entries after one that was committed
 abbrev pub done_line : ℕ → List ℕ
 done_line entries = codes "done " ++ decimal entries ++ codes "\n"
 
@@ -83,10 +83,10 @@ tick_line r = reply_line r
 abbrev pub ticks_line : ℕ → List ℕ
 ticks_line count = codes "ticks " ++ decimal count ++ codes "\n"
 
--- whether a command of ticks goes on behind this reply
-abbrev pub goes_on : Reply → Bool
-goes_on reply.Idle = false
-goes_on reply.Held = false
-goes_on reply.Stopped = false
-goes_on (reply.Refused fault) = false
-goes_on r = true
+-- whether a command of ticks goes on after this reply
+abbrev pub continues_ticks : Reply → Bool
+continues_ticks reply.Idle = false
+continues_ticks reply.Held = false
+continues_ticks reply.Stopped = false
+continues_ticks (reply.Refused fault) = false
+continues_ticks r = true

@@ -6,7 +6,7 @@ pub const LONGEST: usize = 300;
 
 /// What a line of the console asks for (own).
 #[derive(Clone, Copy, Debug, PartialEq, Eq)]
-pub enum Command<'a> {
+pub enum ConsoleCommand<'a> {
     /// `load N`: a program of so many bytes, which follow the line; below 10,000,000.
     Load(u32),
     /// `start`
@@ -15,7 +15,7 @@ pub enum Command<'a> {
     Hold,
     /// `continue`
     Continue,
-    /// `mdi LINE`: a line of the language, the bytes behind the blank.
+    /// `mdi LINE`: a line of the language, the bytes after the blank.
     Mdi(&'a [u8]),
     /// `reference X Y Z`: where the machine stands, three numbers as on a line of a program, millimetres of machine coordinates.
     Reference(Point),

@@ -1,11 +1,11 @@
 //! Whole numbers of commands.
 ghost use Rattle.std.specs.Prelude.{◌≡◌, ◌≤◌, ◌*◌, ◌+◌, ◌^◌, ◌<◌, ℕ, MatchOption};
-ghost use Rattle.ng_commands.specs.Commands.{Writes};
+ghost use Rattle.ng_commands.specs.Commands.{AreDigitsOf};
 
 /// The number that digits write, leading zeros and all, where it isn't above the greatest.
 pub(crate) fn whole(digits: &[u8], greatest: u32) -> Option<u32>
     requires { greatest ≤ 10_000_000 }
-    ensures { MatchOption result ((n : ℕ) → n ≤ greatest → Writes digits.now n → ⊥) (λ n. Writes digits.now n × (n ≤ greatest)) }
+    ensures { MatchOption result ((n : ℕ) → n ≤ greatest → AreDigitsOf digits.now n → ⊥) (λ n. AreDigitsOf digits.now n × (n ≤ greatest)) }
 {
     if digits.is_empty() {
         return None;

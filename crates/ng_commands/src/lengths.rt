@@ -2,15 +2,15 @@
 ghost use Rattle.std.specs.Prelude.{◌≡◌, ◌≢◌, ◌≤◌, ◌+◌, ◌++◌, [], ◌∷◌, ℕ, ℤ, Some, MatchBool, MatchOption, length, take};
 ghost use Rattle.ng_num.specs.declared.point.Point.{Point};
 ghost use Rattle.ng_words.specs.Kept.{pieces_by};
-ghost use Rattle.ng_commands.specs.Commands.{AreNumber, HasNo, WritesLength, WritesPoint};
+ghost use Rattle.ng_commands.specs.Commands.{AreNumber, HasNo, SpellsLength, SpellsPoint};
 
 use ng_num::{Len, Num, Point, Unit, nm_of};
-use ng_words::{Line, Node, Piece, read_line};
+use ng_words::{Line, Node, PieceRef, read_line};
 
 /// The most bytes of a number: a line of a program has 256, and a letter stands before it.
 const NUMBER_BYTES: usize = 255;
 
-/// The bytes before and behind the first blank.
+/// The bytes before and after the first blank.
 fn parted(words: &[u8]) -> Option<(&[u8], &[u8])>
     ensures { MatchOption result (HasNo 32 words.now) (λ p. (words.now ≡ p.0.now ++ 32 ∷ p.1.now) × HasNo 32 p.0.now) }
 {
@@ -37,7 +37,7 @@ fn only_number(line: &Line) -> Option<Num>
     ensures { MatchOption result ((n : ℤ) → AreNumber (pieces_by line.now.places) n → ⊥) (AreNumber (pieces_by line.now.places)) }
 {
     let mut pieces = line.pieces();
-    let Some(Piece::Word(_, value)) = pieces.next() else {
+    let Some(PieceRef::Word(_, value)) = pieces.next() else {
         return None;
     };
     match pieces.next() {
@@ -46,7 +46,7 @@ fn only_number(line: &Line) -> Option<Num>
     }
 }
 
-/// A text behind a letter, and what is left of the places of a line.
+/// A text after a letter, and what is left of the places of a line.
 fn lettered(text: &[u8]) -> [u8; NUMBER_BYTES + 1]
     requires { length text.now ≤ 255 }
     ensures { take (length text.now + 1) result ≡ 88 ∷ text.now }
@@ -56,12 +56,12 @@ fn lettered(text: &[u8]) -> [u8; NUMBER_BYTES + 1]
     bytes
 }
 
-/// The number that a text without blanks is, behind a letter on a line of a program.
+/// The number that a text without blanks is, after a letter on a line of a program.
 fn number(text: &[u8]) -> Option<Num>
     requires short { length text.now ≤ 255 }
     requires blanks { HasNo 32 text.now }
     requires tabs { HasNo 9 text.now }
-    ensures { MatchOption result ((n : ℤ) → WritesLength text.now n → ⊥) (WritesLength text.now) }
+    ensures { MatchOption result ((n : ℤ) → SpellsLength text.now n → ⊥) (SpellsLength text.now) }
 {
     let bytes = lettered(text);
     match read_line(&bytes[..=text.len()]) {
@@ -88,7 +88,7 @@ fn is_whole(text: &[u8]) -> bool
 /// The length that a text writes.
 #[tactic(auto, using(crate::proofs::Numbers::length_whole))]
 fn length(text: &[u8]) -> Option<Len>
-    ensures { MatchOption result ((nm : ℤ) → WritesLength text.now nm → ⊥) (WritesLength text.now) }
+    ensures { MatchOption result ((nm : ℤ) → SpellsLength text.now nm → ⊥) (SpellsLength text.now) }
 {
     if !is_whole(text) {
         return None;
@@ -101,7 +101,7 @@ fn length(text: &[u8]) -> Option<Len>
 
 /// The point whose coordinates three words write, parted by one blank.
 pub(crate) fn point(words: &[u8]) -> Option<Point>
-    ensures { MatchOption result ((p : Point) → WritesPoint words.now p → ⊥) (WritesPoint words.now) }
+    ensures { MatchOption result ((p : Point) → SpellsPoint words.now p → ⊥) (SpellsPoint words.now) }
 {
     let (x, others) = parted(words)?;
     let (y, z) = parted(others)?;

@@ -11,6 +11,6 @@ mod reading;
 mod replies;
 mod words;
 
-pub use asked::{Command, LONGEST};
+pub use asked::{ConsoleCommand, LONGEST};
 pub use reading::command_of;
-pub use replies::{goes_on, push_refusal, push_reply, push_tick, push_ticks};
+pub use replies::{continues_ticks, push_refusal, push_reply, push_tick, push_ticks};

@@ -1,12 +1,12 @@
 //! Commands read from lines.
 ghost use Rattle.std.specs.Prelude.{◌≡◌, ◌≤◌, ◌<◌, ℕ, MatchOption, length};
-ghost use Rattle.ng_commands.specs.Commands.{Asks, IsCommand, IsNoCommand, IsNoSwitch, IsPlain, Writes};
-ghost use Rattle.ng_commands.specs.declared.asked.Command.{Command};
+ghost use Rattle.ng_commands.specs.Commands.{SpellsCommand, IsCommand, IsNoCommand, IsNoSwitch, IsPlain, AreDigitsOf};
+ghost use Rattle.ng_commands.specs.declared.asked.ConsoleCommand.{ConsoleCommand};
 
-use crate::asked::{Command, LONGEST};
+use crate::asked::{ConsoleCommand, LONGEST};
 use crate::digits::whole;
 use crate::lengths::point;
-use crate::words::{behind, is};
+use crate::words::{is, strip_prefix};
 
 /// The most digits of a program's length.
 const LENGTH_DIGITS: usize = 7;
@@ -20,30 +20,30 @@ const MOST_TICKS: u32 = 1_000_000;
 /// What a line asks for, without its end; none where it is no command. It is read as it stands: a carriage return belongs
 /// to it. Source: own.
 #[tactic(auto, using(crate::proofs::Fixed::not_loaded, crate::proofs::Fixed::not_ticked, crate::proofs::Fixed::not_asked))]
-pub fn command_of(line: &[u8]) -> Option<Command<'_>>
+pub fn command_of(line: &[u8]) -> Option<ConsoleCommand<'_>>
     ensures { MatchOption result (IsNoCommand line.now) (IsCommand line.now) }
 {
     if line.len() > LONGEST {
         return None;
     }
-    if let Some(text) = behind(line, b"mdi ") {
-        return Some(Command::Mdi(text));
+    if let Some(text) = strip_prefix(line, b"mdi ") {
+        return Some(ConsoleCommand::Mdi(text));
     }
-    if let Some(digits) = behind(line, b"load ") {
+    if let Some(digits) = strip_prefix(line, b"load ") {
         return match loading(digits) {
-            Some(length) => Some(Command::Load(length)),
+            Some(length) => Some(ConsoleCommand::Load(length)),
             None => None,
         };
     }
-    if let Some(digits) = behind(line, b"tick ") {
+    if let Some(digits) = strip_prefix(line, b"tick ") {
         return match ticks(digits) {
-            Some(ticks) => Some(Command::Tick(ticks)),
+            Some(ticks) => Some(ConsoleCommand::Tick(ticks)),
             None => None,
         };
     }
-    if let Some(words) = behind(line, b"reference ") {
+    if let Some(words) = strip_prefix(line, b"reference ") {
         return match point(words) {
-            Some(point) => Some(Command::Reference(point)),
+            Some(point) => Some(ConsoleCommand::Reference(point)),
             None => None,
         };
     }
@@ -53,7 +53,7 @@ pub fn command_of(line: &[u8]) -> Option<Command<'_>>
 /// The length of a program, by its digits.
 #[tactic(auto, using(crate::proofs::Written::no_length))]
 fn loading(digits: &[u8]) -> Option<u32>
-    ensures { MatchOption result ((n : ℕ) → Writes digits.now n → length digits.now ≤ 7 → ⊥) (λ n. Writes digits.now n × (length digits.now ≤ 7)) }
+    ensures { MatchOption result ((n : ℕ) → AreDigitsOf digits.now n → length digits.now ≤ 7 → ⊥) (λ n. AreDigitsOf digits.now n × (length digits.now ≤ 7)) }
 {
     if digits.len() > LENGTH_DIGITS {
         return None;
@@ -66,7 +66,7 @@ fn loading(digits: &[u8]) -> Option<u32>
 
 /// The number of ticks, by its digits.
 fn ticks(digits: &[u8]) -> Option<u32>
-    ensures { MatchOption result ((n : ℕ) → Writes digits.now n → 1 ≤ n → n ≤ 1_000_000 → ⊥) (λ n. Writes digits.now n × (1 ≤ n) × (n ≤ 1_000_000)) }
+    ensures { MatchOption result ((n : ℕ) → AreDigitsOf digits.now n → 1 ≤ n → n ≤ 1_000_000 → ⊥) (λ n. AreDigitsOf digits.now n × (1 ≤ n) × (n ≤ 1_000_000)) }
 {
     match whole(digits, MOST_TICKS) {
         None | Some(0) => None,
@@ -76,48 +76,48 @@ fn ticks(digits: &[u8]) -> Option<u32>
 
 /// The command of these words, where they are fixed.
 #[tactic(auto, using(crate::proofs::Fixed::plain_of))]
-fn plain(line: &[u8]) -> Option<Command<'static>>
-    ensures { MatchOption result ((c : Command) → IsPlain c → Asks line.now c → ⊥) (λ c. Asks line.now c) }
+fn plain(line: &[u8]) -> Option<ConsoleCommand<'static>>
+    ensures { MatchOption result ((c : ConsoleCommand) → IsPlain c → SpellsCommand line.now c → ⊥) (λ c. SpellsCommand line.now c) }
 {
     if is(line, b"start") {
-        return Some(Command::Start);
+        return Some(ConsoleCommand::Start);
     }
     if is(line, b"hold") {
-        return Some(Command::Hold);
+        return Some(ConsoleCommand::Hold);
     }
     if is(line, b"continue") {
-        return Some(Command::Continue);
+        return Some(ConsoleCommand::Continue);
     }
     if is(line, b"resume") {
-        return Some(Command::Resume);
+        return Some(ConsoleCommand::Resume);
     }
     if is(line, b"abandon") {
-        return Some(Command::Abandon);
+        return Some(ConsoleCommand::Abandon);
     }
     if is(line, b"status") {
-        return Some(Command::Status);
+        return Some(ConsoleCommand::Status);
     }
     if is(line, b"quit") {
-        return Some(Command::Quit);
+        return Some(ConsoleCommand::Quit);
     }
     switch(line)
 }
 
 /// The switch of these words.
-fn switch(line: &[u8]) -> Option<Command<'static>>
-    ensures { MatchOption result (IsNoSwitch line.now) (Asks line.now) }
+fn switch(line: &[u8]) -> Option<ConsoleCommand<'static>>
+    ensures { MatchOption result (IsNoSwitch line.now) (SpellsCommand line.now) }
 {
     if is(line, b"optional on") {
-        return Some(Command::OptionalStop(true));
+        return Some(ConsoleCommand::OptionalStop(true));
     }
     if is(line, b"optional off") {
-        return Some(Command::OptionalStop(false));
+        return Some(ConsoleCommand::OptionalStop(false));
     }
     if is(line, b"delete on") {
-        return Some(Command::BlockDelete(true));
+        return Some(ConsoleCommand::BlockDelete(true));
     }
     if is(line, b"delete off") {
-        return Some(Command::BlockDelete(false));
+        return Some(ConsoleCommand::BlockDelete(false));
     }
     None
 }

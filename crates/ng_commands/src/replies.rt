@@ -1,7 +1,7 @@
 //! The lines of replies. Each is appended to a text; after an error a part of it may stand there.
 ghost use Rattle.std.specs.Prelude.{◌≡◌, ◌++◌, OnOk, codes};
 ghost use Rattle.ng_num.specs.Text.{number_text};
-ghost use Rattle.ng_commands.specs.Replies.{between, condition_text, counts_text, done_line, goes_on, half_text, known_text, place_text, refused_line, reply_line, source_text, standing_text, status_line, tick_line, ticks_line};
+ghost use Rattle.ng_commands.specs.Replies.{between, condition_text, counts_text, done_line, continues_ticks, half_text, known_text, point_text, refused_line, reply_line, source_text, machine_text, status_line, tick_line, ticks_line};
 
 use ng_layout::Source;
 use ng_num::{Fault, Len, Point, print_length, print_whole};
@@ -35,7 +35,7 @@ fn condition_text(condition: Condition) -> &'static [u8]
     }
 }
 
-/// Appends a length in millimetres and the blank behind it.
+/// Appends a length in millimetres and the blank after it.
 fn push_length<A: Allocator + Copy + Drop>(
     text: &mut Vec<u8, A>,
     length: Len,
@@ -47,12 +47,12 @@ fn push_length<A: Allocator + Copy + Drop>(
     Ok(())
 }
 
-/// Appends the three coordinates of a point, a blank behind each.
-fn push_place<A: Allocator + Copy + Drop>(
+/// Appends the three coordinates of a point, a blank after each.
+fn push_point<A: Allocator + Copy + Drop>(
     text: &mut Vec<u8, A>,
     point: &Point,
 ) -> Result<(), AllocError>
-    ensures { OnOk result (text.new.items ≡ text.old.items ++ place_text point.now) }
+    ensures { OnOk result (text.new.items ≡ text.old.items ++ point_text point.now) }
 {
     push_length(text, point.x)?;
     push_length(text, point.y)?;
@@ -75,18 +75,18 @@ fn push_half<A: Allocator + Copy + Drop>(
     }
 }
 
-/// Appends a number with words before and behind it.
+/// Appends a number with words before and after it.
 fn push_between<A: Allocator + Copy + Drop>(
     text: &mut Vec<u8, A>,
     before: &[u8],
     number: u64,
-    behind: &[u8],
+    after: &[u8],
 ) -> Result<(), AllocError>
-    ensures { OnOk result (text.new.items ≡ text.old.items ++ between before.now number behind.now) }
+    ensures { OnOk result (text.new.items ≡ text.old.items ++ between before.now number after.now) }
 {
     text.extend_from_slice(before)?;
     print_whole(text, number)?;
-    text.extend_from_slice(behind)
+    text.extend_from_slice(after)
 }
 
 /// Appends the number of entries and the place.
@@ -101,14 +101,14 @@ fn push_counts<A: Allocator + Copy + Drop>(
 }
 
 /// Appends where the machine stands, and whether that is known.
-fn push_standing<A: Allocator + Copy + Drop>(
+fn push_machine<A: Allocator + Copy + Drop>(
     text: &mut Vec<u8, A>,
     status: &Status,
 ) -> Result<(), AllocError>
-    ensures { OnOk result (text.new.items ≡ text.old.items ++ standing_text status.now) }
+    ensures { OnOk result (text.new.items ≡ text.old.items ++ machine_text status.now) }
 {
-    push_place(text, &status.point)?;
-    text.extend_from_slice(known_text(status.place_known))?;
+    push_point(text, &status.point)?;
+    text.extend_from_slice(known_text(status.point_known))?;
     text.extend_from_slice(b" half ")
 }
 
@@ -120,7 +120,7 @@ fn push_status<A: Allocator + Copy + Drop>(
     ensures { OnOk result (text.new.items ≡ text.old.items ++ status_line status.now) }
 {
     push_counts(text, status)?;
-    push_standing(text, status)?;
+    push_machine(text, status)?;
     push_half(text, status.half)?;
     text.extend_from_slice(condition_text(status.condition))
 }
@@ -183,7 +183,7 @@ pub fn push_tick<A: Allocator + Copy + Drop>(
     }
 }
 
-/// Appends the line behind a command of ticks: how many were made. Source: own.
+/// Appends the line after a command of ticks: how many were made. Source: own.
 pub fn push_ticks<A: Allocator + Copy + Drop>(
     text: &mut Vec<u8, A>,
     count: u32,
@@ -195,9 +195,9 @@ pub fn push_ticks<A: Allocator + Copy + Drop>(
     text.extend_from_slice(b"\n")
 }
 
-/// Whether a command of ticks goes on behind this reply: not behind Idle, Held, Stopped or a refusal. Source: own.
-pub fn goes_on(reply: &Reply) -> bool
-    ensures { result ≡ goes_on reply.now }
+/// Whether a command of ticks goes on after this reply: not after Idle, Held, Stopped or a refusal. Source: own.
+pub fn continues_ticks(reply: &Reply) -> bool
+    ensures { result ≡ continues_ticks reply.now }
 {
     match reply {
         Reply::Idle | Reply::Held | Reply::Stopped | Reply::Refused(_) => false,

@@ -8,8 +8,8 @@ pub(crate) fn is(line: &[u8], word: &[u8]) -> bool
     line == word
 }
 
-/// The bytes behind this word, where the line begins with it.
-pub(crate) fn behind<'a>(line: &'a [u8], word: &[u8]) -> Option<&'a [u8]>
+/// The bytes after this word, where the line begins with it.
+pub(crate) fn strip_prefix<'a>(line: &'a [u8], word: &[u8]) -> Option<&'a [u8]>
     ensures { MatchOption result ((rest : List ℕ) → line.now ≢ word.now ++ rest) (λ rest. line.now ≡ word.now ++ rest.now) }
 {
     line.strip_prefix(word)

@@ -17,7 +17,7 @@ use Rattle.clap.specs.Matches.{subcommand_name_of}
 use Rattle.clap.specs.declared.parser.matches.ArgMatches.{ArgMatches}
 use Rattle.clap.specs.declared.parser.matches.ArgMatches.TheViews.{out-ArgMatches, out-SubCommand}
 use Rattle.clap.specs.declared.parser.matches.SubCommand.{SubCommand}
-use Rattle.ng_console.specs.Words.{Asks, HasFiles, HasFlag, HasFlags, ngc_app, subcommand_name}
+use Rattle.ng_console.specs.Words.{RequestsJob, HasFiles, HasFlag, HasFlags, ngc_app, subcommand_name}
 use Rattle.ng_console.specs.declared.command_line.Job.{Job}
 use Rattle.ng_console.specs.declared.command_line.Job.TheVariants.{Dry, Format, Run}
 use Rattle.ng_console.proofs.Entered.{IsNotHelp, enters_no_help}
@@ -231,7 +231,7 @@ found_of s words app matches found is_ngc kinds has below named = go (one_met wo
         subst (λ t. IsNamed t (subcommand_of ngc_app words) found) same (subst (IsNamed other (subcommand_of ngc_app words)) these names)
 
 pub is_asked : (words : List Text) (job : Job) (found : List Row) → subcommand_of ngc_app words ≡ Some (subcommand_name job, found)
-    → HasFiles found job → HasFlags found job → Asks words job
+    → HasFiles found job → HasFlags found job → RequestsJob words job
 is_asked words (Dry file settings_file block_delete) found named files flags = (found, named, files, flags)
 is_asked words (Format device) found named files flags = (found, named, files, flags)
 is_asked words (Run device settings out) found named files flags = (found, named, files, flags)

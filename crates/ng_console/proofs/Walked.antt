@@ -84,7 +84,7 @@ placed_at : (place : Option ℕ) (i : ℕ) → option_map_or (λ k. k == i) plac
 placed_at None i h = cc
 placed_at (Some k) i h = refl
 
--- ---- a flag has a row behind the defaults
+-- ---- a flag has a row after the defaults
 
 set_has : (id : Text) (how : Reading) (source : ValueSource) (values : List Text) (rows : List Row) → has_row id (with_values id how source values rows) ≡ true
 set_has id how source values [] = ap (λ b. b || false) ((bytes_eq-Decides id id).1 refl)

@@ -2,13 +2,13 @@
 use Rattle.std.specs.Prelude.{ℕ, ◌≡◌, ◌⊎◌, ◌/◌, List, [], Option, Some, None, Result, Ok, Err, IfSome, length}
 use Rattle.std.specs.declared.io.Error.{Error}
 use Rattle.std.specs.declared.alloc.Global.{Global}
-use Rattle.ng_rig.specs.Life.{Began}
+use Rattle.ng_rig.specs.Trace.{Began}
 use Rattle.ng_settings.specs.declared.standard.Settings.{Settings}
 use Rattle.ng_file.specs.FileRig.{failure_count, outlet, sector_count, storage}
 use Rattle.ng_file.specs.declared.device.NoDevice.{NoDevice}
 use Rattle.ng_file.specs.declared.opened.OpenedFile.{OpenedFile}
 use Rattle.ng_file.specs.declared.rig.FileRig.{FileRig}
-use Rattle.ng_run.specs.Consoles.{Consoles}
+use Rattle.ng_run.specs.Consoles.{ConsoleSpec}
 use Rattle.ng_console.specs.Chosen.{GivesChoice}
 use Rattle.ng_console.specs.Refusals.{IsSilent, RefusesDevice, RefusesSettings, RefusesStorage}
 use Rattle.ng_console.specs.declared.settings_file.NoSettings.{NoSettings}
@@ -24,7 +24,7 @@ pub record IsOver {S O A : Type 0} (content : S → Option (List ℕ)) (device :
 abbrev pub OperatesDevice : {S O : Type 0} → (S → Option (List ℕ)) → Settings → S → O → Option (List ℕ) → Option (List ℕ) → Option (List ℕ) → ℕ → Type 0
 OperatesDevice {S} {O} content settings device out text old new status =
     ((rig : FileRig S O Global) × (left : FileRig S O Global) × IsOver content device out rig
-    × Consoles Global sector_count failure_count (λ rig. ⊥) (λ rig. Began (λ sector. [])) settings rig text old new (status, left))
+    × ConsoleSpec Global sector_count failure_count (λ rig. ⊥) (λ rig. Began (λ sector. [])) settings rig text old new (status, left))
     ⊎ ((error : Error) × RefusesStorage error old new status)
 
 -- the same of a file as it was opened

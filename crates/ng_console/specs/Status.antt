@@ -1,12 +1,13 @@
 -- How `ngc` ends (own): 0 done, 1 a refused program of a dry run, 2 anything that kept it from its work. Faults of status 2 are
--- looked for in the order words, settings file, other files, the run.
+-- looked for in the order words, one file given twice, settings file, other files, the run.
 use Rattle.std.specs.Prelude.{ℕ, ◌≡◌, Bool, List, Option, Result, Ok, Err, IfSome, is_some}
 use Rattle.std.specs.declared.io.Error.{Error}
 use Rattle.ng_settings.specs.declared.standard.Settings.{Settings}
-use Rattle.ng_block.specs.Dry.{Terms, Output, Finishes, output_of}
-use Rattle.ng_block.specs.declared.ending.Ended.{Ended}
-use Rattle.ng_block.specs.declared.ending.Ended.TheVariants as ended
-use Rattle.ng_block.specs.declared.ending.DryFault.{DryFault}
+use Rattle.ng_block.specs.Program.{TermsModel}
+use Rattle.ng_dry.specs.Dry.{Output, DryRunSpec, output_of}
+use Rattle.ng_dry.specs.declared.ending.Ended.{Ended}
+use Rattle.ng_dry.specs.declared.ending.Ended.TheVariants as ended
+use Rattle.ng_dry.specs.declared.ending.DryFault.{DryFault}
 use Rattle.ng_file.specs.declared.device.NoDevice.{NoDevice}
 use Rattle.ng_file.specs.declared.opened.OpenedFile.{OpenedFile}
 use Rattle.ng_console.specs.Chosen.{GivesChoice}
@@ -23,13 +24,13 @@ status_of (Ok (ended.Refused number fault)) = 1
 status_of (Err fault) = 2
 
 -- a run with the machine and the tools of settings; lines that begin with a slash are deleted where it is asked
-abbrev pub terms_of : Bool → Settings → Terms
+abbrev pub terms_of : Bool → Settings → TermsModel
 terms_of block_delete settings = record { block_delete = block_delete; tools = settings.tools; geometry = settings.geometry }
 
 -- the status is that of a run which wrote what it had to
 abbrev pub Reports : Option (List ℕ) → Option (List ℕ) → Output → ℕ → Type 0
 Reports old new output status =
-    (ended : Result Ended DryFault) × (status ≡ status_of ended) × Finishes old new output ended
+    (ended : Result Ended DryFault) × (status ≡ status_of ended) × DryRunSpec old new output ended
 
 -- a dry run with settings, of the bytes that a reader gives, where they are known
 abbrev pub IsDryRun : Settings → Bool → Option (List ℕ) → Option (List ℕ) → Option (List ℕ) → ℕ → Type 0
@@ -48,9 +49,9 @@ module _ {F : Type 0} (bytes_of : F → Option (List ℕ)) where
   RunsChosen (Err why) block_delete program old new status = RefusesSettings why old new status
 
   -- what the job asks for, of files that were opened or not, and of the text of an operator
-  abbrev pub Does : Job → Option (List ℕ) → Option (List ℕ) → Option (List ℕ) → ℕ → Type 0
-  Does (Dry program settings block_delete) text old new status =
+  abbrev pub JobSpec : Job → Option (List ℕ) → Option (List ℕ) → Option (List ℕ) → ℕ → Type 0
+  JobSpec (Dry program settings block_delete) text old new status =
       (settings_file : Option (Result F Error)) × (program_file : Result F Error) × (is_some settings_file ≡ is_some settings)
       × ((chosen : Result Settings NoSettings) × GivesChoice bytes_of settings_file chosen × RunsChosen chosen block_delete program_file old new status)
-  Does (Format device) text old new status = (opened : Result (OpenedFile F) NoDevice) × FormatsOpened opened old new status
-  Does (Run device settings out) text old new status = Operates bytes_of text old new status
+  JobSpec (Format device) text old new status = (opened : Result (OpenedFile F) NoDevice) × FormatsOpened opened old new status
+  JobSpec (Run device settings out) text old new status = Operates bytes_of text old new status

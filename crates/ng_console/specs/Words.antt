@@ -78,5 +78,5 @@ HasFlags rows (Format device) = Unit {0}
 HasFlags rows (Run device settings out) = Unit {0}
 
 -- the job is what clap's definition makes of the words: the subcommand that they name, its files and its flags
-abbrev pub Asks : List Text → Job → Type 0
-Asks words job = (rows : List Row) × (subcommand_of ngc_app words ≡ Some (subcommand_name job, rows)) × HasFiles rows job × HasFlags rows job
+abbrev pub RequestsJob : List Text → Job → Type 0
+RequestsJob words job = (rows : List Row) × (subcommand_of ngc_app words ≡ Some (subcommand_name job, rows)) × HasFiles rows job × HasFlags rows job

@@ -1,7 +1,7 @@
 //! The words of the command line, read with clap.
 ghost use Rattle.std.specs.Prelude.{◌≡◌, IfOk, IfErr, true, is_some, map, codes};
 ghost use Rattle.clap.specs.Words.{app_of, first_of, found_of, kind_of, rows_of, takes};
-ghost use Rattle.ng_console.specs.Words.{Asks, HasFiles, HasFlag, HasFlags, dry_app, format_app, ngc_app, run_app, subcommand_name};
+ghost use Rattle.ng_console.specs.Words.{RequestsJob, HasFiles, HasFlag, HasFlags, dry_app, format_app, ngc_app, run_app, subcommand_name};
 
 use clap::error::ErrorKind;
 use clap::{Arg, ArgAction, ArgMatches, Command, Error};
@@ -59,7 +59,7 @@ pub enum Job<'a> {
 /// An error's text says what is wrong with the words, or is the help that they ask for. Where the words are a
 /// command line of `ngc`, the only error is `ErrorKind::OutOfMemory`. Source: own.
 pub fn words<'a>(alloc: Global, words: &'a [&'a str]) -> Result<Job<'a>, Error>
-    ensures job { IfOk result (Asks (map (λ s. s.now) words.entry.now)) }
+    ensures job { IfOk result (RequestsJob (map (λ s. s.now) words.entry.now)) }
     ensures taken { IfErr result (λ e. takes ngc_app (map (λ s. s.now) words.entry.now) ≡ true → kind_of e ≡ ErrorKind.OutOfMemory) }
 {
     let matches = command(alloc)?.try_get_matches_from(words)?;

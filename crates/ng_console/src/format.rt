@@ -84,7 +84,7 @@ fn fault_of(error: &io::Error) -> Fault
 /// error is that of the writer.
 pub fn format_rig<R: Rig, W: Write>(rig: &mut R, writer: &mut W) -> io::Result<u8>
     ensures range { IfOk result (λ status. status ≤ 2) }
-    ensures run { IfOk result (FormatsRig R.sectors R.failed R.honest R.life rig.old rig.new (W.contents writer.old) (W.contents writer.new)) }
+    ensures run { IfOk result (FormatsRig R.sectors R.failed R.honest R.trace rig.old rig.new (W.contents writer.old) (W.contents writer.new)) }
 {
     match format(rig) {
         Ok(()) => Ok(DONE),

@@ -5,7 +5,7 @@
 //! the line that says why not (`format_rig`); and of `run` that it is the console's conversation over the device in a file, or the
 //! line that says why there is none (`ngc`, for any job).
 //!
-//! Each job is done by a crate below: `ng_block` reads a program and writes its text, `ng_journal` formats a device, and `ng_run`
+//! Each job is done by a crate below: `ng_dry` reads a program and writes its text, `ng_journal` formats a device, and `ng_run`
 //! talks to an operator. `clap` reads the words and `ng_settings` the settings; `ng_file` opens devices and makes a `Rig` (`ng_rig`)
 //! of a file; `ng_num` has the faults. The crate leaves out what a file holds and what the system does with the bytes that are
 //! written.

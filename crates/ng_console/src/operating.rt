@@ -7,7 +7,7 @@ ghost use Rattle.ng_console.specs.Operating.{OperatesChosen, OperatesDevice, Ope
 use crate::format::{refuse_device, refuse_storage};
 use crate::program::{FAILED, refuse_settings};
 use crate::settings_file::NoSettings;
-use ng_file::{FileRig, Hold, Storage, open_device};
+use ng_file::{FileRig, Hold, Storage, is_same_file, open_device};
 use ng_run::console;
 use ng_settings::Settings;
 use std::alloc::Global;
@@ -35,6 +35,14 @@ where
         Ok(settings) => operate_files(rt, settings, device, out, reader, writer),
         Err(why) => refuse_settings(writer, why),
     }
+}
+
+/// Whether a device, the file of its settings and the file to which is handed out are three. Else pulses would be appended to the device or
+/// to the settings, or a device's sectors be written over them.
+pub(crate) fn are_three_files<R: Files>(rt: &R, device: &str, settings: &str, out: &str) -> bool {
+    !is_same_file(rt, device, settings)
+        && !is_same_file(rt, device, out)
+        && !is_same_file(rt, settings, out)
 }
 
 /// Opens the device, then the file to which is handed out, and operates the machine. Where there is no device the other file isn't

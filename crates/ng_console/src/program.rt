@@ -1,15 +1,15 @@
 //! The program: from its words to its exit status.
 ghost use Rattle.std.specs.Prelude.{ℕ, ◌≡◌, ◌⊎◌, ◌≤◌, List, IfOk, OnOk, map};
 ghost use Rattle.std.specs.Io.KnownBytes.{Appends};
-ghost use Rattle.ng_console.specs.Status.{Does, IsDryRun, RunsChosen, RunsFile, status_of};
+ghost use Rattle.ng_console.specs.Status.{JobSpec, IsDryRun, RunsChosen, RunsFile, status_of};
 ghost use Rattle.ng_console.specs.Refusals.{RefusesSettings, refused_text};
-ghost use Rattle.ng_console.specs.Words.{Asks};
+ghost use Rattle.ng_console.specs.Words.{RequestsJob};
 
 use crate::command_line::{Job, words};
 use crate::format::format_opened;
-use crate::operating::operate_chosen;
+use crate::operating::{are_three_files, operate_chosen};
 use crate::settings_file::{NoSettings, chosen_settings};
-use ng_block::{DryFault, Ended, dry};
+use ng_dry::{DryFault, Ended, dry};
 use ng_file::{Hold, make_device};
 use ng_num::Fault;
 use ng_settings::Settings;
@@ -27,7 +27,7 @@ const REFUSED: u8 = 1;
 /// The words, a file, the settings, the device, the reader, the writer or memory kept the program from its work.
 pub(crate) const FAILED: u8 = 2;
 
-/// Does what the words that the process was started with ask for, and gives the exit status.
+/// JobSpec what the words that the process was started with ask for, and gives the exit status.
 ///
 /// Words that are not text, and memory wanting for them, print nothing and give 2; for the rest see `ngc`.
 pub fn start<R: Env + Files + AllocGlobal, I: Read, W: Write>(
@@ -38,7 +38,7 @@ pub fn start<R: Env + Files + AllocGlobal, I: Read, W: Write>(
 where
     R::File: Hold,
     ensures status { result ≤ 2 }
-    ensures run { (result ≡ 2) ⊎ ((texts : List (List ℕ)) × ((job : Job) × Asks texts job × Does R.File.remaining job (I.remaining reader.old) (W.contents writer.old) (W.contents writer.new) result)) }
+    ensures run { (result ≡ 2) ⊎ ((texts : List (List ℕ)) × ((job : Job) × RequestsJob texts job × JobSpec R.File.remaining job (I.remaining reader.old) (W.contents writer.old) (W.contents writer.new) result)) }
 {
     let Ok(given) = given_words(rt) else {
         return FAILED;
@@ -58,14 +58,15 @@ fn given_words<R: Env + AllocGlobal>(rt: &R) -> io::Result<Vec<String>> {
     Ok(env::args(rt)?.collect(rt.alloc())?)
 }
 
-/// Does what a line of words asks for, writes what that prints, and gives the exit status. The reader is an operator's, whom
+/// JobSpec what a line of words asks for, writes what that prints, and gives the exit status. The reader is an operator's, whom
 /// `run` alone hears.
 ///
 /// 0: the program ran to its end, the device is fresh, or all that the operator asked is answered. 1: the program of a dry run is
 /// refused, and the last line written says where and why. 2, for the first of these that holds: the words ask for nothing that
-/// `ngc` does, or for help, and clap's text is written; the settings file can't be opened or read, and nothing is written, or it
-/// is refused, and one line with its fault is written; another file can't be opened or read, and nothing is written, or a device
-/// can't be used, and one line with its fault is written; the device, the reader or the writer fails, or memory is wanting.
+/// `ngc` does, or for help, and clap's text is written; two of the three files of `run` are one, and nothing is written or made;
+/// the settings file can't be opened or read, and nothing is written, or it is refused, and one line with its fault is written;
+/// another file can't be opened or read, and nothing is written, or a device can't be used, and one line with its fault is written;
+/// the device, the reader or the writer fails, or memory is wanting.
 /// Source: own.
 pub fn ngc<R: Files + AllocGlobal, I: Read, W: Write>(
     rt: &R,
@@ -76,8 +77,8 @@ pub fn ngc<R: Files + AllocGlobal, I: Read, W: Write>(
 where
     R::File: Hold,
     ensures status { result ≤ 2 }
-    ensures refused { ((job : Job) → Asks (map (λ s. s.now) given.now) job → ⊥) → result ≡ 2 }
-    ensures run { (result ≡ 2) ⊎ ((job : Job) × Asks (map (λ s. s.now) given.now) job × Does R.File.remaining job (I.remaining reader.old) (W.contents writer.old) (W.contents writer.new) result) }
+    ensures refused { ((job : Job) → RequestsJob (map (λ s. s.now) given.now) job → ⊥) → result ≡ 2 }
+    ensures run { (result ≡ 2) ⊎ ((job : Job) × RequestsJob (map (λ s. s.now) given.now) job × JobSpec R.File.remaining job (I.remaining reader.old) (W.contents writer.old) (W.contents writer.new) result) }
 {
     match words(rt.alloc(), given) {
         Ok(job) => carry_out(rt, job, reader, writer),
@@ -89,7 +90,7 @@ where
     }
 }
 
-/// Does a job, and gives the exit status.
+/// JobSpec a job, and gives the exit status.
 fn carry_out<R: Files + AllocGlobal, I: Read, W: Write>(
     rt: &R,
     job: Job<'_>,
@@ -99,7 +100,7 @@ fn carry_out<R: Files + AllocGlobal, I: Read, W: Write>(
 where
     R::File: Hold,
     ensures status { result ≤ 2 }
-    ensures run { (result ≡ 2) ⊎ Does R.File.remaining job.entry (I.remaining reader.old) (W.contents writer.old) (W.contents writer.new) result }
+    ensures run { (result ≡ 2) ⊎ JobSpec R.File.remaining job.entry (I.remaining reader.old) (W.contents writer.old) (W.contents writer.new) result }
 {
     match job {
         Job::Dry {
@@ -124,6 +125,9 @@ where
             settings,
             out,
         } => {
+            if !are_three_files(rt, device, settings, out) {
+                return FAILED;
+            }
             let settings = Some(fs::open(rt, settings));
             let chosen = chosen_settings(rt.alloc(), settings);
             operate_chosen(rt, chosen, device, out, reader, writer).unwrap_or(FAILED)

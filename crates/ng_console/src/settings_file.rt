@@ -1,6 +1,6 @@
 //! The settings that a run is made with.
 ghost use Rattle.std.specs.Prelude.{◌≢◌, IfSome};
-ghost use Rattle.ng_console.specs.Chosen.{Gives, GivesChoice};
+ghost use Rattle.ng_console.specs.Chosen.{GivesSettings, GivesChoice};
 
 use ng_num::Fault;
 use ng_settings::{Settings, settings};
@@ -19,7 +19,7 @@ pub(crate) enum NoSettings {
 
 /// The settings of a text.
 fn settings_in(alloc: Global, text: &[u8]) -> Result<Settings, NoSettings>
-    ensures gives { Gives text.now result }
+    ensures gives { GivesSettings text.now result }
     ensures read { result ≢ Err NoSettings.Unread }
 {
     match settings(alloc, text) {
@@ -30,7 +30,7 @@ fn settings_in(alloc: Global, text: &[u8]) -> Result<Settings, NoSettings>
 
 /// The settings of a file.
 fn settings_of<R: Read + Drop>(alloc: Global, mut file: R) -> Result<Settings, NoSettings>
-    ensures { IfSome (R.remaining file) (λ text. Gives text result) }
+    ensures { IfSome (R.remaining file) (λ text. GivesSettings text result) }
 {
     let mut bytes = Vec::new(alloc);
     match file.read_to_end(&mut bytes) {

@@ -6,19 +6,19 @@ use Rattle.std.proofs.lemmas.List.Elements.{Contains-append_left, Contains-appen
 use Rattle.ng_num.specs.declared.fault.Fault.{Fault}
 use Rattle.ng_num.specs.declared.fault.Fault.TheVariants.{DeviceFailed}
 use Rattle.ng_canon.specs.declared.item.Item.{Item}
-use Rattle.ng_rig.specs.Life.{Image, Life, items}
+use Rattle.ng_rig.specs.Trace.{Image, Trace, items}
 use Rattle.ng_block.specs.Effects.{Done}
-use Rattle.ng_layout.specs.Stored.{HalfDone, Saved, Standing}
+use Rattle.ng_layout.specs.Stored.{HalfModel, StoredModel, DurableState}
 use Rattle.ng_layout.specs.declared.half.Source.{Source}
 use Rattle.ng_layout.specs.declared.half.Source.TheVariants as source
 use Rattle.ng_session.specs.Entries.{Equipment, Entry, Block, Loaded, Referenced, Approached, Abandoned}
-use Rattle.ng_session.specs.Fold.{after, IsTextOf, IsBlock, AreLawful}
-use Rattle.ng_session.specs.Session.{Sitting}
-use Rattle.ng_session.specs.Runs.{Scene, Left, resting_scene, leads_to, scene_after, scene_behind, entries_of, left_behind, dones, given_by, lines_given}
-use Rattle.ng_session.specs.Cuts.{Follows, Nothing_open, Approach_open, Segment_open, IsCut}
+use Rattle.ng_session.specs.Fold.{after, IsTextOf, IsBlock, FollowFold}
+use Rattle.ng_session.specs.Session.{SessionModel}
+use Rattle.ng_session.specs.Runs.{ProgramSession, CrashState, session_at_power_on, leads_to, session_of_transition, session_after, entries_of, crash_after, dones, given_by, lines_given}
+use Rattle.ng_session.specs.Cuts.{UncommittedTail, Nothing_open, Approach_open, Segment_open, IsCut}
 use Rattle.ng_session.specs.declared.event.Event.{Event}
 use Rattle.ng_session.specs.declared.reply.Reply.{Reply}
-use Rattle.ng_session.proofs.Cutting.{cuts_behind_events}
+use Rattle.ng_session.proofs.Cutting.{crash_after_events}
 use Rattle.ng_core.specs.Model.{ControllerModel}
 use Rattle.ng_core.specs.Moments.{answered_by}
 use Rattle.ng_core.specs.Runs.{tried_events}
@@ -33,15 +33,15 @@ abbrev AreAmong : List (List ℕ) → List (List ℕ) → Type 0
 AreAmong lines more = (text : List ℕ) → Contains lines text → Contains more text
 
 module _ (equipment : Equipment) (lines more : List (List ℕ)) (among : AreAmong lines more) where
-  more_text : (x : Standing) (half : Option HalfDone) (from : Source) (text : List ℕ) (block_delete : Bool) (done : Done) → IsTextOf lines x half from text block_delete done → IsTextOf more x half from text block_delete done
+  more_text : (x : DurableState) (half : Option HalfModel) (from : Source) (text : List ℕ) (block_delete : Bool) (done : Done) → IsTextOf lines x half from text block_delete done → IsTextOf more x half from text block_delete done
   more_text x None source.Program text block_delete done is = is
   more_text x None source.Mdi text block_delete done is = among text is
   more_text x (Some half) from text block_delete done is = is
 
-  more_block : (x : Standing) (from : Source) (text : List ℕ) (block_delete : Bool) (done : Done) → IsBlock equipment lines x from text block_delete done → IsBlock equipment more x from text block_delete done
+  more_block : (x : DurableState) (from : Source) (text : List ℕ) (block_delete : Bool) (done : Done) → IsBlock equipment lines x from text block_delete done → IsBlock equipment more x from text block_delete done
   more_block x from text block_delete done is = record { does = is.does; text_is = more_text x x.saved.half from text block_delete done is.text_is }
 
-  more_lawful : (x : Standing) (entries : List Entry) → AreLawful equipment lines x entries → AreLawful equipment more x entries
+  more_lawful : (x : DurableState) (entries : List Entry) → FollowFold equipment lines x entries → FollowFold equipment more x entries
   more_lawful x [] are = tt
   more_lawful x (Block from text block_delete ∷ entries) are = ((are.0.0, more_block x from text block_delete are.0.0 are.0.1), more_lawful (after equipment x (Block from text block_delete)) entries are.1)
   more_lawful x (Loaded text ∷ entries) are = (are.0, more_lawful (after equipment x (Loaded text)) entries are.1)
@@ -49,13 +49,13 @@ module _ (equipment : Equipment) (lines more : List (List ℕ)) (among : AreAmon
   more_lawful x (Approached ∷ entries) are = (are.0, more_lawful (after equipment x Approached) entries are.1)
   more_lawful x (Abandoned ∷ entries) are = (are.0, more_lawful (after equipment x Abandoned) entries are.1)
 
-  more_follows : (x : Standing) (saved : Saved) (given : List Item) → Follows equipment lines x saved given → Follows equipment more x saved given
+  more_follows : (x : DurableState) (saved : StoredModel) (given : List Item) → UncommittedTail equipment lines x saved given → UncommittedTail equipment more x saved given
   more_follows x _ _ Nothing_open = Nothing_open
   more_follows x _ _ (Approach_open half approach begun left held way whole) = Approach_open half approach begun left held way whole
   more_follows x _ _ (Segment_open from text block_delete done before segment rest begun left is split whole) =
       Segment_open from text block_delete done before segment rest begun left (more_block x from text block_delete done is) split whole
 
-  more_cut : (x : Standing) (before : List Item) (entries : List Entry) (left : Left) → IsCut equipment lines x before entries left → IsCut equipment more x before entries left
+  more_cut : (x : DurableState) (before : List Item) (entries : List Entry) (left : CrashState) → IsCut equipment lines x before entries left → IsCut equipment more x before entries left
   more_cut x before entries left cut = record {
     lawful = more_lawful x entries cut.lawful;
     program = cut.program;
@@ -109,30 +109,30 @@ begins_tried {A} (suc n) (event ∷ events) (Ok r ∷ answers) =
 begins_tried (suc n) (event ∷ events) (Err DeviceFailed ∷ answers) = ([], refl)
 begins_tried (suc n) (event ∷ events) (Err fault ∷ answers) = begins_tried n events answers
 
-entries_more : {A : Type 0} (equipment : Equipment) (scene : Scene) (some rest : List (Event A)) → entries_of equipment scene (some ++ rest) ≡ entries_of equipment scene some ++ entries_of equipment (scene_behind equipment scene some) rest
+entries_more : {A : Type 0} (equipment : Equipment) (scene : ProgramSession) (some rest : List (Event A)) → entries_of equipment scene (some ++ rest) ≡ entries_of equipment scene some ++ entries_of equipment (session_after equipment scene some) rest
 entries_more equipment scene [] rest = refl
 entries_more equipment scene (event ∷ some) rest =
     let out = leads_to equipment scene event in
-    ap (λ (l : List Entry). out.entries ++ l) (entries_more equipment (scene_after out) some rest)
-    ∙ sym (append_assoc out.entries (entries_of equipment (scene_after out) some) (entries_of equipment (scene_behind equipment (scene_after out) some) rest))
+    ap (λ (l : List Entry). out.entries ++ l) (entries_more equipment (session_of_transition out) some rest)
+    ∙ sym (append_assoc out.entries (entries_of equipment (session_of_transition out) some) (entries_of equipment (session_after equipment (session_of_transition out) some) rest))
 
-begins_executed : {A : Type 0} (equipment : Equipment) (scene : Scene) (all some : List (Event A)) → Begins all some → Begins (entries_of equipment scene all) (entries_of equipment scene some)
+begins_executed : {A : Type 0} (equipment : Equipment) (scene : ProgramSession) (all some : List (Event A)) → Begins all some → Begins (entries_of equipment scene all) (entries_of equipment scene some)
 begins_executed {A} equipment scene all some p =
-    (entries_of equipment (scene_behind equipment scene some) p.0, ap (λ (l : List (Event A)). entries_of equipment scene l) p.1 ∙ entries_more equipment scene some p.0)
+    (entries_of equipment (session_after equipment scene some) p.0, ap (λ (l : List (Event A)). entries_of equipment scene l) p.1 ∙ entries_more equipment scene some p.0)
 
 -- ---- a stop
 
-accounted : {A : Type 0} (equipment : Equipment) (x : Standing) (given : List Item) (events : List (Event A)) (answers : List (Result Reply Fault)) (replies : List Reply) (n : ℕ) (image : Image) (handed : List Item)
-    → IsLeftBy equipment (resting_scene x) given events answers replies n image handed
-    → IsAccounted equipment (lines_given (take (suc n) events)) x given (entries_of equipment (resting_scene x) (tried_events events answers)) (dones (take n replies)) image handed
+accounted : {A : Type 0} (equipment : Equipment) (x : DurableState) (given : List Item) (events : List (Event A)) (answers : List (Result Reply Fault)) (replies : List Reply) (n : ℕ) (image : Image) (handed : List Item)
+    → IsLeftBy equipment (session_at_power_on x) given events answers replies n image handed
+    → IsAccounted equipment (lines_given (take (suc n) events)) x given (entries_of equipment (session_at_power_on x) (tried_events events answers)) (dones (take n replies)) image handed
 accounted {A} equipment x given events answers replies n image handed p =
-    let scene = resting_scene x in
+    let scene = session_at_power_on x in
     let begun = tried_events (take (suc n) events) answers in
     let some = take p.after.count begun in
     let entries = entries_of equipment scene some in
     let executed = entries_of equipment scene (tried_events events answers) in
-    let cut = cuts_behind_events A equipment x given some in
-    let left = left_behind equipment scene given some in
+    let cut = crash_after_events A equipment x given some in
+    let left = crash_after equipment scene given some in
     let first = begins_executed equipment scene (tried_events events answers) some (begins_on (tried_events events answers) begun some (begins_tried (suc n) events answers) (begins_taken p.after.count begun)) in
     let same : take (length entries) executed ≡ entries = ap (λ (l : List Entry). take (length entries) l) first.1 ∙ take_begun entries first.0 in
     let long : length executed ≡ length (entries ++ first.0) = ap (λ (l : List Entry). length l) first.1 in
@@ -148,18 +148,18 @@ accounted {A} equipment x given events answers replies n image handed p =
       stands_for = p.after.stands_for;
     }
 
-from_rest : {A R : Type 0} (life : R → Life) (x : Standing) (events : List (Event A)) (replies : List Reply) (first now : ControllerModel R)
-    → Leads life events replies first.equipment (resting_scene x) (life first.journal.rig) now → Accounts life x events replies first now
-from_rest life x events replies first now p = record {
-  passes = passed life events replies first.equipment (resting_scene x) (life first.journal.rig) now p;
-  stops = weaker_said (life first.journal.rig) (life now.journal.rig) _ _ p.stops
-      (λ t image handed from l. accounted first.equipment x (items (life first.journal.rig)) events p.answers replies (answered_by t p.moments) image handed l);
+from_rest : {A R : Type 0} (trace : R → Trace) (x : DurableState) (events : List (Event A)) (replies : List Reply) (first now : ControllerModel R)
+    → Leads trace events replies first.equipment (session_at_power_on x) (trace first.journal.rig) now → Accounts trace x events replies first now
+from_rest trace x events replies first now p = record {
+  passes = passed trace events replies first.equipment (session_at_power_on x) (trace first.journal.rig) now p;
+  stops = weaker_said (trace first.journal.rig) (trace now.journal.rig) _ _ p.stops
+      (λ t image handed from l. accounted first.equipment x (items (trace first.journal.rig)) events p.answers replies (answered_by t p.moments) image handed l);
 }
 
-pub accounts : {A R : Type 0} (honest : R → Type 0) (life : R → Life) (failed sectors : R → ℕ) (x : Standing) (events : List (Event A)) (replies : List Reply) (first now : ControllerModel R)
-    → honest first.journal.rig → IsPast honest life failed sectors x events replies first now → Accounts life x events replies first now
-accounts honest life failed sectors x events replies first now h p =
-    let history = (turns_history honest life failed sectors events replies first now p.turns).holds h x.program (λ _. p.began.rests) in
-    from_rest life x events replies first now
-    (subst (λ (s : Sitting). Leads life events replies first.equipment (record { program = x.program; session = s }) (life first.journal.rig) now) p.began.session
-    (leads life events replies x.program first now history p.began.whole p.began.rests))
+pub accounts : {A R : Type 0} (honest : R → Type 0) (trace : R → Trace) (failed sectors : R → ℕ) (x : DurableState) (events : List (Event A)) (replies : List Reply) (first now : ControllerModel R)
+    → honest first.journal.rig → IsPast honest trace failed sectors x events replies first now → Accounts trace x events replies first now
+accounts honest trace failed sectors x events replies first now h p =
+    let history = (turns_history honest trace failed sectors events replies first now p.turns).holds h x.program (λ _. p.began.rests) in
+    from_rest trace x events replies first now
+    (subst (λ (s : SessionModel). Leads trace events replies first.equipment (record { program = x.program; session = s }) (trace first.journal.rig) now) p.began.session
+    (leads trace events replies x.program first now history p.began.whole p.began.rests))

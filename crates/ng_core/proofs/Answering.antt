@@ -3,64 +3,64 @@ use Rattle.std.proofs.Common.{◌≡◌, ◌⊎◌, ◌↔◌, inl, inr, ℕ, �
 use Rattle.std.specs.Prelude.{IsErrOf}
 use Rattle.ng_num.specs.declared.fault.Fault.{Fault}
 use Rattle.ng_num.specs.declared.fault.Fault.TheVariants.{DeviceFailed, CountersUsed, ProgramTooLong}
-use Rattle.ng_rig.specs.Life.{Life}
-use Rattle.ng_rig.specs.Calls.{Promises}
+use Rattle.ng_rig.specs.Trace.{Trace}
+use Rattle.ng_rig.specs.Calls.{IfHonest}
 use Rattle.ng_rig.proofs.Promise.{meaning}
-use Rattle.ng_layout.specs.Stored.{Saved, Standing}
-use Rattle.ng_journal.specs.Journal.{Logbook, RestsAt, Moves}
+use Rattle.ng_layout.specs.Stored.{StoredModel, DurableState}
+use Rattle.ng_journal.specs.Journal.{JournalModel, IsDurablyAt, CommitSpec}
 use Rattle.ng_session.specs.Entries.{after_load}
-use Rattle.ng_session.specs.LinesBefore.{IsTrueOf}
+use Rattle.ng_text.specs.LinesBefore.{IsTrueOf}
 use Rattle.ng_session.specs.Session.{load, load_unless, load_refusal, loaded, step, IsQuiet}
 use Rattle.ng_session.specs.declared.event.Event.{Event}
 use Rattle.ng_session.specs.declared.reply.Reply.{Reply}
 use Rattle.ng_session.specs.declared.reply.Reply.TheVariants as reply
-use Rattle.ng_core.specs.Model.{ControllerModel, standing_of_session}
+use Rattle.ng_core.specs.Model.{ControllerModel, durable_state_of}
 use Rattle.ng_core.specs.Events.{IsCarriedOutIfHonest, TouchesNothing}
 use Rattle.ng_core.proofs.Quiet.{still_step}
 use Rattle.ng_core.proofs.Doing.{does_still, does_moved, does_unmoved, Storing}
 use Rattle.ng_core.proofs.Ticks.{does_on}
 
-pub does_answer : {A R : Type 0} (honest : R → Type 0) (life : R → Life) (event : Event A) (r : Reply) (old new : ControllerModel R)
+pub does_answer : {A R : Type 0} (honest : R → Type 0) (trace : R → Trace) (event : Event A) (r : Reply) (old new : ControllerModel R)
     → IsQuiet event → new.journal ≡ old.journal → new.lines ≡ old.lines
     → ((program : List ℕ) → r ≡ (step old.equipment program old.session event).reply) → ((program : List ℕ) → new.session ≡ (step old.equipment program old.session event).next)
-    → IsCarriedOutIfHonest honest life (Ok r) (λ program. step old.equipment program old.session event) old new
-does_answer honest life event r old new quiet same lines replied next =
-    does_still honest life r (λ program. step old.equipment program old.session event) old new (λ program. still_step old.equipment program old.session event quiet) same lines replied next
+    → IsCarriedOutIfHonest honest trace (Ok r) (λ program. step old.equipment program old.session event) old new
+does_answer honest trace event r old new quiet same lines replied next =
+    does_still honest trace r (λ program. step old.equipment program old.session event) old new (λ program. still_step old.equipment program old.session event quiet) same lines replied next
 
 -- ---- a program
 
 -- what `load_program` promises
-abbrev pub StoresProgram : {R T : Type 0} → (R → Type 0) → (R → Life) → Result T Fault → Saved → List ℕ → Logbook R → Logbook R → Type 0
-StoresProgram honest life result saved text old new =
-    Promises (honest old.rig) (honest new.rig) ((before : Standing) → RestsAt (life old.rig) old before
-    → Moves result new before (record { saved = saved; program = text }) (life old.rig) (life new.rig))
+abbrev pub StoresProgram : {R T : Type 0} → (R → Type 0) → (R → Trace) → Result T Fault → StoredModel → List ℕ → JournalModel R → JournalModel R → Type 0
+StoresProgram honest trace result saved text old new =
+    IfHonest (honest old.rig) (honest new.rig) ((before : DurableState) → IsDurablyAt (trace old.rig) old before
+    → CommitSpec result new before (record { saved = saved; program = text }) (trace old.rig) (trace new.rig))
 
-storing_program : {R T : Type 0} (honest : R → Type 0) (life : R → Life) (result : Result T Fault) (saved : Saved) (text : List ℕ) (old : ControllerModel R) (journal : Logbook R)
-    → saved ≡ after_load old.session.stored (length text) → StoresProgram honest life result saved text old.journal journal
-    → Storing honest life result (λ program. load_unless program old.session text None) old journal
-storing_program honest life result saved text old journal is p =
+storing_program : {R T : Type 0} (honest : R → Type 0) (trace : R → Trace) (result : Result T Fault) (saved : StoredModel) (text : List ℕ) (old : ControllerModel R) (journal : JournalModel R)
+    → saved ≡ after_load old.session.stored (length text) → StoresProgram honest trace result saved text old.journal journal
+    → Storing honest trace result (λ program. load_unless program old.session text None) old journal
+storing_program honest trace result saved text old journal is p =
     meaning p (λ f program rests.
-    subst (λ (x : Saved). Moves result journal (standing_of_session program old.session) (record { saved = x; program = text }) (life old.journal.rig) (life journal.rig)) is
-    (f (standing_of_session program old.session) rests.0))
+    subst (λ (x : StoredModel). CommitSpec result journal (durable_state_of program old.session) (record { saved = x; program = text }) (trace old.journal.rig) (trace journal.rig)) is
+    (f (durable_state_of program old.session) rests.0))
 
-pub does_load : {R T : Type 0} (honest : R → Type 0) (life : R → Life) (v : T) (r : Reply) (saved : Saved) (text : List ℕ) (old new : ControllerModel R)
+pub does_load : {R T : Type 0} (honest : R → Type 0) (trace : R → Trace) (v : T) (r : Reply) (saved : StoredModel) (text : List ℕ) (old new : ControllerModel R)
     → load_refusal old.session text ≡ None → saved ≡ after_load old.session.stored (length text) → r ≡ reply.Done saved.entries → new.session ≡ loaded old.session saved
-    → StoresProgram honest life (Ok v) saved text old.journal new.journal → IsTrueOf text new.lines
-    → IsCarriedOutIfHonest honest life (Ok r) (λ program. load program old.session text) old new
-does_load honest life v r saved text old new free is replied next p known =
-    does_on honest life (Ok r) (λ program. load_unless program old.session text None) _ old old new refl (λ program. sym (ap (λ (o : Option Fault). load_unless program old.session text o) free))
-    (does_moved honest life r v (λ program. load_unless program old.session text None) old new (storing_program honest life (Ok v) saved text old new.journal is p) (λ program before. known)
-    (λ program. replied ∙ ap (λ (x : Saved). reply.Done x.entries) is) (λ program. next ∙ ap (λ (x : Saved). loaded old.session x) is) (λ program. refl)
+    → StoresProgram honest trace (Ok v) saved text old.journal new.journal → IsTrueOf text new.lines
+    → IsCarriedOutIfHonest honest trace (Ok r) (λ program. load program old.session text) old new
+does_load honest trace v r saved text old new free is replied next p known =
+    does_on honest trace (Ok r) (λ program. load_unless program old.session text None) _ old old new refl (λ program. sym (ap (λ (o : Option Fault). load_unless program old.session text o) free))
+    (does_moved honest trace r v (λ program. load_unless program old.session text None) old new (storing_program honest trace (Ok v) saved text old new.journal is p) (λ program before. known)
+    (λ program. replied ∙ ap (λ (x : StoredModel). reply.Done x.entries) is) (λ program. next ∙ ap (λ (x : StoredModel). loaded old.session x) is) (λ program. refl)
     (subst (λ (x : Reply). TouchesNothing x → ⊥) (sym replied) (λ z. z)))
 
-pub does_not_load : {R T : Type 0} (honest : R → Type 0) (life : R → Life) (fault e : Fault) (saved : Saved) (text : List ℕ) (old new : ControllerModel R)
+pub does_not_load : {R T : Type 0} (honest : R → Type 0) (trace : R → Trace) (fault e : Fault) (saved : StoredModel) (text : List ℕ) (old new : ControllerModel R)
     → load_refusal old.session text ≡ None → saved ≡ after_load old.session.stored (length text) → new.session ≡ old.session
     → (fault ≡ CountersUsed) ⊎ (fault ≡ DeviceFailed) → (fault ≡ CountersUsed → new.journal ≡ old.journal)
-    → StoresProgram {T = T} honest life (Err e) saved text old.journal new.journal → new.lines ≡ old.lines
-    → IsCarriedOutIfHonest honest life (Err fault) (λ program. load program old.session text) old new
-does_not_load {R} {T} honest life fault e saved text old new free is same which unchanged p lines =
-    does_on honest life (Err fault) (λ program. load_unless program old.session text None) _ old old new refl (λ program. sym (ap (λ (o : Option Fault). load_unless program old.session text o) free))
-    (does_unmoved {T = T} honest life fault e (λ program. load_unless program old.session text None) old new (storing_program {T = T} honest life (Err e) saved text old new.journal is p) which unchanged lines same (λ program. refl))
+    → StoresProgram {T = T} honest trace (Err e) saved text old.journal new.journal → new.lines ≡ old.lines
+    → IsCarriedOutIfHonest honest trace (Err fault) (λ program. load program old.session text) old new
+does_not_load {R} {T} honest trace fault e saved text old new free is same which unchanged p lines =
+    does_on honest trace (Err fault) (λ program. load_unless program old.session text None) _ old old new refl (λ program. sym (ap (λ (o : Option Fault). load_unless program old.session text o) free))
+    (does_unmoved {T = T} honest trace fault e (λ program. load_unless program old.session text None) old new (storing_program {T = T} honest trace (Err e) saved text old new.journal is p) which unchanged lines same (λ program. refl))
 
 -- a program that isn't too long isn't refused as too long
 pub not_too_long : (T : Type 0) (e : Fault) (n : ℕ) → n ≤ 131072 → (e ≡ ProgramTooLong) ⊎ ((e ≡ CountersUsed) ⊎ (e ≡ DeviceFailed))

@@ -4,11 +4,11 @@ use Rattle.std.specs.Prelude.{IfErr}
 use Rattle.ng_num.specs.declared.fault.Fault.{Fault}
 use Rattle.ng_num.specs.declared.fault.Fault.TheVariants.{DeviceFailed, CountersUsed}
 use Rattle.ng_canon.specs.declared.item.Item.{Item}
-use Rattle.ng_layout.specs.Stored.{Saved}
-use Rattle.ng_journal.specs.Journal.{Logbook}
+use Rattle.ng_layout.specs.Stored.{StoredModel}
+use Rattle.ng_journal.specs.Journal.{JournalModel}
 use Rattle.ng_journal.specs.Storing.{ledger_of}
 use Rattle.ng_session.specs.Entries.{after_load}
-use Rattle.ng_session.specs.Session.{Underway, Sitting, Outcome, answers, tick, end, item_of, handed, is_running, rest, committed, load, load_unless, load_refusal, loaded, shown}
+use Rattle.ng_session.specs.Session.{CurrentBlockModel, SessionModel, Transition, answers, tick, end, item_of, handed, is_running, rest, committed, load, load_unless, load_refusal, loaded, session_status}
 use Rattle.ng_session.specs.declared.reply.Reply.{Reply}
 use Rattle.ng_session.specs.declared.reply.Reply.TheVariants as reply
 use Rattle.ng_core.specs.Model.{ControllerModel}
@@ -19,9 +19,9 @@ use Rattle.ng_core.proofs.Ticks.{IsDue, tick_held, tick_item, rests_there}
 -- nothing was asked of the device, or it failed
 pub stays_same : {R : Type 0} (reads : Type 0) (fault : Fault) (old new : ControllerModel R) → new.session ≡ old.session → (fault ≢ DeviceFailed → new.journal ≡ old.journal) → KeepsSession reads fault old new
 stays_same {R} reads fault old new same journal = record {
-  status = ap shown same;
+  status = ap session_status same;
   session = λ other. same;
-  ledger = λ other. ap (λ (j : Logbook R). ledger_of j) (journal other);
+  ledger = λ other. ap (λ (j : JournalModel R). ledger_of j) (journal other);
   journal = λ other none. journal other;
 }
 
@@ -34,16 +34,16 @@ pub unless_lost : {J : Type 0} (fault : Fault) (old new : J) → (fault ≡ Coun
 unless_lost fault old new (inl used) same other = same used
 unless_lost fault old new (inr lost) same other = absurd (other lost)
 
-pub comes_by : {R : Type 0} (reads : Type 0) (r : Reply) (out : List ℕ → Outcome) (old new : ControllerModel R)
+pub comes_by : {R : Type 0} (reads : Type 0) (r : Reply) (out : List ℕ → Transition) (old new : ControllerModel R)
     → ((program : List ℕ) → r ≡ (out program).reply) → ((program : List ℕ) → new.session ≡ (out program).next) → IsAnsweredAnyway reads (Ok r) out old new
 comes_by reads r out old new replied next = λ read program. (replied program, next program)
 
 -- the same of an equal outcome, and where more may be read
-pub comes_to : {R : Type 0} (reads wider : Type 0) (answer : Result Reply Fault) (out wanted : List ℕ → Outcome) (old new : ControllerModel R)
+pub comes_to : {R : Type 0} (reads wider : Type 0) (answer : Result Reply Fault) (out wanted : List ℕ → Transition) (old new : ControllerModel R)
     → (reads → wider) → ((program : List ℕ) → out program ≡ wanted program) → IsAnsweredAnyway reads answer out old new → IsAnsweredAnyway wider answer wanted old new
 comes_to reads wider (Ok r) out wanted old new wide equal comes = λ read program.
     let here = comes (λ p. read (wide p)) program in
-    (here.0 ∙ ap (λ (o : Outcome). o.reply) (equal program), here.1 ∙ ap (λ (o : Outcome). o.next) (equal program))
+    (here.0 ∙ ap (λ (o : Transition). o.reply) (equal program), here.1 ∙ ap (λ (o : Transition). o.next) (equal program))
 comes_to reads wider (Err fault) out wanted old new wide equal stays = stays_wider reads wider fault old new wide stays
 
 -- ---- a Tick: held, an item, a segment, an entry, a line, nothing
@@ -54,12 +54,12 @@ comes_held reads c held =
     (λ program. sym (tick_held c.equipment program c.session held))
     (comes_by reads reply.Held (λ program. answers program reply.Held c.session) c c (λ program. refl) (λ program. refl))
 
-comes_before : {R : Type 0} (answer : Result Reply Fault) (out : List ℕ → Outcome) (old new : ControllerModel R)
+comes_before : {R : Type 0} (answer : Result Reply Fault) (out : List ℕ → Transition) (old new : ControllerModel R)
     → IfErr answer (λ e. e ≡ DeviceFailed) → IsAnsweredAnyway ⊥ answer out (with_session old (handed old.session)) new → IsAnsweredAnyway ⊥ answer out old new
 comes_before (Ok r) out old new errors comes = comes
 comes_before (Err fault) out old new errors stays = record { status = stays.status; session = λ other. absurd (other errors); ledger = stays.ledger; journal = stays.journal }
 
-pub comes_item : {R : Type 0} (reads : Type 0) (answer : Result Reply Fault) (item : Item) (old new : ControllerModel R) (taken : Sitting)
+pub comes_item : {R : Type 0} (reads : Type 0) (answer : Result Reply Fault) (item : Item) (old new : ControllerModel R) (taken : SessionModel)
     → old.session.held ≡ false → Some item ≡ item_of old.session.current → taken ≡ handed old.session → IfErr answer (λ e. e ≡ DeviceFailed)
     → IsAnsweredAnyway ⊥ answer (λ program. handing item program taken) (with_session old taken) new
     → IsAnsweredAnyway reads answer (λ program. tick old.equipment program old.session) old new
@@ -67,14 +67,14 @@ comes_item reads answer item old new taken held is next errors comes =
     comes_to ⊥ reads answer (λ program. handing item program (handed old.session)) (λ program. tick old.equipment program old.session) old new (λ none. absurd none)
     (λ program. sym (tick_item old.equipment program old.session item held (sym is)))
     (comes_before answer (λ program. handing item program (handed old.session)) old new errors
-    (subst (λ (s : Sitting). IsAnsweredAnyway ⊥ answer (λ program. handing item program s) (with_session old s) new) next comes))
+    (subst (λ (s : SessionModel). IsAnsweredAnyway ⊥ answer (λ program. handing item program s) (with_session old s) new) next comes))
 
-pub comes_commit : {R : Type 0} (reads : Type 0) (r : Reply) (saved : Saved) (old new : ControllerModel R) (due : IsDue old.session saved)
+pub comes_commit : {R : Type 0} (reads : Type 0) (r : Reply) (saved : StoredModel) (old new : ControllerModel R) (due : IsDue old.session saved)
     → r ≡ reply.Done (committed old.session due.block).stored.entries → new.session ≡ committed old.session due.block
     → IsAnsweredAnyway reads (Ok r) (λ program. end old.equipment program old.session old.session.current) old new
 comes_commit reads r saved old new due replied next =
     comes_to reads reads (Ok r) (λ program. end old.equipment program old.session (Some due.block)) (λ program. end old.equipment program old.session old.session.current) old new (λ p. p)
-    (λ program. sym (ap (λ (o : Option Underway). end old.equipment program old.session o) due.current))
+    (λ program. sym (ap (λ (o : Option CurrentBlockModel). end old.equipment program old.session o) due.current))
     (comes_by reads r (λ program. end old.equipment program old.session (Some due.block)) old new (λ program. replied) (λ program. next))
 
 pub comes_rest : {R : Type 0} (reads : Type 0) (r : Reply) (c : ControllerModel R) → c.session.current ≡ None → is_running c.session.activity ≡ false
@@ -87,11 +87,11 @@ comes_rest reads r c none idle replied =
 
 -- ---- a program
 
-pub comes_load : {R : Type 0} (reads : Type 0) (r : Reply) (saved : Saved) (text : List ℕ) (old new : ControllerModel R)
+pub comes_load : {R : Type 0} (reads : Type 0) (r : Reply) (saved : StoredModel) (text : List ℕ) (old new : ControllerModel R)
     → load_refusal old.session text ≡ None → saved ≡ after_load old.session.stored (length text) → r ≡ reply.Done saved.entries → new.session ≡ loaded old.session saved
     → IsAnsweredAnyway reads (Ok r) (λ program. load program old.session text) old new
 comes_load reads r saved text old new free is replied next =
     comes_to reads reads (Ok r) (λ program. load_unless program old.session text None) (λ program. load program old.session text) old new (λ p. p)
     (λ program. sym (ap (λ (o : Option Fault). load_unless program old.session text o) free))
     (comes_by reads r (λ program. load_unless program old.session text None) old new
-    (λ program. replied ∙ ap (λ (x : Saved). reply.Done x.entries) is) (λ program. next ∙ ap (λ (x : Saved). loaded old.session x) is))
+    (λ program. replied ∙ ap (λ (x : StoredModel). reply.Done x.entries) is) (λ program. next ∙ ap (λ (x : StoredModel). loaded old.session x) is))

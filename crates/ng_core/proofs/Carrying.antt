@@ -6,15 +6,15 @@ use Rattle.std.specs.Prelude.{IfErr, MatchOption}
 use Rattle.ng_num.specs.declared.fault.Fault.{Fault}
 use Rattle.ng_num.specs.declared.fault.Fault.TheVariants.{DeviceFailed, CountersUsed, OutOfMemory}
 use Rattle.ng_canon.specs.declared.item.Item.{Item}
-use Rattle.ng_rig.specs.Life.{Life}
-use Rattle.ng_journal.specs.Journal.{Logbook, Tells, IsBrokenBy}
+use Rattle.ng_rig.specs.Trace.{Trace}
+use Rattle.ng_journal.specs.Journal.{JournalModel, CountsFailure, IsBrokenBy}
 use Rattle.ng_journal.specs.Storing.{Ledger, ledger_of}
-use Rattle.ng_session.specs.Session.{Underway, Sitting, Outcome, IsBetweenLines, is_busy, is_running, refuses, tick, open_next, item_of, handed, opening_of, shown}
+use Rattle.ng_session.specs.Session.{CurrentBlockModel, SessionModel, Transition, IsBetweenLines, has_work, is_running, refuses, tick, open_next, item_of, handed, opening_of, session_status}
 use Rattle.ng_session.specs.declared.reply.Reply.{Reply}
 use Rattle.ng_session.specs.declared.reply.Reply.TheVariants as reply
 use Rattle.ng_core.specs.Model.{ControllerModel}
 use Rattle.ng_core.specs.Events.{CarriesOut, IsCarriedOutIfHonest, handing}
-use Rattle.ng_core.specs.Causes.{UsesUpCounter, IsHinderedBy}
+use Rattle.ng_core.specs.Causes.{UsesUpCounter, IsCausedBy}
 use Rattle.ng_core.proofs.Anyway.{stays_same, unless_lost, comes_by, comes_to, comes_held, comes_item}
 use Rattle.ng_core.proofs.Choosing.{with_session, does_item}
 use Rattle.ng_core.proofs.Doing.{does_still, does_aside}
@@ -22,24 +22,24 @@ use Rattle.ng_core.proofs.Hindering.{hindered_as, busy_block}
 use Rattle.ng_core.proofs.Quiet.{IsStill, still}
 use Rattle.ng_core.proofs.Ticks.{does_on, does_held, tick_item, tick_none}
 
-module _ {R : Type 0} (honest : R → Type 0) (life : R → Life) (failed sectors : R → ℕ) where
+module _ {R : Type 0} (honest : R → Type 0) (trace : R → Trace) (failed sectors : R → ℕ) where
   -- ---- the same by other words
 
   -- from an equal controller
-  pub carried_as : (memory device reads : ControllerModel R → Type 0) (out : ControllerModel R → List ℕ → Outcome) (answer : Result Reply Fault) (old mid new : ControllerModel R)
-      → mid ≡ old → CarriesOut honest life failed sectors (memory mid) (device mid) (reads mid) (out mid) answer mid new
-      → CarriesOut honest life failed sectors (memory old) (device old) (reads old) (out old) answer old new
+  pub carried_as : (memory device reads : ControllerModel R → Type 0) (out : ControllerModel R → List ℕ → Transition) (answer : Result Reply Fault) (old mid new : ControllerModel R)
+      → mid ≡ old → CarriesOut honest trace failed sectors (memory mid) (device mid) (reads mid) (out mid) answer mid new
+      → CarriesOut honest trace failed sectors (memory old) (device old) (reads old) (out old) answer old new
   carried_as memory device reads out answer old mid new same c =
-      subst (λ (x : ControllerModel R). CarriesOut honest life failed sectors (memory x) (device x) (reads x) (out x) answer x new) same c
+      subst (λ (x : ControllerModel R). CarriesOut honest trace failed sectors (memory x) (device x) (reads x) (out x) answer x new) same c
 
   -- of an equal outcome, and where memory is taken, the device is asked and a line is read in more cases
-  pub carried_to : (memory m device d reads e : Type 0) (out wanted : List ℕ → Outcome) (answer : Result Reply Fault) (old new : ControllerModel R)
+  pub carried_to : (memory m device d reads e : Type 0) (out wanted : List ℕ → Transition) (answer : Result Reply Fault) (old new : ControllerModel R)
       → (memory → m) → (device → d) → (reads → e) → ((program : List ℕ) → out program ≡ wanted program)
-      → CarriesOut honest life failed sectors memory device reads out answer old new → CarriesOut honest life failed sectors m d e wanted answer old new
+      → CarriesOut honest trace failed sectors memory device reads out answer old new → CarriesOut honest trace failed sectors m d e wanted answer old new
   carried_to memory m device d reads e out wanted answer old new f g h equal c = record {
-    does = does_on honest life answer out wanted old old new refl equal c.does;
+    does = does_on honest trace answer out wanted old old new refl equal c.does;
     comes = comes_to reads e answer out wanted old new h equal c.comes;
-    hindered = IfErr-weaker answer (IsHinderedBy memory device (ledger_of old.journal) out) (IsHinderedBy m d (ledger_of old.journal) wanted)
+    hindered = IfErr-weaker answer (IsCausedBy memory device (ledger_of old.journal) out) (IsCausedBy m d (ledger_of old.journal) wanted)
         (hindered_as {m = memory} {n = m} {d = device} {e = d} (ledger_of old.journal) out wanted f g equal) c.hindered;
     broken = c.broken;
     equipment = c.equipment;
@@ -50,52 +50,52 @@ module _ {R : Type 0} (honest : R → Type 0) (life : R → Life) (failed sector
   -- ---- the device isn't asked
 
   -- the session answered
-  pub carried_still : (memory device reads : Type 0) (r : Reply) (out : List ℕ → Outcome) (old new : ControllerModel R)
+  pub carried_still : (memory device reads : Type 0) (r : Reply) (out : List ℕ → Transition) (old new : ControllerModel R)
       → old.journal.broken ≡ false → ((program : List ℕ) → IsStill program old.session.stored (out program))
       → new.journal ≡ old.journal → new.lines ≡ old.lines → new.equipment ≡ old.equipment
       → ((program : List ℕ) → r ≡ (out program).reply) → ((program : List ℕ) → new.session ≡ (out program).next)
-      → CarriesOut honest life failed sectors memory device reads out (Ok r) old new
+      → CarriesOut honest trace failed sectors memory device reads out (Ok r) old new
   carried_still memory device reads r out old new whole quiet same lines equipment replied next = record {
-    does = does_still honest life r out old new quiet same lines replied next;
+    does = does_still honest trace r out old new quiet same lines replied next;
     comes = comes_by reads r out old new replied next;
     hindered = tt;
-    broken = ap (λ (j : Logbook R). j.broken) same ∙ whole;
+    broken = ap (λ (j : JournalModel R). j.broken) same ∙ whole;
     equipment = equipment;
-    size = ap (λ (j : Logbook R). sectors j.rig) same;
-    failures = ap (λ (j : Logbook R). failed j.rig) same;
+    size = ap (λ (j : JournalModel R). sectors j.rig) same;
+    failures = ap (λ (j : JournalModel R). failed j.rig) same;
   }
 
   -- it refused
-  pub carried_refused : (memory device reads : Type 0) (fault : Fault) (out : List ℕ → Outcome) (c : ControllerModel R)
+  pub carried_refused : (memory device reads : Type 0) (fault : Fault) (out : List ℕ → Transition) (c : ControllerModel R)
       → c.journal.broken ≡ false → ((program : List ℕ) → refuses program fault c.session ≡ out program)
-      → CarriesOut honest life failed sectors memory device reads out (Ok (reply.Refused fault)) c c
+      → CarriesOut honest trace failed sectors memory device reads out (Ok (reply.Refused fault)) c c
   carried_refused memory device reads fault out c whole equal =
       carried_to memory memory device device reads reads (λ program. refuses program fault c.session) out (Ok (reply.Refused fault)) c c (λ m. m) (λ d. d) (λ e. e) equal
       (carried_still memory device reads (reply.Refused fault) (λ program. refuses program fault c.session) c c whole (λ program. still refl refl refl) refl refl refl (λ program. refl) (λ program. refl))
 
   -- memory was wanting
-  pub carried_short : (memory device reads : Type 0) (fault : Fault) (out : List ℕ → Outcome) (old new : ControllerModel R)
+  pub carried_short : (memory device reads : Type 0) (fault : Fault) (out : List ℕ → Transition) (old new : ControllerModel R)
       → old.journal.broken ≡ false → fault ≡ OutOfMemory → memory
       → new.journal ≡ old.journal → new.lines ≡ old.lines → new.equipment ≡ old.equipment → new.session ≡ old.session
-      → CarriesOut honest life failed sectors memory device reads out (Err fault) old new
+      → CarriesOut honest trace failed sectors memory device reads out (Err fault) old new
   carried_short memory device reads fault out old new whole is taken same lines equipment kept =
-      let short : CarriesOut honest life failed sectors memory device reads out (Err OutOfMemory) old new = record {
-        does = does_aside honest life OutOfMemory out old new (inl refl) same lines kept;
+      let short : CarriesOut honest trace failed sectors memory device reads out (Err OutOfMemory) old new = record {
+        does = does_aside honest trace OutOfMemory out old new (inl refl) same lines kept;
         comes = stays_same reads OutOfMemory old new kept (λ other. same);
         hindered = inl (refl, taken);
-        broken = ap (λ (j : Logbook R). j.broken) same ∙ whole;
+        broken = ap (λ (j : JournalModel R). j.broken) same ∙ whole;
         equipment = equipment;
-        size = ap (λ (j : Logbook R). sectors j.rig) same;
-        failures = ap (λ (j : Logbook R). failed j.rig) same;
+        size = ap (λ (j : JournalModel R). sectors j.rig) same;
+        failures = ap (λ (j : JournalModel R). failed j.rig) same;
       } in
-      subst (λ (f : Fault). CarriesOut honest life failed sectors memory device reads out (Err f) old new) (sym is) short
+      subst (λ (f : Fault). CarriesOut honest trace failed sectors memory device reads out (Err f) old new) (sym is) short
 
   -- a counter is used up, as was seen before
-  pub carried_used : (memory device reads : Type 0) (out : List ℕ → Outcome) (c : ControllerModel R)
-      → c.journal.broken ≡ false → IsHinderedBy memory device (ledger_of c.journal) out CountersUsed
-      → CarriesOut honest life failed sectors memory device reads out (Err CountersUsed) c c
+  pub carried_used : (memory device reads : Type 0) (out : List ℕ → Transition) (c : ControllerModel R)
+      → c.journal.broken ≡ false → IsCausedBy memory device (ledger_of c.journal) out CountersUsed
+      → CarriesOut honest trace failed sectors memory device reads out (Err CountersUsed) c c
   carried_used memory device reads out c whole hindered = record {
-    does = does_aside honest life CountersUsed out c c (inr refl) refl refl refl;
+    does = does_aside honest trace CountersUsed out c c (inr refl) refl refl refl;
     comes = stays_same reads CountersUsed c c refl (λ other. refl);
     hindered = hindered;
     broken = whole;
@@ -107,13 +107,13 @@ module _ {R : Type 0} (honest : R → Type 0) (life : R → Life) (failed sector
   -- ---- the device is asked
 
   -- for what is stored: a counter is used up, or it failed
-  pub carried_failed : (memory device reads : Type 0) (fault e : Fault) (out : List ℕ → Outcome) (old new : ControllerModel R)
-      → fault ≡ e → IsCarriedOutIfHonest honest life (Err e) out old new → (e ≡ CountersUsed) ⊎ (e ≡ DeviceFailed) → (e ≡ CountersUsed → new.journal ≡ old.journal)
-      → new.equipment ≡ old.equipment → new.session ≡ old.session → IsHinderedBy memory device (ledger_of old.journal) out e
-      → IsBrokenBy {T = Reply} (Err e) new.journal.broken → sectors new.journal.rig ≡ sectors old.journal.rig → Tells {T = Reply} (Err e) (failed old.journal.rig) (failed new.journal.rig)
-      → CarriesOut honest life failed sectors memory device reads out (Err fault) old new
+  pub carried_failed : (memory device reads : Type 0) (fault e : Fault) (out : List ℕ → Transition) (old new : ControllerModel R)
+      → fault ≡ e → IsCarriedOutIfHonest honest trace (Err e) out old new → (e ≡ CountersUsed) ⊎ (e ≡ DeviceFailed) → (e ≡ CountersUsed → new.journal ≡ old.journal)
+      → new.equipment ≡ old.equipment → new.session ≡ old.session → IsCausedBy memory device (ledger_of old.journal) out e
+      → IsBrokenBy {T = Reply} (Err e) new.journal.broken → sectors new.journal.rig ≡ sectors old.journal.rig → CountsFailure {T = Reply} (Err e) (failed old.journal.rig) (failed new.journal.rig)
+      → CarriesOut honest trace failed sectors memory device reads out (Err fault) old new
   carried_failed memory device reads fault e out old new is does which unchanged equipment kept hindered broken size failures =
-      let there : CarriesOut honest life failed sectors memory device reads out (Err e) old new = record {
+      let there : CarriesOut honest trace failed sectors memory device reads out (Err e) old new = record {
         does = does;
         comes = stays_same reads e old new kept (unless_lost e old.journal new.journal which unchanged);
         hindered = hindered;
@@ -122,16 +122,16 @@ module _ {R : Type 0} (honest : R → Type 0) (life : R → Life) (failed sector
         size = size;
         failures = failures;
       } in
-      subst (λ (f : Fault). CarriesOut honest life failed sectors memory device reads out (Err f) old new) (sym is) there
+      subst (λ (f : Fault). CarriesOut honest trace failed sectors memory device reads out (Err f) old new) (sym is) there
 
   -- for what uses up no counter, and it failed
-  pub carried_lost : (memory device reads : Type 0) (fault e : Fault) (out : List ℕ → Outcome) (old new : ControllerModel R)
-      → fault ≡ e → IsCarriedOutIfHonest honest life (Err e) out old new → e ≡ DeviceFailed → device → ((program : List ℕ) → UsesUpCounter (ledger_of old.journal) (out program) → ⊥)
+  pub carried_lost : (memory device reads : Type 0) (fault e : Fault) (out : List ℕ → Transition) (old new : ControllerModel R)
+      → fault ≡ e → IsCarriedOutIfHonest honest trace (Err e) out old new → e ≡ DeviceFailed → device → ((program : List ℕ) → UsesUpCounter (ledger_of old.journal) (out program) → ⊥)
       → new.equipment ≡ old.equipment → new.session ≡ old.session
-      → IsBrokenBy {T = Reply} (Err e) new.journal.broken → sectors new.journal.rig ≡ sectors old.journal.rig → Tells {T = Reply} (Err e) (failed old.journal.rig) (failed new.journal.rig)
-      → CarriesOut honest life failed sectors memory device reads out (Err fault) old new
+      → IsBrokenBy {T = Reply} (Err e) new.journal.broken → sectors new.journal.rig ≡ sectors old.journal.rig → CountsFailure {T = Reply} (Err e) (failed old.journal.rig) (failed new.journal.rig)
+      → CarriesOut honest trace failed sectors memory device reads out (Err fault) old new
   carried_lost memory device reads fault e out old new is does lost asked unused equipment kept broken size failures =
-      let there : CarriesOut honest life failed sectors memory device reads out (Err e) old new = record {
+      let there : CarriesOut honest trace failed sectors memory device reads out (Err e) old new = record {
         does = does;
         comes = stays_same reads e old new kept (λ other. absurd (other lost));
         hindered = inr (inr (lost, asked, unused));
@@ -140,30 +140,30 @@ module _ {R : Type 0} (honest : R → Type 0) (life : R → Life) (failed sector
         size = size;
         failures = failures;
       } in
-      subst (λ (f : Fault). CarriesOut honest life failed sectors memory device reads out (Err f) old new) (sym is) there
+      subst (λ (f : Fault). CarriesOut honest trace failed sectors memory device reads out (Err f) old new) (sym is) there
 
   -- for a line of the program, and then memory was wanting
-  pub carried_read : (memory device reads : Type 0) (fault : Fault) (out : List ℕ → Outcome) (old new : ControllerModel R)
-      → fault ≡ OutOfMemory → memory → IsCarriedOutIfHonest honest life (Err fault) out old new
+  pub carried_read : (memory device reads : Type 0) (fault : Fault) (out : List ℕ → Transition) (old new : ControllerModel R)
+      → fault ≡ OutOfMemory → memory → IsCarriedOutIfHonest honest trace (Err fault) out old new
       → new.equipment ≡ old.equipment → new.session ≡ old.session → ledger_of new.journal ≡ ledger_of old.journal → ((reads → ⊥) → new.journal ≡ old.journal)
       → new.journal.broken ≡ false → sectors new.journal.rig ≡ sectors old.journal.rig → failed new.journal.rig ≡ failed old.journal.rig
-      → CarriesOut honest life failed sectors memory device reads out (Err fault) old new
+      → CarriesOut honest trace failed sectors memory device reads out (Err fault) old new
   carried_read memory device reads fault out old new is taken does equipment kept ledger unread whole size failures = record {
     does = does;
-    comes = record { status = ap shown kept; session = λ other. kept; ledger = λ other. ledger; journal = λ other none. unread none };
+    comes = record { status = ap session_status kept; session = λ other. kept; ledger = λ other. ledger; journal = λ other none. unread none };
     hindered = inl (is, taken);
     broken = subst (λ (f : Fault). IsBrokenBy {T = Reply} (Err f) new.journal.broken) (sym is) whole;
     equipment = equipment;
     size = size;
-    failures = subst (λ (f : Fault). Tells {T = Reply} (Err f) (failed old.journal.rig) (failed new.journal.rig)) (sym is) failures;
+    failures = subst (λ (f : Fault). CountsFailure {T = Reply} (Err f) (failed old.journal.rig) (failed new.journal.rig)) (sym is) failures;
   }
 
   -- ---- a Tick
 
   pub carried_held : (memory device reads : Type 0) (c : ControllerModel R) → c.journal.broken ≡ false → c.session.held ≡ true
-      → CarriesOut honest life failed sectors memory device reads (λ program. tick c.equipment program c.session) (Ok reply.Held) c c
+      → CarriesOut honest trace failed sectors memory device reads (λ program. tick c.equipment program c.session) (Ok reply.Held) c c
   carried_held memory device reads c whole held = record {
-    does = does_held honest life c held;
+    does = does_held honest trace c held;
     comes = comes_held reads c held;
     hindered = tt;
     broken = whole;
@@ -172,34 +172,34 @@ module _ {R : Type 0} (honest : R → Type 0) (life : R → Life) (failed sector
     failures = refl;
   }
 
-  some_item : (o : Option Underway) (item : Item) → Some item ≡ item_of o → is_some o ≡ true
+  some_item : (o : Option CurrentBlockModel) (item : Item) → Some item ≡ item_of o → is_some o ≡ true
   some_item None item is = absurd (let none : Option Item = None in let z : none ≡ Some item = sym is in cc)
   some_item (Some c) item is = refl
 
   -- what is handed out uses up no counter and takes no memory
-  lost_alone : (ledger : Ledger) (item : Item) (s : Sitting) (fault : Fault) → IsHinderedBy ⊥ (Unit {0}) ledger (λ program. handing item program s) fault → fault ≡ DeviceFailed
+  lost_alone : (ledger : Ledger) (item : Item) (s : SessionModel) (fault : Fault) → IsCausedBy ⊥ (Unit {0}) ledger (λ program. handing item program s) fault → fault ≡ DeviceFailed
   lost_alone ledger item s fault (inl short) = absurd short.1
   lost_alone ledger item s fault (inr (inl used)) = absurd (used.1 [])
   lost_alone ledger item s fault (inr (inr lost)) = lost.0
 
-  pub carried_item : (answer : Result Reply Fault) (item : Item) (old new : ControllerModel R) (taken : Sitting)
+  pub carried_item : (answer : Result Reply Fault) (item : Item) (old new : ControllerModel R) (taken : SessionModel)
       → old.session.held ≡ false → Some item ≡ item_of old.session.current → taken ≡ handed old.session
-      → CarriesOut honest life failed sectors ⊥ (Unit {0}) ⊥ (λ program. handing item program taken) answer (with_session old taken) new
-      → CarriesOut honest life failed sectors ((old.session.held ≡ false) × IsBetweenLines old.session) ((old.session.held ≡ false) × (is_busy old.session ≡ true))
+      → CarriesOut honest trace failed sectors ⊥ (Unit {0}) ⊥ (λ program. handing item program taken) answer (with_session old taken) new
+      → CarriesOut honest trace failed sectors ((old.session.held ≡ false) × IsBetweenLines old.session) ((old.session.held ≡ false) × (has_work old.session ≡ true))
       ((old.session.held ≡ false) × IsBetweenLines old.session) (λ program. tick old.equipment program old.session) answer old new
   carried_item answer item old new taken held is next c =
       let ledger = ledger_of old.journal in
       let errors : IfErr answer (λ e. e ≡ DeviceFailed) =
-      IfErr-weaker answer (IsHinderedBy ⊥ (Unit {0}) ledger (λ program. handing item program taken)) (λ e. e ≡ DeviceFailed) (lost_alone ledger item taken) c.hindered in
+      IfErr-weaker answer (IsCausedBy ⊥ (Unit {0}) ledger (λ program. handing item program taken)) (λ e. e ≡ DeviceFailed) (lost_alone ledger item taken) c.hindered in
       record {
-        does = does_item honest life answer item old new taken held is next errors c.does;
+        does = does_item honest trace answer item old new taken held is next errors c.does;
         comes = comes_item ((old.session.held ≡ false) × IsBetweenLines old.session) answer item old new taken held is next errors c.comes;
         hindered = IfErr-weaker answer (λ e. e ≡ DeviceFailed)
-            (IsHinderedBy ((old.session.held ≡ false) × IsBetweenLines old.session) ((old.session.held ≡ false) × (is_busy old.session ≡ true)) ledger (λ program. tick old.equipment program old.session))
+            (IsCausedBy ((old.session.held ≡ false) × IsBetweenLines old.session) ((old.session.held ≡ false) × (has_work old.session ≡ true)) ledger (λ program. tick old.equipment program old.session))
             (λ e lost. inr (inr (
               lost,
               (held, busy_block (is_running old.session.activity) old.session.current (some_item old.session.current item is)),
-              λ program used. subst (λ (o : Outcome). UsesUpCounter ledger o) (tick_item old.equipment program old.session item held (sym is)) used,
+              λ program used. subst (λ (o : Transition). UsesUpCounter ledger o) (tick_item old.equipment program old.session item held (sym is)) used,
             ))) errors;
         broken = c.broken;
         equipment = c.equipment;
@@ -207,17 +207,17 @@ module _ {R : Type 0} (honest : R → Type 0) (life : R → Life) (failed sector
         failures = c.failures;
       }
 
-  pub carried_further : (answer : Result Reply Fault) (old new : ControllerModel R) (left : Sitting)
+  pub carried_further : (answer : Result Reply Fault) (old new : ControllerModel R) (left : SessionModel)
       → old.session.held ≡ false → None ≡ item_of old.session.current → left ≡ old.session
-      → CarriesOut honest life failed sectors (IsBetweenLines left) (is_busy left ≡ true) (IsBetweenLines left) (λ program. open_next old.equipment program left (opening_of left.current)) answer (with_session old left) new
-      → CarriesOut honest life failed sectors ((old.session.held ≡ false) × IsBetweenLines old.session) ((old.session.held ≡ false) × (is_busy old.session ≡ true))
+      → CarriesOut honest trace failed sectors (IsBetweenLines left) (has_work left ≡ true) (IsBetweenLines left) (λ program. open_next old.equipment program left (opening_of left.current)) answer (with_session old left) new
+      → CarriesOut honest trace failed sectors ((old.session.held ≡ false) × IsBetweenLines old.session) ((old.session.held ≡ false) × (has_work old.session ≡ true))
       ((old.session.held ≡ false) × IsBetweenLines old.session) (λ program. tick old.equipment program old.session) answer old new
   carried_further answer old new left held none same c =
-      carried_to (IsBetweenLines old.session) ((old.session.held ≡ false) × IsBetweenLines old.session) (is_busy old.session ≡ true) ((old.session.held ≡ false) × (is_busy old.session ≡ true))
+      carried_to (IsBetweenLines old.session) ((old.session.held ≡ false) × IsBetweenLines old.session) (has_work old.session ≡ true) ((old.session.held ≡ false) × (has_work old.session ≡ true))
       (IsBetweenLines old.session) ((old.session.held ≡ false) × IsBetweenLines old.session)
       (λ program. open_next old.equipment program old.session (opening_of old.session.current)) (λ program. tick old.equipment program old.session) answer old new
       (λ p. (held, p)) (λ b. (held, b)) (λ p. (held, p)) (λ program. sym (tick_none old.equipment program old.session held (sym none)))
-      (subst (λ (s : Sitting). CarriesOut honest life failed sectors (IsBetweenLines s) (is_busy s ≡ true) (IsBetweenLines s) (λ program. open_next old.equipment program s (opening_of s.current)) answer (with_session old s) new) same c)
+      (subst (λ (s : SessionModel). CarriesOut honest trace failed sectors (IsBetweenLines s) (has_work s ≡ true) (IsBetweenLines s) (λ program. open_next old.equipment program s (opening_of s.current)) answer (with_session old s) new) same c)
 
 -- what holds where there is one
 pub by_some : {T : Type 0} (P : Type 0) (Q : T → Type 0) (o : Option T) → true ≡ is_some o → MatchOption o P Q → (x : T) × Q x

@@ -3,100 +3,100 @@ use Rattle.std.proofs.Common.{◌≡◌, ◌⊎◌, inl, inr, ℕ, List, [], ◌
 use Rattle.ng_num.specs.declared.fault.Fault.{Fault}
 use Rattle.ng_num.specs.declared.fault.Fault.TheVariants.{DeviceFailed, CountersUsed, OutOfMemory}
 use Rattle.ng_canon.specs.declared.item.Item.{Item}
-use Rattle.ng_rig.specs.Life.{Life}
-use Rattle.ng_rig.specs.Calls.{Promises}
-use Rattle.ng_layout.specs.Stored.{Standing}
-use Rattle.ng_journal.specs.Journal.{Logbook, RestsAt, Moves, HandsOut}
-use Rattle.ng_session.specs.LinesBefore.{IsTrueOf}
-use Rattle.ng_session.specs.Session.{Outcome, shown}
+use Rattle.ng_rig.specs.Trace.{Trace}
+use Rattle.ng_rig.specs.Calls.{IfHonest}
+use Rattle.ng_layout.specs.Stored.{DurableState}
+use Rattle.ng_journal.specs.Journal.{JournalModel, IsDurablyAt, CommitSpec, JournalHandOutSpec}
+use Rattle.ng_text.specs.LinesBefore.{IsTrueOf}
+use Rattle.ng_session.specs.Session.{Transition, session_status}
 use Rattle.ng_session.specs.declared.reply.Reply.{Reply}
-use Rattle.ng_core.specs.Model.{ControllerModel, IsAtRestWith, standing_of_session}
+use Rattle.ng_core.specs.Model.{ControllerModel, IsAtRestWith, durable_state_of}
 use Rattle.ng_core.specs.Events.{IsCarriedOutIfHonest, TouchesNothing}
 use Rattle.ng_core.proofs.Acting.{known_as, acts_quiet, acts_aside, acts_moved, acts_unmoved, acts_handed, acts_unhanded}
 use Rattle.ng_core.proofs.Quiet.{IsStill}
 
 -- the session answered, and what stands stays
-pub does_still : {R : Type 0} (honest : R → Type 0) (life : R → Life) (r : Reply) (out : List ℕ → Outcome) (old new : ControllerModel R)
+pub does_still : {R : Type 0} (honest : R → Type 0) (trace : R → Trace) (r : Reply) (out : List ℕ → Transition) (old new : ControllerModel R)
     → ((program : List ℕ) → IsStill program old.session.stored (out program)) → new.journal ≡ old.journal → new.lines ≡ old.lines
     → ((program : List ℕ) → r ≡ (out program).reply) → ((program : List ℕ) → new.session ≡ (out program).next)
-    → IsCarriedOutIfHonest honest life (Ok r) out old new
-does_still {R} honest life r out old new quiet same lines replied next = record {
-  keeps = λ h. subst (λ (j : Logbook R). honest j.rig) (sym same) h;
-  back = λ h. subst (λ (j : Logbook R). honest j.rig) same h;
+    → IsCarriedOutIfHonest honest trace (Ok r) out old new
+does_still {R} honest trace r out old new quiet same lines replied next = record {
+  keeps = λ h. subst (λ (j : JournalModel R). honest j.rig) (sym same) h;
+  back = λ h. subst (λ (j : JournalModel R). honest j.rig) same h;
   holds = λ h program rests.
-      acts_quiet r (out program) program old new (life old.journal.rig) (life new.journal.rig) (ap (λ (j : Logbook R). life j.rig) same) rests same lines (replied program) (next program)
+      acts_quiet r (out program) program old new (trace old.journal.rig) (trace new.journal.rig) (ap (λ (j : JournalModel R). trace j.rig) same) rests same lines (replied program) (next program)
       (quiet program).items (quiet program).program_is (quiet program).stored_is;
 }
 
 -- memory was wanting, or a count, and nothing was asked of the device
-pub does_aside : {R : Type 0} (honest : R → Type 0) (life : R → Life) (fault : Fault) (out : List ℕ → Outcome) (old new : ControllerModel R)
-    → (fault ≡ OutOfMemory) ⊎ (fault ≡ CountersUsed) → new.journal ≡ old.journal → new.lines ≡ old.lines → new.session ≡ old.session → IsCarriedOutIfHonest honest life (Err fault) out old new
-does_aside {R} honest life fault out old new which same lines still = record {
-  keeps = λ h. subst (λ (j : Logbook R). honest j.rig) (sym same) h;
-  back = λ h. subst (λ (j : Logbook R). honest j.rig) same h;
-  holds = λ h program rests. acts_aside fault (out program) program old new (life old.journal.rig) (life new.journal.rig) which (ap (λ (j : Logbook R). life j.rig) same) still
-      (subst (λ (j : Logbook R). RestsAt (life j.rig) j (standing_of_session program old.session)) (sym same) rests.0) (known_as program program old.lines new.lines refl lines rests.1);
+pub does_aside : {R : Type 0} (honest : R → Type 0) (trace : R → Trace) (fault : Fault) (out : List ℕ → Transition) (old new : ControllerModel R)
+    → (fault ≡ OutOfMemory) ⊎ (fault ≡ CountersUsed) → new.journal ≡ old.journal → new.lines ≡ old.lines → new.session ≡ old.session → IsCarriedOutIfHonest honest trace (Err fault) out old new
+does_aside {R} honest trace fault out old new which same lines still = record {
+  keeps = λ h. subst (λ (j : JournalModel R). honest j.rig) (sym same) h;
+  back = λ h. subst (λ (j : JournalModel R). honest j.rig) same h;
+  holds = λ h program rests. acts_aside fault (out program) program old new (trace old.journal.rig) (trace new.journal.rig) which (ap (λ (j : JournalModel R). trace j.rig) same) still
+      (subst (λ (j : JournalModel R). IsDurablyAt (trace j.rig) j (durable_state_of program old.session)) (sym same) rests.0) (known_as program program old.lines new.lines refl lines rests.1);
 }
 
 -- what was asked of the journal
-abbrev pub Storing : {R T : Type 0} → (R → Type 0) → (R → Life) → Result T Fault → (List ℕ → Outcome) → ControllerModel R → Logbook R → Type 0
-Storing honest life result out old journal =
-    Promises (honest old.journal.rig) (honest journal.rig) ((program : List ℕ) → IsAtRestWith (life old.journal.rig) old program
-    → Moves result journal (standing_of_session program old.session) (standing_of_session (out program).program (out program).next) (life old.journal.rig) (life journal.rig))
+abbrev pub Storing : {R T : Type 0} → (R → Type 0) → (R → Trace) → Result T Fault → (List ℕ → Transition) → ControllerModel R → JournalModel R → Type 0
+Storing honest trace result out old journal =
+    IfHonest (honest old.journal.rig) (honest journal.rig) ((program : List ℕ) → IsAtRestWith (trace old.journal.rig) old program
+    → CommitSpec result journal (durable_state_of program old.session) (durable_state_of (out program).program (out program).next) (trace old.journal.rig) (trace journal.rig))
 
-pub does_moved : {R T : Type 0} (honest : R → Type 0) (life : R → Life) (r : Reply) (v : T) (out : List ℕ → Outcome) (old new : ControllerModel R)
-    → Storing honest life (Ok v) out old new.journal → ((program : List ℕ) → IsTrueOf program old.lines → IsTrueOf (out program).program new.lines)
+pub does_moved : {R T : Type 0} (honest : R → Type 0) (trace : R → Trace) (r : Reply) (v : T) (out : List ℕ → Transition) (old new : ControllerModel R)
+    → Storing honest trace (Ok v) out old new.journal → ((program : List ℕ) → IsTrueOf program old.lines → IsTrueOf (out program).program new.lines)
     → ((program : List ℕ) → r ≡ (out program).reply) → ((program : List ℕ) → new.session ≡ (out program).next) → ((program : List ℕ) → (out program).items ≡ []) → (TouchesNothing r → ⊥)
-    → IsCarriedOutIfHonest honest life (Ok r) out old new
-does_moved honest life r v out old new p known replied next none touched = record {
+    → IsCarriedOutIfHonest honest trace (Ok r) out old new
+does_moved honest trace r v out old new p known replied next none touched = record {
   keeps = p.keeps;
   back = p.back;
-  holds = λ h program rests. acts_moved r v (out program) program old new (life old.journal.rig) (life new.journal.rig) (p.holds h program rests) (known program rests.1) (replied program) (next program) (none program) touched;
+  holds = λ h program rests. acts_moved r v (out program) program old new (trace old.journal.rig) (trace new.journal.rig) (p.holds h program rests) (known program rests.1) (replied program) (next program) (none program) touched;
 }
 
-pub does_unmoved : {R T : Type 0} (honest : R → Type 0) (life : R → Life) (fault e : Fault) (out : List ℕ → Outcome) (old new : ControllerModel R)
-    → Storing {T = T} honest life (Err e) out old new.journal
+pub does_unmoved : {R T : Type 0} (honest : R → Type 0) (trace : R → Trace) (fault e : Fault) (out : List ℕ → Transition) (old new : ControllerModel R)
+    → Storing {T = T} honest trace (Err e) out old new.journal
     → (fault ≡ CountersUsed) ⊎ (fault ≡ DeviceFailed) → (fault ≡ CountersUsed → new.journal ≡ old.journal) → new.lines ≡ old.lines → new.session ≡ old.session → ((program : List ℕ) → (out program).items ≡ [])
-    → IsCarriedOutIfHonest honest life (Err fault) out old new
-does_unmoved {R} {T} honest life fault e out old new p which unchanged lines same none = record {
+    → IsCarriedOutIfHonest honest trace (Err fault) out old new
+does_unmoved {R} {T} honest trace fault e out old new p which unchanged lines same none = record {
   keeps = p.keeps;
   back = p.back;
   holds = λ h program rests. elim which [
-    | inl used ↦ (does_aside honest life fault out old new (inr used) (unchanged used) lines same).holds h program rests
-    | inr lost ↦ acts_unmoved {T = T} fault e (out program) program old new new.journal (life old.journal.rig) (life new.journal.rig) (p.holds h program rests) lost (ap shown same) (none program)
+    | inl used ↦ (does_aside honest trace fault out old new (inr used) (unchanged used) lines same).holds h program rests
+    | inr lost ↦ acts_unmoved {T = T} fault e (out program) program old new new.journal (trace old.journal.rig) (trace new.journal.rig) (p.holds h program rests) lost (ap session_status same) (none program)
   ];
 }
 
-abbrev pub Handing : {R T : Type 0} → (R → Type 0) → (R → Life) → Result T Fault → Item → ControllerModel R → Logbook R → Type 0
-Handing honest life result item old journal =
-    Promises (honest old.journal.rig) (honest journal.rig) ((program : List ℕ) → IsAtRestWith (life old.journal.rig) old program
-    → HandsOut result journal (standing_of_session program old.session) item (life old.journal.rig) (life journal.rig))
+abbrev pub Handing : {R T : Type 0} → (R → Type 0) → (R → Trace) → Result T Fault → Item → ControllerModel R → JournalModel R → Type 0
+Handing honest trace result item old journal =
+    IfHonest (honest old.journal.rig) (honest journal.rig) ((program : List ℕ) → IsAtRestWith (trace old.journal.rig) old program
+    → JournalHandOutSpec result journal (durable_state_of program old.session) item (trace old.journal.rig) (trace journal.rig))
 
 -- what an outcome that hands out one item has
-pub record Gives (item : Item) (old : Standing) (program : List ℕ) (out : Outcome) : Type 0 where
+pub record Gives (item : Item) (old : DurableState) (program : List ℕ) (out : Transition) : Type 0 where
   pub items : out.items ≡ item ∷ []
   pub program_is : out.program ≡ program
   pub stored_is : out.next.stored ≡ old.saved
 
-pub does_handed : {R T : Type 0} (honest : R → Type 0) (life : R → Life) (r : Reply) (v : T) (item : Item) (out : List ℕ → Outcome) (old new : ControllerModel R)
-    → Handing honest life (Ok v) item old new.journal → new.lines ≡ old.lines
-    → ((program : List ℕ) → r ≡ (out program).reply) → ((program : List ℕ) → new.session ≡ (out program).next) → ((program : List ℕ) → Gives item (standing_of_session program old.session) program (out program)) → (TouchesNothing r → ⊥)
-    → IsCarriedOutIfHonest honest life (Ok r) out old new
-does_handed honest life r v item out old new p lines replied next gives touched = record {
+pub does_handed : {R T : Type 0} (honest : R → Type 0) (trace : R → Trace) (r : Reply) (v : T) (item : Item) (out : List ℕ → Transition) (old new : ControllerModel R)
+    → Handing honest trace (Ok v) item old new.journal → new.lines ≡ old.lines
+    → ((program : List ℕ) → r ≡ (out program).reply) → ((program : List ℕ) → new.session ≡ (out program).next) → ((program : List ℕ) → Gives item (durable_state_of program old.session) program (out program)) → (TouchesNothing r → ⊥)
+    → IsCarriedOutIfHonest honest trace (Ok r) out old new
+does_handed honest trace r v item out old new p lines replied next gives touched = record {
   keeps = p.keeps;
   back = p.back;
-  holds = λ h program rests. acts_handed r v item (out program) program old new (life old.journal.rig) (life new.journal.rig) (p.holds h program rests)
+  holds = λ h program rests. acts_handed r v item (out program) program old new (trace old.journal.rig) (trace new.journal.rig) (p.holds h program rests)
       (known_as program (out program).program old.lines new.lines (gives program).program_is lines rests.1) (replied program) (next program)
       (gives program).items (gives program).program_is (gives program).stored_is touched;
 }
 
-pub does_unhanded : {R T : Type 0} (honest : R → Type 0) (life : R → Life) (fault e : Fault) (item : Item) (out : List ℕ → Outcome) (old new : ControllerModel R)
-    → Handing {T = T} honest life (Err e) item old new.journal
-    → fault ≡ DeviceFailed → shown new.session ≡ shown old.session → ((program : List ℕ) → Gives item (standing_of_session program old.session) program (out program))
-    → IsCarriedOutIfHonest honest life (Err fault) out old new
-does_unhanded {R} {T} honest life fault e item out old new p is same gives = record {
+pub does_unhanded : {R T : Type 0} (honest : R → Type 0) (trace : R → Trace) (fault e : Fault) (item : Item) (out : List ℕ → Transition) (old new : ControllerModel R)
+    → Handing {T = T} honest trace (Err e) item old new.journal
+    → fault ≡ DeviceFailed → session_status new.session ≡ session_status old.session → ((program : List ℕ) → Gives item (durable_state_of program old.session) program (out program))
+    → IsCarriedOutIfHonest honest trace (Err fault) out old new
+does_unhanded {R} {T} honest trace fault e item out old new p is same gives = record {
   keeps = p.keeps;
   back = p.back;
-  holds = λ h program rests. acts_unhanded {T = T} fault e item (out program) program old new new.journal (life old.journal.rig) (life new.journal.rig) (p.holds h program rests)
+  holds = λ h program rests. acts_unhanded {T = T} fault e item (out program) program old new new.journal (trace old.journal.rig) (trace new.journal.rig) (p.holds h program rests)
       is same (gives program).items (gives program).program_is (gives program).stored_is;
 }

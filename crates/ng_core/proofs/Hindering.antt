@@ -5,8 +5,8 @@ use Rattle.std.specs.Prelude.{IsErrOf}
 use Rattle.ng_num.specs.declared.fault.Fault.{Fault}
 use Rattle.ng_num.specs.declared.fault.Fault.TheVariants as fault
 use Rattle.ng_num.specs.declared.fault.Fault.TheVariants.{DeviceFailed, CountersUsed, OutOfMemory}
-use Rattle.ng_layout.specs.Programs.{Line}
-use Rattle.ng_layout.specs.Stored.{HalfDone, Saved}
+use Rattle.ng_text.specs.Programs.{ProgramLineModel}
+use Rattle.ng_layout.specs.Stored.{HalfModel, StoredModel}
 use Rattle.ng_layout.specs.declared.half.Source.TheVariants as source
 use Rattle.ng_layout.specs.declared.half.Opened.{Opened}
 use Rattle.ng_layout.specs.declared.half.Opened.TheVariants as open_part
@@ -14,18 +14,18 @@ use Rattle.ng_block.specs.Effects.{Done}
 use Rattle.ng_journal.specs.Storing.{Ledger, Storing, Commit, Open, Load, UsesUp}
 use Rattle.ng_num.specs.declared.point.Point.{Point}
 use Rattle.ng_session.specs.Entries.{Equipment, done_of, done_again, after_load, after_reference, after_abandon}
-use Rattle.ng_session.specs.Session.{Underway, Sitting, Outcome, end, begin, begin_by, load, load_unless, load_refusal, reference, reference_unless, reference_refusal, abandon, abandon_unless, abandon_refusal, refuses, resume, resume_half, resume_from, resume_by, is_at_rest, opening_of, opening_reply, entry_on, committed}
+use Rattle.ng_session.specs.Session.{CurrentBlockModel, SessionModel, Transition, end, begin, begin_by, load, load_unless, load_refusal, reference, reference_unless, reference_refusal, abandon, abandon_unless, abandon_refusal, refuses, resume, resume_half, resume_from, resume_by, is_at_rest, opening_of, opening_reply, entry_on, committed}
 use Rattle.ng_session.specs.declared.stage.Stage.{Stage}
 use Rattle.ng_session.specs.declared.stage.Stage.TheVariants as stage
-use Rattle.ng_core.specs.Causes.{UsesUpCounter, IsHinderedBy, stored_for, with_entry}
+use Rattle.ng_core.specs.Causes.{UsesUpCounter, IsCausedBy, stored_for, with_entry}
 use Rattle.ng_core.proofs.Ticks.{IsDue, opening}
 
 -- what hinders the one hinders the other
-pub hindered_as : {m n d e : Type 0} (ledger : Ledger) (told wanted : List ℕ → Outcome) → (m → n) → (d → e) → ((program : List ℕ) → told program ≡ wanted program)
-    → (fault : Fault) → IsHinderedBy m d ledger told fault → IsHinderedBy n e ledger wanted fault
+pub hindered_as : {m n d e : Type 0} (ledger : Ledger) (told wanted : List ℕ → Transition) → (m → n) → (d → e) → ((program : List ℕ) → told program ≡ wanted program)
+    → (fault : Fault) → IsCausedBy m d ledger told fault → IsCausedBy n e ledger wanted fault
 hindered_as ledger told wanted f g same fault (inl short) = inl (short.0, f short.1)
-hindered_as ledger told wanted f g same fault (inr (inl used)) = inr (inl (used.0, λ program. subst (λ (o : Outcome). UsesUpCounter ledger o) (same program) (used.1 program)))
-hindered_as ledger told wanted f g same fault (inr (inr lost)) = inr (inr (lost.0, g lost.1, λ program used. lost.2 program (subst (λ (o : Outcome). UsesUpCounter ledger o) (sym (same program)) used)))
+hindered_as ledger told wanted f g same fault (inr (inl used)) = inr (inl (used.0, λ program. subst (λ (o : Transition). UsesUpCounter ledger o) (same program) (used.1 program)))
+hindered_as ledger told wanted f g same fault (inr (inr lost)) = inr (inr (lost.0, g lost.1, λ program used. lost.2 program (subst (λ (o : Transition). UsesUpCounter ledger o) (sym (same program)) used)))
 
 -- ---- a call of the journal that stores
 
@@ -33,67 +33,67 @@ differ : (T : Type 0) (e : Fault) → e ≡ DeviceFailed → (let answered : Res
 differ T e lost used = absurd (let answered : Result T Fault = Err DeviceFailed in let z : answered ≡ Err CountersUsed = (λ i. Err (sym lost i)) ∙ used in cc)
 
 -- it answers that a counter is used up exactly where what it stores uses one up, and that is what the outcome stores
-pub hindered_storing : (T : Type 0) (e : Fault) (ledger : Ledger) (told : List ℕ → Outcome) (s : Storing) → (e ≡ CountersUsed) ⊎ (e ≡ DeviceFailed)
+pub hindered_storing : (T : Type 0) (e : Fault) (ledger : Ledger) (told : List ℕ → Transition) (s : Storing) → (e ≡ CountersUsed) ⊎ (e ≡ DeviceFailed)
     → (let answered : Result T Fault = Err e in IsErrOf answered CountersUsed ↔ UsesUp ledger s)
-    → ((program : List ℕ) → stored_for (told program) (told program).reply ≡ Some s) → IsHinderedBy ⊥ (Unit {0}) ledger told e
+    → ((program : List ℕ) → stored_for (told program) (told program).reply ≡ Some s) → IsCausedBy ⊥ (Unit {0}) ledger told e
 hindered_storing T e ledger told s (inl used) iff stores =
     inr (inl (used, λ program. subst (λ (o : Option Storing). IsSomeAnd o (UsesUp ledger)) (sym (stores program)) (iff.0 (λ i. Err (used i)))))
 hindered_storing T e ledger told s (inr lost) iff stores =
     inr (inr (lost, tt, λ program used. differ T e lost (iff.1 (subst (λ (o : Option Storing). IsSomeAnd o (UsesUp ledger)) (stores program) used))))
 
 -- the half-done block of what opens
-stored_opening : (out : Outcome) (n : ℕ) (o : Option Opened) → stored_for out (opening_reply n o) ≡ option_map Open out.next.stored.half
+stored_opening : (out : Transition) (n : ℕ) (o : Option Opened) → stored_for out (opening_reply n o) ≡ option_map Open out.next.stored.half
 stored_opening out n None = refl
 stored_opening out n (Some open_part.Segment) = refl
 stored_opening out n (Some open_part.Approach) = refl
 
-pub hindered_opening : (T : Type 0) (e : Fault) (q : Equipment) (s : Sitting) (ledger : Ledger) (half : HalfDone) → (e ≡ CountersUsed) ⊎ (e ≡ DeviceFailed)
+pub hindered_opening : (T : Type 0) (e : Fault) (q : Equipment) (s : SessionModel) (ledger : Ledger) (half : HalfModel) → (e ≡ CountersUsed) ⊎ (e ≡ DeviceFailed)
     → (let answered : Result T Fault = Err e in IsErrOf answered CountersUsed ↔ UsesUp ledger (Open half))
-    → IsHinderedBy ⊥ (Unit {0}) ledger (λ program. opening half program q s) e
+    → IsCausedBy ⊥ (Unit {0}) ledger (λ program. opening half program q s) e
 hindered_opening T e q s ledger half which iff =
     hindered_storing T e ledger (λ program. opening half program q s) (Open half) which iff (λ program. stored_opening (opening half program q s) half.index half.opened)
 
 -- the entry of the current block, or of its approach
-entry_commits : (x : Saved) (c : Underway) (at : Stage) → with_entry x (entry_on c at) ≡ Commit x
+entry_commits : (x : StoredModel) (c : CurrentBlockModel) (at : Stage) → with_entry x (entry_on c at) ≡ Commit x
 entry_commits x c (stage.ToApproach a) = refl
 entry_commits x c (stage.OnApproach a) = refl
 entry_commits x c stage.OnBlock = refl
 
-pub hindered_entry : (T : Type 0) (e : Fault) (q : Equipment) (s : Sitting) (ledger : Ledger) (saved : Saved) (due : IsDue s saved) → (e ≡ CountersUsed) ⊎ (e ≡ DeviceFailed)
+pub hindered_entry : (T : Type 0) (e : Fault) (q : Equipment) (s : SessionModel) (ledger : Ledger) (saved : StoredModel) (due : IsDue s saved) → (e ≡ CountersUsed) ⊎ (e ≡ DeviceFailed)
     → (let answered : Result T Fault = Err e in IsErrOf answered CountersUsed ↔ UsesUp ledger (Commit saved))
-    → IsHinderedBy ⊥ (Unit {0}) ledger (λ program. end q program s s.current) e
+    → IsCausedBy ⊥ (Unit {0}) ledger (λ program. end q program s s.current) e
 hindered_entry T e q s ledger saved due which iff =
     hindered_storing T e ledger (λ program. end q program s s.current) (Commit saved) which iff
-    (λ program. ap (λ (o : Option Underway). stored_for (end q program s o) (end q program s o).reply) due.current
-    ∙ ap (λ (x : Storing). Some x) (entry_commits (committed s due.block).stored due.block due.block.stage) ∙ ap (λ (x : Saved). Some (Commit x)) (sym due.after))
+    (λ program. ap (λ (o : Option CurrentBlockModel). stored_for (end q program s o) (end q program s o).reply) due.current
+    ∙ ap (λ (x : Storing). Some x) (entry_commits (committed s due.block).stored due.block due.block.stage) ∙ ap (λ (x : StoredModel). Some (Commit x)) (sym due.after))
 
 -- the entry of a program
-pub hindered_load : (T : Type 0) (e : Fault) (s : Sitting) (saved : Saved) (text : List ℕ) (ledger : Ledger) → load_refusal s text ≡ None → length text ≤ 131072 → saved ≡ after_load s.stored (length text)
+pub hindered_load : (T : Type 0) (e : Fault) (s : SessionModel) (saved : StoredModel) (text : List ℕ) (ledger : Ledger) → load_refusal s text ≡ None → length text ≤ 131072 → saved ≡ after_load s.stored (length text)
     → (e ≡ CountersUsed) ⊎ (e ≡ DeviceFailed)
     → (let answered : Result T Fault = Err e in IsErrOf answered CountersUsed ↔ ((length text ≤ 131072) × UsesUp ledger (Load saved)))
-    → IsHinderedBy (load_refusal s text ≡ None) (load_refusal s text ≡ None) ledger (λ program. load program s text) e
+    → IsCausedBy (load_refusal s text ≡ None) (load_refusal s text ≡ None) ledger (λ program. load program s text) e
 hindered_load T e s saved text ledger free small is which iff =
     hindered_as ledger (λ program. load program s text) (λ program. load program s text) (λ none. absurd none) (λ u. free) (λ program. refl) e
     (hindered_storing T e ledger (λ program. load program s text) (Load saved) which
     (λ used. (iff.0 used).1, λ u. iff.1 (small, u))
-    (λ program. ap (λ (o : Option Fault). stored_for (load_unless program s text o) (load_unless program s text o).reply) free ∙ ap (λ (x : Saved). Some (Load x)) (sym is)))
+    (λ program. ap (λ (o : Option Fault). stored_for (load_unless program s text o) (load_unless program s text o).reply) free ∙ ap (λ (x : StoredModel). Some (Load x)) (sym is)))
 
 -- a point where the machine stands, or a half-done block that is given up
-pub stored_reference : (q : Equipment) (P : List ℕ) (s : Sitting) (point : Point) → reference_refusal q.geometry s point ≡ None
+pub stored_reference : (q : Equipment) (P : List ℕ) (s : SessionModel) (point : Point) → reference_refusal q.geometry s point ≡ None
     → stored_for (reference q P s point) (reference q P s point).reply ≡ Some (Commit (after_reference s.stored point))
 stored_reference q P s point free = ap (λ (o : Option Fault). stored_for (reference_unless P s point o) (reference_unless P s point o).reply) free
 
-pub stored_abandon : (P : List ℕ) (s : Sitting) → abandon_refusal s ≡ None → stored_for (abandon P s) (abandon P s).reply ≡ Some (Commit (after_abandon s.stored))
+pub stored_abandon : (P : List ℕ) (s : SessionModel) → abandon_refusal s ≡ None → stored_for (abandon P s) (abandon P s).reply ≡ Some (Commit (after_abandon s.stored))
 stored_abandon P s free = ap (λ (o : Option Fault). stored_for (abandon_unless P s o) (abandon_unless P s o).reply) free
 
 -- an entry past the greatest count isn't stored
-pub hindered_count : (ledger : Ledger) (told : List ℕ → Outcome) (x : Saved) (device : Type 0) → UsesUp ledger (Commit x) → ((program : List ℕ) → stored_for (told program) (told program).reply ≡ Some (Commit x))
-    → IsHinderedBy ⊥ device ledger told CountersUsed
+pub hindered_count : (ledger : Ledger) (told : List ℕ → Transition) (x : StoredModel) (device : Type 0) → UsesUp ledger (Commit x) → ((program : List ℕ) → stored_for (told program) (told program).reply ≡ Some (Commit x))
+    → IsCausedBy ⊥ device ledger told CountersUsed
 hindered_count ledger told x device used stores = inr (inl (refl, λ program. subst (λ (o : Option Storing). IsSomeAnd o (UsesUp ledger)) (sym (stores program)) used))
 
 -- ---- a session that is busy
 
-pub busy_block : (b : Bool) (o : Option Underway) → is_some o ≡ true → (b || is_some o) ≡ true
+pub busy_block : (b : Bool) (o : Option CurrentBlockModel) → is_some o ≡ true → (b || is_some o) ≡ true
 busy_block true o block = refl
 busy_block false o block = block
 
@@ -101,34 +101,34 @@ pub busy_running : (b c : Bool) → b ≡ true → (b || c) ≡ true
 busy_running true c runs = refl
 busy_running false c runs = absurd (let z : false ≡ true = runs in cc)
 
-pub some_half : (o : Option Underway) (half : HalfDone) → opening_of o ≡ Some half → is_some o ≡ true
-some_half None half is = absurd (let none : Option HalfDone = None in let z : none ≡ Some half = is in cc)
+pub some_half : (o : Option CurrentBlockModel) (half : HalfModel) → opening_of o ≡ Some half → is_some o ≡ true
+some_half None half is = absurd (let none : Option HalfModel = None in let z : none ≡ Some half = is in cc)
 some_half (Some c) half is = refl
 
 -- ---- a line that is begun uses up no counter
 
-unused_by : (P : List ℕ) (s : Sitting) (line : Line) (done : Result Done Fault) (ledger : Ledger) → UsesUpCounter ledger (begin_by P s line done) → ⊥
+unused_by : (P : List ℕ) (s : SessionModel) (line : ProgramLineModel) (done : Result Done Fault) (ledger : Ledger) → UsesUpCounter ledger (begin_by P s line done) → ⊥
 unused_by P s line (Ok done) ledger used = used
 unused_by P s line (Err fault) ledger used = used
 
-pub unused_begin : (q : Equipment) (P : List ℕ) (s : Sitting) (line : Option Line) (ledger : Ledger) → UsesUpCounter ledger (begin q P s line) → ⊥
+pub unused_begin : (q : Equipment) (P : List ℕ) (s : SessionModel) (line : Option ProgramLineModel) (ledger : Ledger) → UsesUpCounter ledger (begin q P s line) → ⊥
 unused_begin q P s None ledger used = used
 unused_begin q P s (Some line) ledger used = unused_by P s line (done_of q P s.stored source.Program line.text s.block_delete) ledger used
 
 -- nor does a half-done block that goes on
-unused_again : (P : List ℕ) (s : Sitting) (half : HalfDone) (from : Point) (done : Result Done Fault) (ledger : Ledger) → UsesUpCounter ledger (resume_by P s half from done) → ⊥
+unused_again : (P : List ℕ) (s : SessionModel) (half : HalfModel) (from : Point) (done : Result Done Fault) (ledger : Ledger) → UsesUpCounter ledger (resume_by P s half from done) → ⊥
 unused_again P s half from (Ok done) ledger used = used
 unused_again P s half from (Err fault) ledger used = used
 
-unused_from : (q : Equipment) (P : List ℕ) (s : Sitting) (half : HalfDone) (from : Option Point) (ledger : Ledger) → UsesUpCounter ledger (resume_from q P s half from) → ⊥
+unused_from : (q : Equipment) (P : List ℕ) (s : SessionModel) (half : HalfModel) (from : Option Point) (ledger : Ledger) → UsesUpCounter ledger (resume_from q P s half from) → ⊥
 unused_from q P s half None ledger used = used
 unused_from q P s half (Some from) ledger used = unused_again P s half from (done_again q s.stored half.text) ledger used
 
-unused_half : (q : Equipment) (P : List ℕ) (s : Sitting) (half : Option HalfDone) (ledger : Ledger) → UsesUpCounter ledger (resume_half q P s half) → ⊥
+unused_half : (q : Equipment) (P : List ℕ) (s : SessionModel) (half : Option HalfModel) (ledger : Ledger) → UsesUpCounter ledger (resume_half q P s half) → ⊥
 unused_half q P s None ledger used = used
 unused_half q P s (Some half) ledger used = unused_from q P s half half.at ledger used
 
-pub unused_resume : (q : Equipment) (P : List ℕ) (s : Sitting) (ledger : Ledger) → UsesUpCounter ledger (resume q P s) → ⊥
+pub unused_resume : (q : Equipment) (P : List ℕ) (s : SessionModel) (ledger : Ledger) → UsesUpCounter ledger (resume q P s) → ⊥
 unused_resume q P s ledger used = by (not (is_at_rest s)) used
   where
     by : (b : Bool) → UsesUpCounter ledger (if b then refuses P fault.Busy s else resume_half q P s s.stored.half) → ⊥

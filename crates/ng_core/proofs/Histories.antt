@@ -4,39 +4,39 @@ use Rattle.std.proofs.lemmas.List.{append-nil}
 use Rattle.ng_num.specs.declared.fault.Fault.{Fault}
 use Rattle.ng_num.specs.declared.fault.Fault.TheVariants.{DeviceFailed, CountersUsed, OutOfMemory}
 use Rattle.ng_canon.specs.declared.item.Item.{Item}
-use Rattle.ng_rig.specs.Life.{Image, Life, StopSince, items, moment}
-use Rattle.ng_layout.specs.Stored.{Standing}
+use Rattle.ng_rig.specs.Trace.{Image, Trace, StopSince, items, moment}
+use Rattle.ng_layout.specs.Stored.{DurableState}
 use Rattle.ng_journal.specs.Journal.{StandsFor}
 use Rattle.ng_journal.proofs.Resting.{alone}
 use Rattle.ng_session.specs.Entries.{Equipment}
-use Rattle.ng_session.specs.Session.{Sitting}
-use Rattle.ng_session.specs.Runs.{Scene, Left, leads_to, left_in, items_of, replies_of, scene_after, scene_behind, done_count, dones}
+use Rattle.ng_session.specs.Session.{SessionModel}
+use Rattle.ng_session.specs.Runs.{ProgramSession, CrashState, leads_to, crash_in, items_of, replies_of, session_of_transition, session_after, done_count, dones}
 use Rattle.ng_session.specs.declared.event.Event.{Event}
 use Rattle.ng_session.specs.declared.event.Event.TheVariants as event
 use Rattle.ng_session.specs.declared.reply.Reply.{Reply}
 use Rattle.ng_session.specs.declared.reply.Reply.TheVariants as reply
 use Rattle.ng_core.specs.Model.{ControllerModel, IsAtRestWith}
-use Rattle.ng_core.specs.Events.{IsEitherLeft, reply_to, broken_answer, scene_of}
+use Rattle.ng_core.specs.Events.{IsCrashOfEither, reply_to, broken_answer, program_session_of}
 use Rattle.ng_core.specs.Moments.{AtEachStop, IsRising, answered_by}
-use Rattle.ng_core.specs.Runs.{IsLeftAfterSome, PassesAsSession, answered_events, answered_events_by, session_replies, session_replies_by, tried_events, tried_events_by}
-use Rattle.ng_core.specs.Causes.{outcome_of}
-use Rattle.ng_core.proofs.History.{History, Step, Serving, Stepping, program_after}
+use Rattle.ng_core.specs.Runs.{IsCrashAfterSome, PassesAsSession, answered_events, answered_events_by, session_replies, session_replies_by, tried_events, tried_events_by}
+use Rattle.ng_core.specs.Causes.{transition_of}
+use Rattle.ng_core.proofs.History.{History, HonestTurn, OnSpecIfHonest, OnSpecAnyState, program_after}
 use Rattle.ng_core.proofs.Timing.{none_by, one_by, same_moment, same_each, same_rising, no_call, one_call, more_calls, weaker_said}
 
 -- ---- what a stop leaves, and how much of it was acknowledged
 
 -- A stop leaves what stands after some of these events, no fewer than so many; of their replies so many are Done, or one more.
-pub record IsLeftAt {A : Type 0} (equipment : Equipment) (scene : Scene) (given : List Item) (least : ℕ) (events : List (Event A)) (acknowledged : ℕ) (image : Image) (handed : List Item) : Type 0 where
-  pub after : IsLeftAfterSome least equipment scene given events image handed
+pub record IsLeftAt {A : Type 0} (equipment : Equipment) (scene : ProgramSession) (given : List Item) (least : ℕ) (events : List (Event A)) (acknowledged : ℕ) (image : Image) (handed : List Item) : Type 0 where
+  pub after : IsCrashAfterSome least equipment scene given events image handed
   pub all : acknowledged ≤ dones (replies_of equipment scene (take after.count events))
   pub few : dones (replies_of equipment scene (take after.count events)) ≤ acknowledged + 1
 
 -- the same where the first n events were answered
-abbrev pub IsLeftBy : {A : Type 0} → Equipment → Scene → List Item → List (Event A) → List (Result Reply Fault) → List Reply → ℕ → Image → List Item → Type 0
+abbrev pub IsLeftBy : {A : Type 0} → Equipment → ProgramSession → List Item → List (Event A) → List (Result Reply Fault) → List Reply → ℕ → Image → List Item → Type 0
 IsLeftBy equipment scene given events answers replies n image handed =
     IsLeftAt equipment scene given (length (answered_events (take n events) answers)) (tried_events (take (suc n) events) answers) (dones (take n replies)) image handed
 
-as_items : (standing : Standing) (given more : List Item) (image : Image) (handed : List Item) → more ≡ given → StandsFor standing given image handed → StandsFor standing more image handed
+as_items : (standing : DurableState) (given more : List Item) (image : Image) (handed : List Item) → more ≡ given → StandsFor standing given image handed → StandsFor standing more image handed
 as_items standing given more image handed same p = subst (λ (l : List Item). StandsFor standing l image handed) (sym same) p
 
 done_once : (r : Reply) → done_count r ≤ 1
@@ -44,15 +44,15 @@ done_once (reply.Done n) = omega arith
 done_once _ = omega arith
 
 -- a stop within an event, from a device at rest
-either_left : {R : Type 0} (lived : Life) (program : List ℕ) (old : ControllerModel R) (after : Left) (image : Image) (handed : List Item) → IsAtRestWith lived old program
-    → StopSince lived (moment lived) image handed ⊎ IsEitherLeft (left_in (scene_of program old) (items lived)) after image handed
-    → IsEitherLeft (left_in (scene_of program old) (items lived)) after image handed
-either_left lived program old after image handed rests either =
-    ⊎_elim (λ stop. record { left = left_in (scene_of program old) (items lived); which = inl refl; stands_for = alone lived _ _ image handed rests.0.at stop }) (λ p. p) either
+either_left : {R : Type 0} (trace_old : Trace) (program : List ℕ) (old : ControllerModel R) (after : CrashState) (image : Image) (handed : List Item) → IsAtRestWith trace_old old program
+    → StopSince trace_old (moment trace_old) image handed ⊎ IsCrashOfEither (crash_in (program_session_of program old) (items trace_old)) after image handed
+    → IsCrashOfEither (crash_in (program_session_of program old) (items trace_old)) after image handed
+either_left trace_old program old after image handed rests either =
+    ⊎_elim (λ stop. record { left = crash_in (program_session_of program old) (items trace_old); which = inl refl; stands_for = alone trace_old _ _ image handed rests.0.at stop }) (λ p. p) either
 
-module _ {A : Type 0} (equipment : Equipment) (scene : Scene) (given : List Item) (image : Image) (handed : List Item) where
+module _ {A : Type 0} (equipment : Equipment) (scene : ProgramSession) (given : List Item) (image : Image) (handed : List Item) where
   -- at rest, after none
-  none_left : StandsFor (left_in scene given).standing given image handed → IsLeftAt {A = A} equipment scene given 0 [] 0 image handed
+  none_left : StandsFor (crash_in scene given).standing given image handed → IsLeftAt {A = A} equipment scene given 0 [] 0 image handed
   none_left stands = record {
     after = record { count = 0; all = omega arith; within = omega arith; stands_for = as_items _ given (given ++ []) image handed (append-nil given) stands };
     all = omega arith;
@@ -60,7 +60,7 @@ module _ {A : Type 0} (equipment : Equipment) (scene : Scene) (given : List Item
   }
 
   -- before an event, or after it
-  one_left : (event : Event A) → IsEitherLeft (left_in scene given) (left_in (scene_after (leads_to equipment scene event)) (given ++ (leads_to equipment scene event).items)) image handed
+  one_left : (event : Event A) → IsCrashOfEither (crash_in scene given) (crash_in (session_of_transition (leads_to equipment scene event)) (given ++ (leads_to equipment scene event).items)) image handed
       → IsLeftAt equipment scene given 0 (event ∷ []) 0 image handed
   one_left event p = elim p.which [
     | inl before ↦ record {
@@ -68,7 +68,7 @@ module _ {A : Type 0} (equipment : Equipment) (scene : Scene) (given : List Item
         count = 0;
         all = omega arith;
         within = omega arith;
-        stands_for = as_items _ given (given ++ []) image handed (append-nil given) (subst (λ (l : Left). StandsFor l.standing l.items image handed) before p.stands_for);
+        stands_for = as_items _ given (given ++ []) image handed (append-nil given) (subst (λ (l : CrashState). StandsFor l.standing l.items image handed) before p.stands_for);
       };
       all = omega arith;
       few = omega arith;
@@ -81,7 +81,7 @@ module _ {A : Type 0} (equipment : Equipment) (scene : Scene) (given : List Item
             all = omega arith;
             within = omega arith;
             stands_for = as_items _ (given ++ (leads_to equipment scene event).items) _ image handed (ap (λ (l : List Item). given ++ l) (append-nil (leads_to equipment scene event).items))
-                (subst (λ (l : Left). StandsFor l.standing l.items image handed) after p.stands_for);
+                (subst (λ (l : CrashState). StandsFor l.standing l.items image handed) after p.stands_for);
           };
           all = omega arith;
           few = omega (arith, once);
@@ -90,15 +90,15 @@ module _ {A : Type 0} (equipment : Equipment) (scene : Scene) (given : List Item
 
   -- after an event and later ones
   more_left : (event : Event A) (r : Reply) (least : ℕ) (events : List (Event A)) (acknowledged : ℕ) → done_count r ≡ done_count (leads_to equipment scene event).reply
-      → IsLeftAt equipment (scene_after (leads_to equipment scene event)) (given ++ (leads_to equipment scene event).items) least events acknowledged image handed
+      → IsLeftAt equipment (session_of_transition (leads_to equipment scene event)) (given ++ (leads_to equipment scene event).items) least events acknowledged image handed
       → IsLeftAt equipment scene given (suc least) (event ∷ events) (done_count r + acknowledged) image handed
   more_left event r least events acknowledged same p = record {
     after = record {
       count = suc p.after.count;
       all = omega (arith, p.after.all);
       within = omega (arith, p.after.within);
-      stands_for = as_items _ ((given ++ (leads_to equipment scene event).items) ++ items_of equipment (scene_after (leads_to equipment scene event)) (take p.after.count events)) _ image handed
-          (sym (append_assoc given (leads_to equipment scene event).items (items_of equipment (scene_after (leads_to equipment scene event)) (take p.after.count events)))) p.after.stands_for;
+      stands_for = as_items _ ((given ++ (leads_to equipment scene event).items) ++ items_of equipment (session_of_transition (leads_to equipment scene event)) (take p.after.count events)) _ image handed
+          (sym (append_assoc given (leads_to equipment scene event).items (items_of equipment (session_of_transition (leads_to equipment scene event)) (take p.after.count events)))) p.after.stands_for;
     };
     all = omega (arith, p.all, same);
     few = omega (arith, p.few, same);
@@ -115,17 +115,17 @@ module _ {A : Type 0} (equipment : Equipment) (scene : Scene) (given : List Item
 -- ---- what a history leads to
 
 -- What is left at each stop, with how much of it was acknowledged; and what stands now.
-pub record Leads {A R : Type 0} (life : R → Life) (events : List (Event A)) (replies : List Reply) (equipment : Equipment) (scene : Scene) (lived : Life) (new : ControllerModel R) : Type 0 where
+pub record Leads {A R : Type 0} (trace : R → Trace) (events : List (Event A)) (replies : List Reply) (equipment : Equipment) (scene : ProgramSession) (trace_old : Trace) (new : ControllerModel R) : Type 0 where
   pub answers : List (Result Reply Fault)
   pub replies_are : replies ≡ map reply_to answers
   pub told_is : session_replies answers ≡ replies_of equipment scene (answered_events events answers)
   pub moments : List ℕ
   pub each : length moments ≡ length events
-  pub rising : IsRising (moment lived) (moment (life new.journal.rig)) moments
-  pub stops : AtEachStop lived (life new.journal.rig) (λ t. IsLeftBy equipment scene (items lived) events answers replies (answered_by t moments))
-  pub session_is : new.journal.broken ≡ false → new.session ≡ (scene_behind equipment scene (answered_events events answers)).session
-  pub rests : new.journal.broken ≡ false → IsAtRestWith (life new.journal.rig) new (scene_behind equipment scene (answered_events events answers)).program
-  pub items_are : new.journal.broken ≡ false → items (life new.journal.rig) ≡ items lived ++ items_of equipment scene (answered_events events answers)
+  pub rising : IsRising (moment trace_old) (moment (trace new.journal.rig)) moments
+  pub stops : AtEachStop trace_old (trace new.journal.rig) (λ t. IsLeftBy equipment scene (items trace_old) events answers replies (answered_by t moments))
+  pub session_is : new.journal.broken ≡ false → new.session ≡ (session_after equipment scene (answered_events events answers)).session
+  pub rests : new.journal.broken ≡ false → IsAtRestWith (trace new.journal.rig) new (session_after equipment scene (answered_events events answers)).program
+  pub items_are : new.journal.broken ≡ false → items (trace new.journal.rig) ≡ items trace_old ++ items_of equipment scene (answered_events events answers)
 
 -- once the device failed, nothing changes any more, and nothing is acknowledged
 record Idles {R : Type 0} (replies : List Reply) (old new : ControllerModel R) : Type 0 where
@@ -134,7 +134,7 @@ record Idles {R : Type 0} (replies : List Reply) (old new : ControllerModel R) :
   none : (n : ℕ) → dones (take n replies) ≡ 0
   same : new ≡ old
 
-none_done : {A : Type 0} (session : Sitting) (event : Event A) → done_count (reply_to (broken_answer session event)) ≡ 0
+none_done : {A : Type 0} (session : SessionModel) (event : Event A) → done_count (reply_to (broken_answer session event)) ≡ 0
 none_done session event.Status = refl
 none_done session _ = refl
 
@@ -142,10 +142,10 @@ none_more : (r : Reply) (replies : List Reply) → done_count r ≡ 0 → ((n : 
 none_more r replies is none zero = refl
 none_more r replies is none (suc n) = let rest = none n in omega (arith, is, rest)
 
-idles_more : {A R : Type 0} (life : R → Life) (event : Event A) (r : Reply) (replies : List Reply) (answer : Result Reply Fault) (program : List ℕ) (old between new : ControllerModel R)
-    → old.journal.broken ≡ true → Step life event r answer program old between → Idles replies between new → Idles (r ∷ replies) old new
-idles_more life event r replies answer program old between new broken step rest =
-    let turn : Stepping life true answer event program old between = subst (λ (b : Bool). Stepping life b answer event program old between) broken step.stepping in
+idles_more : {A R : Type 0} (trace : R → Trace) (event : Event A) (r : Reply) (replies : List Reply) (answer : Result Reply Fault) (program : List ℕ) (old between new : ControllerModel R)
+    → old.journal.broken ≡ true → HonestTurn trace event r answer program old between → Idles replies between new → Idles (r ∷ replies) old new
+idles_more trace event r replies answer program old between new broken step rest =
+    let turn : OnSpecAnyState trace true answer event program old between = subst (λ (b : Bool). OnSpecAnyState trace b answer event program old between) broken step.stepping in
     record {
       answers = answer ∷ rest.answers;
       replies_are = λ i. step.told_is i ∷ rest.replies_are i;
@@ -153,37 +153,37 @@ idles_more life event r replies answer program old between new broken step rest 
       same = rest.same ∙ turn.1;
     }
 
-idles : {A R : Type 0} (life : R → Life) (events : List (Event A)) (replies : List Reply) (program : List ℕ) (old new : ControllerModel R)
-    → History life events replies program old new → old.journal.broken ≡ true → Idles replies old new
-idles life [] [] program old new h broken = record { answers = []; replies_are = refl; none = none_taken; same = h }
+idles : {A R : Type 0} (trace : R → Trace) (events : List (Event A)) (replies : List Reply) (program : List ℕ) (old new : ControllerModel R)
+    → History trace events replies program old new → old.journal.broken ≡ true → Idles replies old new
+idles trace [] [] program old new h broken = record { answers = []; replies_are = refl; none = none_taken; same = h }
   where
     none_taken : (n : ℕ) → dones (take n []) ≡ 0
     none_taken zero = refl
     none_taken (suc n) = refl
-idles life [] (r ∷ replies) program old new h broken = absurd h
-idles life (event ∷ events) [] program old new h broken = absurd h
-idles life (event ∷ events) (r ∷ replies) program old new h broken =
+idles trace [] (r ∷ replies) program old new h broken = absurd h
+idles trace (event ∷ events) [] program old new h broken = absurd h
+idles trace (event ∷ events) (r ∷ replies) program old new h broken =
     let answer = h.0 in
     let between = h.1.0 in
-    let turn : Stepping life true answer event program old between = subst (λ (b : Bool). Stepping life b answer event program old between) broken h.1.1.0.stepping in
-    idles_more life event r replies answer program old between new broken h.1.1.0
-    (idles life events replies (program_after answer (outcome_of old program event) program) between new h.1.1.1 (ap (λ (c : ControllerModel _). c.journal.broken) turn.1 ∙ broken))
+    let turn : OnSpecAnyState trace true answer event program old between = subst (λ (b : Bool). OnSpecAnyState trace b answer event program old between) broken h.1.1.0.stepping in
+    idles_more trace event r replies answer program old between new broken h.1.1.0
+    (idles trace events replies (program_after answer (transition_of old program event) program) between new h.1.1.1 (ap (λ (c : ControllerModel _). c.journal.broken) turn.1 ∙ broken))
 
 -- the rest of a history leads on, from where an answered event left the controller
-led_on : {A R : Type 0} (life : R → Life) (event : Event A) (events : List (Event A)) (r v : Reply) (replies : List Reply) (program : List ℕ) (old between new : ControllerModel R)
-    → r ≡ v → Serving life (Ok v) event program old between → IsAtRestWith (life old.journal.rig) old program
-    → Leads life events replies between.equipment (scene_of (outcome_of old program event).program between) (life between.journal.rig) new
-    → Leads life (event ∷ events) (r ∷ replies) old.equipment (scene_of program old) (life old.journal.rig) new
-led_on life event events r v replies program old between new told_is s rests p =
-    let out = outcome_of old program event in
-    let same : scene_of out.program between ≡ scene_after out = λ i. record { program = out.program; session = s.acts.comes.1 i } in
-    let q : Leads life events replies old.equipment (scene_after out) (life between.journal.rig) new =
-    subst (λ (z : Scene). Leads life events replies old.equipment z (life between.journal.rig) new) same
-    (subst (λ (z : Equipment). Leads life events replies z (scene_of out.program between) (life between.journal.rig) new) s.equipment p) in
-    let scene = scene_of program old in
-    let lived = life old.journal.rig in
-    let mid = life between.journal.rig in
-    let given = items lived in
+led_on : {A R : Type 0} (trace : R → Trace) (event : Event A) (events : List (Event A)) (r v : Reply) (replies : List Reply) (program : List ℕ) (old between new : ControllerModel R)
+    → r ≡ v → OnSpecIfHonest trace (Ok v) event program old between → IsAtRestWith (trace old.journal.rig) old program
+    → Leads trace events replies between.equipment (program_session_of (transition_of old program event).program between) (trace between.journal.rig) new
+    → Leads trace (event ∷ events) (r ∷ replies) old.equipment (program_session_of program old) (trace old.journal.rig) new
+led_on trace event events r v replies program old between new told_is s rests p =
+    let out = transition_of old program event in
+    let same : program_session_of out.program between ≡ session_of_transition out = λ i. record { program = out.program; session = s.acts.comes.1 i } in
+    let q : Leads trace events replies old.equipment (session_of_transition out) (trace between.journal.rig) new =
+    subst (λ (z : ProgramSession). Leads trace events replies old.equipment z (trace between.journal.rig) new) same
+    (subst (λ (z : Equipment). Leads trace events replies z (program_session_of out.program between) (trace between.journal.rig) new) s.equipment p) in
+    let scene = program_session_of program old in
+    let trace_old = trace old.journal.rig in
+    let mid = trace between.journal.rig in
+    let given = items trace_old in
     let answers = Ok v ∷ q.answers in
     let Said : ℕ → Image → List Item → Type 0 = λ n image handed. IsLeftBy old.equipment scene given (event ∷ events) answers (r ∷ replies) n image handed in
     record {
@@ -193,150 +193,150 @@ led_on life event events r v replies program old between new told_is s rests p =
       moments = moment mid ∷ q.moments;
       each = ap (λ (n : ℕ). suc n) q.each;
       rising = (s.acts.stops.later, q.rising);
-      stops = more_calls lived mid (life new.journal.rig) (IsEitherLeft (left_in scene given) (left_in (scene_after out) (given ++ out.items)))
-          (λ t. IsLeftBy old.equipment (scene_after out) (items mid) events q.answers replies (answered_by t q.moments)) (λ t. Said (answered_by t (moment mid ∷ q.moments))) s.acts.stops q.stops
-          (λ t image handed early either. subst (λ (n : ℕ). Said n image handed) (sym (none_by t (moment (life new.journal.rig)) (moment mid) q.moments early q.rising))
-          (one_left old.equipment scene given image handed event (either_left lived program old (left_in (scene_after out) (given ++ out.items)) image handed rests either)))
+      stops = more_calls trace_old mid (trace new.journal.rig) (IsCrashOfEither (crash_in scene given) (crash_in (session_of_transition out) (given ++ out.items)))
+          (λ t. IsLeftBy old.equipment (session_of_transition out) (items mid) events q.answers replies (answered_by t q.moments)) (λ t. Said (answered_by t (moment mid ∷ q.moments))) s.acts.stops q.stops
+          (λ t image handed early either. subst (λ (n : ℕ). Said n image handed) (sym (none_by t (moment (trace new.journal.rig)) (moment mid) q.moments early q.rising))
+          (one_left old.equipment scene given image handed event (either_left trace_old program old (crash_in (session_of_transition out) (given ++ out.items)) image handed rests either)))
           (λ t image handed late l. subst (λ (n : ℕ). Said n image handed) (sym (one_by t (moment mid) q.moments late))
           (more_left old.equipment scene given image handed event r _ _ _ (ap done_count (told_is ∙ s.acts.comes.0))
-          (subst (λ (before : List Item). IsLeftBy old.equipment (scene_after out) before events q.answers replies (answered_by t q.moments) image handed) s.acts.leaves.1 l)));
+          (subst (λ (before : List Item). IsLeftBy old.equipment (session_of_transition out) before events q.answers replies (answered_by t q.moments) image handed) s.acts.leaves.1 l)));
       session_is = q.session_is;
       rests = q.rests;
-      items_are = λ whole. q.items_are whole ∙ ap (λ (l : List Item). l ++ items_of old.equipment (scene_after out) (answered_events events q.answers)) s.acts.leaves.1
-          ∙ append_assoc given out.items (items_of old.equipment (scene_after out) (answered_events events q.answers));
+      items_are = λ whole. q.items_are whole ∙ ap (λ (l : List Item). l ++ items_of old.equipment (session_of_transition out) (answered_events events q.answers)) s.acts.leaves.1
+          ∙ append_assoc given out.items (items_of old.equipment (session_of_transition out) (answered_events events q.answers));
     }
 
 -- an event that was set aside changed nothing
-led_aside : {A R : Type 0} (life : R → Life) (event : Event A) (events : List (Event A)) (r : Reply) (replies : List Reply) (fault : Fault) (equipment : Equipment) (scene : Scene) (lived : Life) (new : ControllerModel R)
+led_aside : {A R : Type 0} (trace : R → Trace) (event : Event A) (events : List (Event A)) (r : Reply) (replies : List Reply) (fault : Fault) (equipment : Equipment) (scene : ProgramSession) (trace_old : Trace) (new : ControllerModel R)
     → ((l : List (Event A)) → answered_events_by (Err fault) event l ≡ l) → ((l : List (Event A)) → tried_events_by (Err fault) event l ≡ l) → ((l : List Reply) → session_replies_by (Err fault) l ≡ l)
-    → r ≡ reply.Refused fault → Leads life events replies equipment scene lived new
-    → Leads life (event ∷ events) (r ∷ replies) equipment scene lived new
-led_aside life event events r replies fault equipment scene lived new no_more no_try no_word told_is p =
+    → r ≡ reply.Refused fault → Leads trace events replies equipment scene trace_old new
+    → Leads trace (event ∷ events) (r ∷ replies) equipment scene trace_old new
+led_aside trace event events r replies fault equipment scene trace_old new no_more no_try no_word told_is p =
     let answers = Err fault ∷ p.answers in
     let none : done_count r ≡ 0 = ap done_count told_is in
-    let Said : ℕ → Image → List Item → Type 0 = λ n image handed. IsLeftBy equipment scene (items lived) (event ∷ events) answers (r ∷ replies) n image handed in
+    let Said : ℕ → Image → List Item → Type 0 = λ n image handed. IsLeftBy equipment scene (items trace_old) (event ∷ events) answers (r ∷ replies) n image handed in
     record {
       answers = answers;
       replies_are = λ i. told_is i ∷ p.replies_are i;
       told_is = rw (no_more (answered_events events p.answers), no_word (session_replies p.answers)) p.told_is;
-      moments = moment lived ∷ p.moments;
+      moments = moment trace_old ∷ p.moments;
       each = ap (λ (n : ℕ). suc n) p.each;
       rising = (omega arith, p.rising);
-      stops = weaker_said lived (life new.journal.rig) (λ t. IsLeftBy equipment scene (items lived) events p.answers replies (answered_by t p.moments)) (λ t. Said (answered_by t (moment lived ∷ p.moments))) p.stops
+      stops = weaker_said trace_old (trace new.journal.rig) (λ t. IsLeftBy equipment scene (items trace_old) events p.answers replies (answered_by t p.moments)) (λ t. Said (answered_by t (moment trace_old ∷ p.moments))) p.stops
           (λ t image handed from l.
           let n = answered_by t p.moments in
-          subst (λ (k : ℕ). Said k image handed) (sym (one_by t (moment lived) p.moments from))
-          (same_left equipment scene (items lived) image handed _ _ _ _ _ _ (ap (λ (es : List (Event _)). length es) (no_more (answered_events (take n events) p.answers))) (no_try (tried_events (take (suc n) events) p.answers)) (omega (arith, none)) l));
+          subst (λ (k : ℕ). Said k image handed) (sym (one_by t (moment trace_old) p.moments from))
+          (same_left equipment scene (items trace_old) image handed _ _ _ _ _ _ (ap (λ (es : List (Event _)). length es) (no_more (answered_events (take n events) p.answers))) (no_try (tried_events (take (suc n) events) p.answers)) (omega (arith, none)) l));
       session_is = rw (no_more (answered_events events p.answers)) p.session_is;
       rests = rw (no_more (answered_events events p.answers)) p.rests;
       items_are = rw (no_more (answered_events events p.answers)) p.items_are;
     }
 
 -- in the event in which the device failed, and after it
-lost_left : {A : Type 0} (equipment : Equipment) (scene : Scene) (given : List Item) (event : Event A) (events : List (Event A)) (answers : List (Result Reply Fault)) (r : Reply) (replies : List Reply) (n : ℕ) (image : Image) (handed : List Item)
+lost_left : {A : Type 0} (equipment : Equipment) (scene : ProgramSession) (given : List Item) (event : Event A) (events : List (Event A)) (answers : List (Result Reply Fault)) (r : Reply) (replies : List Reply) (n : ℕ) (image : Image) (handed : List Item)
     → dones (take n (r ∷ replies)) ≡ 0
-    → IsEitherLeft (left_in scene given) (left_in (scene_after (leads_to equipment scene event)) (given ++ (leads_to equipment scene event).items)) image handed
+    → IsCrashOfEither (crash_in scene given) (crash_in (session_of_transition (leads_to equipment scene event)) (given ++ (leads_to equipment scene event).items)) image handed
     → IsLeftBy equipment scene given (event ∷ events) (Err DeviceFailed ∷ answers) (r ∷ replies) n image handed
 lost_left equipment scene given event events answers r replies zero image handed none p = one_left equipment scene given image handed event p
 lost_left equipment scene given event events answers r replies (suc n) image handed none p =
     same_left equipment scene given image handed _ _ _ _ _ _ refl refl none (one_left equipment scene given image handed event p)
 
 -- the device failed in an event
-led_lost : {A R : Type 0} (life : R → Life) (event : Event A) (events : List (Event A)) (r : Reply) (replies : List Reply) (program : List ℕ) (old between new : ControllerModel R)
-    → r ≡ reply.Refused DeviceFailed → Serving life (Err DeviceFailed) event program old between → IsAtRestWith (life old.journal.rig) old program → Idles replies between new
-    → Leads life (event ∷ events) (r ∷ replies) old.equipment (scene_of program old) (life old.journal.rig) new
-led_lost {A} {R} life event events r replies program old between new told_is s rests idle =
+led_lost : {A R : Type 0} (trace : R → Trace) (event : Event A) (events : List (Event A)) (r : Reply) (replies : List Reply) (program : List ℕ) (old between new : ControllerModel R)
+    → r ≡ reply.Refused DeviceFailed → OnSpecIfHonest trace (Err DeviceFailed) event program old between → IsAtRestWith (trace old.journal.rig) old program → Idles replies between new
+    → Leads trace (event ∷ events) (r ∷ replies) old.equipment (program_session_of program old) (trace old.journal.rig) new
+led_lost {A} {R} trace event events r replies program old between new told_is s rests idle =
     let failed : new.journal.broken ≡ true = ap (λ (c : ControllerModel _). c.journal.broken) idle.same ∙ s.broken in
-    let lived = life old.journal.rig in
-    let last = moment (life between.journal.rig) in
+    let trace_old = trace old.journal.rig in
+    let last = moment (trace between.journal.rig) in
     let moments = last ∷ same_moment last events in
     let answers = Err DeviceFailed ∷ idle.answers in
-    let out = outcome_of old program event in
-    let after = left_in (scene_after out) (items lived ++ out.items) in
+    let out = transition_of old program event in
+    let after = crash_in (session_of_transition out) (items trace_old ++ out.items) in
     record {
       answers = answers;
       replies_are = λ i. told_is i ∷ idle.replies_are i;
       told_is = refl;
       moments = moments;
       each = ap (λ (n : ℕ). suc n) (same_each last events);
-      rising = (s.acts.stops.later, subst (λ (c : ControllerModel R). IsRising last (moment (life c.journal.rig)) (same_moment last events)) (sym idle.same) (same_rising last events));
-      stops = subst (λ (c : ControllerModel R). AtEachStop lived (life c.journal.rig) (λ t. IsLeftBy old.equipment (scene_of program old) (items lived) (event ∷ events) answers (r ∷ replies) (answered_by t moments))) (sym idle.same)
-          (one_call lived (life between.journal.rig) (IsEitherLeft (left_in (scene_of program old) (items lived)) after) _ s.acts.stops
-          (λ t image handed either. lost_left old.equipment (scene_of program old) (items lived) event events idle.answers r replies (answered_by t moments) image handed
-          (none_more r replies (ap done_count told_is) idle.none (answered_by t moments)) (either_left lived program old after image handed rests either)));
+      rising = (s.acts.stops.later, subst (λ (c : ControllerModel R). IsRising last (moment (trace c.journal.rig)) (same_moment last events)) (sym idle.same) (same_rising last events));
+      stops = subst (λ (c : ControllerModel R). AtEachStop trace_old (trace c.journal.rig) (λ t. IsLeftBy old.equipment (program_session_of program old) (items trace_old) (event ∷ events) answers (r ∷ replies) (answered_by t moments))) (sym idle.same)
+          (one_call trace_old (trace between.journal.rig) (IsCrashOfEither (crash_in (program_session_of program old) (items trace_old)) after) _ s.acts.stops
+          (λ t image handed either. lost_left old.equipment (program_session_of program old) (items trace_old) event events idle.answers r replies (answered_by t moments) image handed
+          (none_more r replies (ap done_count told_is) idle.none (answered_by t moments)) (either_left trace_old program old after image handed rests either)));
       session_is = λ whole. absurd (let z : true ≡ false = sym failed ∙ whole in cc);
       rests = λ whole. absurd (let z : true ≡ false = sym failed ∙ whole in cc);
       items_are = λ whole. absurd (let z : true ≡ false = sym failed ∙ whole in cc);
     }
 
 -- an event of a whole controller, and the rest of its history
-led : {A R : Type 0} (life : R → Life) (event : Event A) (events : List (Event A)) (r : Reply) (replies : List Reply) (answer : Result Reply Fault) (program : List ℕ) (old between new : ControllerModel R)
-    → r ≡ reply_to answer → Serving life answer event program old between → old.journal.broken ≡ false → IsAtRestWith (life old.journal.rig) old program
-    → History life events replies (program_after answer (outcome_of old program event) program) between new
-    → ((p : List ℕ) → between.journal.broken ≡ false → IsAtRestWith (life between.journal.rig) between p → History life events replies p between new → Leads life events replies between.equipment (scene_of p between) (life between.journal.rig) new)
-    → Leads life (event ∷ events) (r ∷ replies) old.equipment (scene_of program old) (life old.journal.rig) new
-led life event events r replies (Ok v) program old between new told_is s whole rests h on =
-    led_on life event events r v replies program old between new told_is s rests (on (outcome_of old program event).program s.broken s.acts.leaves.0 h)
-led {A} {R} life event events r replies (Err fault) program old between new told_is s whole rests h on =
-    let Goal : Fault → Type 0 = λ f. r ≡ reply.Refused f → Serving life (Err f) event program old between → Leads life (event ∷ events) (r ∷ replies) old.equipment (scene_of program old) (life old.journal.rig) new in
-    let unmoved : between.journal.broken ≡ false → between.session ≡ old.session → life between.journal.rig ≡ life old.journal.rig → IsAtRestWith (life between.journal.rig) between program
-    → Leads life events replies old.equipment (scene_of program old) (life old.journal.rig) new =
+led : {A R : Type 0} (trace : R → Trace) (event : Event A) (events : List (Event A)) (r : Reply) (replies : List Reply) (answer : Result Reply Fault) (program : List ℕ) (old between new : ControllerModel R)
+    → r ≡ reply_to answer → OnSpecIfHonest trace answer event program old between → old.journal.broken ≡ false → IsAtRestWith (trace old.journal.rig) old program
+    → History trace events replies (program_after answer (transition_of old program event) program) between new
+    → ((p : List ℕ) → between.journal.broken ≡ false → IsAtRestWith (trace between.journal.rig) between p → History trace events replies p between new → Leads trace events replies between.equipment (program_session_of p between) (trace between.journal.rig) new)
+    → Leads trace (event ∷ events) (r ∷ replies) old.equipment (program_session_of program old) (trace old.journal.rig) new
+led trace event events r replies (Ok v) program old between new told_is s whole rests h on =
+    led_on trace event events r v replies program old between new told_is s rests (on (transition_of old program event).program s.broken s.acts.leaves.0 h)
+led {A} {R} trace event events r replies (Err fault) program old between new told_is s whole rests h on =
+    let Goal : Fault → Type 0 = λ f. r ≡ reply.Refused f → OnSpecIfHonest trace (Err f) event program old between → Leads trace (event ∷ events) (r ∷ replies) old.equipment (program_session_of program old) (trace old.journal.rig) new in
+    let unmoved : between.journal.broken ≡ false → between.session ≡ old.session → trace between.journal.rig ≡ trace old.journal.rig → IsAtRestWith (trace between.journal.rig) between program
+    → Leads trace events replies old.equipment (program_session_of program old) (trace old.journal.rig) new =
     λ unbroken same alive here.
-    subst (λ (l : Life). Leads life events replies old.equipment (scene_of program old) l new) alive
-    (subst (λ (x : Sitting). Leads life events replies old.equipment (record { program = program; session = x }) (life between.journal.rig) new) same
-    (subst (λ (q : Equipment). Leads life events replies q (scene_of program between) (life between.journal.rig) new) s.equipment
+    subst (λ (l : Trace). Leads trace events replies old.equipment (program_session_of program old) l new) alive
+    (subst (λ (x : SessionModel). Leads trace events replies old.equipment (record { program = program; session = x }) (trace between.journal.rig) new) same
+    (subst (λ (q : Equipment). Leads trace events replies q (program_session_of program between) (trace between.journal.rig) new) s.equipment
     (on program unbroken here h))) in
-    let short : Goal OutOfMemory = λ t z. led_aside life event events r replies OutOfMemory old.equipment (scene_of program old) (life old.journal.rig) new (λ l. refl) (λ l. refl) (λ l. refl) t (unmoved z.broken z.acts.comes z.acts.leaves.1 z.acts.leaves.0) in
-    let used : Goal CountersUsed = λ t z. led_aside life event events r replies CountersUsed old.equipment (scene_of program old) (life old.journal.rig) new (λ l. refl) (λ l. refl) (λ l. refl) t (unmoved z.broken z.acts.comes z.acts.leaves.1 z.acts.leaves.0) in
-    let lost : Goal DeviceFailed = λ t z. led_lost life event events r replies program old between new t z rests (idles life events replies program between new h z.broken) in
+    let short : Goal OutOfMemory = λ t z. led_aside trace event events r replies OutOfMemory old.equipment (program_session_of program old) (trace old.journal.rig) new (λ l. refl) (λ l. refl) (λ l. refl) t (unmoved z.broken z.acts.comes z.acts.leaves.1 z.acts.leaves.0) in
+    let used : Goal CountersUsed = λ t z. led_aside trace event events r replies CountersUsed old.equipment (program_session_of program old) (trace old.journal.rig) new (λ l. refl) (λ l. refl) (λ l. refl) t (unmoved z.broken z.acts.comes z.acts.leaves.1 z.acts.leaves.0) in
+    let lost : Goal DeviceFailed = λ t z. led_lost trace event events r replies program old between new t z rests (idles trace events replies program between new h z.broken) in
     let goal : Goal fault = ⊎_elim (λ e. subst Goal (sym e.0) short) (λ o. ⊎_elim (λ e. subst Goal (sym e.0) used) (λ e. subst Goal (sym e.0) lost) o) s.hindered in
     goal told_is s
 
-pub leads : {A R : Type 0} (life : R → Life) (events : List (Event A)) (replies : List Reply) (program : List ℕ) (old new : ControllerModel R)
-    → History life events replies program old new → old.journal.broken ≡ false → IsAtRestWith (life old.journal.rig) old program
-    → Leads life events replies old.equipment (scene_of program old) (life old.journal.rig) new
-leads {A} {R} life [] [] program old new h whole rests =
-    let lived = life old.journal.rig in
-    subst (λ (c : ControllerModel R). Leads {A = A} life [] [] old.equipment (scene_of program old) lived c) (sym h) (record {
+pub leads : {A R : Type 0} (trace : R → Trace) (events : List (Event A)) (replies : List Reply) (program : List ℕ) (old new : ControllerModel R)
+    → History trace events replies program old new → old.journal.broken ≡ false → IsAtRestWith (trace old.journal.rig) old program
+    → Leads trace events replies old.equipment (program_session_of program old) (trace old.journal.rig) new
+leads {A} {R} trace [] [] program old new h whole rests =
+    let trace_old = trace old.journal.rig in
+    subst (λ (c : ControllerModel R). Leads {A = A} trace [] [] old.equipment (program_session_of program old) trace_old c) (sym h) (record {
       answers = [];
       replies_are = refl;
       told_is = refl;
       moments = [];
       each = refl;
       rising = omega arith;
-      stops = no_call lived (λ t. IsLeftBy {A = A} old.equipment (scene_of program old) (items lived) [] [] [] 0)
-          (λ t image handed stop. none_left {A = A} old.equipment (scene_of program old) (items lived) image handed (alone lived _ _ image handed rests.0.at stop));
+      stops = no_call trace_old (λ t. IsLeftBy {A = A} old.equipment (program_session_of program old) (items trace_old) [] [] [] 0)
+          (λ t image handed stop. none_left {A = A} old.equipment (program_session_of program old) (items trace_old) image handed (alone trace_old _ _ image handed rests.0.at stop));
       session_is = λ b. refl;
       rests = λ b. rests;
-      items_are = λ b. sym (append-nil (items lived));
+      items_are = λ b. sym (append-nil (items trace_old));
     })
-leads life [] (r ∷ replies) program old new h whole rests = absurd h
-leads life (event ∷ events) [] program old new h whole rests = absurd h
-leads life (event ∷ events) (r ∷ replies) program old new h whole rests =
+leads trace [] (r ∷ replies) program old new h whole rests = absurd h
+leads trace (event ∷ events) [] program old new h whole rests = absurd h
+leads trace (event ∷ events) (r ∷ replies) program old new h whole rests =
     let answer = h.0 in
     let between = h.1.0 in
-    let turn : Serving life answer event program old between = subst (λ (b : Bool). Stepping life b answer event program old between) whole h.1.1.0.stepping in
-    led life event events r replies answer program old between new h.1.1.0.told_is turn whole rests h.1.1.1
-    (λ p w k g. leads life events replies p between new g w k)
+    let turn : OnSpecIfHonest trace answer event program old between = subst (λ (b : Bool). OnSpecAnyState trace b answer event program old between) whole h.1.1.0.stepping in
+    led trace event events r replies answer program old between new h.1.1.0.told_is turn whole rests h.1.1.1
+    (λ p w k g. leads trace events replies p between new g w k)
 
-abbrev pub passed : {A R : Type 0} (life : R → Life) (events : List (Event A)) (replies : List Reply) (equipment : Equipment) (scene : Scene) (lived : Life) (new : ControllerModel R)
-    → Leads life events replies equipment scene lived new → PassesAsSession life events replies equipment scene lived new
-passed life events replies equipment scene lived new l = record {
+abbrev pub passed : {A R : Type 0} (trace : R → Trace) (events : List (Event A)) (replies : List Reply) (equipment : Equipment) (scene : ProgramSession) (trace_old : Trace) (new : ControllerModel R)
+    → Leads trace events replies equipment scene trace_old new → PassesAsSession trace events replies equipment scene trace_old new
+passed trace events replies equipment scene trace_old new l = record {
   answers = l.answers;
   replies_are = l.replies_are;
   told_is = l.told_is;
   moments = l.moments;
   each = l.each;
   rising = l.rising;
-  stops = weaker_said lived (life new.journal.rig) _ _ l.stops (λ t image handed from is. is.after);
+  stops = weaker_said trace_old (trace new.journal.rig) _ _ l.stops (λ t image handed from is. is.after);
   session_is = l.session_is;
   rests = l.rests;
   items_are = l.items_are;
 }
 
 -- Each history passes as the session does.
-pub passes : {A R : Type 0} (life : R → Life) (events : List (Event A)) (replies : List Reply) (program : List ℕ) (old new : ControllerModel R)
-    → History life events replies program old new → old.journal.broken ≡ false → IsAtRestWith (life old.journal.rig) old program
-    → PassesAsSession life events replies old.equipment (scene_of program old) (life old.journal.rig) new
-passes life events replies program old new h whole rests =
-    passed life events replies old.equipment (scene_of program old) (life old.journal.rig) new (leads life events replies program old new h whole rests)
+pub passes : {A R : Type 0} (trace : R → Trace) (events : List (Event A)) (replies : List Reply) (program : List ℕ) (old new : ControllerModel R)
+    → History trace events replies program old new → old.journal.broken ≡ false → IsAtRestWith (trace old.journal.rig) old program
+    → PassesAsSession trace events replies old.equipment (program_session_of program old) (trace old.journal.rig) new
+passes trace events replies program old new h whole rests =
+    passed trace events replies old.equipment (program_session_of program old) (trace old.journal.rig) new (leads trace events replies program old new h whole rests)

@@ -1,29 +1,29 @@
 -- What power on gives, by what the journal recovers.
 use Rattle.std.proofs.Common.{◌≡◌, ℕ, List, Ok, sym, ◌∙◌, ap, subst}
-use Rattle.ng_rig.specs.Life.{Life}
-use Rattle.ng_layout.specs.Stored.{Saved, Standing}
-use Rattle.ng_journal.specs.Journal.{Logbook, RestsAt}
-use Rattle.ng_journal.specs.Recover.{Recovers, IsRecovered as IsJournalRecovered}
+use Rattle.ng_rig.specs.Trace.{Trace}
+use Rattle.ng_layout.specs.Stored.{StoredModel, DurableState}
+use Rattle.ng_journal.specs.Journal.{JournalModel, IsDurablyAt}
+use Rattle.ng_journal.specs.Recover.{RecoverSpec, IsJournalRecovered}
 use Rattle.ng_session.specs.Entries.{Equipment}
-use Rattle.ng_session.specs.LinesBefore.{IsTrueOf}
-use Rattle.ng_session.specs.Session.{Sitting}
-use Rattle.ng_session.specs.declared.lines_before.LinesBefore.{LinesBefore}
-use Rattle.ng_core.specs.Model.{standing_of_session}
-use Rattle.ng_core.specs.Powers.{PowersOnIfHonest, IsControllerRecovered}
+use Rattle.ng_text.specs.LinesBefore.{IsTrueOf}
+use Rattle.ng_session.specs.Session.{SessionModel}
+use Rattle.ng_text.specs.declared.lines_before.LinesBefore.{LinesBefore}
+use Rattle.ng_core.specs.Model.{durable_state_of}
+use Rattle.ng_core.specs.Powers.{PowerOnSpecIfHonest, IsControllerRecovered}
 
-recovered : {R : Type 0} (journal : Logbook R) (session : Sitting) (lines : LinesBefore) (equipment : Equipment) (old new : Life) → session.stored ≡ journal.saved → ((program : List ℕ) → IsTrueOf program lines)
+recovered : {R : Type 0} (journal : JournalModel R) (session : SessionModel) (lines : LinesBefore) (equipment : Equipment) (old new : Trace) → session.stored ≡ journal.saved → ((program : List ℕ) → IsTrueOf program lines)
     → IsJournalRecovered journal old new → IsControllerRecovered {R = R} (record { journal = journal; session = session; lines = lines; equipment = equipment }) old new
 recovered journal session lines equipment old new stored known r =
-    let same : r.standing ≡ standing_of_session r.standing.program session = λ i. record { saved = (r.rests.saved_is ∙ sym stored) i; program = r.standing.program } in
+    let same : r.standing ≡ durable_state_of r.standing.program session = λ i. record { saved = (r.rests.saved_is ∙ sym stored) i; program = r.standing.program } in
     record {
       program = r.standing.program;
-      rests = (subst (λ (s : Standing). RestsAt new journal s) same r.rests, known r.standing.program);
-      is = r.is ∙ ap (λ (s : Standing). Ok s) same;
+      rests = (subst (λ (s : DurableState). IsDurablyAt new journal s) same r.rests, known r.standing.program);
+      is = r.is ∙ ap (λ (s : DurableState). Ok s) same;
     }
 
-pub powered : {R : Type 0} (journal : Logbook R) (saved : Saved) (session : Sitting) (lines : LinesBefore) (equipment : Equipment) (old new : Life) → session.stored ≡ saved → journal.saved ≡ saved → ((program : List ℕ) → IsTrueOf program lines)
-    → Recovers (Ok (journal, saved)) old new → PowersOnIfHonest {R = R} (Ok (record { journal = journal; session = session; lines = lines; equipment = equipment })) old new
+pub powered : {R : Type 0} (journal : JournalModel R) (saved : StoredModel) (session : SessionModel) (lines : LinesBefore) (equipment : Equipment) (old new : Trace) → session.stored ≡ saved → journal.saved ≡ saved → ((program : List ℕ) → IsTrueOf program lines)
+    → RecoverSpec (Ok (journal, saved)) old new → PowerOnSpecIfHonest {R = R} (Ok (record { journal = journal; session = session; lines = lines; equipment = equipment })) old new
 powered journal saved session lines equipment old new stored held known r = record {
-  recovers = subst (λ (x : Saved). Recovers (Ok (journal, x)) old new) (sym stored) r;
+  recovers = subst (λ (x : StoredModel). RecoverSpec (Ok (journal, x)) old new) (sym stored) r;
   rests = λ written. recovered journal session lines equipment old new (stored ∙ sym held) known (r.kept written).ready;
 }

@@ -3,54 +3,54 @@ use Rattle.std.proofs.Common.{◌≡◌, ℕ, ◌==◌, Bool, true, false, not, 
 use Rattle.std.specs.Option.{is_some}
 use Rattle.ng_num.specs.declared.fault.Fault.{Fault}
 use Rattle.ng_block.specs.Effects.{Done}
-use Rattle.ng_layout.specs.Programs.{Line}
-use Rattle.ng_layout.specs.Stored.{Saved}
+use Rattle.ng_text.specs.Programs.{ProgramLineModel}
+use Rattle.ng_layout.specs.Stored.{StoredModel}
 use Rattle.ng_layout.specs.declared.half.Source.TheVariants as source
 use Rattle.ng_session.specs.Entries.{Equipment, done_of}
-use Rattle.ng_session.specs.Session.{Sitting, Outcome, is_running, is_idle, is_free, is_engaged, start, hold, go_on, mdi, mdi_by, begin, begin_by, step, IsQuiet}
+use Rattle.ng_session.specs.Session.{SessionModel, Transition, is_running, is_idle, accepts_load, refuses_mdi, start, hold, resume_held, mdi, mdi_by, begin, begin_by, step, IsQuiet}
 use Rattle.ng_session.specs.declared.event.Event.{Event}
 use Rattle.ng_session.specs.declared.event.Event.TheVariants as event
 
 -- nothing is handed out, and what stands stays
-pub record IsStill (program : List ℕ) (stored : Saved) (out : Outcome) : Type 0 where
+pub record IsStill (program : List ℕ) (stored : StoredModel) (out : Transition) : Type 0 where
   pub items : out.items ≡ []
   pub program_is : out.program ≡ program
   pub stored_is : out.next.stored ≡ stored
 
-pub still : {program : List ℕ} {stored : Saved} {out : Outcome} → out.items ≡ [] → out.program ≡ program → out.next.stored ≡ stored → IsStill program stored out
+pub still : {program : List ℕ} {stored : StoredModel} {out : Transition} → out.items ≡ [] → out.program ≡ program → out.next.stored ≡ stored → IsStill program stored out
 still items program stored = record { items = items; program_is = program; stored_is = stored }
 
-by_if : (P : List ℕ) (x : Saved) (b : Bool) (o q : Outcome) → IsStill P x o → IsStill P x q → IsStill P x (if b then o else q)
+by_if : (P : List ℕ) (x : StoredModel) (b : Bool) (o q : Transition) → IsStill P x o → IsStill P x q → IsStill P x (if b then o else q)
 by_if P x true o q f g = f
 by_if P x false o q f g = g
 
-still_start : (P : List ℕ) (s : Sitting) → IsStill P s.stored (start P s)
+still_start : (P : List ℕ) (s : SessionModel) → IsStill P s.stored (start P s)
 still_start P s =
-    by_if P s.stored (not (is_free s)) _ _ (still refl refl refl)
-    (by_if P s.stored (not s.stored.setup.machine.place_known) _ _ (still refl refl refl)
+    by_if P s.stored (not (accepts_load s)) _ _ (still refl refl refl)
+    (by_if P s.stored (not s.stored.setup.machine.point_known) _ _ (still refl refl refl)
     (by_if P s.stored (s.stored.length == 0) _ _ (still refl refl refl) (still refl refl refl)))
 
-still_hold : (P : List ℕ) (s : Sitting) → IsStill P s.stored (hold P s)
+still_hold : (P : List ℕ) (s : SessionModel) → IsStill P s.stored (hold P s)
 still_hold P s = by_if P s.stored (is_running s.activity || is_some s.current) _ _ (still refl refl refl) (still refl refl refl)
 
-still_go : (P : List ℕ) (s : Sitting) → IsStill P s.stored (go_on P s)
+still_go : (P : List ℕ) (s : SessionModel) → IsStill P s.stored (resume_held P s)
 still_go P s =
     by_if P s.stored s.held _ _ (still refl refl refl)
     (by_if P s.stored (is_running s.activity || is_some s.current) _ _ (still refl refl refl)
     (by_if P s.stored (is_idle s.activity) _ _ (still refl refl refl) (still refl refl refl)))
 
-still_mdi_by : (P : List ℕ) (s : Sitting) (text : List ℕ) (done : Result Done Fault) → IsStill P s.stored (mdi_by P s text done)
+still_mdi_by : (P : List ℕ) (s : SessionModel) (text : List ℕ) (done : Result Done Fault) → IsStill P s.stored (mdi_by P s text done)
 still_mdi_by P s text (Ok done) = still refl refl refl
 still_mdi_by P s text (Err fault) = still refl refl refl
 
-still_mdi : (q : Equipment) (P : List ℕ) (s : Sitting) (text : List ℕ) → IsStill P s.stored (mdi q P s text)
+still_mdi : (q : Equipment) (P : List ℕ) (s : SessionModel) (text : List ℕ) → IsStill P s.stored (mdi q P s text)
 still_mdi q P s text =
-    by_if P s.stored (is_engaged s) _ _ (still refl refl refl)
-    (by_if P s.stored (not s.stored.setup.machine.place_known) _ _ (still refl refl refl)
+    by_if P s.stored (refuses_mdi s) _ _ (still refl refl refl)
+    (by_if P s.stored (not s.stored.setup.machine.point_known) _ _ (still refl refl refl)
     (still_mdi_by P s text (done_of q P s.stored source.Mdi text s.block_delete)))
 
 -- an event that neither writes to the device nor hands anything out
-pub still_step : {A : Type 0} (q : Equipment) (P : List ℕ) (s : Sitting) (e : Event A) → IsQuiet e → IsStill P s.stored (step q P s e)
+pub still_step : {A : Type 0} (q : Equipment) (P : List ℕ) (s : SessionModel) (e : Event A) → IsQuiet e → IsStill P s.stored (step q P s e)
 still_step q P s (event.Load text) quiet = absurd quiet
 still_step q P s event.Start quiet = still_start P s
 still_step q P s event.Hold quiet = still_hold P s
@@ -64,11 +64,11 @@ still_step q P s (event.BlockDelete on) quiet = still refl refl refl
 still_step q P s event.Status quiet = still refl refl refl
 still_step q P s event.Tick quiet = absurd quiet
 
-still_begin_by : (P : List ℕ) (s : Sitting) (line : Line) (done : Result Done Fault) → IsStill P s.stored (begin_by P s line done)
+still_begin_by : (P : List ℕ) (s : SessionModel) (line : ProgramLineModel) (done : Result Done Fault) → IsStill P s.stored (begin_by P s line done)
 still_begin_by P s line (Ok done) = still refl refl refl
 still_begin_by P s line (Err fault) = still refl refl refl
 
 -- a line of the program is begun, or the program stops
-pub still_begin : (q : Equipment) (P : List ℕ) (s : Sitting) (line : Option Line) → IsStill P s.stored (begin q P s line)
+pub still_begin : (q : Equipment) (P : List ℕ) (s : SessionModel) (line : Option ProgramLineModel) → IsStill P s.stored (begin q P s line)
 still_begin q P s None = still refl refl refl
 still_begin q P s (Some line) = still_begin_by P s line (done_of q P s.stored source.Program line.text s.block_delete)

@@ -6,40 +6,40 @@ use Rattle.ng_num.specs.declared.fault.Fault.TheVariants as fault
 use Rattle.ng_num.specs.declared.fault.Fault.{Fault}
 use Rattle.ng_num.specs.declared.fault.Fault.TheVariants.{DeviceFailed, CountersUsed}
 use Rattle.ng_num.specs.declared.point.Point.{Point}
-use Rattle.ng_rig.specs.Life.{Life}
+use Rattle.ng_rig.specs.Trace.{Trace}
 use Rattle.ng_rig.proofs.Promise.{meaning}
 use Rattle.ng_layout.specs.Limits.{greatest_count}
-use Rattle.ng_layout.specs.Stored.{HalfDone, Saved}
-use Rattle.ng_journal.specs.Journal.{Logbook, Moves}
+use Rattle.ng_layout.specs.Stored.{HalfModel, StoredModel}
+use Rattle.ng_journal.specs.Journal.{JournalModel, CommitSpec}
 use Rattle.ng_session.specs.Entries.{Entry, referenced, after_reference, abandoned, after_abandon}
-use Rattle.ng_session.specs.Session.{Sitting, commits, is_running, is_at_rest, abandon_refusal}
+use Rattle.ng_session.specs.Session.{SessionModel, commits, is_running, is_at_rest, abandon_refusal}
 use Rattle.ng_session.specs.declared.reply.Reply.{Reply}
 use Rattle.ng_session.specs.declared.reply.Reply.TheVariants as reply
-use Rattle.ng_core.specs.Model.{ControllerModel, standing_of_session}
+use Rattle.ng_core.specs.Model.{ControllerModel, durable_state_of}
 use Rattle.ng_core.specs.Events.{IsCarriedOutIfHonest, TouchesNothing}
 use Rattle.ng_core.proofs.Doing.{does_moved, does_unmoved, Storing}
 use Rattle.ng_core.proofs.Ticks.{StoresEntry, kept}
 
-storing : {R T : Type 0} (honest : R → Type 0) (life : R → Life) (result : Result T Fault) (saved : Saved) (entry : Entry) (next : Sitting) (old : ControllerModel R) (journal : Logbook R) → saved ≡ next.stored
-    → StoresEntry honest life result saved old.journal journal → Storing honest life result (λ program. commits program entry next) old journal
-storing honest life result saved entry next old journal is p =
+storing : {R T : Type 0} (honest : R → Type 0) (trace : R → Trace) (result : Result T Fault) (saved : StoredModel) (entry : Entry) (next : SessionModel) (old : ControllerModel R) (journal : JournalModel R) → saved ≡ next.stored
+    → StoresEntry honest trace result saved old.journal journal → Storing honest trace result (λ program. commits program entry next) old journal
+storing honest trace result saved entry next old journal is p =
     meaning p (λ f program rests.
-    subst (λ (x : Saved). Moves result journal (standing_of_session program old.session) (record { saved = x; program = program }) (life old.journal.rig) (life journal.rig)) is
-    (f (standing_of_session program old.session) rests.0))
+    subst (λ (x : StoredModel). CommitSpec result journal (durable_state_of program old.session) (record { saved = x; program = program }) (trace old.journal.rig) (trace journal.rig)) is
+    (f (durable_state_of program old.session) rests.0))
 
-pub keeps : {R T : Type 0} (honest : R → Type 0) (life : R → Life) (v : T) (r : Reply) (saved : Saved) (entry : Entry) (next : Sitting) (old new : ControllerModel R)
-    → saved ≡ next.stored → r ≡ reply.Done next.stored.entries → new.session ≡ next → StoresEntry honest life (Ok v) saved old.journal new.journal → new.lines ≡ old.lines
-    → IsCarriedOutIfHonest honest life (Ok r) (λ program. commits program entry next) old new
-keeps honest life v r saved entry next old new is replied there p lines =
-    does_moved honest life r v (λ program. commits program entry next) old new (storing honest life (Ok v) saved entry next old new.journal is p) (kept old.lines new.lines lines) (λ program. replied) (λ program. there) (λ program. refl)
+pub keeps : {R T : Type 0} (honest : R → Type 0) (trace : R → Trace) (v : T) (r : Reply) (saved : StoredModel) (entry : Entry) (next : SessionModel) (old new : ControllerModel R)
+    → saved ≡ next.stored → r ≡ reply.Done next.stored.entries → new.session ≡ next → StoresEntry honest trace (Ok v) saved old.journal new.journal → new.lines ≡ old.lines
+    → IsCarriedOutIfHonest honest trace (Ok r) (λ program. commits program entry next) old new
+keeps honest trace v r saved entry next old new is replied there p lines =
+    does_moved honest trace r v (λ program. commits program entry next) old new (storing honest trace (Ok v) saved entry next old new.journal is p) (kept old.lines new.lines lines) (λ program. replied) (λ program. there) (λ program. refl)
     (subst (λ (x : Reply). TouchesNothing x → ⊥) (sym replied) (λ z. z))
 
-pub keeps_none : {R T : Type 0} (honest : R → Type 0) (life : R → Life) (fault : Fault) (saved : Saved) (entry : Entry) (next : Sitting) (old new : ControllerModel R)
+pub keeps_none : {R T : Type 0} (honest : R → Type 0) (trace : R → Trace) (fault : Fault) (saved : StoredModel) (entry : Entry) (next : SessionModel) (old new : ControllerModel R)
     → saved ≡ next.stored → new.session ≡ old.session → (fault ≡ CountersUsed) ⊎ (fault ≡ DeviceFailed) → (fault ≡ CountersUsed → new.journal ≡ old.journal)
-    → StoresEntry {T = T} honest life (Err fault) saved old.journal new.journal → new.lines ≡ old.lines
-    → IsCarriedOutIfHonest honest life (Err fault) (λ program. commits program entry next) old new
-keeps_none {R} {T} honest life fault saved entry next old new is same which unchanged p lines =
-    does_unmoved {T = T} honest life fault fault (λ program. commits program entry next) old new (storing {T = T} honest life (Err fault) saved entry next old new.journal is p) which unchanged lines same (λ program. refl)
+    → StoresEntry {T = T} honest trace (Err fault) saved old.journal new.journal → new.lines ≡ old.lines
+    → IsCarriedOutIfHonest honest trace (Err fault) (λ program. commits program entry next) old new
+keeps_none {R} {T} honest trace fault saved entry next old new is same which unchanged p lines =
+    does_unmoved {T = T} honest trace fault fault (λ program. commits program entry next) old new (storing {T = T} honest trace (Err fault) saved entry next old new.journal is p) which unchanged lines same (λ program. refl)
 
 -- ---- where a half-done block may be given up
 
@@ -60,10 +60,10 @@ half_of true true h = cc
 half_of true false h = refl
 half_of false d h = cc
 
-pub no_block : (s : Sitting) → abandon_refusal s ≡ None → s.current ≡ None
+pub no_block : (s : SessionModel) → abandon_refusal s ≡ None → s.current ≡ None
 no_block s free = none_of s.current (first_of (is_none s.current) (not (is_running s.activity)) (not s.held) (rests_of (is_at_rest s) (is_none s.stored.half) free))
 
-pub has_half : (s : Sitting) → abandon_refusal s ≡ None → s.stored.half ≡ None → ⊥
+pub has_half : (s : SessionModel) → abandon_refusal s ≡ None → s.stored.half ≡ None → ⊥
 has_half s free none = let e : true ≡ false = sym (ap is_none none) ∙ half_of (is_at_rest s) (is_none s.stored.half) free in cc
 
 -- ---- the greatest count
@@ -71,16 +71,16 @@ has_half s free none = let e : true ≡ false = sym (ap is_none none) ∙ half_o
 pub past_count : (n m : ℕ) → true ≡ not (nat_lt n greatest_count) → m ≡ n + 1 → greatest_count < m
 past_count n m used is = grind (arith, nat_tests)
 
-entries_referenced : (x : Saved) (point : Point) (half : Option HalfDone) → (referenced x point half).entries ≡ x.entries + 1
+entries_referenced : (x : StoredModel) (point : Point) (half : Option HalfModel) → (referenced x point half).entries ≡ x.entries + 1
 entries_referenced x point None = refl
 entries_referenced x point (Some half) = refl
 
-pub past_referenced : (x : Saved) (point : Point) → true ≡ not (nat_lt x.entries greatest_count) → greatest_count < (after_reference x point).entries
+pub past_referenced : (x : StoredModel) (point : Point) → true ≡ not (nat_lt x.entries greatest_count) → greatest_count < (after_reference x point).entries
 past_referenced x point used = past_count x.entries (after_reference x point).entries used (entries_referenced x point x.half)
 
-entries_abandoned : (x : Saved) (half : Option HalfDone) → (half ≡ None → ⊥) → (abandoned x half).entries ≡ x.entries + 1
+entries_abandoned : (x : StoredModel) (half : Option HalfModel) → (half ≡ None → ⊥) → (abandoned x half).entries ≡ x.entries + 1
 entries_abandoned x None some = absurd (some refl)
 entries_abandoned x (Some half) some = refl
 
-pub past_abandoned : (x : Saved) → (x.half ≡ None → ⊥) → true ≡ not (nat_lt x.entries greatest_count) → greatest_count < (after_abandon x).entries
+pub past_abandoned : (x : StoredModel) → (x.half ≡ None → ⊥) → true ≡ not (nat_lt x.entries greatest_count) → greatest_count < (after_abandon x).entries
 past_abandoned x some used = past_count x.entries (after_abandon x).entries used (entries_abandoned x x.half some)

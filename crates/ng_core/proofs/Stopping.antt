@@ -2,17 +2,17 @@
 use Rattle.std.proofs.Common.{◌≡◌, ◌≤◌, inl, inr, ⊎_elim, ℕ, suc, List, [], ◌∷◌, ◌++◌, take, drop, Ok, refl, sym, ◌∙◌, ap, subst, append_assoc, arith}
 use Rattle.std.proofs.lemmas.List.{append-nil, length-drop, length-take-le, take-take, take-append-drop}
 use Rattle.ng_canon.specs.declared.item.Item.{Item}
-use Rattle.ng_rig.specs.Life.{Image, Life, reads, items, moment, IsStop}
-use Rattle.ng_rig.specs.Onward.{IsSynced}
-use Rattle.ng_rig.proofs.Running.{stop_now, one_image, may_hold-reads, life_now}
+use Rattle.ng_rig.specs.Trace.{Image, Trace, reads, items, moment, IsStop}
+use Rattle.ng_rig.specs.Continuation.{IsSynced}
+use Rattle.ng_rig.proofs.Running.{stop_now, one_image, may_hold-reads, trace_now}
 use Rattle.ng_layout.specs.Stands.{stands, recovered, IsWritten}
-use Rattle.ng_layout.specs.Stored.{Standing}
+use Rattle.ng_layout.specs.Stored.{DurableState}
 use Rattle.ng_journal.specs.AtRest.{IsEither}
 use Rattle.ng_journal.specs.Journal.{StandsFor}
 use Rattle.ng_journal.specs.Recovery.{recovered_of}
 use Rattle.ng_session.specs.Entries.{Equipment, Entry}
 use Rattle.ng_session.specs.Fold.{items_all}
-use Rattle.ng_session.specs.Runs.{Left, resting_scene, entries_of, dones, lines_given}
+use Rattle.ng_session.specs.Runs.{CrashState, session_at_power_on, entries_of, dones, lines_given}
 use Rattle.ng_session.specs.Cuts.{IsCut}
 use Rattle.ng_core.specs.Moments.{IsRising, answered_by}
 use Rattle.ng_core.specs.Runs.{tried_events}
@@ -22,7 +22,7 @@ use Rattle.ng_core.proofs.Timing.{one_call, weaker_said}
 
 -- ---- within power on
 
-left_within : (equipment : Equipment) (x : Standing) (old : Life) (image : Image) (handed : List Item) → stands (reads old) ≡ Ok x → IsWritten (reads old)
+left_within : (equipment : Equipment) (x : DurableState) (old : Trace) (image : Image) (handed : List Item) → stands (reads old) ≡ Ok x → IsWritten (reads old)
     → IsEither (stands (reads old)) (recovered_of (stands (reads old))) (items old) image handed → LeavesSession equipment (reads old) (items old) [] [] image handed
 left_within equipment x old image handed state written p = record {
   items = [];
@@ -42,14 +42,14 @@ left_within equipment x old image handed state written p = record {
 }
 
 -- a synced device is left as it reads
-left_synced : (old : Life) (image : Image) (handed : List Item) → IsSynced old → IsWritten (reads old) → IsStop old image handed
+left_synced : (old : Trace) (image : Image) (handed : List Item) → IsSynced old → IsWritten (reads old) → IsStop old image handed
     → IsEither (stands (reads old)) (recovered_of (stands (reads old))) (items old) image handed
 left_synced old image handed synced written stop =
     let same : image ≡ reads old = one_image old image handed synced stop in
     record { state = inl (ap stands same); written = subst IsWritten (sym same) written; handed_is = stop.1 }
 
-pub within_power_on : {R : Type 0} (life : R → Life) → SessionsWithinPowerOn life
-within_power_on life equipment x result old new p state written =
+pub within_power_on : {R : Type 0} (trace : R → Trace) → SessionsWithinPowerOn trace
+within_power_on trace equipment x result old new p state written =
     let stops = (p.recovers.kept written).stops in
     let left = λ (image : Image) (handed : List Item). left_within equipment x old image handed state written in (
       one_call old new _ _ stops (λ t image handed either. ⊎_elim (λ since. inl (stop_now old image handed since)) (λ e. inr (left image handed e)) either),
@@ -59,7 +59,7 @@ within_power_on life equipment x result old new p state written =
 
 -- ---- after it
 
-left_after : (equipment : Equipment) (lines : List (List ℕ)) (x : Standing) (first : Image) (before : List Item) (executed : List Entry) (acknowledged : ℕ) (image : Image) (handed : List Item)
+left_after : (equipment : Equipment) (lines : List (List ℕ)) (x : DurableState) (first : Image) (before : List Item) (executed : List Entry) (acknowledged : ℕ) (image : Image) (handed : List Item)
     → stands first ≡ Ok x → IsWritten first → IsAccounted equipment lines (recovered x) before executed acknowledged image handed
     → LeavesSession equipment first before lines (take acknowledged executed) image handed
 left_after equipment lines x first before executed acknowledged image handed state written p =
@@ -68,7 +68,7 @@ left_after equipment lines x first before executed acknowledged image handed sta
     let all : take acknowledged executed ++ more ≡ entries =
     ap (λ (l : List Entry). l ++ more) (sym (take-take acknowledged p.count executed p.all)) ∙ take-append-drop acknowledged entries in
     let given = items_all equipment (recovered x) entries ++ p.cut.more in
-    let left : Left = record { standing = p.left.standing; items = given } in
+    let left : CrashState = record { standing = p.left.standing; items = given } in
     record {
       items = given;
       handed_is = p.stands_for.handed_is ∙ p.cut.items ∙ append_assoc before (items_all equipment (recovered x) entries) p.cut.more;
@@ -87,12 +87,12 @@ left_after equipment lines x first before executed acknowledged image handed sta
       };
     }
 
-pub after_power_on : {R : Type 0} (A : Type 0) (life : R → Life) → SessionsAfterPowerOn A life
-after_power_on A life image x events replies first now p state written =
-    weaker_said (life first.journal.rig) (life now.journal.rig) _ _ p.stops
+pub after_power_on : {R : Type 0} (A : Type 0) (trace : R → Trace) → SessionsAfterPowerOn A trace
+after_power_on A trace image x events replies first now p state written =
+    weaker_said (trace first.journal.rig) (trace now.journal.rig) _ _ p.stops
     (λ t left handed from a. let n = answered_by t p.passes.moments in
-    left_after first.equipment (lines_given (take (suc n) events)) x image (items (life first.journal.rig))
-    (entries_of first.equipment (resting_scene (recovered x)) (tried_events events p.passes.answers)) (dones (take n replies)) left handed state written a)
+    left_after first.equipment (lines_given (take (suc n) events)) x image (items (trace first.journal.rig))
+    (entries_of first.equipment (session_at_power_on (recovered x)) (tried_events events p.passes.answers)) (dones (take n replies)) left handed state written a)
 
 -- ---- power on anew
 
@@ -102,11 +102,11 @@ rising_last first last (m ∷ ms) rising = omega (arith, rising.0, rising_last m
 
 -- an image that a power on may begin with
 record IsSound (image : Image) : Type 0 where
-  standing : Standing
+  standing : DurableState
   state : stands image ≡ Ok standing
   written : IsWritten image
 
-sound : (standing : Standing) (given : List Item) (image : Image) (handed : List Item) → StandsFor standing given image handed → IsSound image
+sound : (standing : DurableState) (given : List Item) (image : Image) (handed : List Item) → StandsFor standing given image handed → IsSound image
 sound standing given image handed p = record { standing = standing; state = p.state; written = p.written }
 
 -- a session leaves such an image
@@ -116,16 +116,16 @@ left_sound equipment image s p = elim p.cut [
   | inr after ↦ sound after.left.standing after.left.items s.image s.items after.stands_for
 ]
 
-pub anew : {R : Type 0} (A : Type 0) (life : R → Life) → SessionsAnew A life
-anew A life image x events replies first now p equipment result new state written powers =
-    let old = life now.journal.rig in
-    let stops = after_power_on A life image x events replies first now p state written in
-    let leaves : (left : Image) (handed : List Item) → IsStop old left handed → LeavesSessionBy life image x events replies first now p (moment old) left handed = λ left handed stop.
-    stops.each (moment old) left handed (rising_last (moment (life first.journal.rig)) (moment old) p.passes.moments p.passes.rising) (omega arith)
-    (subst (λ (l : Life). IsStop l left handed) (sym (life_now old)) stop) in
+pub anew : {R : Type 0} (A : Type 0) (trace : R → Trace) → SessionsAnew A trace
+anew A trace image x events replies first now p equipment result new state written powers =
+    let old = trace now.journal.rig in
+    let stops = after_power_on A trace image x events replies first now p state written in
+    let leaves : (left : Image) (handed : List Item) → IsStop old left handed → LeavesSessionBy trace image x events replies first now p (moment old) left handed = λ left handed stop.
+    stops.each (moment old) left handed (rising_last (moment (trace first.journal.rig)) (moment old) p.passes.moments p.passes.rising) (omega arith)
+    (subst (λ (l : Trace). IsStop l left handed) (sym (trace_now old)) stop) in
     let here = leaves (reads old) (items old) (λ n. may_hold-reads old n, refl) in
     let begins = left_sound _ _ _ here.session in (
       here,
-      weaker_said old new _ _ (within_power_on life equipment begins.standing result old new powers begins.state begins.written).0
+      weaker_said old new _ _ (within_power_on trace equipment begins.standing result old new powers begins.state begins.written).0
           (λ t left handed from either. ⊎_elim (λ stop. inl (leaves left handed stop)) (λ e. inr e) either),
     )

@@ -2,13 +2,13 @@
 use Rattle.std.proofs.Common.{◌≡◌, ◌⊎◌, inl, inr, true, false, Err, sym, ◌∙◌, ap, subst}
 use Rattle.ng_num.specs.declared.fault.Fault.{Fault}
 use Rattle.ng_num.specs.declared.fault.Fault.TheVariants.{DeviceFailed, CountersUsed}
-use Rattle.ng_layout.specs.Stored.{Saved}
-use Rattle.ng_journal.specs.Journal.{Logbook, IsBrokenBy}
+use Rattle.ng_layout.specs.Stored.{StoredModel}
+use Rattle.ng_journal.specs.Journal.{JournalModel, IsBrokenBy}
 
 -- what a journal stores that failed is what it stored, as long as its device didn't
-pub kept_failed : {R : Type 0} (T : Type 0) (e : Fault) (before after : Logbook R) (x : Saved) → (e ≡ CountersUsed) ⊎ (e ≡ DeviceFailed) → IsBrokenBy {T = T} (Err e) after.broken
+pub kept_failed : {R : Type 0} (T : Type 0) (e : Fault) (before after : JournalModel R) (x : StoredModel) → (e ≡ CountersUsed) ⊎ (e ≡ DeviceFailed) → IsBrokenBy {T = T} (Err e) after.broken
     → (e ≡ CountersUsed → after ≡ before) → x ≡ before.saved → after.broken ≡ false → x ≡ after.saved
-kept_failed {R} T e before after x (inl used) broken unchanged kept whole = kept ∙ sym (ap (λ (j : Logbook R). j.saved) (unchanged used))
+kept_failed {R} T e before after x (inl used) broken unchanged kept whole = kept ∙ sym (ap (λ (j : JournalModel R). j.saved) (unchanged used))
 kept_failed {R} T e before after x (inr lost) broken unchanged kept whole =
     let failed : after.broken ≡ true = subst (λ (f : Fault). IsBrokenBy {T = T} (Err f) after.broken) lost broken in
     absurd (let b : true ≡ false = sym failed ∙ whole in cc)

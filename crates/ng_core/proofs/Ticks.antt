@@ -3,42 +3,42 @@ use Rattle.std.proofs.Common.{◌≡◌, ◌⊎◌, ℕ, true, false, List, Opti
 use Rattle.ng_num.specs.declared.fault.Fault.{Fault}
 use Rattle.ng_num.specs.declared.fault.Fault.TheVariants.{DeviceFailed, CountersUsed}
 use Rattle.ng_canon.specs.declared.item.Item.{Item}
-use Rattle.ng_rig.specs.Life.{Life}
-use Rattle.ng_rig.specs.Calls.{Promises}
+use Rattle.ng_rig.specs.Trace.{Trace}
+use Rattle.ng_rig.specs.Calls.{IfHonest}
 use Rattle.ng_rig.proofs.Promise.{meaning}
-use Rattle.ng_layout.specs.Stored.{HalfDone, Saved, Standing}
+use Rattle.ng_layout.specs.Stored.{HalfModel, StoredModel, DurableState}
 use Rattle.ng_layout.specs.declared.half.Opened.{Opened}
 use Rattle.ng_layout.specs.declared.half.Opened.TheVariants as open_part
-use Rattle.ng_journal.specs.Journal.{Logbook, RestsAt, Moves, HandsOut}
+use Rattle.ng_journal.specs.Journal.{JournalModel, IsDurablyAt, CommitSpec, JournalHandOutSpec}
 use Rattle.ng_session.specs.Entries.{Equipment}
-use Rattle.ng_session.specs.LinesBefore.{IsTrueOf}
-use Rattle.ng_session.specs.Session.{Underway, Sitting, Outcome, answers, tick, open_next, end, item_of, handed, opening_of, opening_reply, opened, committed, is_running, rest, shown}
-use Rattle.ng_session.specs.declared.lines_before.LinesBefore.{LinesBefore}
+use Rattle.ng_text.specs.LinesBefore.{IsTrueOf}
+use Rattle.ng_session.specs.Session.{CurrentBlockModel, SessionModel, Transition, answers, tick, open_next, end, item_of, handed, opening_of, opening_reply, opened, committed, is_running, rest, session_status}
+use Rattle.ng_text.specs.declared.lines_before.LinesBefore.{LinesBefore}
 use Rattle.ng_session.specs.declared.reply.Reply.{Reply}
 use Rattle.ng_session.specs.declared.reply.Reply.TheVariants as reply
-use Rattle.ng_core.specs.Model.{ControllerModel, standing_of_session}
+use Rattle.ng_core.specs.Model.{ControllerModel, durable_state_of}
 use Rattle.ng_core.specs.Events.{IsCarriedOutIfHonest, TouchesNothing, handing}
 use Rattle.ng_core.proofs.Acting.{known_as}
 use Rattle.ng_core.proofs.Quiet.{still}
 use Rattle.ng_core.proofs.Doing.{does_still, does_moved, does_unmoved, does_handed, does_unhanded, Storing}
 
 -- the same from an equal controller, to an equal outcome
-pub does_on : {R : Type 0} (honest : R → Type 0) (life : R → Life) (answer : Result Reply Fault) (out wanted : List ℕ → Outcome) (old mid new : ControllerModel R)
-    → mid ≡ old → ((program : List ℕ) → out program ≡ wanted program) → IsCarriedOutIfHonest honest life answer out mid new → IsCarriedOutIfHonest honest life answer wanted old new
-does_on honest life answer out wanted old mid new same equal does =
-    subst (λ (f : List ℕ → Outcome). IsCarriedOutIfHonest honest life answer f old new) (λ i program. equal program i)
-    (subst (λ (c : ControllerModel _). IsCarriedOutIfHonest honest life answer out c new) same does)
+pub does_on : {R : Type 0} (honest : R → Type 0) (trace : R → Trace) (answer : Result Reply Fault) (out wanted : List ℕ → Transition) (old mid new : ControllerModel R)
+    → mid ≡ old → ((program : List ℕ) → out program ≡ wanted program) → IsCarriedOutIfHonest honest trace answer out mid new → IsCarriedOutIfHonest honest trace answer wanted old new
+does_on honest trace answer out wanted old mid new same equal does =
+    subst (λ (f : List ℕ → Transition). IsCarriedOutIfHonest honest trace answer f old new) (λ i program. equal program i)
+    (subst (λ (c : ControllerModel _). IsCarriedOutIfHonest honest trace answer out c new) same does)
 
 -- ---- held
 
-pub tick_held : (q : Equipment) (P : List ℕ) (s : Sitting) → s.held ≡ true → tick q P s ≡ answers P reply.Held s
+pub tick_held : (q : Equipment) (P : List ℕ) (s : SessionModel) → s.held ≡ true → tick q P s ≡ answers P reply.Held s
 tick_held q P s held = rw held refl
 
-pub does_held : {R : Type 0} (honest : R → Type 0) (life : R → Life) (c : ControllerModel R) → c.session.held ≡ true
-    → IsCarriedOutIfHonest honest life (Ok reply.Held) (λ program. tick c.equipment program c.session) c c
-does_held honest life c held =
-    does_on honest life (Ok reply.Held) (λ program. answers program reply.Held c.session) (λ program. tick c.equipment program c.session) c c c refl (λ program. sym (tick_held c.equipment program c.session held))
-    (does_still honest life reply.Held (λ program. answers program reply.Held c.session) c c (λ program. still refl refl refl) refl refl (λ program. refl) (λ program. refl))
+pub does_held : {R : Type 0} (honest : R → Type 0) (trace : R → Trace) (c : ControllerModel R) → c.session.held ≡ true
+    → IsCarriedOutIfHonest honest trace (Ok reply.Held) (λ program. tick c.equipment program c.session) c c
+does_held honest trace c held =
+    does_on honest trace (Ok reply.Held) (λ program. answers program reply.Held c.session) (λ program. tick c.equipment program c.session) c c c refl (λ program. sym (tick_held c.equipment program c.session held))
+    (does_still honest trace reply.Held (λ program. answers program reply.Held c.session) c c (λ program. still refl refl refl) refl refl (λ program. refl) (λ program. refl))
 
 -- what is known of the lines stays
 pub kept : (k l : LinesBefore) → l ≡ k → (program : List ℕ) → IsTrueOf program k → IsTrueOf program l
@@ -47,33 +47,33 @@ kept k l same program known = known_as program program k l refl same known
 -- ---- an item
 
 -- what `hand_out` promises
-abbrev pub HandsIt : {R T : Type 0} → (R → Type 0) → (R → Life) → Result T Fault → Item → Logbook R → Logbook R → Type 0
-HandsIt honest life result item old new =
-    Promises (honest old.rig) (honest new.rig) ((standing : Standing) → RestsAt (life old.rig) old standing → HandsOut result new standing item (life old.rig) (life new.rig))
+abbrev pub HandsIt : {R T : Type 0} → (R → Type 0) → (R → Trace) → Result T Fault → Item → JournalModel R → JournalModel R → Type 0
+HandsIt honest trace result item old new =
+    IfHonest (honest old.rig) (honest new.rig) ((standing : DurableState) → IsDurablyAt (trace old.rig) old standing → JournalHandOutSpec result new standing item (trace old.rig) (trace new.rig))
 
-pub hands_item : {R T : Type 0} (honest : R → Type 0) (life : R → Life) (v : T) (item : Item) (old new : ControllerModel R)
-    → new.session ≡ old.session → HandsIt honest life (Ok v) item old.journal new.journal → new.lines ≡ old.lines
-    → IsCarriedOutIfHonest honest life (Ok reply.Moved) (λ program. handing item program old.session) old new
-hands_item honest life v item old new next p lines =
-    does_handed honest life reply.Moved v item (λ program. handing item program old.session) old new (meaning p (λ f program rests. f (standing_of_session program old.session) rests.0)) lines
+pub hands_item : {R T : Type 0} (honest : R → Type 0) (trace : R → Trace) (v : T) (item : Item) (old new : ControllerModel R)
+    → new.session ≡ old.session → HandsIt honest trace (Ok v) item old.journal new.journal → new.lines ≡ old.lines
+    → IsCarriedOutIfHonest honest trace (Ok reply.Moved) (λ program. handing item program old.session) old new
+hands_item honest trace v item old new next p lines =
+    does_handed honest trace reply.Moved v item (λ program. handing item program old.session) old new (meaning p (λ f program rests. f (durable_state_of program old.session) rests.0)) lines
     (λ program. refl) (λ program. next) (λ program. record { items = refl; program_is = refl; stored_is = refl }) (λ z. z)
 
-pub hands_none : {R T : Type 0} (honest : R → Type 0) (life : R → Life) (fault e : Fault) (item : Item) (old new : ControllerModel R)
-    → new.session ≡ old.session → fault ≡ DeviceFailed → HandsIt {T = T} honest life (Err e) item old.journal new.journal
-    → IsCarriedOutIfHonest honest life (Err fault) (λ program. handing item program old.session) old new
-hands_none {R} {T} honest life fault e item old new next lost p =
-    does_unhanded {T = T} honest life fault e item (λ program. handing item program old.session) old new (meaning p (λ f program rests. f (standing_of_session program old.session) rests.0))
-    lost (ap shown next) (λ program. record { items = refl; program_is = refl; stored_is = refl })
+pub hands_none : {R T : Type 0} (honest : R → Type 0) (trace : R → Trace) (fault e : Fault) (item : Item) (old new : ControllerModel R)
+    → new.session ≡ old.session → fault ≡ DeviceFailed → HandsIt {T = T} honest trace (Err e) item old.journal new.journal
+    → IsCarriedOutIfHonest honest trace (Err fault) (λ program. handing item program old.session) old new
+hands_none {R} {T} honest trace fault e item old new next lost p =
+    does_unhanded {T = T} honest trace fault e item (λ program. handing item program old.session) old new (meaning p (λ f program rests. f (durable_state_of program old.session) rests.0))
+    lost (ap session_status next) (λ program. record { items = refl; program_is = refl; stored_is = refl })
 
-pub tick_item : (q : Equipment) (P : List ℕ) (s : Sitting) (item : Item) → s.held ≡ false → item_of s.current ≡ Some item → tick q P s ≡ handing item P (handed s)
+pub tick_item : (q : Equipment) (P : List ℕ) (s : SessionModel) (item : Item) → s.held ≡ false → item_of s.current ≡ Some item → tick q P s ≡ handing item P (handed s)
 tick_item q P s item held is = rw (held, is) refl
 
-pub tick_none : (q : Equipment) (P : List ℕ) (s : Sitting) → s.held ≡ false → item_of s.current ≡ None → tick q P s ≡ open_next q P s (opening_of s.current)
+pub tick_none : (q : Equipment) (P : List ℕ) (s : SessionModel) → s.held ≡ false → item_of s.current ≡ None → tick q P s ≡ open_next q P s (opening_of s.current)
 tick_none q P s held is = rw (held, is) refl
 
 -- ---- an approach or a segment
 
-abbrev pub opening : HalfDone → List ℕ → Equipment → Sitting → Outcome
+abbrev pub opening : HalfModel → List ℕ → Equipment → SessionModel → Transition
 opening half P q s = answers P (opening_reply half.index half.opened) (opened q.geometry s half)
 
 opening_touches : (n : ℕ) (o : Option Opened) → TouchesNothing (opening_reply n o) → ⊥
@@ -82,82 +82,82 @@ opening_touches n (Some open_part.Segment) nothing = nothing
 opening_touches n (Some open_part.Approach) nothing = nothing
 
 -- what `open_segment` promises
-abbrev pub StoresHalf : {R T : Type 0} → (R → Type 0) → (R → Life) → Result T Fault → HalfDone → Logbook R → Logbook R → Type 0
-StoresHalf honest life result half old new =
-    Promises (honest old.rig) (honest new.rig) ((before : Standing) → RestsAt (life old.rig) old before
-    → Moves result new before (record before { saved = record old.saved { half = Some half } }) (life old.rig) (life new.rig))
+abbrev pub StoresHalf : {R T : Type 0} → (R → Type 0) → (R → Trace) → Result T Fault → HalfModel → JournalModel R → JournalModel R → Type 0
+StoresHalf honest trace result half old new =
+    IfHonest (honest old.rig) (honest new.rig) ((before : DurableState) → IsDurablyAt (trace old.rig) old before
+    → CommitSpec result new before (record before { saved = record old.saved { half = Some half } }) (trace old.rig) (trace new.rig))
 
-storing_half : {R T : Type 0} (honest : R → Type 0) (life : R → Life) (result : Result T Fault) (half : HalfDone) (old : ControllerModel R) (journal : Logbook R)
-    → old.session.stored ≡ old.journal.saved → StoresHalf honest life result half old.journal journal
-    → Storing honest life result (λ program. opening half program old.equipment old.session) old journal
-storing_half honest life result half old journal held p =
+storing_half : {R T : Type 0} (honest : R → Type 0) (trace : R → Trace) (result : Result T Fault) (half : HalfModel) (old : ControllerModel R) (journal : JournalModel R)
+    → old.session.stored ≡ old.journal.saved → StoresHalf honest trace result half old.journal journal
+    → Storing honest trace result (λ program. opening half program old.equipment old.session) old journal
+storing_half honest trace result half old journal held p =
     meaning p (λ f program rests.
-    subst (λ (x : Saved). Moves result journal (standing_of_session program old.session) (record { saved = record x { half = Some half }; program = program }) (life old.journal.rig) (life journal.rig)) (sym held)
-    (f (standing_of_session program old.session) rests.0))
+    subst (λ (x : StoredModel). CommitSpec result journal (durable_state_of program old.session) (record { saved = record x { half = Some half }; program = program }) (trace old.journal.rig) (trace journal.rig)) (sym held)
+    (f (durable_state_of program old.session) rests.0))
 
-pub opens : {R T : Type 0} (honest : R → Type 0) (life : R → Life) (v : T) (r : Reply) (half : HalfDone) (old new : ControllerModel R)
+pub opens : {R T : Type 0} (honest : R → Type 0) (trace : R → Trace) (v : T) (r : Reply) (half : HalfModel) (old new : ControllerModel R)
     → r ≡ opening_reply half.index half.opened → new.session ≡ opened old.equipment.geometry old.session half → old.session.stored ≡ old.journal.saved
-    → StoresHalf honest life (Ok v) half old.journal new.journal → new.lines ≡ old.lines
-    → IsCarriedOutIfHonest honest life (Ok r) (λ program. opening half program old.equipment old.session) old new
-opens honest life v r half old new replied next held p lines =
-    does_moved honest life r v (λ program. opening half program old.equipment old.session) old new (storing_half honest life (Ok v) half old new.journal held p) (kept old.lines new.lines lines) (λ program. replied) (λ program. next) (λ program. refl)
+    → StoresHalf honest trace (Ok v) half old.journal new.journal → new.lines ≡ old.lines
+    → IsCarriedOutIfHonest honest trace (Ok r) (λ program. opening half program old.equipment old.session) old new
+opens honest trace v r half old new replied next held p lines =
+    does_moved honest trace r v (λ program. opening half program old.equipment old.session) old new (storing_half honest trace (Ok v) half old new.journal held p) (kept old.lines new.lines lines) (λ program. replied) (λ program. next) (λ program. refl)
     (subst (λ (x : Reply). TouchesNothing x → ⊥) (sym replied) (opening_touches half.index half.opened))
 
-pub opens_none : {R T : Type 0} (honest : R → Type 0) (life : R → Life) (fault e : Fault) (half : HalfDone) (old new : ControllerModel R)
+pub opens_none : {R T : Type 0} (honest : R → Type 0) (trace : R → Trace) (fault e : Fault) (half : HalfModel) (old new : ControllerModel R)
     → new.session ≡ old.session → old.session.stored ≡ old.journal.saved
     → (fault ≡ CountersUsed) ⊎ (fault ≡ DeviceFailed) → (fault ≡ CountersUsed → new.journal ≡ old.journal)
-    → StoresHalf {T = T} honest life (Err e) half old.journal new.journal → new.lines ≡ old.lines
-    → IsCarriedOutIfHonest honest life (Err fault) (λ program. opening half program old.equipment old.session) old new
-opens_none {R} {T} honest life fault e half old new same held which unchanged p lines =
-    does_unmoved {T = T} honest life fault e (λ program. opening half program old.equipment old.session) old new (storing_half {T = T} honest life (Err e) half old new.journal held p) which unchanged lines same (λ program. refl)
+    → StoresHalf {T = T} honest trace (Err e) half old.journal new.journal → new.lines ≡ old.lines
+    → IsCarriedOutIfHonest honest trace (Err fault) (λ program. opening half program old.equipment old.session) old new
+opens_none {R} {T} honest trace fault e half old new same held which unchanged p lines =
+    does_unmoved {T = T} honest trace fault e (λ program. opening half program old.equipment old.session) old new (storing_half {T = T} honest trace (Err e) half old new.journal held p) which unchanged lines same (λ program. refl)
 
 -- ---- an entry
 
 -- what `commit` promises
-abbrev pub StoresEntry : {R T : Type 0} → (R → Type 0) → (R → Life) → Result T Fault → Saved → Logbook R → Logbook R → Type 0
-StoresEntry honest life result saved old new =
-    Promises (honest old.rig) (honest new.rig) ((before : Standing) → RestsAt (life old.rig) old before
-    → Moves result new before (record before { saved = saved }) (life old.rig) (life new.rig))
+abbrev pub StoresEntry : {R T : Type 0} → (R → Type 0) → (R → Trace) → Result T Fault → StoredModel → JournalModel R → JournalModel R → Type 0
+StoresEntry honest trace result saved old new =
+    IfHonest (honest old.rig) (honest new.rig) ((before : DurableState) → IsDurablyAt (trace old.rig) old before
+    → CommitSpec result new before (record before { saved = saved }) (trace old.rig) (trace new.rig))
 
 -- the block that is current, and what is stored after it
-pub record IsDue (s : Sitting) (saved : Saved) : Type 0 where
-  pub block : Underway
+pub record IsDue (s : SessionModel) (saved : StoredModel) : Type 0 where
+  pub block : CurrentBlockModel
   pub current : s.current ≡ Some block
   pub after : saved ≡ (committed s block).stored
 
-storing_entry : {R T : Type 0} (honest : R → Type 0) (life : R → Life) (result : Result T Fault) (saved : Saved) (old : ControllerModel R) (journal : Logbook R) (due : IsDue old.session saved)
-    → StoresEntry honest life result saved old.journal journal
-    → Storing honest life result (λ program. end old.equipment program old.session (Some due.block)) old journal
-storing_entry honest life result saved old journal due p =
+storing_entry : {R T : Type 0} (honest : R → Type 0) (trace : R → Trace) (result : Result T Fault) (saved : StoredModel) (old : ControllerModel R) (journal : JournalModel R) (due : IsDue old.session saved)
+    → StoresEntry honest trace result saved old.journal journal
+    → Storing honest trace result (λ program. end old.equipment program old.session (Some due.block)) old journal
+storing_entry honest trace result saved old journal due p =
     meaning p (λ f program rests.
-    subst (λ (x : Saved). Moves result journal (standing_of_session program old.session) (record { saved = x; program = program }) (life old.journal.rig) (life journal.rig)) due.after
-    (f (standing_of_session program old.session) rests.0))
+    subst (λ (x : StoredModel). CommitSpec result journal (durable_state_of program old.session) (record { saved = x; program = program }) (trace old.journal.rig) (trace journal.rig)) due.after
+    (f (durable_state_of program old.session) rests.0))
 
-pub does_commit : {R T : Type 0} (honest : R → Type 0) (life : R → Life) (v : T) (r : Reply) (saved : Saved) (old new : ControllerModel R) (due : IsDue old.session saved)
+pub does_commit : {R T : Type 0} (honest : R → Type 0) (trace : R → Trace) (v : T) (r : Reply) (saved : StoredModel) (old new : ControllerModel R) (due : IsDue old.session saved)
     → r ≡ reply.Done (committed old.session due.block).stored.entries → new.session ≡ committed old.session due.block
-    → StoresEntry honest life (Ok v) saved old.journal new.journal → new.lines ≡ old.lines
-    → IsCarriedOutIfHonest honest life (Ok r) (λ program. end old.equipment program old.session old.session.current) old new
-does_commit honest life v r saved old new due replied next p lines =
-    does_on honest life (Ok r) (λ program. end old.equipment program old.session (Some due.block)) _ old old new refl (λ program. sym (ap (λ (o : Option Underway). end old.equipment program old.session o) due.current))
-    (does_moved honest life r v (λ program. end old.equipment program old.session (Some due.block)) old new (storing_entry honest life (Ok v) saved old new.journal due p) (kept old.lines new.lines lines) (λ program. replied) (λ program. next) (λ program. refl)
+    → StoresEntry honest trace (Ok v) saved old.journal new.journal → new.lines ≡ old.lines
+    → IsCarriedOutIfHonest honest trace (Ok r) (λ program. end old.equipment program old.session old.session.current) old new
+does_commit honest trace v r saved old new due replied next p lines =
+    does_on honest trace (Ok r) (λ program. end old.equipment program old.session (Some due.block)) _ old old new refl (λ program. sym (ap (λ (o : Option CurrentBlockModel). end old.equipment program old.session o) due.current))
+    (does_moved honest trace r v (λ program. end old.equipment program old.session (Some due.block)) old new (storing_entry honest trace (Ok v) saved old new.journal due p) (kept old.lines new.lines lines) (λ program. replied) (λ program. next) (λ program. refl)
     (subst (λ (x : Reply). TouchesNothing x → ⊥) (sym replied) (λ z. z)))
 
-pub does_not_commit : {R T : Type 0} (honest : R → Type 0) (life : R → Life) (fault e : Fault) (saved : Saved) (old new : ControllerModel R) (due : IsDue old.session saved)
+pub does_not_commit : {R T : Type 0} (honest : R → Type 0) (trace : R → Trace) (fault e : Fault) (saved : StoredModel) (old new : ControllerModel R) (due : IsDue old.session saved)
     → new.session ≡ old.session → (fault ≡ CountersUsed) ⊎ (fault ≡ DeviceFailed) → (fault ≡ CountersUsed → new.journal ≡ old.journal)
-    → StoresEntry {T = T} honest life (Err e) saved old.journal new.journal → new.lines ≡ old.lines
-    → IsCarriedOutIfHonest honest life (Err fault) (λ program. end old.equipment program old.session old.session.current) old new
-does_not_commit {R} {T} honest life fault e saved old new due same which unchanged p lines =
-    does_on honest life (Err fault) (λ program. end old.equipment program old.session (Some due.block)) _ old old new refl (λ program. sym (ap (λ (o : Option Underway). end old.equipment program old.session o) due.current))
-    (does_unmoved {T = T} honest life fault e (λ program. end old.equipment program old.session (Some due.block)) old new (storing_entry {T = T} honest life (Err e) saved old new.journal due p) which unchanged lines same (λ program. refl))
+    → StoresEntry {T = T} honest trace (Err e) saved old.journal new.journal → new.lines ≡ old.lines
+    → IsCarriedOutIfHonest honest trace (Err fault) (λ program. end old.equipment program old.session old.session.current) old new
+does_not_commit {R} {T} honest trace fault e saved old new due same which unchanged p lines =
+    does_on honest trace (Err fault) (λ program. end old.equipment program old.session (Some due.block)) _ old old new refl (λ program. sym (ap (λ (o : Option CurrentBlockModel). end old.equipment program old.session o) due.current))
+    (does_unmoved {T = T} honest trace fault e (λ program. end old.equipment program old.session (Some due.block)) old new (storing_entry {T = T} honest trace (Err e) saved old new.journal due p) which unchanged lines same (λ program. refl))
 
 -- ---- nothing
 
-pub rests_there : (q : Equipment) (P : List ℕ) (s : Sitting) → s.current ≡ None → is_running s.activity ≡ false → end q P s s.current ≡ rest P s
-rests_there q P s none idle = ap (λ (o : Option Underway). end q P s o) none ∙ rw idle refl
+pub rests_there : (q : Equipment) (P : List ℕ) (s : SessionModel) → s.current ≡ None → is_running s.activity ≡ false → end q P s s.current ≡ rest P s
+rests_there q P s none idle = ap (λ (o : Option CurrentBlockModel). end q P s o) none ∙ rw idle refl
 
-pub does_rest : {R : Type 0} (honest : R → Type 0) (life : R → Life) (r : Reply) (c : ControllerModel R) → c.session.current ≡ None → is_running c.session.activity ≡ false
+pub does_rest : {R : Type 0} (honest : R → Type 0) (trace : R → Trace) (r : Reply) (c : ControllerModel R) → c.session.current ≡ None → is_running c.session.activity ≡ false
     → ((program : List ℕ) → r ≡ (rest program c.session).reply)
-    → IsCarriedOutIfHonest honest life (Ok r) (λ program. end c.equipment program c.session c.session.current) c c
-does_rest honest life r c none idle replied =
-    does_on honest life (Ok r) (λ program. rest program c.session) _ c c c refl (λ program. sym (rests_there c.equipment program c.session none idle))
-    (does_still honest life r (λ program. rest program c.session) c c (λ program. still refl refl refl) refl refl replied (λ program. refl))
+    → IsCarriedOutIfHonest honest trace (Ok r) (λ program. end c.equipment program c.session c.session.current) c c
+does_rest honest trace r c none idle replied =
+    does_on honest trace (Ok r) (λ program. rest program c.session) _ c c c refl (λ program. sym (rests_there c.equipment program c.session none idle))
+    (does_still honest trace r (λ program. rest program c.session) c c (λ program. still refl refl refl) refl refl replied (λ program. refl))

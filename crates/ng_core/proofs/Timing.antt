@@ -1,10 +1,10 @@
--- Stops by the moments of a life that goes on.
+-- Stops by the moments of a trace that goes on.
 use Rattle.std.proofs.Common.{◌≡◌, ◌⊎◌, inl, inr, ℕ, suc, ◌<◌, ◌≤◌, if◌then◌else◌, nat_lt, List, [], ◌∷◌, length, refl, sym, ◌∙◌, ap, subst, arith}
 use Rattle.std.proofs.lemmas.Bool.Decides.{nat_tests}
 use Rattle.ng_canon.specs.declared.item.Item.{Item}
-use Rattle.ng_rig.specs.Life.{Image, Life, moment, life_at, IsStop, StopSince}
-use Rattle.ng_rig.specs.Onward.{Onward}
-use Rattle.ng_rig.proofs.Running.{life_now, life_earlier, was_then}
+use Rattle.ng_rig.specs.Trace.{Image, Trace, moment, trace_at, IsStop, StopSince}
+use Rattle.ng_rig.specs.Continuation.{IsContinuation}
+use Rattle.ng_rig.proofs.Running.{trace_now, trace_earlier, was_then}
 use Rattle.ng_rig.proofs.Since.{between-since}
 use Rattle.ng_core.specs.Moments.{AtEachStop, IsRising, answered_by}
 
@@ -46,41 +46,41 @@ side a b = grind arith
 
 module _ (image : ℕ → List ℕ) (handed : List Item) where
   -- from a moment on
-  since : (life : Life) (first t : ℕ) → first ≤ t → t ≤ moment life → IsStop (life_at t life) image handed → StopSince life first image handed
-  since life first t from until stop = between-since image handed life first (record { at = t; from = from; until = until; stop = stop })
+  since : (trace : Trace) (first t : ℕ) → first ≤ t → t ≤ moment trace → IsStop (trace_at t trace) image handed → StopSince trace first image handed
+  since trace first t from until stop = between-since image handed trace first (record { at = t; from = from; until = until; stop = stop })
 
-  -- within a call each is the old life's, or one of the call's
-  pub within_call : (old mid : Life) (P : Image → List Item → Type 0) (t : ℕ) → Onward old mid P → moment old ≤ t → t ≤ moment mid → IsStop (life_at t mid) image handed
+  -- within a call each is the old trace's, or one of the call's
+  pub within_call : (old mid : Trace) (P : Image → List Item → Type 0) (t : ℕ) → IsContinuation old mid P → moment old ≤ t → t ≤ moment mid → IsStop (trace_at t mid) image handed
       → StopSince old (moment old) image handed ⊎ P image handed
   within_call old mid P t a from until stop = a.each (moment old) image handed (omega arith) (since mid (moment old) t from until stop)
 
 -- where no call came
-pub no_call : (life : Life) (Said : ℕ → Image → List Item → Type 0)
-    → ((t : ℕ) (image : ℕ → List ℕ) (handed : List Item) → StopSince life (moment life) image handed → Said t image handed) → AtEachStop life life Said
-no_call life Said now = record { was = life_now life; each = λ t image handed from until stop. now t image handed (since image handed life (moment life) t from until stop) }
+pub no_call : (trace : Trace) (Said : ℕ → Image → List Item → Type 0)
+    → ((t : ℕ) (image : ℕ → List ℕ) (handed : List Item) → StopSince trace (moment trace) image handed → Said t image handed) → AtEachStop trace trace Said
+no_call trace Said now = record { was = trace_now trace; each = λ t image handed from until stop. now t image handed (since image handed trace (moment trace) t from until stop) }
 
 -- after one call
-pub one_call : (old new : Life) (P : Image → List Item → Type 0) (Said : ℕ → Image → List Item → Type 0) → Onward old new P
+pub one_call : (old new : Trace) (P : Image → List Item → Type 0) (Said : ℕ → Image → List Item → Type 0) → IsContinuation old new P
     → ((t : ℕ) (image : ℕ → List ℕ) (handed : List Item) → StopSince old (moment old) image handed ⊎ P image handed → Said t image handed) → AtEachStop old new Said
 one_call old new P Said a said = record { was = was_then old new P a; each = λ t image handed from until stop. said t image handed (within_call image handed old new P t a from until stop) }
 
 -- after one call and then others
-pub more_calls : (old mid new : Life) (P : Image → List Item → Type 0) (Rest Said : ℕ → Image → List Item → Type 0) → Onward old mid P → AtEachStop mid new Rest
+pub more_calls : (old mid new : Trace) (P : Image → List Item → Type 0) (Rest Said : ℕ → Image → List Item → Type 0) → IsContinuation old mid P → AtEachStop mid new Rest
     → ((t : ℕ) (image : ℕ → List ℕ) (handed : List Item) → t < moment mid → StopSince old (moment old) image handed ⊎ P image handed → Said t image handed)
     → ((t : ℕ) (image : ℕ → List ℕ) (handed : List Item) → moment mid ≤ t → Rest t image handed → Said t image handed)
     → AtEachStop old new Said
 more_calls old mid new P Rest Said a rest early late = record {
-  was = sym (life_earlier (moment old) (moment mid) new a.later) ∙ ap (λ (l : Life). life_at (moment old) l) rest.was ∙ was_then old mid P a;
+  was = sym (trace_earlier (moment old) (moment mid) new a.later) ∙ ap (λ (l : Trace). trace_at (moment old) l) rest.was ∙ was_then old mid P a;
   each = λ t image handed from until stop. elim (side (moment mid) t) [
     | inl come ↦ late t image handed come (rest.each t image handed come until stop)
     | inr before ↦
         let le : t ≤ moment mid = omega (arith, before) in
-        let there : life_at t new ≡ life_at t mid = sym (life_earlier t (moment mid) new le) ∙ ap (λ (l : Life). life_at t l) rest.was in
-        early t image handed before (within_call image handed old mid P t a from le (subst (λ (l : Life). IsStop l image handed) there stop))
+        let there : trace_at t new ≡ trace_at t mid = sym (trace_earlier t (moment mid) new le) ∙ ap (λ (l : Trace). trace_at t l) rest.was in
+        early t image handed before (within_call image handed old mid P t a from le (subst (λ (l : Trace). IsStop l image handed) there stop))
   ];
 }
 
 -- where more is said
-pub weaker_said : (old new : Life) (P Said : ℕ → Image → List Item → Type 0) → AtEachStop old new P
+pub weaker_said : (old new : Trace) (P Said : ℕ → Image → List Item → Type 0) → AtEachStop old new P
     → ((t : ℕ) (image : ℕ → List ℕ) (handed : List Item) → moment old ≤ t → P t image handed → Said t image handed) → AtEachStop old new Said
 weaker_said old new P Said a imply = record { was = a.was; each = λ t image handed from until stop. imply t image handed from (a.each t image handed from until stop) }

@@ -3,21 +3,21 @@ use Rattle.std.specs.Prelude.{◌≡◌, ◌⊎◌, ℕ, List, [], ◌∷◌, Op
 use Rattle.std.specs.Option.{option_map}
 use Rattle.ng_num.specs.declared.fault.Fault.{Fault}
 use Rattle.ng_num.specs.declared.fault.Fault.TheVariants.{DeviceFailed, CountersUsed, OutOfMemory}
-use Rattle.ng_layout.specs.Stored.{Saved}
+use Rattle.ng_layout.specs.Stored.{StoredModel}
 use Rattle.ng_journal.specs.Storing.{Ledger, Storing, Commit, Open, Load, UsesUp}
 use Rattle.ng_session.specs.Entries.{Entry, Block, Loaded, Referenced, Approached, Abandoned}
-use Rattle.ng_session.specs.Session.{Outcome, step}
+use Rattle.ng_session.specs.Session.{Transition, step}
 use Rattle.ng_session.specs.declared.event.Event.{Event}
 use Rattle.ng_session.specs.declared.reply.Reply.{Reply}
 use Rattle.ng_session.specs.declared.reply.Reply.TheVariants as reply
 use Rattle.ng_core.specs.Model.{ControllerModel}
 
 -- what an event leads to
-abbrev pub outcome_of : {A R : Type 0} → ControllerModel R → List ℕ → Event A → Outcome
-outcome_of c program event = step c.equipment program c.session event
+abbrev pub transition_of : {A R : Type 0} → ControllerModel R → List ℕ → Event A → Transition
+transition_of c program event = step c.equipment program c.session event
 
 -- what is stored with an entry: a program's is loaded, each other is committed
-abbrev pub with_entry : Saved → Entry → Storing
+abbrev pub with_entry : StoredModel → Entry → Storing
 with_entry saved (Block source text block_delete) = Commit saved
 with_entry saved (Loaded text) = Load saved
 with_entry saved (Referenced point) = Commit saved
@@ -25,12 +25,12 @@ with_entry saved Approached = Commit saved
 with_entry saved Abandoned = Commit saved
 
 -- the same of the entry that there is, if there is one
-abbrev pub with_entries : Saved → List Entry → Option Storing
+abbrev pub with_entries : StoredModel → List Entry → Option Storing
 with_entries saved [] = None
 with_entries saved (entry ∷ more) = Some (with_entry saved entry)
 
 -- what has to be stored before an outcome is told, by its reply
-abbrev pub stored_for : Outcome → Reply → Option Storing
+abbrev pub stored_for : Transition → Reply → Option Storing
 stored_for out (reply.Done n) = with_entries out.next.stored out.entries
 stored_for out (reply.Opened index) = option_map Open out.next.stored.half
 stored_for out reply.Approaching = option_map Open out.next.stored.half
@@ -45,17 +45,17 @@ stored_for out (reply.Status status) = None
 stored_for out (reply.Refused fault) = None
 
 -- an outcome uses up a counter of the journal
-abbrev pub UsesUpCounter : Ledger → Outcome → Type 0
+abbrev pub UsesUpCounter : Ledger → Transition → Type 0
 UsesUpCounter ledger out = IsSomeAnd (stored_for out out.reply) (UsesUp ledger)
 
 -- an entry that is committed, and not loaded
 abbrev pub IsCommitted : Entry → Type 0
-IsCommitted entry = (saved : Saved) → with_entry saved entry ≡ Commit saved
+IsCommitted entry = (saved : StoredModel) → with_entry saved entry ≡ Commit saved
 
 -- Memory is wanting where it is taken, a counter where the outcome uses one up; the device failed where it is asked and no counter is
 -- used up. The outcome is by the program that the device has.
-abbrev pub IsHinderedBy : (memory device : Type 0) → Ledger → (List ℕ → Outcome) → Fault → Type 0
-IsHinderedBy memory device ledger told fault =
+abbrev pub IsCausedBy : (memory device : Type 0) → Ledger → (List ℕ → Transition) → Fault → Type 0
+IsCausedBy memory device ledger told fault =
     ((fault ≡ OutOfMemory) × memory)
     ⊎ (((fault ≡ CountersUsed) × ((program : List ℕ) → UsesUpCounter ledger (told program)))
     ⊎ ((fault ≡ DeviceFailed) × device × ((program : List ℕ) → UsesUpCounter ledger (told program) → ⊥)))

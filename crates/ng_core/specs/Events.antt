@@ -3,20 +3,20 @@ use Rattle.std.specs.Prelude.{◌≡◌, ◌≢◌, ◌⊎◌, ℕ, List, [], �
 use Rattle.ng_num.specs.declared.fault.Fault.{Fault}
 use Rattle.ng_num.specs.declared.fault.Fault.TheVariants.{DeviceFailed, Broken}
 use Rattle.ng_canon.specs.declared.item.Item.{Item}
-use Rattle.ng_rig.specs.Life.{Image, Life, items}
-use Rattle.ng_rig.specs.Calls.{Promises}
-use Rattle.ng_rig.specs.Onward.{Onward}
-use Rattle.ng_journal.specs.Journal.{StandsFor, IsBrokenBy, Tells}
+use Rattle.ng_rig.specs.Trace.{Image, Trace, items}
+use Rattle.ng_rig.specs.Calls.{IfHonest}
+use Rattle.ng_rig.specs.Continuation.{IsContinuation}
+use Rattle.ng_journal.specs.Journal.{StandsFor, IsBrokenBy, CountsFailure}
 use Rattle.ng_journal.specs.Storing.{ledger_of}
-use Rattle.ng_session.specs.Session.{Sitting, Outcome, shown, TakesMemory, AsksDevice, ReadsLine}
-use Rattle.ng_session.specs.Runs.{Scene, Left, left_in, scene_after}
+use Rattle.ng_session.specs.Session.{SessionModel, Transition, session_status, TakesMemory, AsksDevice, NeedsProgramLine}
+use Rattle.ng_session.specs.Runs.{ProgramSession, CrashState, crash_in, session_of_transition}
 use Rattle.ng_session.specs.declared.event.Event.{Event}
 use Rattle.ng_session.specs.declared.event.Event.TheVariants as event
 use Rattle.ng_session.specs.declared.reply.Reply.{Reply}
 use Rattle.ng_session.specs.declared.reply.Reply.TheVariants as reply
 use Rattle.ng_session.specs.declared.reply.Status.{Status}
 use Rattle.ng_session.specs.declared.reply.Condition.TheVariants as condition
-use Rattle.ng_core.specs.Causes.{IsHinderedBy, outcome_of}
+use Rattle.ng_core.specs.Causes.{IsCausedBy, transition_of}
 use Rattle.ng_core.specs.Model.{ControllerModel, IsAtRestWith}
 
 -- the reply to an event that the session answered, or why it didn't
@@ -26,29 +26,29 @@ reply_to (Err fault) = reply.Refused fault
 
 -- What is told, and the session then, of an event that leads to this. Where memory or a count is wanting, the session stays; where
 -- the device failed, what the status shows stays.
-abbrev pub IsAnsweredBy : {R : Type 0} → Result Reply Fault → Outcome → ControllerModel R → ControllerModel R → Type 0
+abbrev pub IsAnsweredBy : {R : Type 0} → Result Reply Fault → Transition → ControllerModel R → ControllerModel R → Type 0
 IsAnsweredBy (Ok r) out old new = (r ≡ out.reply) × (new.session ≡ out.next)
-IsAnsweredBy (Err DeviceFailed) out old new = shown new.session ≡ shown old.session
+IsAnsweredBy (Err DeviceFailed) out old new = session_status new.session ≡ session_status old.session
 IsAnsweredBy (Err fault) out old new = new.session ≡ old.session
 
 -- Where an event isn't answered, what the status shows stays. Where the device didn't fail, so does all of the session, and what the
 -- journal keeps; and the device isn't called, unless a line is read.
 pub record KeepsSession {R : Type 0} (reads : Type 0) (fault : Fault) (old new : ControllerModel R) : Type 0 where
-  pub status : shown new.session ≡ shown old.session
+  pub status : session_status new.session ≡ session_status old.session
   pub session : fault ≢ DeviceFailed → new.session ≡ old.session
   pub ledger : fault ≢ DeviceFailed → ledger_of new.journal ≡ ledger_of old.journal
   pub journal : fault ≢ DeviceFailed → (reads → ⊥) → new.journal ≡ old.journal
 
 -- What is told, and the session then, whatever the device is: by the session alone, unless a line is read for it.
-abbrev pub IsAnsweredAnyway : {R : Type 0} → (reads : Type 0) → Result Reply Fault → (List ℕ → Outcome) → ControllerModel R → ControllerModel R → Type 0
+abbrev pub IsAnsweredAnyway : {R : Type 0} → (reads : Type 0) → Result Reply Fault → (List ℕ → Transition) → ControllerModel R → ControllerModel R → Type 0
 IsAnsweredAnyway reads answer out old new =
     MatchResult answer (λ r. (reads → ⊥) → (program : List ℕ) → (r ≡ (out program).reply) × (new.session ≡ (out program).next)) (λ fault. KeepsSession reads fault old new)
 
 -- What stands then and was handed out: of an answer what it leads to, alone; where memory or a count is wanting, the device stays.
-abbrev pub LeavesDevice : {R : Type 0} → Result Reply Fault → Outcome → List ℕ → ControllerModel R → Life → Life → Type 0
-LeavesDevice (Ok r) out program new lived living = IsAtRestWith living new out.program × (items living ≡ items lived ++ out.items)
-LeavesDevice (Err DeviceFailed) out program new lived living = Unit {0}
-LeavesDevice (Err fault) out program new lived living = IsAtRestWith living new program × (living ≡ lived)
+abbrev pub LeavesDevice : {R : Type 0} → Result Reply Fault → Transition → List ℕ → ControllerModel R → Trace → Trace → Type 0
+LeavesDevice (Ok r) out program new trace_old trace_new = IsAtRestWith trace_new new out.program × (items trace_new ≡ items trace_old ++ out.items)
+LeavesDevice (Err DeviceFailed) out program new trace_old trace_new = Unit {0}
+LeavesDevice (Err fault) out program new trace_old trace_new = IsAtRestWith trace_new new program × (trace_new ≡ trace_old)
 
 -- an answer for which nothing is stored and nothing handed out
 abbrev pub TouchesNothing : Reply → Type 0
@@ -66,60 +66,60 @@ TouchesNothing (reply.Status status) = Unit {0}
 TouchesNothing (reply.Refused fault) = Unit {0}
 
 -- A stop leaves the one or the other.
-pub record IsEitherLeft (before after : Left) (image : Image) (handed : List Item) : Type 0 where
-  pub left : Left
+pub record IsCrashOfEither (before after : CrashState) (image : Image) (handed : List Item) : Type 0 where
+  pub left : CrashState
   pub which : (left ≡ before) ⊎ (left ≡ after)
   pub stands_for : StandsFor left.standing left.items image handed
 
-abbrev pub scene_of : {R : Type 0} → List ℕ → ControllerModel R → Scene
-scene_of program c = record { program = program; session = c.session }
+abbrev pub program_session_of : {R : Type 0} → List ℕ → ControllerModel R → ProgramSession
+program_session_of program c = record { program = program; session = c.session }
 
 -- An event came to its outcome: each stop since leaves what was there before it or what is there after it. Where nothing is stored and
--- nothing handed out, the device's life is as it was.
-pub record IsCarriedOut {R : Type 0} (answer : Result Reply Fault) (out : Outcome) (program : List ℕ) (old new : ControllerModel R) (lived living : Life) : Type 0 where
+-- nothing handed out, the device's trace is as it was.
+pub record IsCarriedOut {R : Type 0} (answer : Result Reply Fault) (out : Transition) (program : List ℕ) (old new : ControllerModel R) (trace_old trace_new : Trace) : Type 0 where
   pub comes : IsAnsweredBy answer out old new
-  pub stops : Onward lived living (IsEitherLeft (left_in (scene_of program old) (items lived)) (left_in (scene_after out) (items lived ++ out.items)))
-  pub leaves : LeavesDevice answer out program new lived living
-  pub untouched : IfOk answer (λ r. TouchesNothing r → living ≡ lived)
+  pub stops : IsContinuation trace_old trace_new (IsCrashOfEither (crash_in (program_session_of program old) (items trace_old)) (crash_in (session_of_transition out) (items trace_old ++ out.items)))
+  pub leaves : LeavesDevice answer out program new trace_old trace_new
+  pub untouched : IfOk answer (λ r. TouchesNothing r → trace_new ≡ trace_old)
 
 -- The same over an honest device that rests with what the session stored: what it leads to is by the program of what stands.
-abbrev pub IsCarriedOutIfHonest : {R : Type 0} → (R → Type 0) → (R → Life) → Result Reply Fault → (List ℕ → Outcome) → ControllerModel R → ControllerModel R → Type 0
-IsCarriedOutIfHonest honest life answer out old new =
-    Promises (honest old.journal.rig) (honest new.journal.rig) ((program : List ℕ) → IsAtRestWith (life old.journal.rig) old program
-    → IsCarriedOut answer (out program) program old new (life old.journal.rig) (life new.journal.rig))
+abbrev pub IsCarriedOutIfHonest : {R : Type 0} → (R → Type 0) → (R → Trace) → Result Reply Fault → (List ℕ → Transition) → ControllerModel R → ControllerModel R → Type 0
+IsCarriedOutIfHonest honest trace answer out old new =
+    IfHonest (honest old.journal.rig) (honest new.journal.rig) ((program : List ℕ) → IsAtRestWith (trace old.journal.rig) old program
+    → IsCarriedOut answer (out program) program old new (trace old.journal.rig) (trace new.journal.rig))
 
 -- an item of the open segment is handed out, which this session took from it
-abbrev pub handing : Item → List ℕ → Sitting → Outcome
+abbrev pub handing : Item → List ℕ → SessionModel → Transition
 handing item program s = record { reply = reply.Moved; items = item ∷ []; entries = []; program = program; next = s }
 
 -- An answer to what leads to this, and what it leaves: of an honest device, and of any. An error has its cause: memory is taken, the device is
 -- asked, and a line of the program is read, where these say so. The journal is broken, and the device counted a failure, exactly where that
 -- failed; the device keeps its size.
-pub record CarriesOut {R : Type 0} (honest : R → Type 0) (life : R → Life) (failed sectors : R → ℕ) (memory device reads : Type 0) (out : List ℕ → Outcome) (answer : Result Reply Fault) (old new : ControllerModel R) : Type 0 where
-  pub does : IsCarriedOutIfHonest honest life answer out old new
+pub record CarriesOut {R : Type 0} (honest : R → Type 0) (trace : R → Trace) (failed sectors : R → ℕ) (memory device reads : Type 0) (out : List ℕ → Transition) (answer : Result Reply Fault) (old new : ControllerModel R) : Type 0 where
+  pub does : IsCarriedOutIfHonest honest trace answer out old new
   pub comes : IsAnsweredAnyway reads answer out old new
-  pub hindered : IfErr answer (IsHinderedBy memory device (ledger_of old.journal) out)
+  pub hindered : IfErr answer (IsCausedBy memory device (ledger_of old.journal) out)
   pub broken : IsBrokenBy answer new.journal.broken
   pub equipment : new.equipment ≡ old.equipment
   pub size : sectors new.journal.rig ≡ sectors old.journal.rig
-  pub failures : Tells answer (failed old.journal.rig) (failed new.journal.rig)
+  pub failures : CountsFailure answer (failed old.journal.rig) (failed new.journal.rig)
 
 -- the same of an event, by its own lines
-abbrev pub CarriesOutEvent : {A R : Type 0} → (R → Type 0) → (R → Life) → (failed sectors : R → ℕ) → Event A → Result Reply Fault → ControllerModel R → ControllerModel R → Type 0
-CarriesOutEvent honest life failed sectors event answer old new =
-    CarriesOut honest life failed sectors (TakesMemory old.equipment old.session event) (AsksDevice old.equipment old.session event) (ReadsLine old.equipment old.session event)
-    (λ program. outcome_of old program event) answer old new
+abbrev pub CarriesOutEvent : {A R : Type 0} → (R → Type 0) → (R → Trace) → (failed sectors : R → ℕ) → Event A → Result Reply Fault → ControllerModel R → ControllerModel R → Type 0
+CarriesOutEvent honest trace failed sectors event answer old new =
+    CarriesOut honest trace failed sectors (TakesMemory old.equipment old.session event) (AsksDevice old.equipment old.session event) (NeedsProgramLine old.equipment old.session event)
+    (λ program. transition_of old program event) answer old new
 
 -- A reply to an event, and what became of that.
-pub record Handles {A R : Type 0} (honest : R → Type 0) (life : R → Life) (failed sectors : R → ℕ) (event : Event A) (told : Reply) (old new : ControllerModel R) : Type 0 where
+pub record Handles {A R : Type 0} (honest : R → Type 0) (trace : R → Trace) (failed sectors : R → ℕ) (event : Event A) (told : Reply) (old new : ControllerModel R) : Type 0 where
   pub answer : Result Reply Fault
   pub told_is : told ≡ reply_to answer
-  pub carried : CarriesOutEvent honest life failed sectors event answer old new
+  pub carried : CarriesOutEvent honest trace failed sectors event answer old new
 
 -- Each event but Status is refused once the device failed; the status then says so.
-abbrev pub shown_broken : Sitting → Status
-shown_broken s = record (shown s) { condition = condition.Broken }
+abbrev pub broken_status : SessionModel → Status
+broken_status s = record (session_status s) { condition = condition.Broken }
 
-abbrev pub broken_answer : {A : Type 0} → Sitting → Event A → Result Reply Fault
-broken_answer s event.Status = Ok (reply.Status (shown_broken s))
+abbrev pub broken_answer : {A : Type 0} → SessionModel → Event A → Result Reply Fault
+broken_answer s event.Status = Ok (reply.Status (broken_status s))
 broken_answer s _ = Err Broken

@@ -1,10 +1,10 @@
 pub mod Model
-pub mod NextLines
 pub mod Causes
 pub mod Events
-pub mod Turns
+pub mod AnsweredEvents
 pub mod Powers
 pub mod Moments
 pub mod Runs
 pub mod Headline
 pub mod Lives
+pub mod Private

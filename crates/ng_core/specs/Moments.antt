@@ -1,12 +1,12 @@
--- Stops by the moments of a device's life, and what was answered by then (own).
+-- Stops by the moments of a device's trace, and what was answered by then (own).
 use Rattle.std.specs.Prelude.{◌≡◌, ◌≤◌, ℕ, suc, List, [], ◌∷◌, if◌then◌else◌, nat_lt}
 use Rattle.ng_canon.specs.declared.item.Item.{Item}
-use Rattle.ng_rig.specs.Life.{Image, Life, moment, life_at, IsStop}
+use Rattle.ng_rig.specs.Trace.{Image, Trace, moment, trace_at, IsStop}
 
--- The new life is the old one with what came then; and of each stop from the old one's last moment until now this is said, by its moment.
-pub record AtEachStop (old new : Life) (Said : ℕ → Image → List Item → Type 0) : Type 0 where
-  pub was : life_at (moment old) new ≡ old
-  pub each : (t : ℕ) (image : ℕ → List ℕ) (handed : List Item) → moment old ≤ t → t ≤ moment new → IsStop (life_at t new) image handed → Said t image handed
+-- The new trace is the old one with what came then; and of each stop from the old one's last moment until now this is said, by its moment.
+pub record AtEachStop (old new : Trace) (Said : ℕ → Image → List Item → Type 0) : Type 0 where
+  pub was : trace_at (moment old) new ≡ old
+  pub each : (t : ℕ) (image : ℕ → List ℕ) (handed : List Item) → moment old ≤ t → t ≤ moment new → IsStop (trace_at t new) image handed → Said t image handed
 
 -- moments that rise, from one to another
 abbrev pub IsRising : ℕ → ℕ → List ℕ → Type 0

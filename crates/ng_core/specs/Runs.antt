@@ -3,14 +3,14 @@ use Rattle.std.specs.Prelude.{◌≡◌, ◌≤◌, ◌+◌, ◌%◌, ◌^◌, �
 use Rattle.ng_num.specs.declared.fault.Fault.{Fault}
 use Rattle.ng_num.specs.declared.fault.Fault.TheVariants.{DeviceFailed}
 use Rattle.ng_canon.specs.declared.item.Item.{Item}
-use Rattle.ng_rig.specs.Life.{Image, Life, items, moment}
+use Rattle.ng_rig.specs.Trace.{Image, Trace, items, moment}
 use Rattle.ng_journal.specs.Journal.{StandsFor}
 use Rattle.ng_session.specs.Entries.{Equipment}
-use Rattle.ng_session.specs.Runs.{Scene, left_behind, replies_of, items_of, scene_behind}
+use Rattle.ng_session.specs.Runs.{ProgramSession, crash_after, replies_of, items_of, session_after}
 use Rattle.ng_session.specs.declared.event.Event.{Event}
 use Rattle.ng_session.specs.declared.reply.Reply.{Reply}
 use Rattle.ng_core.specs.Model.{ControllerModel, IsAtRestWith}
-use Rattle.ng_core.specs.Events.{reply_to, scene_of}
+use Rattle.ng_core.specs.Events.{reply_to, program_session_of}
 use Rattle.ng_core.specs.Moments.{AtEachStop, IsRising, answered_by}
 
 -- ---- what came of them, by the session alone
@@ -48,32 +48,32 @@ session_replies [] = []
 session_replies (answer ∷ answers) = session_replies_by answer (session_replies answers)
 
 -- A stop leaves what stands after the first n of these events, and what they handed out; n is no less than this.
-pub record IsLeftAfterSome {A : Type 0} (least : ℕ) (equipment : Equipment) (scene : Scene) (before : List Item) (events : List (Event A)) (image : Image) (handed : List Item) : Type 0 where
+pub record IsCrashAfterSome {A : Type 0} (least : ℕ) (equipment : Equipment) (scene : ProgramSession) (before : List Item) (events : List (Event A)) (image : Image) (handed : List Item) : Type 0 where
   pub count : ℕ
   pub all : least ≤ count
   pub within : count ≤ length events
-  pub stands_for : let left = left_behind equipment scene before (take count events) in StandsFor left.standing left.items image handed
+  pub stands_for : let left = crash_after equipment scene before (take count events) in StandsFor left.standing left.items image handed
 
--- The replies are the session's to the events that came. Each event was answered at a moment of the device's life, and a stop leaves what
+-- The replies are the session's to the events that came. Each event was answered at a moment of the device's trace, and a stop leaves what
 -- stands after those that came of the events answered by then, or after the one under way too. While the device didn't fail, what stands
 -- and was handed out now is the session's.
-pub record PassesAsSession {A R : Type 0} (life : R → Life) (events : List (Event A)) (replies : List Reply) (equipment : Equipment) (scene : Scene) (lived : Life) (new : ControllerModel R) : Type 0 where
+pub record PassesAsSession {A R : Type 0} (trace : R → Trace) (events : List (Event A)) (replies : List Reply) (equipment : Equipment) (scene : ProgramSession) (trace_old : Trace) (new : ControllerModel R) : Type 0 where
   pub answers : List (Result Reply Fault)
   pub replies_are : replies ≡ map reply_to answers
   pub told_is : session_replies answers ≡ replies_of equipment scene (answered_events events answers)
   pub moments : List ℕ
   pub each : length moments ≡ length events
-  pub rising : IsRising (moment lived) (moment (life new.journal.rig)) moments
-  pub stops : AtEachStop lived (life new.journal.rig) (λ t. let n = answered_by t moments in
-      IsLeftAfterSome (length (answered_events (take n events) answers)) equipment scene (items lived) (tried_events (take (suc n) events) answers))
-  pub session_is : new.journal.broken ≡ false → new.session ≡ (scene_behind equipment scene (answered_events events answers)).session
-  pub rests : new.journal.broken ≡ false → IsAtRestWith (life new.journal.rig) new (scene_behind equipment scene (answered_events events answers)).program
-  pub items_are : new.journal.broken ≡ false → items (life new.journal.rig) ≡ items lived ++ items_of equipment scene (answered_events events answers)
+  pub rising : IsRising (moment trace_old) (moment (trace new.journal.rig)) moments
+  pub stops : AtEachStop trace_old (trace new.journal.rig) (λ t. let n = answered_by t moments in
+      IsCrashAfterSome (length (answered_events (take n events) answers)) equipment scene (items trace_old) (tried_events (take (suc n) events) answers))
+  pub session_is : new.journal.broken ≡ false → new.session ≡ (session_after equipment scene (answered_events events answers)).session
+  pub rests : new.journal.broken ≡ false → IsAtRestWith (trace new.journal.rig) new (session_after equipment scene (answered_events events answers)).program
+  pub items_are : new.journal.broken ≡ false → items (trace new.journal.rig) ≡ items trace_old ++ items_of equipment scene (answered_events events answers)
 
 -- whatever program rests there beside the session, they pass as the session does
-abbrev pub IsRun : {A R : Type 0} → (R → Life) → List (Event A) → List Reply → ControllerModel R → ControllerModel R → Type 0
-IsRun life events replies old new = (program : List ℕ) → old.journal.broken ≡ false → IsAtRestWith (life old.journal.rig) old program
-    → PassesAsSession life events replies old.equipment (scene_of program old) (life old.journal.rig) new
+abbrev pub IsRun : {A R : Type 0} → (R → Trace) → List (Event A) → List Reply → ControllerModel R → ControllerModel R → Type 0
+IsRun trace events replies old new = (program : List ℕ) → old.journal.broken ≡ false → IsAtRestWith (trace old.journal.rig) old program
+    → PassesAsSession trace events replies old.equipment (program_session_of program old) (trace old.journal.rig) new
 
 -- The device counted one failure where the controller broke, and else none; once broken it stays so.
 abbrev pub CountsOneFailure : Bool → Bool → ℕ → ℕ → Type 0

@@ -1,14 +1,15 @@
 //! A controller, and how it answers events.
 ghost use Rattle.std.specs.Prelude.{◌≡◌, true, false, None, IfErr, [], ◌∷◌};
 ghost use Rattle.ng_num.specs.declared.fault.Fault.TheVariants.{OutOfMemory};
-ghost use Rattle.ng_rig.specs.Calls.{Promises};
+ghost use Rattle.ng_rig.specs.Calls.{IfHonest};
 
 use ng_canon::Geometry;
 use ng_journal::Journal;
 use ng_num::Fault;
 use ng_offsets::Tools;
 use ng_rig::Rig;
-use ng_session::{Condition, Event, LinesBefore, Reply, Session, Status};
+use ng_session::{Condition, Event, Reply, Session, Status};
+use ng_text::LinesBefore;
 use std::alloc::Allocator;
 use std::marker::Model;
 
@@ -73,18 +74,18 @@ impl<R: Rig, A: Allocator + Copy + Drop> Controller<R, A> {
     /// device keeps its size. Over an honest device all that came since power on, with this event, is accounted for by the plain
     /// interpreter, whenever power is cut.
     pub fn on(&mut self, event: Event<A>) -> Reply
-        ensures serves { self.old.journal.broken ≡ false → Handles R.honest R.life R.failed R.sectors event result self.old self.new }
+        ensures serves { self.old.journal.broken ≡ false → Handles R.honest R.trace R.failed R.sectors event result self.old self.new }
         ensures broken { self.old.journal.broken ≡ true → (self.new ≡ self.old) × (result ≡ reply_to (broken_answer self.old.session event)) }
         ensures equipment { self.new.equipment ≡ self.old.equipment }
         ensures size { R.sectors self.new.journal.rig ≡ R.sectors self.old.journal.rig }
-        ensures past { Promises (R.honest self.old.journal.rig) (R.honest self.new.journal.rig) (AddsToPast R.honest R.life R.failed R.sectors (event ∷ []) (result ∷ []) self.old self.new) }
+        ensures past { IfHonest (R.honest self.old.journal.rig) (R.honest self.new.journal.rig) (AddsToPast R.honest R.trace R.failed R.sectors (event ∷ []) (result ∷ []) self.old self.new) }
     {
         self.reply(&event)
     }
 
     /// Answers an event that stays the caller's as `on` does: the same is refused, and the same is left.
     pub(crate) fn reply(&mut self, event: &Event<A>) -> Reply
-        ensures serves { self.old.journal.broken ≡ false → Handles R.honest R.life R.failed R.sectors event.now result self.old self.new }
+        ensures serves { self.old.journal.broken ≡ false → Handles R.honest R.trace R.failed R.sectors event.now result self.old self.new }
         ensures broken { self.old.journal.broken ≡ true → (self.new ≡ self.old) × (result ≡ reply_to (broken_answer self.old.session event.now)) }
         ensures equipment { self.new.equipment ≡ self.old.equipment }
         ensures size { R.sectors self.new.journal.rig ≡ R.sectors self.old.journal.rig }
@@ -97,7 +98,7 @@ impl<R: Rig, A: Allocator + Copy + Drop> Controller<R, A> {
 
     /// What the session answers, or why it doesn't answer: M1, J4, J1 or K5.
     fn handle(&mut self, event: &Event<A>) -> Result<Reply, Fault>
-        ensures carried { self.old.journal.broken ≡ false → CarriesOutEvent R.honest R.life R.failed R.sectors event.now result self.old self.new }
+        ensures carried { self.old.journal.broken ≡ false → CarriesOutEvent R.honest R.trace R.failed R.sectors event.now result self.old self.new }
         ensures broken { self.old.journal.broken ≡ true → (self.new ≡ self.old) × (result ≡ broken_answer self.old.session event.now) }
         ensures equipment { self.new.equipment ≡ self.old.equipment }
         ensures size { R.sectors self.new.journal.rig ≡ R.sectors self.old.journal.rig }
@@ -147,7 +148,7 @@ impl<R: Rig, A: Allocator + Copy + Drop> Controller<R, A> {
     /// Loads a program, once that is stored.
     fn load(&mut self, text: &[u8]) -> Result<Reply, Fault>
         requires { self.old.journal.broken ≡ false }
-        ensures { CarriesOut R.honest R.life R.failed R.sectors (load_refusal self.old.session text.now ≡ None) (load_refusal self.old.session text.now ≡ None) ⊥ (λ program. load program self.old.session text.now) result self.old self.new }
+        ensures { CarriesOut R.honest R.trace R.failed R.sectors (load_refusal self.old.session text.now ≡ None) (load_refusal self.old.session text.now ≡ None) ⊥ (λ program. load program self.old.session text.now) result self.old self.new }
     {
         if let Some(fault) = self.session.load_refusal(text) {
             return Ok(Reply::Refused(fault));
@@ -162,7 +163,7 @@ impl<R: Rig, A: Allocator + Copy + Drop> Controller<R, A> {
     fn answer(&mut self, event: &Event<A>) -> Result<Reply, Fault>
         requires whole { self.old.journal.broken ≡ false }
         requires quiet { IsQuiet event.now }
-        ensures carried { CarriesOutEvent R.honest R.life R.failed R.sectors event.now result self.old self.new }
+        ensures carried { CarriesOutEvent R.honest R.trace R.failed R.sectors event.now result self.old self.new }
         ensures memory { IfErr result (λ fault. fault ≡ OutOfMemory) }
     {
         Ok(self.session.answer(event, &self.tools, &self.geometry)?)

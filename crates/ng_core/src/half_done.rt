@@ -1,17 +1,17 @@
 //! A half-done block: where its machine stands is told, it goes on, or it is given up.
 ghost use Rattle.std.specs.Prelude.{◌≡◌, ◌≤◌, ℕ, List, false, IfOk, IfErr};
 ghost use Rattle.ng_num.specs.declared.fault.Fault.TheVariants.{DeviceFailed};
-ghost use Rattle.ng_rig.specs.Calls.{Promises};
+ghost use Rattle.ng_rig.specs.Calls.{IfHonest};
 ghost use Rattle.ng_layout.specs.Storable.{IsStorable};
-ghost use Rattle.ng_layout.specs.Stored.{Standing, with_report};
-ghost use Rattle.ng_journal.specs.Journal.{RestsAt, Tells, IsBrokenBy};
+ghost use Rattle.ng_layout.specs.Stored.{DurableState, with_decoded_state};
+ghost use Rattle.ng_journal.specs.Journal.{IsDurablyAt, CountsFailure, IsBrokenBy};
 ghost use Rattle.ng_journal.specs.Storing.{ledger_of};
 ghost use Rattle.ng_session.specs.Session.{IsProgramsLine};
-ghost use Rattle.ng_core.specs.NextLines.{IsNextLineAt, FindsNextLine};
+ghost use Rattle.ng_core.specs.Private.NextLines.{IsNextLineAt, NextLineSpec};
 
 use crate::controller::Controller;
 use ng_journal::{Journal, laws};
-use ng_layout::Reported;
+use ng_layout::DecodedState;
 use ng_num::{Fault, Point};
 use ng_rig::Rig;
 use ng_session::{Reply, Session};
@@ -25,15 +25,15 @@ fn next_line<R: Rig, A: Allocator + Copy + Drop>(
 ) -> Result<u64, Fault>
     requires whole { journal.old.broken ≡ false }
     requires stored { session.now.stored ≡ journal.old.saved }
-    ensures next { Promises (R.honest journal.old.rig) (R.honest journal.new.rig) ((standing : Standing) → RestsAt (R.life journal.old.rig) journal.old standing
-        → FindsNextLine result journal.new standing session.now (R.life journal.old.rig) (R.life journal.new.rig)) }
+    ensures next { IfHonest (R.honest journal.old.rig) (R.honest journal.new.rig) ((standing : DurableState) → IsDurablyAt (R.trace journal.old.rig) journal.old standing
+        → NextLineSpec result journal.new standing session.now (R.trace journal.old.rig) (R.trace journal.new.rig)) }
     ensures within { IfOk result (λ next. next ≤ session.now.stored.length) }
     ensures unread { (IsProgramsLine session.now.stored.half → ⊥) → (journal.new ≡ journal.old) × IfOk result (λ next. (program : List ℕ) → IsNextLineAt program session.now next) }
     ensures ledger { ledger_of journal.new ≡ ledger_of journal.old }
     ensures broken { IsBrokenBy result journal.new.broken }
     ensures errors { IfErr result (λ e. (e ≡ DeviceFailed) × IsProgramsLine session.now.stored.half) }
     ensures size { R.sectors journal.new.rig ≡ R.sectors journal.old.rig }
-    ensures failures { Tells result (R.failed journal.old.rig) (R.failed journal.new.rig) }
+    ensures failures { CountsFailure result (R.failed journal.old.rig) (R.failed journal.new.rig) }
 {
     let place = session.place();
     if !session.is_programs_line() {
@@ -54,13 +54,13 @@ impl<R: Rig, A: Allocator + Copy + Drop> Controller<R, A> {
 
     /// Commits a report: it takes the place of what is stored of it. J4 where a counter is used up, J1 where the device failed: the
     /// session is as it was then.
-    fn keep(&mut self, report: Reported) -> Result<Reply, Fault>
+    fn keep(&mut self, report: DecodedState) -> Result<Reply, Fault>
         requires whole { self.old.journal.broken ≡ false }
         requires free { self.old.session.current ≡ None }
         requires count { report.entries ≤ 1_000_000_000_000 }
-        requires storable { IsStorable (with_report self.old.session.stored report self.old.session.stored.length) }
-        ensures { (entry : Entry) → IsCommitted entry → CarriesOut R.honest R.life R.failed R.sectors ⊥ (Unit {0}) ⊥
-            (λ program. commits program entry (record self.old.session { stored = with_report self.old.session.stored report self.old.session.stored.length })) result self.old self.new }
+        requires storable { IsStorable (with_decoded_state self.old.session.stored report self.old.session.stored.length) }
+        ensures { (entry : Entry) → IsCommitted entry → CarriesOut R.honest R.trace R.failed R.sectors ⊥ (Unit {0}) ⊥
+            (λ program. commits program entry (record self.old.session { stored = with_decoded_state self.old.session.stored report self.old.session.stored.length })) result self.old self.new }
     {
         // called for its contract: what is stored can be stored again
         let _ = self.session.stored();
@@ -78,7 +78,7 @@ impl<R: Rig, A: Allocator + Copy + Drop> Controller<R, A> {
     /// counter is used up: nothing is changed then. J1 where the device failed: the journal is broken then, and the session is as it was.
     pub(crate) fn reference(&mut self, point: &Point) -> Result<Reply, Fault>
         requires { self.old.journal.broken ≡ false }
-        ensures { CarriesOut R.honest R.life R.failed R.sectors ⊥ (reference_refusal self.old.equipment.geometry self.old.session point.now ≡ None) ⊥ (λ program. reference self.old.equipment program self.old.session point.now) result self.old self.new }
+        ensures { CarriesOut R.honest R.trace R.failed R.sectors ⊥ (reference_refusal self.old.equipment.geometry self.old.session point.now ≡ None) ⊥ (λ program. reference self.old.equipment program self.old.session point.now) result self.old self.new }
     {
         if let Some(fault) = self.session.reference_refusal(*point, &self.geometry) {
             return Ok(Reply::Refused(fault));
@@ -95,7 +95,7 @@ impl<R: Rig, A: Allocator + Copy + Drop> Controller<R, A> {
     /// changed then. J1 where the device failed: the journal is broken then, and the session is as it was.
     pub(crate) fn abandon(&mut self) -> Result<Reply, Fault>
         requires { self.old.journal.broken ≡ false }
-        ensures { CarriesOut R.honest R.life R.failed R.sectors ⊥ (abandon_refusal self.old.session ≡ None) ⊥ (λ program. abandon program self.old.session) result self.old self.new }
+        ensures { CarriesOut R.honest R.trace R.failed R.sectors ⊥ (abandon_refusal self.old.session ≡ None) ⊥ (λ program. abandon program self.old.session) result self.old self.new }
     {
         if let Some(fault) = self.session.abandon_refusal() {
             return Ok(Reply::Refused(fault));
@@ -115,7 +115,7 @@ impl<R: Rig, A: Allocator + Copy + Drop> Controller<R, A> {
     /// where memory is wanting. The session is as it was then.
     pub(crate) fn resume(&mut self) -> Result<Reply, Fault>
         requires { self.old.journal.broken ≡ false }
-        ensures { CarriesOut R.honest R.life R.failed R.sectors (resume_refusal self.old.equipment self.old.session ≡ None) ((resume_refusal self.old.equipment self.old.session ≡ None) × IsProgramsLine self.old.session.stored.half) ((resume_refusal self.old.equipment self.old.session ≡ None) × IsProgramsLine self.old.session.stored.half)
+        ensures { CarriesOut R.honest R.trace R.failed R.sectors (resume_refusal self.old.equipment self.old.session ≡ None) ((resume_refusal self.old.equipment self.old.session ≡ None) × IsProgramsLine self.old.session.stored.half) ((resume_refusal self.old.equipment self.old.session ≡ None) × IsProgramsLine self.old.session.stored.half)
             (λ program. resume self.old.equipment program self.old.session) result self.old self.new }
     {
         if let Some(fault) = self.session.resume_refusal(&self.tools, &self.geometry) {

@@ -1,15 +1,17 @@
 //! Power on: what a device stands for, and a session over it.
 ghost use Rattle.std.specs.Prelude.{◌≤◌};
-ghost use Rattle.ng_rig.specs.Calls.{Promises};
+ghost use Rattle.ng_rig.specs.Calls.{IfHonest};
+ghost use Rattle.ng_layout.specs.Areas.{least_size};
 ghost use Rattle.ng_core.specs.Headline.{BeginsPast};
-ghost use Rattle.ng_core.specs.Powers.{PowersOn, rig_of};
+ghost use Rattle.ng_core.specs.Powers.{PowerOnSpec, power_on_rig};
 
 use crate::controller::Controller;
 use ng_journal::recover;
 use ng_num::Fault;
 use ng_rig::Rig;
-use ng_session::{LinesBefore, Session};
+use ng_session::Session;
 use ng_settings::Settings;
+use ng_text::LinesBefore;
 use std::alloc::Allocator;
 
 /// Powers on (own): finds what the device stands for, writes it again with nothing open, and starts a session at rest over it, with
@@ -23,8 +25,8 @@ pub fn power_on<R: Rig, A: Allocator + Copy + Drop>(
     rig: R,
     settings: Settings,
 ) -> Result<Controller<R, A>, (Fault, R)>
-    ensures gives { PowersOn R.honest R.life R.failed R.sectors settings rig result }
-    ensures past { let after = rig_of result in 1710 ≤ R.sectors rig → Promises (R.honest rig) (R.honest after) (BeginsPast A R.honest R.life R.failed R.sectors result (R.life rig)) }
+    ensures gives { PowerOnSpec R.honest R.trace R.failed R.sectors settings rig result }
+    ensures past { let after = power_on_rig result in least_size ≤ R.sectors rig → IfHonest (R.honest rig) (R.honest after) (BeginsPast A R.honest R.trace R.failed R.sectors result (R.trace rig)) }
 {
     let Settings { geometry, tools } = settings;
     let (journal, stored) = recover(alloc, rig)?;

@@ -2,22 +2,23 @@
 //! line is begun.
 ghost use Rattle.std.specs.Prelude.{◌≡◌, ◌≤◌, ℕ, List, true, false, IfErr, IsSome};
 ghost use Rattle.ng_num.specs.declared.fault.Fault.TheVariants.{DeviceFailed};
-ghost use Rattle.ng_rig.specs.Calls.{Promises};
-ghost use Rattle.ng_layout.specs.Storable.{CanWait};
-ghost use Rattle.ng_layout.specs.Stored.{Standing};
-ghost use Rattle.ng_journal.specs.Journal.{RestsAt, Tells, IsBrokenBy};
-ghost use Rattle.ng_journal.specs.ProgramLines.{FindsFirst};
+ghost use Rattle.ng_rig.specs.Calls.{IfHonest};
+ghost use Rattle.ng_layout.specs.Storable.{IsStorableHalf};
+ghost use Rattle.ng_layout.specs.Stored.{DurableState};
+ghost use Rattle.ng_journal.specs.Journal.{IsDurablyAt, CountsFailure, IsBrokenBy};
+ghost use Rattle.ng_journal.specs.ProgramLines.{FirstKindSpec};
 ghost use Rattle.ng_journal.specs.Storing.{ledger_of};
-ghost use Rattle.ng_session.specs.LinesBefore.{IsTrueOf, Next};
+ghost use Rattle.ng_text.specs.LinesBefore.{IsTrueOf, IsLineBetween};
 
 use crate::controller::Controller;
 use ng_canon::Item;
 use ng_journal::Journal;
-use ng_layout::{Half, TEXT};
+use ng_layout::{Half, LONGEST_TEXT};
 use ng_num::Fault;
 use ng_rig::Rig;
-use ng_session::{LinesBefore, Reply};
-use ng_words::Kind;
+use ng_session::Reply;
+use ng_text::LinesBefore;
+use ng_words::LineKind;
 use std::alloc::Allocator;
 
 /// The kind of the first line before a place of the program in force that isn't blank. Nothing is read where it is known.
@@ -25,16 +26,16 @@ fn first_kind_before<R: Rig, A: Allocator + Copy + Drop>(
     journal: &mut Journal<R, A>,
     known: &LinesBefore,
     place: u64,
-) -> Result<Kind, Fault>
+) -> Result<LineKind, Fault>
     requires whole { journal.old.broken ≡ false }
     requires place { place ≤ journal.old.saved.length }
-    ensures kind { Promises (R.honest journal.old.rig) (R.honest journal.new.rig) ((standing : Standing) → RestsAt (R.life journal.old.rig) journal.old standing → IsTrueOf standing.program known.now
-        → FindsFirst result journal.new standing place (R.life journal.old.rig) (R.life journal.new.rig)) }
+    ensures kind { IfHonest (R.honest journal.old.rig) (R.honest journal.new.rig) ((standing : DurableState) → IsDurablyAt (R.trace journal.old.rig) journal.old standing → IsTrueOf standing.program known.now
+        → FirstKindSpec result journal.new standing place (R.trace journal.old.rig) (R.trace journal.new.rig)) }
     ensures ledger { ledger_of journal.new ≡ ledger_of journal.old }
     ensures broken { IsBrokenBy result journal.new.broken }
     ensures errors { IfErr result (λ e. e ≡ DeviceFailed) }
     ensures size { R.sectors journal.new.rig ≡ R.sectors journal.old.rig }
-    ensures failures { Tells result (R.failed journal.old.rig) (R.failed journal.new.rig) }
+    ensures failures { CountsFailure result (R.failed journal.old.rig) (R.failed journal.new.rig) }
 {
     match known.first_before(place) {
         Some(kind) => Ok(kind),
@@ -44,24 +45,30 @@ fn first_kind_before<R: Rig, A: Allocator + Copy + Drop>(
 
 /// What is known of the lines after the line at a place, where the next one begins; no more after one that is too long, which is
 /// refused.
-fn lines_after(known: &LinesBefore, place: u64, first: Kind, text: &[u8], next: u64) -> LinesBefore
-    ensures { (program : List ℕ) → IsTrueOf program known.now → Next program place first text.now next → IsTrueOf program result }
+fn lines_after(
+    known: &LinesBefore,
+    place: u64,
+    first: LineKind,
+    text: &[u8],
+    next: u64,
+) -> LinesBefore
+    ensures { (program : List ℕ) → IsTrueOf program known.now → IsLineBetween program place first text.now next → IsTrueOf program result }
 {
-    if text.len() > TEXT {
+    if text.len() > LONGEST_TEXT {
         return *known;
     }
-    known.behind(place, first, text, next)
+    known.after(place, first, text, next)
 }
 
 impl<R: Rig, A: Allocator + Copy + Drop> Controller<R, A> {
-    ghost use Rattle.ng_session.specs.Session.{open_part_of, tick, open_next, end, begin, opening_of, is_busy, IsBetweenLines};
-    ghost use Rattle.ng_layout.specs.Programs.{line_at};
+    ghost use Rattle.ng_session.specs.Session.{open_part_of, tick, open_next, end, begin, opening_of, has_work, IsBetweenLines};
+    ghost use Rattle.ng_text.specs.Programs.{program_line_at};
     ghost use Rattle.ng_core.specs.Events.{CarriesOut, handing};
 
     /// Does the next thing that is to do, of those above the first that applies.
     pub(crate) fn tick(&mut self) -> Result<Reply, Fault>
         requires { self.old.journal.broken ≡ false }
-        ensures { CarriesOut R.honest R.life R.failed R.sectors ((self.old.session.held ≡ false) × IsBetweenLines self.old.session) ((self.old.session.held ≡ false) × (is_busy self.old.session ≡ true)) ((self.old.session.held ≡ false) × IsBetweenLines self.old.session)
+        ensures { CarriesOut R.honest R.trace R.failed R.sectors ((self.old.session.held ≡ false) × IsBetweenLines self.old.session) ((self.old.session.held ≡ false) × (has_work self.old.session ≡ true)) ((self.old.session.held ≡ false) × IsBetweenLines self.old.session)
             (λ program. tick self.old.equipment program self.old.session) result self.old self.new }
     {
         if self.session.is_held() {
@@ -76,7 +83,7 @@ impl<R: Rig, A: Allocator + Copy + Drop> Controller<R, A> {
     /// With no item left: opens the approach or the next segment of the current block, or else ends what is open of it.
     fn go_further(&mut self) -> Result<Reply, Fault>
         requires { self.old.journal.broken ≡ false }
-        ensures { CarriesOut R.honest R.life R.failed R.sectors (IsBetweenLines self.old.session) (is_busy self.old.session ≡ true) (IsBetweenLines self.old.session)
+        ensures { CarriesOut R.honest R.trace R.failed R.sectors (IsBetweenLines self.old.session) (has_work self.old.session ≡ true) (IsBetweenLines self.old.session)
             (λ program. open_next self.old.equipment program self.old.session (opening_of self.old.session.current)) result self.old self.new }
     {
         match self.session.opening() {
@@ -88,7 +95,7 @@ impl<R: Rig, A: Allocator + Copy + Drop> Controller<R, A> {
     /// With nothing left to open: commits the approach or the current block; with none, begins the program's next line, if it runs.
     fn end(&mut self) -> Result<Reply, Fault>
         requires { self.old.journal.broken ≡ false }
-        ensures { CarriesOut R.honest R.life R.failed R.sectors (IsBetweenLines self.old.session) (is_busy self.old.session ≡ true) (IsBetweenLines self.old.session)
+        ensures { CarriesOut R.honest R.trace R.failed R.sectors (IsBetweenLines self.old.session) (has_work self.old.session ≡ true) (IsBetweenLines self.old.session)
             (λ program. end self.old.equipment program self.old.session self.old.session.current) result self.old self.new }
     {
         if self.session.after().is_some() {
@@ -103,7 +110,7 @@ impl<R: Rig, A: Allocator + Copy + Drop> Controller<R, A> {
     /// Hands out an item of the open segment, which the session took from it.
     fn hand_out(&mut self, item: Item) -> Result<Reply, Fault>
         requires { self.old.journal.broken ≡ false }
-        ensures { CarriesOut R.honest R.life R.failed R.sectors ⊥ (Unit {0}) ⊥ (λ program. handing item program self.old.session) result self.old self.new }
+        ensures { CarriesOut R.honest R.trace R.failed R.sectors ⊥ (Unit {0}) ⊥ (λ program. handing item program self.old.session) result self.old self.new }
     {
         self.journal.hand_out(item)?;
         Ok(Reply::Moved)
@@ -112,9 +119,9 @@ impl<R: Rig, A: Allocator + Copy + Drop> Controller<R, A> {
     /// Opens the approach or the next segment, once its half-done block is stored.
     fn open(&mut self, half: Half) -> Result<Reply, Fault>
         requires whole { self.old.journal.broken ≡ false }
-        requires half { CanWait half }
+        requires half { IsStorableHalf half }
         requires is_open { IsSome half.opened }
-        ensures { CarriesOut R.honest R.life R.failed R.sectors ⊥ (Unit {0}) ⊥ (λ program. open_part_of self.old.equipment program self.old.session half) result self.old self.new }
+        ensures { CarriesOut R.honest R.trace R.failed R.sectors ⊥ (Unit {0}) ⊥ (λ program. open_part_of self.old.equipment program self.old.session half) result self.old self.new }
     {
         self.journal.open_segment(&half)?;
         Ok(self.session.open(half, &self.geometry))
@@ -124,7 +131,7 @@ impl<R: Rig, A: Allocator + Copy + Drop> Controller<R, A> {
     fn commit(&mut self) -> Result<Reply, Fault>
         requires whole { self.old.journal.broken ≡ false }
         requires block { IsSome self.old.session.current }
-        ensures { CarriesOut R.honest R.life R.failed R.sectors ⊥ (Unit {0}) ⊥ (λ program. end self.old.equipment program self.old.session self.old.session.current) result self.old self.new }
+        ensures { CarriesOut R.honest R.trace R.failed R.sectors ⊥ (Unit {0}) ⊥ (λ program. end self.old.equipment program self.old.session self.old.session.current) result self.old self.new }
     {
         let Some(after) = self.session.after() else {
             unreachable!()
@@ -136,8 +143,8 @@ impl<R: Rig, A: Allocator + Copy + Drop> Controller<R, A> {
     /// Begins the program's line at its place, or stops the program at the end of its text.
     fn begin(&mut self) -> Result<Reply, Fault>
         requires { self.old.journal.broken ≡ false }
-        ensures { CarriesOut R.honest R.life R.failed R.sectors (Unit {0}) (Unit {0}) (Unit {0})
-            (λ program. begin self.old.equipment program self.old.session (line_at program self.old.session.stored.place)) result self.old self.new }
+        ensures { CarriesOut R.honest R.trace R.failed R.sectors (Unit {0}) (Unit {0}) (Unit {0})
+            (λ program. begin self.old.equipment program self.old.session (program_line_at program self.old.session.stored.place)) result self.old self.new }
     {
         let place = self.session.place();
         let first = first_kind_before(&mut self.journal, &self.lines, place)?;

@@ -1,29 +1,12 @@
 -- The first fault of a list of causes, part by part.
-use Rattle.std.proofs.Common.{◌≡◌, Bool, true, false, ℤ, ◌||◌, Option, Some, None, Ok, Err, List, [], ◌∷◌, ◌++◌, refl, ◌∙◌, if◌then◌else◌}
+use Rattle.std.proofs.Common.{◌≡◌, Bool, true, false, ℤ, ◌||◌, Some, None, Ok, Err, List, [], ◌∷◌, ◌++◌, refl, ◌∙◌, if◌then◌else◌}
 use Rattle.std.specs.List.{list_any}
 use Rattle.ng_num.specs.declared.fault.Fault.{Fault}
 use Rattle.ng_num.specs.declared.fault.Fault.TheVariants.{OutOfRange, CycleNoAxis, NoZ, NoR, RBelowZ, InverseTime, OutsideTravel}
-use Rattle.ng_cycles.specs.Faults.{first_fault, unless}
+use Rattle.ng_num.specs.Causes.{first_fault, unless}
+use Rattle.ng_num.proofs.FirstFault.{first_some, first_none}
 use Rattle.ng_cycles.specs.Lengths.{is_far, far_unless}
 use Rattle.ng_cycles.proofs.Far.{any_append}
-
-pub unless_err : {X : Type 0} (f : Option Fault) (x : X) (fault : Fault) → Err fault ≡ unless f x → f ≡ Some fault
-unless_err (Some e) x fault h = cc h
-unless_err None x fault h = absurd (cc h)
-
-pub unless_ok : {X : Type 0} (f : Option Fault) (x y : X) → Ok y ≡ unless f x → (f ≡ None) × (y ≡ x)
-unless_ok (Some e) x y h = absurd (cc h)
-unless_ok None x y h = (refl, cc h)
-
-pub first-some : (xs ys : List (Bool × Fault)) (fault : Fault) → first_fault xs ≡ Some fault → first_fault (xs ++ ys) ≡ Some fault
-first-some [] ys fault e = absurd (cc e)
-first-some ((true, f) ∷ xs) ys fault e = e
-first-some ((false, f) ∷ xs) ys fault e = first-some xs ys fault e
-
-pub first-none : (xs ys : List (Bool × Fault)) → first_fault xs ≡ None → first_fault (xs ++ ys) ≡ first_fault ys
-first-none [] ys e = refl
-first-none ((true, f) ∷ xs) ys e = absurd (cc e)
-first-none ((false, f) ∷ xs) ys e = first-none xs ys e
 
 by_far : {X : Type 0} (far : Bool) (x : X) (fault : Fault) → Err fault ≡ (if far then Err OutOfRange else Ok x) → (far ≡ true) × (fault ≡ OutOfRange)
 by_far true x fault h = (refl, cc h)
@@ -67,7 +50,7 @@ none_far xs x found y h = let e = far_ok xs x found h in rw e.0 refl
 
 pub hole_err : {X : Type 0} (below inverse : Bool) (work rest : List (Bool × Fault)) (fault : Fault) (x : X) → below ≡ false → inverse ≡ false → first_fault work ≡ Some fault →
     Err fault ≡ unless (first_fault ((below, RBelowZ) ∷ ((inverse, InverseTime) ∷ (work ++ rest)))) x
-hole_err below inverse work rest fault x b i f = rw (b, i, first-some work rest fault f) refl
+hole_err below inverse work rest fault x b i f = rw (b, i, first_some work rest fault f) refl
 
 pub of_far : {X : Type 0} (far : Bool) (rest : List (Bool × Fault)) (fault : Fault) (x : X) → far ≡ true → fault ≡ OutOfRange → Err fault ≡ unless (first_fault ((far, OutOfRange) ∷ rest)) x
 of_far far rest fault x f e = rw (f, e) refl
@@ -86,10 +69,10 @@ pub of_rest : {X : Type 0} (far axis z r : Bool) (rest : List (Bool × Fault)) (
 of_rest far axis z r rest x f a h k = rw (f, a, h, k) refl
 
 pub of_hole : {X : Type 0} (hole rest : List (Bool × Fault)) (fault : Fault) (x : X) → first_fault hole ≡ Some fault → Err fault ≡ unless (first_fault (hole ++ rest)) x
-of_hole hole rest fault x e = rw (first-some hole rest fault e) refl
+of_hole hole rest fault x e = rw (first_some hole rest fault e) refl
 
 pub of_travel : {X : Type 0} (hole : List (Bool × Fault)) (leaves : Bool) (x : X) → first_fault hole ≡ None → leaves ≡ true → Err OutsideTravel ≡ unless (first_fault (hole ++ ((leaves, OutsideTravel) ∷ []))) x
-of_travel hole leaves x e l = rw (first-none hole ((leaves, OutsideTravel) ∷ []) e, l) refl
+of_travel hole leaves x e l = rw (first_none hole ((leaves, OutsideTravel) ∷ []) e, l) refl
 
 pub of_none : {X : Type 0} (hole : List (Bool × Fault)) (leaves : Bool) (x : X) → first_fault hole ≡ None → leaves ≡ false → Ok x ≡ unless (first_fault (hole ++ ((leaves, OutsideTravel) ∷ []))) x
-of_none hole leaves x e l = rw (first-none hole ((leaves, OutsideTravel) ∷ []) e, l) refl
+of_none hole leaves x e l = rw (first_none hole ((leaves, OutsideTravel) ∷ []) e, l) refl

@@ -4,12 +4,12 @@ use Rattle.std.specs.Ordering.{int_eq}
 use Rattle.std.proofs.lemmas.List.{length-append}
 use Rattle.ng_num.specs.declared.point.Point.{Point}
 use Rattle.ng_cycles.specs.declared.drill.Drill.{Drill}
-use Rattle.ng_cycles.specs.declared.standing.Standing.{Standing}
+use Rattle.ng_cycles.specs.declared.motion_state.MotionState.{MotionState}
 use Rattle.ng_cycles.specs.Counts.{lead_length}
 use Rattle.ng_cycles.specs.Left.{work_length, repeat_length}
 use Rattle.ng_cycles.specs.Strokes.{Stroke, TraverseTo, numbers_from, coordinate, strokes_of, repeat}
-use Rattle.ng_cycles.specs.Segments.{cycle_segments, traced, behind}
-use Rattle.ng_cycles.proofs.Skips.{stand, place, traced-append, work-length, r-length, repeat-end, repeat-length}
+use Rattle.ng_cycles.specs.Segments.{cycle_segments, traced, after_segments}
+use Rattle.ng_cycles.proofs.Skips.{stand, hole_at, traced-append, work-length, r-length, repeat-end, repeat-length}
 
 -- a repeat that begins at any height
 first-length : (d : Drill) (p : Point) (r : ℕ) → length (traced d (stand d p) (repeat d r)) ≡ 1 + ((if int_eq p.z d.r then 0 else 1) + work_length d d.work)
@@ -21,19 +21,19 @@ first-length d p r =
     long ∙ one
 
 length-repeats : (d : Drill) (p : Point) (b : ℕ) (rest : List Stroke) →
-    length (traced d (stand d p) (repeat d b ++ rest)) ≡ length (traced d (stand d p) (repeat d b)) + length (traced d (stand d (place d b)) rest)
+    length (traced d (stand d p) (repeat d b ++ rest)) ≡ length (traced d (stand d p) (repeat d b)) + length (traced d (stand d (hole_at d b)) rest)
 length-repeats d p b rest =
     let one = traced d (stand d p) (repeat d b) in
     ap length (traced-append d (stand d p) (repeat d b) rest)
-    ∙ (length-append one (traced d (behind (stand d p) one) rest)
-    ∙ ap (λ (at : Standing). length one + length (traced d at rest)) (repeat-end d p b))
+    ∙ (length-append one (traced d (after_segments (stand d p) one) rest)
+    ∙ ap (λ (at : MotionState). length one + length (traced d at rest)) (repeat-end d p b))
 
 later-length : (d : Drill) (p : Point) (b m : ℕ) → p.z ≡ d.clear → length (traced d (stand d p) (flat_map (repeat d) (numbers_from b m))) ≡ m * repeat_length d
 later-length d p b zero e = omega arith
 later-length d p b (suc m) e =
     let split = length-repeats d p b (flat_map (repeat d) (numbers_from (suc b) m)) in
     let first = repeat-length d p b e in
-    let more = later-length d (place d b) (suc b) m refl in
+    let more = later-length d (hole_at d b) (suc b) m refl in
     omega (arith, split, first, more)
 
 all-length : (d : Drill) (p : Point) (m : ℕ) →
@@ -41,7 +41,7 @@ all-length : (d : Drill) (p : Point) (m : ℕ) →
 all-length d p m =
     let split = length-repeats d p 1 (flat_map (repeat d) (numbers_from 2 m)) in
     let first = first-length d p 1 in
-    let more = later-length d (place d 1) 2 m refl in
+    let more = later-length d (hole_at d 1) 2 m refl in
     omega (arith, split, first, more)
 
 rise-length : (d : Drill) (p : Point) (rises : Bool) (m : ℕ) →

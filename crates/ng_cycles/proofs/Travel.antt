@@ -12,15 +12,15 @@ use Rattle.ng_canon.specs.Inside.{is_on, is_inside}
 use Rattle.ng_canon.specs.declared.geometry.Axis.{Axis}
 use Rattle.ng_canon.specs.declared.geometry.Geometry.{Geometry}
 use Rattle.ng_canon.specs.declared.segment.Segment.{Segment}
-use Rattle.ng_cycles.specs.declared.drill.Course.{Course}
+use Rattle.ng_cycles.specs.declared.drill.HoleAxis.{HoleAxis}
 use Rattle.ng_cycles.specs.declared.drill.Drill.{Drill}
 use Rattle.ng_cycles.specs.declared.drill.Work.{Work}
 use Rattle.ng_cycles.specs.declared.drill.Work.TheVariants.{Drilling, DrillingWithDwell, PeckDrilling, Boring, BoringWithStop, BoringWithDwell}
-use Rattle.ng_cycles.specs.declared.standing.Standing.{Standing}
+use Rattle.ng_cycles.specs.declared.motion_state.MotionState.{MotionState}
 use Rattle.ng_cycles.specs.Inside.{top_of, rises_inside, extremes_inside}
 use Rattle.ng_cycles.specs.Faults.{ends_outside, leaves_travel}
 use Rattle.ng_cycles.specs.Strokes.{Stroke, Across, ToR, TraverseTo, FeedTo, Wait, Turn, numbers_from, coordinate, bottom, pecks, clearance, again, strokes_of, repeat}
-use Rattle.ng_cycles.specs.Segments.{traced, segments_of, behind, begin}
+use Rattle.ng_cycles.specs.Segments.{traced, segments_of, after_segments, begin}
 
 abbrev On : Axis → ℤ → Type 0
 On axis n = is_on axis n ≡ true
@@ -79,7 +79,7 @@ by_step axis from (negsuc s) k n some below first last =
     let b : k * suc s ≤ n * suc s = mul-le k (suc s) n (suc s) below (omega arith) in
     on_between axis (from +ℤ pos n *ℤ negsuc s) (from +ℤ pos 1 *ℤ negsuc s) (from +ℤ pos k *ℤ negsuc s) last first (omega (arith, ints, b)) (omega (arith, ints, a))
 
-on_course : (axis : Axis) (c : Course) (k n : ℕ) → 1 ≤ k → k ≤ n → On axis (coordinate c 1) → On axis (coordinate c n) → On axis (coordinate c k)
+on_course : (axis : Axis) (c : HoleAxis) (k n : ℕ) → 1 ≤ k → k ≤ n → On axis (coordinate c 1) → On axis (coordinate c n) → On axis (coordinate c k)
 on_course axis c k n some below first last = by_step axis c.from c.step k n some below first last
 
 -- ---- where a stroke ends
@@ -100,9 +100,9 @@ end-append : (g : Geometry) (d : Drill) (xs ys : List Stroke) → AllEnd g d xs 
 end-append g d [] ys a b = b
 end-append g d (x ∷ xs) ys a b = (a.0, end-append g d xs ys a.1 b)
 
-end-behind : (g : Geometry) (d : Drill) (xs ys : List Stroke) → AllEnd g d (xs ++ ys) → AllEnd g d ys
-end-behind g d [] ys a = a
-end-behind g d (x ∷ xs) ys a = end-behind g d xs ys a.1
+end-after : (g : Geometry) (d : Drill) (xs ys : List Stroke) → AllEnd g d (xs ++ ys) → AllEnd g d ys
+end-after g d [] ys a = a
+end-after g d (x ∷ xs) ys a = end-after g d xs ys a.1
 
 end-before : (g : Geometry) (d : Drill) (xs ys : List Stroke) → AllEnd g d (xs ++ ys) → AllEnd g d xs
 end-before g d [] ys a = tt
@@ -122,23 +122,23 @@ inside_stands g p h =
 abbrev outside : Geometry → List Segment → Bool
 outside g segments = list_any (ends_outside g) segments
 
-abbrev to_r_segments : Drill → Standing → Bool → List Segment
+abbrev to_r_segments : Drill → MotionState → Bool → List Segment
 to_r_segments d at there = if there then [] else segments_of d at (TraverseTo d.r)
 
-abbrev across_at : Drill → Standing → ℕ → Standing
+abbrev across_at : Drill → MotionState → ℕ → MotionState
 across_at d at r = record at { point = record at.point { x = coordinate d.x r; y = coordinate d.y r } }
 
-abbrev height_at : Standing → ℤ → Standing
+abbrev height_at : MotionState → ℤ → MotionState
 height_at at z = record at { point = record at.point { z = z } }
 
 -- ---- strokes that end inside, from a point inside
 
-by_test : (g : Geometry) (d : Drill) (at : Standing) (ss : List Stroke) (there : Bool) → outside g (traced d at ss) ≡ false → outside g (segments_of d at (TraverseTo d.r) ++ traced d (height_at at d.r) ss) ≡ false →
-    outside g (to_r_segments d at there ++ traced d (behind at (to_r_segments d at there)) ss) ≡ false
+by_test : (g : Geometry) (d : Drill) (at : MotionState) (ss : List Stroke) (there : Bool) → outside g (traced d at ss) ≡ false → outside g (segments_of d at (TraverseTo d.r) ++ traced d (height_at at d.r) ss) ≡ false →
+    outside g (to_r_segments d at there ++ traced d (after_segments at (to_r_segments d at there)) ss) ≡ false
 by_test g d at ss true one other = one
 by_test g d at ss false one other = other
 
-stays : (g : Geometry) (d : Drill) (at : Standing) (ss : List Stroke) → On g.z d.r → Stands g at.point → AllEnd g d ss → outside g (traced d at ss) ≡ false
+stays : (g : Geometry) (d : Drill) (at : MotionState) (ss : List Stroke) → On g.z d.r → Stands g at.point → AllEnd g d ss → outside g (traced d at ss) ≡ false
 stays g d at [] r h all = refl
 stays g d at (Across k ∷ rest) r h all =
     let now : Stands g (across_at d at k).point = (all.0.0, all.0.1, h.2) in
@@ -158,12 +158,12 @@ stays g d at (Turn spindle ∷ rest) r h all = stays g d (record at { outputs = 
 
 -- ---- and the other way: where no segment ends outside, the strokes end inside
 
-by_test_back : (g : Geometry) (d : Drill) (at : Standing) (ss : List Stroke) (there : Bool) (P : Type 0) → (outside g (traced d at ss) ≡ false → P) → (outside g (traced d (height_at at d.r) ss) ≡ false → P) →
-    outside g (to_r_segments d at there ++ traced d (behind at (to_r_segments d at there)) ss) ≡ false → P
+by_test_back : (g : Geometry) (d : Drill) (at : MotionState) (ss : List Stroke) (there : Bool) (P : Type 0) → (outside g (traced d at ss) ≡ false → P) → (outside g (traced d (height_at at d.r) ss) ≡ false → P) →
+    outside g (to_r_segments d at there ++ traced d (after_segments at (to_r_segments d at there)) ss) ≡ false → P
 by_test_back g d at ss true P one other none = one none
 by_test_back g d at ss false P one other none = other (rest_none (is_inside g (height_at at d.r).point) _ none)
 
-shown : (g : Geometry) (d : Drill) (at : Standing) (ss : List Stroke) → outside g (traced d at ss) ≡ false → AllEnd g d ss
+shown : (g : Geometry) (d : Drill) (at : MotionState) (ss : List Stroke) → outside g (traced d at ss) ≡ false → AllEnd g d ss
 shown g d at [] none = tt
 shown g d at (Across k ∷ rest) none =
     let now = inside_stands g (across_at d at k).point (first_none (is_inside g (across_at d at k).point) _ none) in
@@ -243,7 +243,7 @@ repeats_end g d a (suc j) hole places some few =
 
 last_place : (g : Geometry) (d : Drill) (a j : ℕ) → AllEnd g d (flat_map (repeat d) (numbers_from a (suc j))) → Ends g d (Across (a + j))
 last_place g d a zero all = let e : a + 0 ≡ a = omega arith in rw e all.0
-last_place g d a (suc j) all = let e : a + suc j ≡ suc a + j = omega arith in rw e (last_place g d (suc a) j (end-behind g d (strokes_of d d.work) _ all.1.1))
+last_place g d a (suc j) all = let e : a + suc j ≡ suc a + j = omega arith in rw e (last_place g d (suc a) j (end-after g d (strokes_of d d.work) _ all.1.1))
 
 -- ---- the whole
 

@@ -1,8 +1,9 @@
 -- What a cycle's line does, or the first cause for which it is refused (NISTIR 6556, 3.5.16; numbers own).
-use Rattle.std.specs.Prelude.{ℤ, pos, int_lt, Bool, true, false, not, ◌&&◌, ◌||◌, Option, Some, None, unwrap_or, List, [], ◌∷◌, ◌++◌, Result, Ok, Err, if◌then◌else◌}
+use Rattle.std.specs.Prelude.{ℤ, pos, int_lt, Bool, true, false, not, ◌&&◌, ◌||◌, Option, Some, None, unwrap_or, List, [], ◌∷◌, ◌++◌, Result, if◌then◌else◌}
 use Rattle.std.specs.Int.{int_max}
 use Rattle.std.specs.List.{list_any}
 use Rattle.std.specs.Option.{is_some, is_none, option_and_then}
+use Rattle.ng_num.specs.Causes.{first_fault, unless}
 use Rattle.ng_num.specs.declared.fault.Fault.{Fault}
 use Rattle.ng_num.specs.declared.fault.Fault.TheVariants.{OutOfRange, CycleNoAxis, NoZ, NoR, RBelowZ, InverseTime, NegativeP, BadQ, SpindleStopped, NoFeed, OutsideTravel}
 use Rattle.ng_canon.specs.Inside.{is_inside}
@@ -18,18 +19,18 @@ use Rattle.ng_cycles.specs.declared.drill.Work.{Work}
 use Rattle.ng_cycles.specs.declared.drill.Work.TheVariants as work
 use Rattle.ng_cycles.specs.declared.heights.Lengths.{Lengths}
 use Rattle.ng_cycles.specs.declared.words.CycleWords.{CycleWords}
-use Rattle.ng_cycles.specs.declared.words.KeptWords.{KeptWords}
-use Rattle.ng_cycles.specs.declared.words.Kind.{Kind}
-use Rattle.ng_cycles.specs.declared.words.Kind.TheVariants.{Drilling, DrillingWithDwell, PeckDrilling, Boring, BoringWithStop, BoringWithDwell}
+use Rattle.ng_state.specs.declared.kept_words.KeptWords.{KeptWords}
+use Rattle.ng_cycles.specs.declared.words.CycleKind.{CycleKind}
+use Rattle.ng_cycles.specs.declared.words.CycleKind.TheVariants.{Drilling, DrillingWithDwell, PeckDrilling, Boring, BoringWithStop, BoringWithDwell}
 use Rattle.ng_cycles.specs.declared.words.Setting.{Setting}
-use Rattle.ng_cycles.specs.Lengths.{course_of, r_of, z_of, lengths, is_far}
+use Rattle.ng_cycles.specs.Lengths.{hole_axis_of, r_of, z_of, lengths, is_far}
 use Rattle.ng_cycles.specs.Segments.{cycle_segments}
-use Rattle.ng_cycles.specs.Words.{in_force}
+use Rattle.ng_state.specs.KeptWords.{in_force}
 
 -- ---- what is done, where nothing forbids it
 
 -- a P that is missing is 0 (own)
-abbrev pub work_of : Kind → KeptWords → Work
+abbrev pub work_of : CycleKind → KeptWords → Work
 work_of Drilling words = work.Drilling
 work_of DrillingWithDwell words = work.DrillingWithDwell (unwrap_or words.p (pos 0))
 work_of PeckDrilling words = work.PeckDrilling (unwrap_or (option_and_then above_zero words.q) 1)
@@ -57,8 +58,8 @@ abbrev pub lengths_of : CycleWords → Setting → KeptWords → Lengths
 lengths_of w s words =
     let r' = r_of s.is_incremental (unwrap_or words.r (pos 0)) (shift_z s.offsets) s.point.z in
     record {
-      x = course_of s.is_incremental w.x (shift_x s.offsets) s.point.x;
-      y = course_of s.is_incremental w.y (shift_y s.offsets) s.point.y;
+      x = hole_axis_of s.is_incremental w.x (shift_x s.offsets) s.point.x;
+      y = hole_axis_of s.is_incremental w.y (shift_y s.offsets) s.point.y;
       r = r';
       z = z_of s.is_incremental (unwrap_or words.z (pos 0)) (shift_z s.offsets) r';
     }
@@ -72,7 +73,7 @@ drill_of w s = let words = in_force w.own s.kept in drill_by w s words (lengths_
 abbrev pub names_no_axis : CycleWords → Bool
 names_no_axis w = not (is_some w.x || (is_some w.y || is_some w.own.z))
 
-abbrev pub dwells : Kind → Bool
+abbrev pub dwells : CycleKind → Bool
 dwells DrillingWithDwell = true
 dwells BoringWithStop = true
 dwells BoringWithDwell = true
@@ -83,18 +84,18 @@ is_negative None = false
 is_negative (Some n) = int_lt n (pos 0)
 
 -- Y6: the P in force of G82, G86 or G89 is below 0
-abbrev pub has_negative_p : Kind → KeptWords → Bool
+abbrev pub has_negative_p : CycleKind → KeptWords → Bool
 has_negative_p kind words = dwells kind && is_negative words.p
 
-abbrev pub pecks_down : Kind → Bool
+abbrev pub pecks_down : CycleKind → Bool
 pecks_down PeckDrilling = true
 pecks_down _ = false
 
 -- Y7: G83 with no Q in force, or with one that isn't above 0
-abbrev pub has_bad_q : Kind → KeptWords → Bool
+abbrev pub has_bad_q : CycleKind → KeptWords → Bool
 has_bad_q kind words = pecks_down kind && is_none (option_and_then above_zero words.q)
 
-abbrev pub stops_spindle : Kind → Bool
+abbrev pub stops_spindle : CycleKind → Bool
 stops_spindle BoringWithStop = true
 stops_spindle _ = false
 
@@ -104,7 +105,7 @@ is_stopped Clockwise = false
 is_stopped Counterclockwise = false
 
 -- Y8: G86 while the spindle doesn't turn
-abbrev pub finds_spindle_stopped : Kind → Spindle → Bool
+abbrev pub finds_spindle_stopped : CycleKind → Spindle → Bool
 finds_spindle_stopped kind spindle = stops_spindle kind && is_stopped spindle
 
 -- X2: a move ends outside the travel
@@ -116,7 +117,7 @@ abbrev pub leaves_travel : Geometry → Drill → Bool
 leaves_travel g d = list_any (ends_outside g) (cycle_segments d)
 
 -- Y6 to Y8
-abbrev pub work_causes : Kind → KeptWords → Spindle → List (Bool × Fault)
+abbrev pub work_causes : CycleKind → KeptWords → Spindle → List (Bool × Fault)
 work_causes kind words spindle =
     (has_negative_p kind words, NegativeP)
     ∷ ((has_bad_q kind words, BadQ)
@@ -132,7 +133,7 @@ hole_causes w s words below =
     ++ ((is_none (above_zero s.feed_per_min), NoFeed)
     ∷ [])))
 
--- each fault behind its cause: E3, Y1 to Y8, X1, X2
+-- each fault with its cause before it: E3, Y1 to Y8, X1, X2
 abbrev pub causes : CycleWords → Setting → Geometry → List (Bool × Fault)
 causes w s g =
     let words = in_force w.own s.kept in
@@ -142,16 +143,6 @@ causes w s g =
     ∷ ((is_none words.z, NoZ)
     ∷ ((is_none words.r, NoR)
     ∷ (hole_causes w s words (int_lt d.r d.z) ++ ((leaves_travel g d, OutsideTravel) ∷ [])))))
-
--- the first fault whose cause holds
-abbrev pub first_fault : List (Bool × Fault) → Option Fault
-first_fault [] = None
-first_fault (f ∷ fs) = if f.0 then Some f.1 else first_fault fs
-
--- what there is, unless there is a fault
-abbrev pub unless : {X : Type 0} → Option Fault → X → Result X Fault
-unless (Some fault) x = Err fault
-unless None x = Ok x
 
 abbrev pub canned_of : CycleWords → Setting → Geometry → Result Drill Fault
 canned_of w s g = unless (first_fault (causes w s g)) (drill_of w s)

@@ -11,7 +11,7 @@ use Rattle.ng_cycles.specs.declared.left.CycleLeft.{CycleLeft}
 use Rattle.ng_cycles.specs.declared.phase.Phase.{Phase}
 use Rattle.ng_cycles.specs.declared.phase.Phase.TheVariants as phase
 use Rattle.ng_cycles.specs.Strokes.{Stroke, TraverseTo, FeedTo, Wait, Turn, numbers_from, bottom, pecks, clearance, again, strokes_of, repeat}
-use Rattle.ng_cycles.specs.Segments.{traced, stand_after, Ahead}
+use Rattle.ng_cycles.specs.Segments.{traced, after_segment, CycleModel}
 
 -- how long it waits at the bottom
 abbrev pub seconds_of : Work → ℤ
@@ -42,9 +42,9 @@ work_length d (BoringWithDwell seconds) = 3
 abbrev pub repeat_length : Drill → ℕ
 repeat_length d = 1 + ((if int_eq d.clear d.r then 0 else 1) + work_length d d.work)
 
--- so many pecks behind peck k, and out
-abbrev pub pecks_behind : Drill → ℕ → ℕ → ℕ → List Stroke
-pecks_behind d peck k n = flat_map (again d peck) (numbers_from k n) ++ TraverseTo d.clear ∷ []
+-- so many pecks after peck k, and out
+abbrev pub pecks_after : Drill → ℕ → ℕ → ℕ → List Stroke
+pecks_after d peck k n = flat_map (again d peck) (numbers_from k n) ++ TraverseTo d.clear ∷ []
 
 -- what is left of a repeat
 abbrev pub strokes_in : Drill → Phase → List Stroke
@@ -58,25 +58,25 @@ strokes_in d phase.OutStopped = TraverseTo d.clear ∷ Turn d.outputs.spindle �
 strokes_in d phase.Start = Turn d.outputs.spindle ∷ []
 strokes_in d phase.Out = TraverseTo d.clear ∷ []
 strokes_in d phase.FeedOut = FeedTo d.clear ∷ []
-strokes_in d (phase.PeckOut p) = TraverseTo d.r ∷ TraverseTo (int_min d.r (bottom d p.peck p.done +ℤ clearance)) ∷ FeedTo (bottom d p.peck (suc p.done)) ∷ pecks_behind d p.peck (suc p.done) p.left
-strokes_in d (phase.PeckBack p) = TraverseTo (int_min d.r (bottom d p.peck p.done +ℤ clearance)) ∷ FeedTo (bottom d p.peck (suc p.done)) ∷ pecks_behind d p.peck (suc p.done) p.left
-strokes_in d (phase.PeckDown p) = FeedTo (bottom d p.peck (suc p.done)) ∷ pecks_behind d p.peck (suc p.done) p.left
+strokes_in d (phase.PeckOut p) = TraverseTo d.r ∷ TraverseTo (int_min d.r (bottom d p.peck p.done +ℤ clearance)) ∷ FeedTo (bottom d p.peck (suc p.done)) ∷ pecks_after d p.peck (suc p.done) p.left
+strokes_in d (phase.PeckBack p) = TraverseTo (int_min d.r (bottom d p.peck p.done +ℤ clearance)) ∷ FeedTo (bottom d p.peck (suc p.done)) ∷ pecks_after d p.peck (suc p.done) p.left
+strokes_in d (phase.PeckDown p) = FeedTo (bottom d p.peck (suc p.done)) ∷ pecks_after d p.peck (suc p.done) p.left
 
 -- what is left of a cycle
 abbrev pub strokes_left : Drill → CycleLeft → List Stroke
 strokes_left d c = strokes_in d c.phase ++ flat_map (repeat d) (numbers_from (suc c.begun) c.repeats_left)
 
-abbrev pub ahead_of : CycleLeft → Ahead
+abbrev pub ahead_of : CycleLeft → CycleModel
 ahead_of c = record { standing = c.standing; segments = traced c.canned c.standing (strokes_left c.canned c) }
 
 -- the next segment of what is ahead, if there is one
-abbrev pub IsNext : Ahead → Ahead → Option Segment → Type 0
-IsNext old new result = MatchOption result ((old.segments ≡ []) × (new ≡ old)) (λ segment. (old.segments ≡ segment ∷ new.segments) × (new.standing ≡ stand_after old.standing segment))
+abbrev pub IsNextSegment : CycleModel → CycleModel → Option Segment → Type 0
+IsNextSegment old new result = MatchOption result ((old.segments ≡ []) × (new ≡ old)) (λ segment. (old.segments ≡ segment ∷ new.segments) × (new.standing ≡ after_segment old.standing segment))
 
 -- a segment is the next one, and the repeat stays
-pub record Gives (old new : CycleLeft) (segment : Segment) : Type 0 where
+pub record NextSegmentSpec (old new : CycleLeft) (segment : Segment) : Type 0 where
   pub segments : (ahead_of old).segments ≡ segment ∷ (ahead_of new).segments
-  pub standing : new.standing ≡ stand_after old.standing segment
+  pub standing : new.standing ≡ after_segment old.standing segment
   pub canned : new.canned ≡ old.canned
   pub begun : new.begun ≡ old.begun
   pub repeats : new.repeats_left ≡ old.repeats_left

@@ -7,22 +7,22 @@ use Rattle.ng_num.specs.Range.{greatest}
 use Rattle.ng_num.specs.declared.fault.Fault.{Fault}
 use Rattle.ng_num.specs.declared.fault.Fault.TheVariants.{OutOfRange}
 use Rattle.ng_offsets.specs.Points.{shift_x, shift_y, shift_z}
-use Rattle.ng_cycles.specs.declared.drill.Course.{Course}
-use Rattle.ng_cycles.specs.declared.heights.Found.{Found}
+use Rattle.ng_cycles.specs.declared.drill.HoleAxis.{HoleAxis}
+use Rattle.ng_cycles.specs.declared.heights.OptionalLengths.{OptionalLengths}
 use Rattle.ng_cycles.specs.declared.heights.Heights.{Heights}
 use Rattle.ng_cycles.specs.declared.heights.Lengths.{Lengths}
 use Rattle.ng_cycles.specs.declared.words.CycleWords.{CycleWords}
-use Rattle.ng_cycles.specs.declared.words.KeptWords.{KeptWords}
+use Rattle.ng_state.specs.declared.kept_words.KeptWords.{KeptWords}
 use Rattle.ng_cycles.specs.declared.words.Setting.{Setting}
 use Rattle.ng_cycles.specs.Strokes.{numbers_from}
 
 -- ---- machine coordinates
 
 -- the places along an axis: under G90 the named one for all repeats, under G91 from the current one on
-abbrev pub course_of : Bool → Option ℤ → ℤ → ℤ → Course
-course_of incremental None shift at = record { from = at; step = pos 0 }
-course_of false (Some word) shift at = record { from = word +ℤ shift; step = pos 0 }
-course_of true (Some word) shift at = record { from = at; step = word }
+abbrev pub hole_axis_of : Bool → Option ℤ → ℤ → ℤ → HoleAxis
+hole_axis_of incremental None shift at = record { from = at; step = pos 0 }
+hole_axis_of false (Some word) shift at = record { from = word +ℤ shift; step = pos 0 }
+hole_axis_of true (Some word) shift at = record { from = at; step = word }
 
 -- R: under G91 it counts from the current Z
 abbrev pub r_of : Bool → ℤ → ℤ → ℤ → ℤ
@@ -44,15 +44,15 @@ z_by true (Some r) (Some word) shift at = Some ((at +ℤ r) +ℤ word)
 abbrev pub heights_of : Bool → KeptWords → ℤ → ℤ → Heights
 heights_of incremental words shift at = record { r = option_map (λ r. r_of incremental r shift at) words.r; z = z_by incremental words.r words.z shift at }
 
-abbrev pub found_of : CycleWords → KeptWords → Setting → Found
-found_of w words s = record {
-  x = course_of s.is_incremental w.x (shift_x s.offsets) s.point.x;
-  y = course_of s.is_incremental w.y (shift_y s.offsets) s.point.y;
+abbrev pub optional_lengths_of : CycleWords → KeptWords → Setting → OptionalLengths
+optional_lengths_of w words s = record {
+  x = hole_axis_of s.is_incremental w.x (shift_x s.offsets) s.point.x;
+  y = hole_axis_of s.is_incremental w.y (shift_y s.offsets) s.point.y;
   heights = heights_of s.is_incremental words (shift_z s.offsets) s.point.z;
 }
 
 -- all of them, where R and Z are there
-abbrev pub lengths_in : Found → Option Lengths
+abbrev pub lengths_in : OptionalLengths → Option Lengths
 lengths_in f = option_and_then (λ r. option_map (λ z. record { x = f.x; y = f.y; r = r; z = z }) f.heights.z) f.heights.r
 
 -- ---- what is looked at: the current and the new program coordinates where the line needs them, and the machine coordinates

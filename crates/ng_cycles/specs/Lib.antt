@@ -3,7 +3,6 @@ pub mod Canned
 pub mod Segments
 pub mod Left
 pub mod Counts
-pub mod Words
 pub mod Lengths
 pub mod Faults
 pub mod Inside

@@ -7,25 +7,25 @@ use Rattle.ng_canon.specs.declared.pace.Pace.TheVariants as pace
 use Rattle.ng_canon.specs.declared.segment.Segment.{Segment}
 use Rattle.ng_canon.specs.declared.segment.Segment.TheVariants as segment
 use Rattle.ng_cycles.specs.declared.drill.Drill.{Drill}
-use Rattle.ng_cycles.specs.declared.standing.Standing.{Standing}
+use Rattle.ng_cycles.specs.declared.motion_state.MotionState.{MotionState}
 use Rattle.ng_cycles.specs.Strokes.{Stroke, Across, ToR, TraverseTo, FeedTo, Wait, Turn, coordinate, strokes}
 
--- where the machine stands behind a segment, and its outputs there
-abbrev pub stand_after : Standing → Segment → Standing
-stand_after at (segment.Line line) = record at { point = line.end }
-stand_after at (segment.Arc arc) = record at { point = arc.end }
-stand_after at (segment.Dwell seconds) = at
-stand_after at (segment.Switch outputs) = record at { outputs = outputs }
+-- where the machine stands after a segment, and its outputs there
+abbrev pub after_segment : MotionState → Segment → MotionState
+after_segment at (segment.Line line) = record at { point = line.end }
+after_segment at (segment.Arc arc) = record at { point = arc.end }
+after_segment at (segment.Dwell seconds) = at
+after_segment at (segment.Switch outputs) = record at { outputs = outputs }
 
--- the same behind some segments
-abbrev pub behind : Standing → List Segment → Standing
-behind at segments = fold stand_after at segments
+-- the same after some segments
+abbrev pub after_segments : MotionState → List Segment → MotionState
+after_segments at segments = fold after_segment at segments
 
 abbrev pub line_to : Pace → Point → Point → Segment
 line_to pace start end = segment.Line (record { start = start; end = end; pace = pace })
 
 -- a stroke is one segment, but that to R is none where Z is there
-abbrev pub segments_of : Drill → Standing → Stroke → List Segment
+abbrev pub segments_of : Drill → MotionState → Stroke → List Segment
 segments_of d at (Across r) = line_to pace.Traverse at.point (record at.point { x = coordinate d.x r; y = coordinate d.y r }) ∷ []
 segments_of d at ToR = if int_eq at.point.z d.r then [] else line_to pace.Traverse at.point (record at.point { z = d.r }) ∷ []
 segments_of d at (TraverseTo z) = line_to pace.Traverse at.point (record at.point { z = z }) ∷ []
@@ -33,11 +33,11 @@ segments_of d at (FeedTo z) = line_to (pace.Feed d.rate) at.point (record at.poi
 segments_of d at (Wait seconds) = segment.Dwell seconds ∷ []
 segments_of d at (Turn spindle) = segment.Switch (record d.outputs { spindle = spindle }) ∷ []
 
-abbrev pub traced : Drill → Standing → List Stroke → List Segment
+abbrev pub traced : Drill → MotionState → List Stroke → List Segment
 traced d at [] = []
-traced d at (s ∷ rest) = segments_of d at s ++ traced d (behind at (segments_of d at s)) rest
+traced d at (s ∷ rest) = segments_of d at s ++ traced d (after_segments at (segments_of d at s)) rest
 
-abbrev pub begin : Drill → Standing
+abbrev pub begin : Drill → MotionState
 begin d = record { point = d.start; outputs = d.outputs }
 
 -- all segments of a cycle
@@ -45,13 +45,13 @@ abbrev pub cycle_segments : Drill → List Segment
 cycle_segments d = traced d (begin d) (strokes d)
 
 -- segments that are left, and how the machine stands before them
-pub record Ahead : Type 0 where
-  pub standing : Standing
+pub record CycleModel : Type 0 where
+  pub standing : MotionState
   pub segments : List Segment
 
-abbrev pub whole : Drill → Ahead
+abbrev pub whole : Drill → CycleModel
 whole d = record { standing = begin d; segments = cycle_segments d }
 
 -- the same with so many of them done
-abbrev pub later : ℕ → Ahead → Ahead
-later n a = record { standing = behind a.standing (take n a.segments); segments = drop n a.segments }
+abbrev pub later : ℕ → CycleModel → CycleModel
+later n a = record { standing = after_segments a.standing (take n a.segments); segments = drop n a.segments }

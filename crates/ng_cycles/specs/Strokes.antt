@@ -3,7 +3,7 @@ use Rattle.std.specs.Prelude.{ℕ, zero, suc, ◌+◌, ◌-◌, ◌*◌, ◌/◌
 use Rattle.std.specs.Int.{int_min, int_max}
 use Rattle.ng_canon.specs.declared.outputs.Spindle.{Spindle}
 use Rattle.ng_canon.specs.declared.outputs.Spindle.TheVariants.{Stopped}
-use Rattle.ng_cycles.specs.declared.drill.Course.{Course}
+use Rattle.ng_cycles.specs.declared.drill.HoleAxis.{HoleAxis}
 use Rattle.ng_cycles.specs.declared.drill.Drill.{Drill}
 use Rattle.ng_cycles.specs.declared.drill.Work.{Work}
 use Rattle.ng_cycles.specs.declared.drill.Work.TheVariants.{Drilling, DrillingWithDwell, PeckDrilling, Boring, BoringWithStop, BoringWithDwell}
@@ -22,7 +22,7 @@ numbers_from first zero = []
 numbers_from first (suc n) = first ∷ numbers_from (suc first) n
 
 -- an axis's coordinate at the place of a repeat: where it counts from, and once more for each repeat what is added
-abbrev pub coordinate : Course → ℕ → ℤ
+abbrev pub coordinate : HoleAxis → ℕ → ℤ
 coordinate c r = c.from +ℤ pos r *ℤ c.step
 
 -- the bottom of peck k: a peck below the one before, but not below Z (own)
@@ -37,7 +37,7 @@ pecks d peck = max 1 ((unsigned_abs (d.r -ℤ d.z) + (peck - 1)) / peck)
 abbrev pub clearance : ℤ
 clearance = pos 254_000
 
--- the peck behind peck k: out to R, back to a little above the bottom, and on to the next one
+-- the peck after peck k: out to R, back to a little above the bottom, and on to the next one
 abbrev pub again : Drill → ℕ → ℕ → List Stroke
 again d peck k = TraverseTo d.r ∷ TraverseTo (int_min d.r (bottom d peck k +ℤ clearance)) ∷ FeedTo (bottom d peck (suc k)) ∷ []
 

@@ -6,14 +6,16 @@ ghost use Rattle.ng_canon.specs.Rates.{above_zero};
 ghost use Rattle.ng_num.specs.Range.{IsCount};
 ghost use Rattle.ng_cycles.specs.Strokes.{coordinate};
 ghost use Rattle.ng_cycles.specs.Canned.{IsDeep, IsMade};
-ghost use Rattle.ng_cycles.specs.Faults.{work_of, work_causes, is_negative, is_stopped, hole_causes, drill_by, first_fault, unless};
+ghost use Rattle.ng_num.specs.Causes.{first_fault, unless};
+ghost use Rattle.ng_cycles.specs.Faults.{work_of, work_causes, is_negative, is_stopped, hole_causes, drill_by};
 
 use crate::drill::{Drill, Work};
-use crate::heights::{Lengths, found_of};
+use crate::heights::{Lengths, optional_lengths_of};
 use crate::peck::Peck;
-use crate::words::{CycleWords, KeptWords, Kind, Setting};
+use crate::words::{CycleKind, CycleWords, Setting};
 use ng_canon::{Geometry, Rate, Spindle};
 use ng_num::{Fault, Len, Num};
+use ng_state::KeptWords;
 use std::marker::Model;
 
 /// A canned cycle that nothing forbids.
@@ -59,6 +61,7 @@ fn pecking(q: Option<Len>) -> Result<Work, Fault>
         Some(q) => match Peck::of(q) {
             None => Err(Fault::BadQ),
             Some(peck) => {
+                // called for its contract: a peck is above 0
                 let _nm = peck.nm();
                 Ok(Work::PeckDrilling(peck))
             }
@@ -79,17 +82,17 @@ fn boring_with_stop(seconds: Num, spindle: Spindle) -> Result<Work, Fault>
 }
 
 /// What a kind of cycle does, by the words in force.
-fn work_of(kind: Kind, words: &KeptWords, spindle: Spindle) -> Result<Work, Fault>
+fn work_of(kind: CycleKind, words: &KeptWords, spindle: Spindle) -> Result<Work, Fault>
     ensures work { result ≡ unless (first_fault (work_causes kind words.now spindle)) (work_of kind words.now) }
     ensures deep { IfOk result IsDeep }
 {
     match kind {
-        Kind::Drilling => Ok(Work::Drilling),
-        Kind::DrillingWithDwell => Ok(Work::DrillingWithDwell(seconds_of(words.p)?)),
-        Kind::PeckDrilling => pecking(words.q),
-        Kind::Boring => Ok(Work::Boring),
-        Kind::BoringWithStop => boring_with_stop(seconds_of(words.p)?, spindle),
-        Kind::BoringWithDwell => Ok(Work::BoringWithDwell(seconds_of(words.p)?)),
+        CycleKind::Drilling => Ok(Work::Drilling),
+        CycleKind::DrillingWithDwell => Ok(Work::DrillingWithDwell(seconds_of(words.p)?)),
+        CycleKind::PeckDrilling => pecking(words.q),
+        CycleKind::Boring => Ok(Work::Boring),
+        CycleKind::BoringWithStop => boring_with_stop(seconds_of(words.p)?, spindle),
+        CycleKind::BoringWithDwell => Ok(Work::BoringWithDwell(seconds_of(words.p)?)),
     }
 }
 
@@ -167,7 +170,7 @@ impl Canned {
         ensures { result ≡ canned_of words.now setting.now geometry.now }
     {
         let in_force = words.own.over(&setting.kept);
-        let found = match found_of(words, &in_force, setting) {
+        let found = match optional_lengths_of(words, &in_force, setting) {
             Ok(found) => found,
             Err(fault) => return Err(fault),
         };

@@ -3,7 +3,7 @@ ghost use Rattle.std.specs.Prelude.{◌≡◌, ◌≤◌, Ok};
 
 use crate::canned::Canned;
 use crate::left::{CycleLeft, cycle_left};
-use crate::standing::Standing;
+use crate::motion_state::MotionState;
 use crate::words::{CycleWords, Setting};
 use ng_canon::{Geometry, Segment};
 use ng_num::Fault;
@@ -17,10 +17,10 @@ pub struct Cycle {
 
 impl Model for Cycle {
     ghost use Rattle.std.specs.Prelude.{◌≡◌, ◌+◌};
-    ghost use Rattle.ng_cycles.specs.Segments.{Ahead};
+    ghost use Rattle.ng_cycles.specs.Segments.{CycleModel};
     ghost use Rattle.ng_cycles.specs.Left.{ahead_of};
 
-    ghost Value = { Ahead };
+    ghost Value = { CycleModel };
 
     ghost view = { λ c. ahead_of c.left };
 
@@ -29,7 +29,7 @@ impl Model for Cycle {
 
 impl Cycle {
     ghost use Rattle.ng_cycles.specs.Segments.{whole, later};
-    ghost use Rattle.ng_cycles.specs.Left.{IsNext};
+    ghost use Rattle.ng_cycles.specs.Left.{IsNextSegment};
     ghost use Rattle.ng_cycles.specs.Faults.{canned_of};
     ghost use Rattle.ng_num.specs.Results.{and_then};
 
@@ -53,7 +53,7 @@ impl Cycle {
         }
     }
 
-    /// A cycle before its segment n, from 0, or behind its last one. The segments before aren't walked: whole repeats and whole
+    /// A cycle before its segment n, from 0, or after its last one. The segments before aren't walked: whole repeats and whole
     /// pecks are passed at once.
     pub fn from(canned: &Canned, n: u64) -> Cycle
         ensures { result ≡ later n (whole canned.now) }
@@ -65,13 +65,13 @@ impl Cycle {
 
     /// The next segment.
     pub fn next_segment(&mut self) -> Option<Segment>
-        ensures { IsNext self.old self.new result }
+        ensures { IsNextSegment self.old self.new result }
     {
         self.left.next()
     }
 
     /// How the machine stands before the next segment: where that begins, and the outputs before it.
-    pub fn standing(&self) -> Standing
+    pub fn standing(&self) -> MotionState
         ensures { result ≡ self.now.standing }
     {
         self.left.standing

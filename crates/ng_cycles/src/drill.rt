@@ -23,7 +23,7 @@ pub enum Work {
 /// An axis's coordinates at the places of a cycle: where they count from, and what is added for each repeat (NISTIR 6556,
 /// 3.5.16).
 #[derive(Clone, Copy)]
-pub struct Course {
+pub struct HoleAxis {
     pub from: Len,
     pub step: Len,
 }
@@ -34,8 +34,8 @@ pub struct Drill {
     pub work: Work,
     /// Where the machine stands before it.
     pub start: Point,
-    pub x: Course,
-    pub y: Course,
+    pub x: HoleAxis,
+    pub y: HoleAxis,
     pub r: Len,
     pub z: Len,
     /// Where each repeat ends: at R, or at the old Z (NISTIR 6556, 3.5.20).
@@ -43,6 +43,6 @@ pub struct Drill {
     /// At least 1.
     pub repeats: u32,
     pub rate: Rate,
-    /// The outputs before it, and behind it.
+    /// The outputs before it, and after it.
     pub outputs: Outputs,
 }

@@ -2,15 +2,16 @@
 ghost use Rattle.std.specs.Prelude.{◌≡◌, ◌≤◌, ◌+ℤ◌, ◌-ℤ◌, ◌*ℤ◌, ◌||◌, ◌++◌, pos, true, false, flat_map, IfOk};
 ghost use Rattle.std.specs.List.{list_any};
 ghost use Rattle.ng_num.specs.Range.{IsCount};
-ghost use Rattle.ng_cycles.specs.Lengths.{course_of, r_of, heights_of, place_lengths, r_lengths, z_lengths, height_lengths, lengths, lengths_in, found_of, repeated, is_far, far_unless};
+ghost use Rattle.ng_cycles.specs.Lengths.{hole_axis_of, r_of, heights_of, place_lengths, r_lengths, z_lengths, height_lengths, lengths, lengths_in, optional_lengths_of, repeated, is_far, far_unless};
 ghost use Rattle.ng_cycles.specs.Strokes.{numbers_from, coordinate};
 ghost use Rattle.ng_offsets.specs.Points.{shift_z};
 
-use crate::drill::Course;
-use crate::places::times;
-use crate::words::{CycleWords, KeptWords, Setting};
+use crate::drill::HoleAxis;
+use crate::holes::times;
+use crate::words::{CycleWords, Setting};
 use ng_num::{Fault, Len};
 use ng_offsets::Shift;
+use ng_state::KeptWords;
 
 /// R and Z in machine coordinates, where their words are there. Under G91 Z is none where R is missing.
 #[derive(Clone, Copy)]
@@ -21,17 +22,17 @@ pub struct Heights {
 
 /// What a cycle's words name in machine coordinates, where R and Z may be missing.
 #[derive(Clone, Copy)]
-pub struct Found {
-    pub x: Course,
-    pub y: Course,
+pub struct OptionalLengths {
+    pub x: HoleAxis,
+    pub y: HoleAxis,
     pub heights: Heights,
 }
 
 /// What a cycle's words name in machine coordinates.
 #[derive(Clone, Copy)]
 pub struct Lengths {
-    pub x: Course,
-    pub y: Course,
+    pub x: HoleAxis,
+    pub y: HoleAxis,
     pub r: Len,
     pub z: Len,
 }
@@ -56,42 +57,44 @@ fn reaches_far(current: Len, at: Len, word: Len, repeats: u32) -> bool
     ensures far { result ≡ list_any is_far (flat_map (repeated current at word) (numbers_from 1 repeats)) }
     ensures last { result ≡ false → IsCount (at +ℤ pos repeats *ℤ word) }
 {
+    // called for their contract: the lengths are in range
     let _range = (current.nm(), at.nm());
     is_either(is_far(current, repeats, word), is_far(at, repeats, word))
 }
 
 /// The places along an axis from the current coordinate on.
-fn stepping(word: Len, shift: Shift, at: Len, repeats: u32) -> Result<Course, Fault>
+fn stepping(word: Len, shift: Shift, at: Len, repeats: u32) -> Result<HoleAxis, Fault>
     requires { 1 ≤ repeats }
-    ensures course { result ≡ far_unless (place_lengths true (Some word) shift at repeats) (course_of true (Some word) shift at) }
-    ensures reaches { IfOk result (λ course. IsCount (coordinate course repeats)) }
+    ensures hole_axis { result ≡ far_unless (place_lengths true (Some word) shift at repeats) (hole_axis_of true (Some word) shift at) }
+    ensures reaches { IfOk result (λ hole_axis. IsCount (coordinate hole_axis repeats)) }
 {
     let current = shift.to_program(at)?;
     if reaches_far(current, at, word, repeats) {
         return Err(Fault::OutOfRange);
     }
-    Ok(Course {
+    Ok(HoleAxis {
         from: at,
         step: word,
     })
 }
 
 /// The places along an axis.
-pub fn course_of(
+pub fn hole_axis_of(
     is_incremental: bool,
     word: Option<Len>,
     shift: Shift,
     at: Len,
     repeats: u32,
-) -> Result<Course, Fault>
+) -> Result<HoleAxis, Fault>
     requires { 1 ≤ repeats }
-    ensures course { result ≡ far_unless (place_lengths is_incremental word shift at repeats) (course_of is_incremental word shift at) }
-    ensures reaches { IfOk result (λ course. IsCount (coordinate course repeats)) }
+    ensures hole_axis { result ≡ far_unless (place_lengths is_incremental word shift at repeats) (hole_axis_of is_incremental word shift at) }
+    ensures reaches { IfOk result (λ hole_axis. IsCount (coordinate hole_axis repeats)) }
 {
     match word {
         None => {
+            // called for its contract: the length is in range
             let _range = at.nm();
-            Ok(Course {
+            Ok(HoleAxis {
                 from: at,
                 step: Len::zero(),
             })
@@ -100,8 +103,9 @@ pub fn course_of(
             stepping(word, shift, at, repeats)
         } else {
             let from = shift.to_machine(word)?;
+            // called for its contract: the length is in range
             let _range = from.nm();
-            Ok(Course {
+            Ok(HoleAxis {
                 from,
                 step: Len::zero(),
             })
@@ -178,7 +182,7 @@ pub fn heights_of(words: &KeptWords, setting: &Setting) -> Result<Heights, Fault
     }
 }
 
-impl Found {
+impl OptionalLengths {
     /// All of them, where R and Z are there.
     pub fn lengths(&self) -> Option<Lengths>
         ensures { result ≡ lengths_in self.now }
@@ -199,36 +203,40 @@ impl Found {
 }
 
 /// All lengths of a cycle's words.
-pub fn found_of(words: &CycleWords, in_force: &KeptWords, setting: &Setting) -> Result<Found, Fault>
+pub fn optional_lengths_of(
+    words: &CycleWords,
+    in_force: &KeptWords,
+    setting: &Setting,
+) -> Result<OptionalLengths, Fault>
     requires { 1 ≤ words.now.repeats }
-    ensures found { result ≡ far_unless (lengths words.now in_force.now setting.now) (found_of words.now in_force.now setting.now) }
+    ensures found { result ≡ far_unless (lengths words.now in_force.now setting.now) (optional_lengths_of words.now in_force.now setting.now) }
     ensures x { IfOk result (λ found. IsCount (coordinate found.x words.now.repeats)) }
     ensures y { IfOk result (λ found. IsCount (coordinate found.y words.now.repeats)) }
 {
     let is_incremental = setting.is_incremental;
     let repeats = words.repeats;
-    let x = match course_of(
+    let x = match hole_axis_of(
         is_incremental,
         words.x,
         setting.offsets.x(),
         setting.point.x,
         repeats,
     ) {
-        Ok(course) => course,
+        Ok(hole_axis) => hole_axis,
         Err(fault) => return Err(fault),
     };
-    let y = match course_of(
+    let y = match hole_axis_of(
         is_incremental,
         words.y,
         setting.offsets.y(),
         setting.point.y,
         repeats,
     ) {
-        Ok(course) => course,
+        Ok(hole_axis) => hole_axis,
         Err(fault) => return Err(fault),
     };
     match heights_of(in_force, setting) {
-        Ok(heights) => Ok(Found { x, y, heights }),
+        Ok(heights) => Ok(OptionalLengths { x, y, heights }),
         Err(fault) => Err(fault),
     }
 }

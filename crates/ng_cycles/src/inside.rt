@@ -3,11 +3,11 @@ ghost use Rattle.std.specs.Prelude.{◌≡◌, ◌≤◌};
 ghost use Rattle.ng_num.specs.Range.{IsCount};
 ghost use Rattle.ng_cycles.specs.Canned.{IsMade};
 
-use crate::drill::{Course, Drill};
+use crate::drill::{Drill, HoleAxis};
 use ng_canon::{Axis, Geometry};
 use ng_num::Len;
 
-impl Course {
+impl HoleAxis {
     ghost use Rattle.std.specs.Prelude.{◌&&◌};
     ghost use Rattle.ng_canon.specs.Inside.{is_on};
     ghost use Rattle.ng_cycles.specs.Strokes.{coordinate};

@@ -3,15 +3,15 @@ ghost use Rattle.std.specs.Prelude.{◌≡◌, ◌∷◌, [], ◌+◌, ◌<◌, 
 ghost use Rattle.std.specs.Ordering.{int_eq};
 ghost use Rattle.ng_canon.specs.declared.pace.Pace.TheVariants as pace;
 ghost use Rattle.ng_cycles.specs.Strokes.{strokes_of, TraverseTo};
-ghost use Rattle.ng_cycles.specs.Segments.{stand_after, line_to, whole};
-ghost use Rattle.ng_cycles.specs.Left.{ahead_of, strokes_in, seconds_of, way_out, pecks_behind, Gives, IsNext};
+ghost use Rattle.ng_cycles.specs.Segments.{after_segment, line_to, whole};
+ghost use Rattle.ng_cycles.specs.Left.{ahead_of, strokes_in, seconds_of, way_out, pecks_after, NextSegmentSpec, IsNextSegment};
 ghost use Rattle.ng_cycles.specs.declared.drill.Drill.{Drill};
 
 use crate::canned::Canned;
 use crate::drill::Work;
+use crate::motion_state::MotionState;
 use crate::peck::Peck;
 use crate::phase::{Pecking, Phase};
-use crate::standing::Standing;
 use ng_canon::{Pace, Segment, Spindle};
 use ng_num::{Len, Num};
 
@@ -19,17 +19,17 @@ use ng_num::{Len, Num};
 #[derive(Clone, Copy)]
 pub struct CycleLeft {
     pub canned: Canned,
-    pub standing: Standing,
+    pub standing: MotionState,
     /// The repeats that have begun.
     pub begun: u32,
     pub repeats_left: u32,
     pub phase: Phase,
 }
 
-/// What comes behind so many pecks, where so many are left.
-fn behind_peck(peck: Peck, done: u64, left: u64) -> Phase
+/// What comes after so many pecks, where so many are left.
+fn phase_after_peck(peck: Peck, done: u64, left: u64) -> Phase
     requires { done + left < 40_000_000_000_000 }
-    ensures { (d : Drill) → strokes_in d result ≡ pecks_behind d peck done left }
+    ensures { (d : Drill) → strokes_in d result ≡ pecks_after d peck done left }
 {
     if left == 0 {
         return Phase::Out;
@@ -90,7 +90,7 @@ pub fn cycle_left(canned: &Canned) -> CycleLeft
     ensures count { result.begun + result.repeats_left ≡ result.canned.repeats }
 {
     let drill = canned.drill();
-    let standing = Standing {
+    let standing = MotionState {
         point: drill.start,
         outputs: drill.outputs,
     };
@@ -112,7 +112,7 @@ impl CycleLeft {
     /// Traverses in Z.
     fn traverse(&mut self, z: Len, next: Phase) -> Segment
         ensures segment { result ≡ line_to pace.Traverse self.old.standing.point (record self.old.standing.point { z = z }) }
-        ensures left { self.new ≡ record self.old { standing = stand_after self.old.standing result; phase = next } }
+        ensures left { self.new ≡ record self.old { standing = after_segment self.old.standing result; phase = next } }
     {
         self.phase = next;
         let end = self.standing.at_height(z);
@@ -122,7 +122,7 @@ impl CycleLeft {
     /// Feeds in Z.
     fn feed(&mut self, z: Len, next: Phase) -> Segment
         ensures segment { result ≡ line_to (pace.Feed self.old.canned.rate) self.old.standing.point (record self.old.standing.point { z = z }) }
-        ensures left { self.new ≡ record self.old { standing = stand_after self.old.standing result; phase = next } }
+        ensures left { self.new ≡ record self.old { standing = after_segment self.old.standing result; phase = next } }
     {
         self.phase = next;
         let end = self.standing.at_height(z);
@@ -133,7 +133,7 @@ impl CycleLeft {
     /// Turns the spindle.
     fn turn(&mut self, spindle: Spindle, next: Phase) -> Segment
         ensures segment { result ≡ Segment.Switch (record self.old.canned.outputs { spindle = spindle }) }
-        ensures left { self.new ≡ record self.old { standing = stand_after self.old.standing result; phase = next } }
+        ensures left { self.new ≡ record self.old { standing = after_segment self.old.standing result; phase = next } }
     {
         self.phase = next;
         let outputs = self.canned.drill().outputs;
@@ -144,7 +144,7 @@ impl CycleLeft {
     fn across(&mut self) -> Option<Segment>
         requires phase { self.old.phase ≡ Phase.Across }
         requires count { self.old.begun + self.old.repeats_left ≡ self.old.canned.repeats }
-        ensures next { IsNext (ahead_of self.old) (ahead_of self.new) result }
+        ensures next { IsNextSegment (ahead_of self.old) (ahead_of self.new) result }
         ensures canned { self.new.canned ≡ self.old.canned }
         ensures count { self.new.begun + self.new.repeats_left ≡ self.old.canned.repeats }
     {
@@ -153,7 +153,7 @@ impl CycleLeft {
         }
         self.repeats_left -= 1;
         self.begun += 1;
-        let end = self.canned.place(self.begun, self.standing.point.z);
+        let end = self.canned.hole_at(self.begun, self.standing.point.z);
         self.phase = self.canned.at_place(end.z);
         Some(self.standing.move_to(end, Pace::Traverse))
     }
@@ -161,7 +161,7 @@ impl CycleLeft {
     /// Down to Z, or to the bottom of the first peck.
     fn down(&mut self) -> Segment
         requires { self.old.phase ≡ Phase.Down }
-        ensures { Gives self.old self.new result }
+        ensures { NextSegmentSpec self.old self.new result }
     {
         let z = self.canned.drill().z;
         match self.canned.drill().work {
@@ -170,7 +170,7 @@ impl CycleLeft {
             Work::PeckDrilling(peck) => {
                 let bottom = self.canned.drill().bottom(peck, 1);
                 let left = self.canned.drill().pecks(peck) - 1;
-                self.feed(bottom, behind_peck(peck, 1, left))
+                self.feed(bottom, phase_after_peck(peck, 1, left))
             }
             Work::Boring => self.feed(z, Phase::FeedOut),
             Work::BoringWithStop(_) => self.feed(z, Phase::Dwell),
@@ -181,7 +181,7 @@ impl CycleLeft {
     /// Waits at the bottom.
     fn dwell(&mut self) -> Segment
         requires { self.old.phase ≡ Phase.Dwell }
-        ensures { Gives self.old self.new result }
+        ensures { NextSegmentSpec self.old self.new result }
     {
         let seconds = seconds_of(self.canned.drill().work);
         self.phase = way_out(self.canned.drill().work);
@@ -191,17 +191,17 @@ impl CycleLeft {
     /// On to the bottom of the next peck.
     fn peck(&mut self, pecking: Pecking) -> Segment
         requires { self.old.phase ≡ Phase.PeckDown pecking }
-        ensures { Gives self.old self.new result }
+        ensures { NextSegmentSpec self.old self.new result }
     {
         let number = pecking.done + 1;
         let bottom = self.canned.drill().bottom(pecking.peck, number);
-        self.feed(bottom, behind_peck(pecking.peck, number, pecking.left))
+        self.feed(bottom, phase_after_peck(pecking.peck, number, pecking.left))
     }
 
     /// The next segment.
     pub fn next(&mut self) -> Option<Segment>
         requires { self.old.begun + self.old.repeats_left ≡ self.old.canned.repeats }
-        ensures next { IsNext (ahead_of self.old) (ahead_of self.new) result }
+        ensures next { IsNextSegment (ahead_of self.old) (ahead_of self.new) result }
         ensures canned { self.new.canned ≡ self.old.canned }
         ensures count { self.new.begun + self.new.repeats_left ≡ self.old.canned.repeats }
     {

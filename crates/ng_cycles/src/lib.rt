@@ -5,9 +5,9 @@
 //! with where the machine stands and what its outputs are before each. What a cycle does is said stroke by stroke in
 //! `specs/Strokes.antt`.
 //!
-//! Which words a line may have, how they are read in its unit, and which words are kept, is for the crates above; `KeptWords` and
-//! `KeptWords::over` serve them. Nothing here takes memory. The crate stands on `ng_offsets` for what stands between program and
-//! machine coordinates.
+//! Which words a line may have, how they are read in its unit, and which words are kept, is for the crates above; `KeptWords::over`
+//! of `ng_state` serves them. Nothing here takes memory. The crate stands on `ng_state` for the words that are kept, and on
+//! `ng_offsets` for what stands between program and machine coordinates.
 #![tactic(auto)]
 
 mod canned;
@@ -15,19 +15,19 @@ mod count;
 mod cycle;
 mod drill;
 mod heights;
+mod holes;
 mod inside;
 mod left;
+mod motion_state;
 mod peck;
 mod phase;
-mod places;
 mod skip;
-mod standing;
 mod stood;
 mod words;
 
 pub use canned::Canned;
 pub use cycle::Cycle;
-pub use drill::{Course, Drill, Work};
+pub use drill::{Drill, HoleAxis, Work};
+pub use motion_state::MotionState;
 pub use peck::Peck;
-pub use standing::Standing;
-pub use words::{CycleWords, KeptWords, Kind, Setting};
+pub use words::{CycleKind, CycleWords, Setting};

@@ -8,7 +8,7 @@ pub struct Pecking {
     pub peck: Peck,
     /// The pecks that are done.
     pub done: u64,
-    /// The pecks that are left behind the next one.
+    /// The pecks that are left after the next one.
     pub left: u64,
     pub ghost few: { done + left < 39_999_999_999_999 },
 }

@@ -47,14 +47,14 @@ impl Drill {
 }
 
 impl Canned {
-    ghost use Rattle.ng_cycles.specs.Segments.{begin, behind, cycle_segments};
+    ghost use Rattle.ng_cycles.specs.Segments.{begin, after_segments, cycle_segments};
 
-    /// Where the machine stands behind all of it; its outputs are then those before it.
+    /// Where the machine stands after all of it; its outputs are then those before it.
     pub fn end(&self) -> Point
-        ensures { behind (begin self.now) (cycle_segments self.now) ≡ record { point = result; outputs = self.now.outputs } }
+        ensures { after_segments (begin self.now) (cycle_segments self.now) ≡ record { point = result; outputs = self.now.outputs } }
     {
         let drill = self.drill();
-        self.place(drill.repeats, drill.clear)
+        self.hole_at(drill.repeats, drill.clear)
     }
 }
 
@@ -87,7 +87,7 @@ impl CycleLeft {
         self.begun += passed;
         self.repeats_left -= passed;
         let clear = self.canned.clear();
-        self.standing.point = self.canned.place(self.begun, clear);
+        self.standing.point = self.canned.hole_at(self.begun, clear);
         rest
     }
 

@@ -1,11 +1,11 @@
-//! How the machine stands behind some segments of a cycle, however it stood before it.
+//! How the machine stands after some segments of a cycle, however it stood before it.
 ghost use Rattle.std.specs.Prelude.{◌≡◌, ◌≤◌, take};
 ghost use Rattle.ng_cycles.specs.Counts.{has_switch, stops};
 
 use crate::canned::Canned;
 use crate::cycle::Cycle;
 use crate::drill::{Drill, Work};
-use crate::standing::Standing;
+use crate::motion_state::MotionState;
 
 /// Whether it stops the spindle at the bottom.
 fn stops(work: Work) -> bool
@@ -21,7 +21,7 @@ fn stops(work: Work) -> bool
 impl Drill {
     ghost use Rattle.ng_cycles.specs.Segments.{cycle_segments};
 
-    /// Whether one of so many of its first segments switches: only G86 does, behind its first dwell.
+    /// Whether one of so many of its first segments switches: only G86 does, after its first dwell.
     fn has_switched(&self, n: u64) -> bool
         requires { 1 ≤ self.now.repeats }
         ensures { result ≡ has_switch (take n (cycle_segments self.now)) }
@@ -34,12 +34,12 @@ impl Drill {
 }
 
 impl Canned {
-    ghost use Rattle.ng_cycles.specs.Segments.{behind, cycle_segments};
+    ghost use Rattle.ng_cycles.specs.Segments.{after_segments, cycle_segments};
 
-    /// How the machine stands behind so many of its segments, or behind them all, from how it stood before them. They aren't
+    /// How the machine stands after so many of its segments, or after them all, from how it stood before them. They aren't
     /// walked.
-    pub fn standing_behind(&self, before: Standing, n: u64) -> Standing
-        ensures { result ≡ behind before (take n (cycle_segments self.now)) }
+    pub fn motion_state_after(&self, before: MotionState, n: u64) -> MotionState
+        ensures { result ≡ after_segments before (take n (cycle_segments self.now)) }
     {
         if n == 0 {
             return before;
@@ -49,7 +49,7 @@ impl Canned {
         if drill.has_switched(n) {
             return own;
         }
-        Standing {
+        MotionState {
             point: own.point,
             outputs: before.outputs,
         }

@@ -1,12 +1,13 @@
 //! What a line asks of a canned cycle, and what it meets.
 
 use ng_canon::Outputs;
-use ng_num::{Len, Num, Point};
+use ng_num::{Len, Point};
 use ng_offsets::Offsets;
+use ng_state::KeptWords;
 
 /// The canned cycles that this controller has (NISTIR 6556, 3.5.16).
 #[derive(Clone, Copy)]
-pub enum Kind {
+pub enum CycleKind {
     /// G81.
     Drilling,
     /// G82.
@@ -21,50 +22,10 @@ pub enum Kind {
     BoringWithDwell,
 }
 
-/// The words that a cycle keeps from line to line, as the lengths and times that they gave (NISTIR 6556, 3.5.16).
-#[derive(Clone, Copy, Debug, PartialEq, Eq)]
-pub struct KeptWords {
-    pub r: Option<Len>,
-    pub z: Option<Len>,
-    /// Seconds.
-    pub p: Option<Num>,
-    pub q: Option<Len>,
-}
-
-impl KeptWords {
-    ghost use Rattle.std.specs.Prelude.{◌≡◌};
-    ghost use Rattle.ng_cycles.specs.Words.{no_words, in_force};
-
-    /// None kept.
-    pub fn none() -> KeptWords
-        ensures { result ≡ no_words }
-    {
-        KeptWords {
-            r: None,
-            z: None,
-            p: None,
-            q: None,
-        }
-    }
-
-    /// The words in force where these are a line's own: these, and the kept ones where the line has none. A cycle's line keeps
-    /// them (NISTIR 6556, 3.5.16).
-    pub fn over(&self, kept: &KeptWords) -> KeptWords
-        ensures { result ≡ in_force self.now kept.now }
-    {
-        KeptWords {
-            r: self.r.or(kept.r),
-            z: self.z.or(kept.z),
-            p: self.p.or(kept.p),
-            q: self.q.or(kept.q),
-        }
-    }
-}
-
 /// What a line asks of a canned cycle. Lengths are as its words wrote them.
 #[derive(Clone, Copy)]
 pub struct CycleWords {
-    pub kind: Kind,
+    pub kind: CycleKind,
     pub x: Option<Len>,
     pub y: Option<Len>,
     /// Its own R, Z, P and Q.

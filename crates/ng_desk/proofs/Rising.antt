@@ -71,22 +71,22 @@ in_common {A} call found one other same apart =
 
 -- the same of lists that begin so
 module _ {A : Type 0} (left right : List (Call A)) (call found : Call A) (one other : List (Call A)) (l : left ≡ call ∷ one) (r : right ≡ found ∷ other) where
-  pub left_behind : call.number < found.number → RiseFrom 0 right → Same one right left right
-  left_behind below rise =
+  pub left_after : call.number < found.number → RiseFrom 0 right → Same one right left right
+  left_after below rise =
       subst (λ (x : List (Call A)). Same one right x right) (sym l)
       (subst (λ (y : List (Call A)). Same one y (call ∷ one) y) (sym r) (left_out call found one other below (subst (λ (y : List (Call A)). RiseFrom 0 y) r rise)))
 
-  pub right_behind : found.number < call.number → RiseFrom 0 left → Same left other left right
-  right_behind below rise =
+  pub right_after : found.number < call.number → RiseFrom 0 left → Same left other left right
+  right_after below rise =
       subst (λ (y : List (Call A)). Same left other left y) (sym r)
       (subst (λ (x : List (Call A)). Same x other x (found ∷ other)) (sym l) (right_out call found one other below (subst (λ (x : List (Call A)). RiseFrom 0 x) l rise)))
 
   pub shared : call.number ≡ found.number → AreApart left right → ⊥
   shared same apart = in_common call found one other same (subst (λ (x : List (Call A)). AreApart x (found ∷ other)) l (subst (λ (y : List (Call A)). AreApart left y) r apart))
 
--- behind the first
-pub rise_behind : {A : Type 0} (calls : List (Call A)) (call : Call A) (others : List (Call A)) → calls ≡ call ∷ others → RiseFrom 0 calls → RiseFrom 0 others
-rise_behind {A} calls call others is rise = rise_any (call.number + 1) others (subst (λ (l : List (Call A)). RiseFrom 0 l) is rise).1
+-- after the first
+pub rise_after : {A : Type 0} (calls : List (Call A)) (call : Call A) (others : List (Call A)) → calls ≡ call ∷ others → RiseFrom 0 calls → RiseFrom 0 others
+rise_after {A} calls call others is rise = rise_any (call.number + 1) others (subst (λ (l : List (Call A)). RiseFrom 0 l) is rise).1
 
 -- ---- seats
 

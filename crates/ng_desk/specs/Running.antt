@@ -1,11 +1,11 @@
 -- What a history's events did to its controller: all that is said here of a controller is what its own calls promise (own).
 use Rattle.std.specs.Prelude.{◌≡◌, ℕ, List, Option, Some, length, sum_by}
-use Rattle.ng_rig.specs.Calls.{Promises}
-use Rattle.ng_rig.specs.Life.{Life}
+use Rattle.ng_rig.specs.Calls.{IfHonest}
+use Rattle.ng_rig.specs.Trace.{Trace}
 use Rattle.ng_session.specs.declared.event.Event.{Event}
 use Rattle.ng_session.specs.declared.reply.Reply.{Reply}
 use Rattle.ng_core.specs.Model.{ControllerModel}
-use Rattle.ng_core.specs.Turns.{AreTurns}
+use Rattle.ng_core.specs.AnsweredEvents.{AreAnsweredEvents}
 use Rattle.ng_core.specs.Runs.{IsRun, CountsOneFailure}
 use Rattle.ng_core.specs.Headline.{AddsToPast}
 use Rattle.ng_desk.specs.declared.call.Call.{Call}
@@ -17,24 +17,24 @@ pub record Booked (R A : Type 0) : Type 0 where
   pub history : List (Call A)
 
 -- What `run` promises of these events with these replies, from one controller to another.
-pub record IsPromisedRun {A R : Type 0} (honest : R → Type 0) (life : R → Life) (failed sectors : R → ℕ) (events : List (Event A)) (replies : List Reply) (old new : ControllerModel R) : Type 0 where
-  pub turns : AreTurns honest life failed sectors events replies old new
-  pub ran : Promises (honest old.journal.rig) (honest new.journal.rig) (IsRun life events replies old new)
-  pub past : Promises (honest old.journal.rig) (honest new.journal.rig) (AddsToPast honest life failed sectors events replies old new)
+pub record IsPromisedRun {A R : Type 0} (honest : R → Type 0) (trace : R → Trace) (failed sectors : R → ℕ) (events : List (Event A)) (replies : List Reply) (old new : ControllerModel R) : Type 0 where
+  pub turns : AreAnsweredEvents honest trace failed sectors events replies old new
+  pub ran : IfHonest (honest old.journal.rig) (honest new.journal.rig) (IsRun trace events replies old new)
+  pub past : IfHonest (honest old.journal.rig) (honest new.journal.rig) (AddsToPast honest trace failed sectors events replies old new)
   pub each : length replies ≡ length events
   pub failures : CountsOneFailure old.journal.broken new.journal.broken (failed old.journal.rig) (failed new.journal.rig)
   pub equipment : new.equipment ≡ old.equipment
   pub size : sectors new.journal.rig ≡ sectors old.journal.rig
 
 -- the same of a history, from the controller where it started
-abbrev pub RunsFrom : {A R : Type 0} → (R → Type 0) → (R → Life) → (failed sectors : R → ℕ) → Option (ControllerModel R) → List (Call A) → ControllerModel R → Type 0
-RunsFrom {A} {R} honest life failed sectors start history now =
-    (first : ControllerModel R) → start ≡ Some first → IsPromisedRun honest life failed sectors (events_of history) (replies_of history) first now
+abbrev pub RunsFrom : {A R : Type 0} → (R → Type 0) → (R → Trace) → (failed sectors : R → ℕ) → Option (ControllerModel R) → List (Call A) → ControllerModel R → Type 0
+RunsFrom {A} {R} honest trace failed sectors start history now =
+    (first : ControllerModel R) → start ≡ Some first → IsPromisedRun honest trace failed sectors (events_of history) (replies_of history) first now
 
 -- A desk was closed with these seats: controller and history, whose numbers count up from 0, and the lists of the seats as they were. The
 -- history is as long as these lists together.
-pub record IsClosed {A R : Type 0} (honest : R → Type 0) (life : R → Life) (failed sectors : R → ℕ) (start : Option (ControllerModel R)) (seats : List (Seated A)) (controller : ControllerModel R) (history : List (Call A)) (left : List (Seated A)) : Type 0 where
-  pub runs : RunsFrom honest life failed sectors start history controller
+pub record IsClosed {A R : Type 0} (honest : R → Type 0) (trace : R → Trace) (failed sectors : R → ℕ) (start : Option (ControllerModel R)) (seats : List (Seated A)) (controller : ControllerModel R) (history : List (Call A)) (left : List (Seated A)) : Type 0 where
+  pub runs : RunsFrom honest trace failed sectors start history controller
   pub numbered : NumberedFrom 0 history
   pub each : length history ≡ sum_by (λ seat. length seat.calls) seats
   pub lists : lists_of left ≡ lists_of seats

@@ -2,7 +2,7 @@
 ghost use Rattle.std.specs.Prelude.{◌≡◌, ◌<◌, ◌+◌, ◌++◌, [], ◌∷◌, Some, length, IfOk, IfErr, OnOk};
 ghost use Rattle.ng_num.specs.declared.fault.Fault.TheVariants.{OutOfMemory};
 ghost use Rattle.ng_desk.specs.Calls.{NumberedFrom};
-ghost use Rattle.ng_core.specs.Turns.{IsTurn};
+ghost use Rattle.ng_core.specs.AnsweredEvents.{IsAnsweredEvent};
 ghost use Rattle.ng_desk.specs.Running.{RunsFrom};
 
 use crate::call::{Call, copied};
@@ -36,7 +36,7 @@ impl<R: Rig, A: Allocator + Copy + Drop, O: Origin<R>> Model for Book<R, A, O> {
 
     ghost view = { λ b. record { controller = b.controller; history = b.history.items } };
 
-    ghost invariant = { λ b. (length b.history.items ≡ b.calls.total) × (b.spare.parts ≡ 0) × NumberedFrom 0 b.history.items × RunsFrom R.honest R.life R.failed R.sectors O.start b.history.items b.controller };
+    ghost invariant = { λ b. (length b.history.items ≡ b.calls.total) × (b.spare.parts ≡ 0) × NumberedFrom 0 b.history.items × RunsFrom R.honest R.trace R.failed R.sectors O.start b.history.items b.controller };
 }
 
 impl<R: Rig, A: Allocator + Copy + Drop, O: Origin<R>> Book<R, A, O> {
@@ -70,7 +70,7 @@ impl<R: Rig, A: Allocator + Copy + Drop, O: Origin<R>> Book<R, A, O> {
         requires { 0 < mine.old.parts }
         ensures call { IfOk result (λ call. (call.number ≡ length self.old.history) × (call.event ≡ event.now)) }
         ensures history { IfOk result (λ call. self.new.history ≡ self.old.history ++ call ∷ []) }
-        ensures turn { IfOk result (λ call. IsTurn R.honest R.life R.failed R.sectors event.now call.reply self.old.controller self.new.controller) }
+        ensures turn { IfOk result (λ call. IsAnsweredEvent R.honest R.trace R.failed R.sectors event.now call.reply self.old.controller self.new.controller) }
         ensures size { R.sectors self.new.controller.journal.rig ≡ R.sectors self.old.controller.journal.rig }
         ensures counted { OnOk result (mine.new.amount ≡ mine.old.amount + 1) }
         ensures parts { mine.new.parts ≡ mine.old.parts }
@@ -98,7 +98,7 @@ impl<R: Rig, A: Allocator + Copy + Drop, O: Origin<R>> Book<R, A, O> {
     /// The controller and the history, which is as long as what all shares together have counted.
     pub(crate) fn close(self, all: Share<O>) -> (Controller<R, A>, Vec<Call<A>, A>)
         requires { all.parts ≡ O.parts }
-        ensures runs { RunsFrom R.honest R.life R.failed R.sectors O.start result.1.items result.0 }
+        ensures runs { RunsFrom R.honest R.trace R.failed R.sectors O.start result.1.items result.0 }
         ensures numbered { NumberedFrom 0 result.1.items }
         ensures counted { length result.1.items ≡ all.amount }
     {

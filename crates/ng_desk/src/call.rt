@@ -60,12 +60,12 @@ fn is_same_fault(one: &Fault, other: &Fault) -> bool
 
 /// Whether the status shows the same of what is stored.
 fn is_same_stored(one: &Status, other: &Status) -> bool
-    ensures { IsTrue result ↔ ((one.now.entries ≡ other.now.entries) × (one.now.place ≡ other.now.place) × (one.now.point ≡ other.now.point) × (one.now.place_known ≡ other.now.place_known)) }
+    ensures { IsTrue result ↔ ((one.now.entries ≡ other.now.entries) × (one.now.place ≡ other.now.place) × (one.now.point ≡ other.now.point) × (one.now.point_known ≡ other.now.point_known)) }
 {
     one.entries == other.entries
         && one.place == other.place
         && one.point == other.point
-        && one.place_known == other.place_known
+        && one.point_known == other.point_known
 }
 
 /// Whether two states are the same, as the status shows them.

@@ -38,12 +38,12 @@ fn are_apart<A: Allocator + Drop>(one: &[Call<A>], other: &[Call<A>]) -> bool
 {
     let mut left = one;
     let mut right = other;
-    while let Some((here, behind)) = left.split_first() {
+    while let Some((here, later)) = left.split_first() {
         let Some((there, beyond)) = right.split_first() else {
             return true;
         };
         if here.number < there.number {
-            left = behind;
+            left = later;
         } else if there.number < here.number {
             right = beyond;
         } else {

@@ -94,8 +94,8 @@ impl<R: Rig, A: Allocator + Copy + Drop, O: Origin<R>> Desk<R, A, O> {
     >
         requires { (length seats.items ≡ O.parts) × All (λ s. s.parts ≡ 1) seats.items }
         ensures closed { MatchResult result
-            (λ r. IsClosed R.honest R.life R.failed R.sectors O.start seats.items r.0 r.1.items r.2.items)
-            (λ e. IsClosed R.honest R.life R.failed R.sectors O.start seats.items e.1 e.2.items e.3.items) }
+            (λ r. IsClosed R.honest R.trace R.failed R.sectors O.start seats.items r.0 r.1.items r.2.items)
+            (λ e. IsClosed R.honest R.trace R.failed R.sectors O.start seats.items e.1 e.2.items e.3.items) }
         ensures agrees { MatchResult result
             (λ r. Agree r.1.items (lists_of seats.items))
             (λ e. (e.0 ≡ SeatsDisagree) × (Agree e.2.items (lists_of seats.items) → ⊥)) }

@@ -37,10 +37,10 @@ pub cut_none : (most : ℕ) (line : List ℕ) → take (suc most) line ≡ [] �
 cut_none most [] e = refl
 cut_none most (b ∷ line) e = cc
 
-pub behind_newline : (front rest : List ℕ) (n : ℕ) → n ≡ length front + 1 → drop n (front ++ 10 ∷ rest) ≡ rest
-behind_newline [] rest n e = ap (λ k. drop k (10 ∷ rest)) e
-behind_newline (b ∷ front) rest zero e = absurd (omega (arith, e))
-behind_newline (b ∷ front) rest (suc n) e = behind_newline front rest n (omega (arith, e))
+pub after_newline : (front rest : List ℕ) (n : ℕ) → n ≡ length front + 1 → drop n (front ++ 10 ∷ rest) ≡ rest
+after_newline [] rest n e = ap (λ k. drop k (10 ∷ rest)) e
+after_newline (b ∷ front) rest zero e = absurd (omega (arith, e))
+after_newline (b ∷ front) rest (suc n) e = after_newline front rest n (omega (arith, e))
 
 -- a kept line that isn't empty, of what was passed
 pub some_passed : (kept passed : List ℕ) (t : Bool) → t ≡ (length kept == 0) → not t ≡ true → kept ≡ take 301 passed → passed ≢ []

@@ -3,9 +3,9 @@ use Rattle.std.proofs.Common.{◌≡◌, ℕ, List, Option, None, Some, Result, 
 use Rattle.std.proofs.lemmas.List.{take_all}
 use Rattle.std.specs.Io.KnownBytes.{Appends, Keeps}
 use Rattle.ng_dialogue.specs.Telling.{Sends}
-use Rattle.ng_dialogue.specs.declared.telling.Unsent.{Unsent}
+use Rattle.ng_dialogue.specs.declared.telling.OutputError.{OutputError}
 
-pub sends_as : {T : Type 0} (a b : Option (List ℕ)) (line text : List ℕ) (r : Result T Unsent) → line ≡ text → Sends a b line r → Sends a b text r
+pub sends_as : {T : Type 0} (a b : Option (List ℕ)) (line text : List ℕ) (r : Result T OutputError) → line ≡ text → Sends a b line r → Sends a b text r
 sends_as a b line text r e h = subst (λ (l : List ℕ). Sends a b l r) e h
 
 -- a flush leaves what was written

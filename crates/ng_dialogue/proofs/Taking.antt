@@ -1,9 +1,9 @@
 -- What is taken of the bytes of a reader, piece by piece.
 use Rattle.std.proofs.Common.{◌≡◌, ◌≢◌, ℕ, Bool, true, false, List, [], ◌∷◌, ◌++◌, Option, None, Some, option_map, if◌then◌else◌, take, drop, refl, sym, ap, ◌∙◌, subst, append_assoc, append-nil, inl, inr}
 use Rattle.std.specs.Io.KnownBytes.{Consumes, IsAtEnd, Keeps, prepend_known}
-use Rattle.ng_block.specs.Parts.{HasNoNewline}
+use Rattle.ng_text.specs.Newlines.{HasNoNewline}
 use Rattle.ng_block.proofs.Streams.{Consumes-trans}
-use Rattle.ng_block.proofs.LineLemmas.{HasNoNewline-append}
+use Rattle.ng_text.proofs.LineLemmas.{HasNoNewline-append}
 use Rattle.ng_dialogue.specs.Reading.{TakesLine}
 use Rattle.ng_dialogue.specs.Waiting.{EndHolds, Waiting, text_left}
 
@@ -26,7 +26,7 @@ text_over w r e = subst (λ (t : Bool). IsAtEnd (option_map (λ xs. if t then []
 pub holds_on : (w : Waiting) (r : Option (List ℕ)) → w.ended ≡ false → EndHolds w r
 holds_on w r e = λ f. absurd cc
 
--- ---- what waits, behind a part that was taken
+-- ---- what waits, after a part that was taken
 
 pub left_bytes : (w left : Waiting) (n : ℕ) → left ≡ record w { bytes = drop n w.bytes } → left.bytes ≡ drop n w.bytes
 left_bytes w left n e = ap (λ (i : Waiting). i.bytes) e
@@ -62,7 +62,7 @@ step_on old now r passed front w left p k e f parts =
     subst (λ (t : Option (List ℕ)). Consumes old t (passed ++ front)) (sym (text_on left r f))
     (Consumes-trans old now next passed front p (Keeps-consumes now (prepend_known w.bytes r) next front kept (Consumes-front w.bytes front left.bytes r parts)))
 
--- what was passed and a newline behind it are taken
+-- what was passed and a newline after it are taken
 line_taken : (old new : Option (List ℕ)) (most : ℕ) (passed front kept : List ℕ) → Consumes old new (passed ++ front ++ 10 ∷ []) → HasNoNewline passed → HasNoNewline front
     → kept ≡ take most (passed ++ front) → TakesLine most old new kept
 line_taken None new most passed front kept p bare none is = tt
@@ -70,7 +70,7 @@ line_taken (Some t) None most passed front kept p bare none is = absurd p
 line_taken (Some t) (Some x) most passed front kept p bare none is =
     (passed ++ front, (HasNoNewline-append passed front bare none, inl (p ∙ append_assoc (passed ++ front) (10 ∷ []) x)), is)
 
--- a newline is found behind what was passed
+-- a newline is found after what was passed
 pub line_ends : (old now r : Option (List ℕ)) (most : ℕ) (passed front rest kept : List ℕ) (w left : Waiting) → Consumes old now passed → Keeps now (text_left w r) → w.ended ≡ false
     → left.ended ≡ false → HasNoNewline passed → HasNoNewline front → w.bytes ≡ front ++ 10 ∷ rest → left.bytes ≡ rest → kept ≡ take most (passed ++ front)
     → TakesLine most old (text_left left r) kept
@@ -80,7 +80,7 @@ line_ends old now r most passed front rest kept w left p k e f bare none parts i
     line_taken old (text_left left r) most passed front kept
     (subst (λ (l : List ℕ). Consumes old (text_left left r) l) (sym (append_assoc passed front (10 ∷ []))) taken) bare none is
 
--- the text ends behind what was passed: that is the last line
+-- the text ends after what was passed: that is the last line
 pub last_line : (old now new : Option (List ℕ)) (most : ℕ) (passed kept : List ℕ) → Consumes old now passed → Keeps now new → IsAtEnd new → HasNoNewline passed → passed ≢ []
     → kept ≡ take most passed → TakesLine most old new kept
 last_line None now new most passed kept p k e bare some is = tt

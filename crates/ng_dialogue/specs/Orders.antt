@@ -2,22 +2,22 @@
 use Rattle.std.specs.Prelude.{◌≡◌, ◌<◌, ◌⊎◌, ℕ, List, [], ◌++◌, Option, None, Some, IfSome, length}
 use Rattle.ng_num.specs.declared.fault.Fault.TheVariants.{BadCommand, OutOfMemory}
 use Rattle.ng_commands.specs.Commands.{IsCommand, IsNoCommand}
-use Rattle.ng_commands.specs.declared.asked.Command.{Command}
-use Rattle.ng_commands.specs.declared.asked.Command.TheVariants.{Load, Start, Hold, Continue, Mdi, Reference, Resume, Abandon, OptionalStop, BlockDelete, Tick, Status, Quit}
+use Rattle.ng_commands.specs.declared.asked.ConsoleCommand.{ConsoleCommand}
+use Rattle.ng_commands.specs.declared.asked.ConsoleCommand.TheVariants.{Load, Start, Hold, Continue, Mdi, Reference, Resume, Abandon, OptionalStop, BlockDelete, Tick, Status, Quit}
 use Rattle.ng_session.specs.declared.event.Event.TheVariants as event
-use Rattle.ng_dialogue.specs.Reading.{IsLine}
+use Rattle.ng_dialogue.specs.Reading.{BeginsWithLine}
 use Rattle.ng_dialogue.specs.declared.order.Order.{Order}
 use Rattle.ng_dialogue.specs.declared.order.Order.TheVariants.{Give, Ticks, Refuse}
 
 -- a program of so many bytes is asked to be stored, or it found no memory; one that the end cuts off is refused
-abbrev pub Loads : {A : Type 0} → ℕ → List ℕ → Order A → List ℕ → Type 0
-Loads n more order rest =
+abbrev pub TakesProgram : {A : Type 0} → ℕ → List ℕ → Order A → List ℕ → Type 0
+TakesProgram n more order rest =
     ((program : List ℕ) × (length program ≡ n) × (more ≡ program ++ rest) × ((order ≡ Give (event.Load program)) ⊎ (order ≡ Refuse OutOfMemory)))
     ⊎ ((length more < n) × (rest ≡ []) × (order ≡ Refuse BadCommand))
 
--- what a command asks behind whose line this text follows, and what is left of that
-abbrev pub Means : {A : Type 0} → Command → List ℕ → Order A → List ℕ → Type 0
-Means (Load n) more order rest = Loads n more order rest
+-- what a command asks after whose line this text follows, and what is left of that
+abbrev pub Means : {A : Type 0} → ConsoleCommand → List ℕ → Order A → List ℕ → Type 0
+Means (Load n) more order rest = TakesProgram n more order rest
 Means Start more order rest = (order ≡ Give event.Start) × (rest ≡ more)
 Means Hold more order rest = (order ≡ Give event.Hold) × (rest ≡ more)
 Means Continue more order rest = (order ≡ Give event.Continue) × (rest ≡ more)
@@ -32,29 +32,29 @@ Means Status more order rest = (order ≡ Give event.Status) × (rest ≡ more)
 Means Quit more order rest = ⊥
 
 -- a text begins with a line that asks this, and the rest follows; a line that is no command is refused
-abbrev pub Asks : {A : Type 0} → List ℕ → Order A → List ℕ → Type 0
-Asks text order rest =
-    (line : List ℕ) × (more : List ℕ) × IsLine text line more
-    × ((IsNoCommand line × (order ≡ Refuse BadCommand) × (rest ≡ more)) ⊎ ((command : Command) × IsCommand line command × Means command more order rest))
+abbrev pub BeginsWithOrder : {A : Type 0} → List ℕ → Order A → List ℕ → Type 0
+BeginsWithOrder text order rest =
+    (line : List ℕ) × (more : List ℕ) × BeginsWithLine text line more
+    × ((IsNoCommand line × (order ≡ Refuse BadCommand) × (rest ≡ more)) ⊎ ((command : ConsoleCommand) × IsCommand line command × Means command more order rest))
 
 -- a text asks nothing more: it is at its end, or it asks to quit
-abbrev pub Ends : List ℕ → Type 0
-Ends text = (text ≡ []) ⊎ ((line : List ℕ) × (more : List ℕ) × IsLine text line more × IsCommand line Quit)
+abbrev pub EndsText : List ℕ → Type 0
+EndsText text = (text ≡ []) ⊎ ((line : List ℕ) × (more : List ℕ) × BeginsWithLine text line more × IsCommand line Quit)
 
 -- what is known of a text loses what was asked
 abbrev pub TakesOrder : {A : Type 0} → Option (List ℕ) → Option (List ℕ) → Option (Order A) → Type 0
-TakesOrder old new None = IfSome old Ends
+TakesOrder old new None = IfSome old EndsText
 TakesOrder None new (Some order) = Unit {0}
 TakesOrder (Some text) None (Some order) = ⊥
-TakesOrder (Some text) (Some rest) (Some order) = Asks text order rest
+TakesOrder (Some text) (Some rest) (Some order) = BeginsWithOrder text order rest
 
--- what a command asks, where what is known of the text behind its line is this
-abbrev pub Behind : {A : Type 0} → Command → Option (List ℕ) → Option (List ℕ) → Order A → Type 0
-Behind command None new order = Unit {0}
-Behind command (Some more) None order = ⊥
-Behind command (Some more) (Some rest) order = Means command more order rest
+-- what a command asks, where what is known of the text after its line is this
+abbrev pub AfterCommand : {A : Type 0} → ConsoleCommand → Option (List ℕ) → Option (List ℕ) → Order A → Type 0
+AfterCommand command None new order = Unit {0}
+AfterCommand command (Some more) None order = ⊥
+AfterCommand command (Some more) (Some rest) order = Means command more order rest
 
 -- the same of a command that may end the dialogue
-abbrev pub Follows : {A : Type 0} → Command → Option (List ℕ) → Option (List ℕ) → Option (Order A) → Type 0
-Follows command old new None = command ≡ Quit
-Follows command old new (Some order) = Behind command old new order
+abbrev pub TakesCommand : {A : Type 0} → ConsoleCommand → Option (List ℕ) → Option (List ℕ) → Option (Order A) → Type 0
+TakesCommand command old new None = command ≡ Quit
+TakesCommand command old new (Some order) = AfterCommand command old new order

@@ -1,15 +1,15 @@
-//! The bytes of a program, as they come behind a command's line.
+//! The bytes of a program, as they come after a command's line.
 ghost use Rattle.std.specs.Prelude.{◌≡◌, ◌++◌, [], true, IfOk};
 ghost use Rattle.ng_dialogue.specs.Reading.{TakesBytes};
 ghost use Rattle.ng_dialogue.specs.Waiting.{EndHolds, text_left};
 
-use crate::input::{Input, Unread};
+use crate::input::{Input, ReadError};
 use std::alloc::Allocator;
 use std::io::Read;
 
 /// What became of the bytes that were asked for.
 #[derive(Clone, Copy)]
-pub enum Passed {
+pub enum TakenBytes {
     /// All of them are kept.
     Whole,
     /// All of them were passed over: they found no memory.
@@ -28,13 +28,13 @@ fn keep_on<A: Allocator + Copy + Drop>(text: &mut Vec<u8, A>, has_room: bool, by
 /// Takes so many bytes, and keeps them in a text that is empty before. Memory grows with the bytes that came. Where the text has ended
 /// the reader isn't read.
 ///
-/// `Unread` where the reader failed: some of the bytes are taken then. Source: own.
+/// `ReadError` where the reader failed: some of the bytes are taken then. Source: own.
 pub fn take_bytes<R: Read, A: Allocator + Copy + Drop>(
     input: &mut Input,
     reader: &mut R,
     length: u32,
     text: &mut Vec<u8, A>,
-) -> Result<Passed, Unread>
+) -> Result<TakenBytes, ReadError>
     requires { text.old.items ≡ [] }
     ensures bytes { IfOk result (TakesBytes length (text_left input.old (R.remaining reader.old)) (text_left input.new (R.remaining reader.new)) text.new.items) }
     ensures holds { EndHolds input.old (R.remaining reader.old) → EndHolds input.new (R.remaining reader.new) }
@@ -44,7 +44,7 @@ pub fn take_bytes<R: Read, A: Allocator + Copy + Drop>(
     let mut has_room = true;
     while left > 0 {
         if !input.fill(reader)? {
-            return Ok(Passed::Cut);
+            return Ok(TakenBytes::Cut);
         }
         let waiting = input.waiting();
         let taken = waiting.len().min(left);
@@ -54,8 +54,8 @@ pub fn take_bytes<R: Read, A: Allocator + Copy + Drop>(
         left -= taken;
     }
     if has_room {
-        Ok(Passed::Whole)
+        Ok(TakenBytes::Whole)
     } else {
-        Ok(Passed::NoRoom)
+        Ok(TakenBytes::NoRoom)
     }
 }

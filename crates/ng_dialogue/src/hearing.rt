@@ -1,14 +1,14 @@
 //! What the console is asked to do, as its lines come.
 ghost use Rattle.std.specs.Prelude.{◌≡◌, true, IfOk};
-ghost use Rattle.ng_dialogue.specs.Orders.{Behind, Follows, TakesOrder};
+ghost use Rattle.ng_dialogue.specs.Orders.{AfterCommand, TakesCommand, TakesOrder};
 ghost use Rattle.ng_dialogue.specs.Waiting.{EndHolds, text_left};
 
-use crate::bytes::{Passed, take_bytes};
-use crate::input::{Input, Unread};
+use crate::bytes::{TakenBytes, take_bytes};
+use crate::input::{Input, ReadError};
 use crate::listening::next_line;
 use crate::order::Order;
 use arrayvec::ArrayVec;
-use ng_commands::{Command, command_of};
+use ng_commands::{ConsoleCommand, command_of};
 use ng_num::Fault;
 use ng_session::{Event, Text};
 use std::alloc::{AllocError, Allocator};
@@ -16,26 +16,26 @@ use std::io::Read;
 
 /// Why nothing more is heard.
 #[derive(Clone, Copy, Debug, PartialEq, Eq)]
-pub enum Deaf {
+pub enum InputError {
     /// A read failed, or one read more than 1,000,000,000 was needed.
     Reader,
     /// A line of the operator found no memory.
     Memory,
 }
 
-impl From<Unread> for Deaf {
-    fn from(_: Unread) -> Deaf
-        ensures { result ≡ Deaf.Reader }
+impl From<ReadError> for InputError {
+    fn from(_: ReadError) -> InputError
+        ensures { result ≡ InputError.Reader }
     {
-        Deaf::Reader
+        InputError::Reader
     }
 }
 
-impl From<AllocError> for Deaf {
-    fn from(_: AllocError) -> Deaf
-        ensures { result ≡ Deaf.Memory }
+impl From<AllocError> for InputError {
+    fn from(_: AllocError) -> InputError
+        ensures { result ≡ InputError.Memory }
     {
-        Deaf::Memory
+        InputError::Memory
     }
 }
 
@@ -45,47 +45,47 @@ fn load<R: Read, A: Allocator + Copy + Drop>(
     input: &mut Input,
     reader: &mut R,
     length: u32,
-) -> Result<Order<A>, Unread>
-    ensures order { IfOk result (λ order. Behind (Command.Load length) (text_left input.old (R.remaining reader.old)) (text_left input.new (R.remaining reader.new)) order) }
+) -> Result<Order<A>, ReadError>
+    ensures order { IfOk result (λ order. AfterCommand (ConsoleCommand.Load length) (text_left input.old (R.remaining reader.old)) (text_left input.new (R.remaining reader.new)) order) }
     ensures holds { EndHolds input.old (R.remaining reader.old) → EndHolds input.new (R.remaining reader.new) }
     ensures last { input.old.ended ≡ true → (input.new ≡ input.old) × (reader.new ≡ reader.old) }
 {
     let mut text = Vec::new(alloc);
     match take_bytes(input, reader, length, &mut text)? {
-        Passed::Whole => Ok(Order::Give(Event::Load(Text::of(text)))),
-        Passed::NoRoom => Ok(Order::Refuse(Fault::OutOfMemory)),
-        Passed::Cut => Ok(Order::Refuse(Fault::BadCommand)),
+        TakenBytes::Whole => Ok(Order::Give(Event::Load(Text::of(text)))),
+        TakenBytes::NoRoom => Ok(Order::Refuse(Fault::OutOfMemory)),
+        TakenBytes::Cut => Ok(Order::Refuse(Fault::BadCommand)),
     }
 }
 
-/// What a command asks; none where it ends the dialogue. A load takes the program behind its line.
+/// What a command asks; none where it ends the dialogue. A load takes the program after its line.
 fn ask<R: Read, A: Allocator + Copy + Drop>(
     alloc: A,
     input: &mut Input,
     reader: &mut R,
-    command: &Command<'_>,
-) -> Result<Option<Order<A>>, Deaf>
-    ensures order { IfOk result (Follows command.now (text_left input.old (R.remaining reader.old)) (text_left input.new (R.remaining reader.new))) }
+    command: &ConsoleCommand<'_>,
+) -> Result<Option<Order<A>>, InputError>
+    ensures order { IfOk result (TakesCommand command.now (text_left input.old (R.remaining reader.old)) (text_left input.new (R.remaining reader.new))) }
     ensures holds { EndHolds input.old (R.remaining reader.old) → EndHolds input.new (R.remaining reader.new) }
     ensures last { input.old.ended ≡ true → (input.new ≡ input.old) × (reader.new ≡ reader.old) }
 {
     let event = match command {
-        Command::Load(length) => {
+        ConsoleCommand::Load(length) => {
             let order = load(alloc, input, reader, *length)?;
             return Ok(Some(order));
         }
-        Command::Tick(count) => return Ok(Some(Order::Ticks(*count))),
-        Command::Quit => return Ok(None),
-        Command::Mdi(line) => Event::Mdi(Text::of(Vec::from_slice(alloc, line)?)),
-        Command::Start => Event::Start,
-        Command::Hold => Event::Hold,
-        Command::Continue => Event::Continue,
-        Command::Reference(point) => Event::Reference(*point),
-        Command::Resume => Event::Resume,
-        Command::Abandon => Event::Abandon,
-        Command::OptionalStop(is_on) => Event::OptionalStop(*is_on),
-        Command::BlockDelete(is_on) => Event::BlockDelete(*is_on),
-        Command::Status => Event::Status,
+        ConsoleCommand::Tick(count) => return Ok(Some(Order::Ticks(*count))),
+        ConsoleCommand::Quit => return Ok(None),
+        ConsoleCommand::Mdi(line) => Event::Mdi(Text::of(Vec::from_slice(alloc, line)?)),
+        ConsoleCommand::Start => Event::Start,
+        ConsoleCommand::Hold => Event::Hold,
+        ConsoleCommand::Continue => Event::Continue,
+        ConsoleCommand::Reference(point) => Event::Reference(*point),
+        ConsoleCommand::Resume => Event::Resume,
+        ConsoleCommand::Abandon => Event::Abandon,
+        ConsoleCommand::OptionalStop(is_on) => Event::OptionalStop(*is_on),
+        ConsoleCommand::BlockDelete(is_on) => Event::BlockDelete(*is_on),
+        ConsoleCommand::Status => Event::Status,
     };
     Ok(Some(Order::Give(event)))
 }
@@ -94,13 +94,13 @@ fn ask<R: Read, A: Allocator + Copy + Drop>(
 ///
 /// The text ends where a read gives no byte, and that is final: from then on the reader isn't read, and None is all that is answered.
 /// A line that is no command is refused, U1, and so is a program that the end of the text cuts off; a program that finds no memory
-/// is refused, M1, and its bytes are passed over. `Deaf` where the reader failed, or a line of the operator found no memory. Lines
+/// is refused, M1, and its bytes are passed over. `InputError` where the reader failed, or a line of the operator found no memory. Lines
 /// take no memory but those. Source: own.
 pub fn next_order<R: Read, A: Allocator + Copy + Drop>(
     alloc: A,
     input: &mut Input,
     reader: &mut R,
-) -> Result<Option<Order<A>>, Deaf>
+) -> Result<Option<Order<A>>, InputError>
     ensures order { IfOk result (TakesOrder (text_left input.old (R.remaining reader.old)) (text_left input.new (R.remaining reader.new))) }
     ensures holds { EndHolds input.old (R.remaining reader.old) → EndHolds input.new (R.remaining reader.new) }
     ensures last { input.old.ended ≡ true → (result ≡ Ok None) × (input.new ≡ input.old) × (reader.new ≡ reader.old) }

@@ -14,7 +14,7 @@ const BUFFER: usize = 8192;
 
 /// A read failed, or one read more than 1,000,000,000 was needed.
 #[derive(Clone, Copy, Debug, PartialEq, Eq)]
-pub struct Unread;
+pub struct ReadError;
 
 /// The bytes that were read and not taken yet, and whether the text has ended: a read gave no byte. Contracts see a `Waiting`.
 #[derive(Drop)]
@@ -67,8 +67,8 @@ impl Input {
     }
 
     /// Reads where nothing waits. False at the end of the text, where a read gives no byte; that is final, and the reader isn't read
-    /// again. `Unread` where the read failed, or one read too many was needed: nothing waits then.
-    pub fn fill<R: Read>(&mut self, reader: &mut R) -> Result<bool, Unread>
+    /// again. `ReadError` where the read failed, or one read too many was needed: nothing waits then.
+    pub fn fill<R: Read>(&mut self, reader: &mut R) -> Result<bool, ReadError>
         ensures keeps { Keeps (text_left self.old (R.remaining reader.old)) (text_left self.new (R.remaining reader.new)) }
         ensures some { IfOk result (λ more. more ≡ true → (self.new.bytes ≢ []) × (self.new.ended ≡ false)) }
         ensures end { IfOk result (λ more. more ≡ false → (self.new.bytes ≡ []) × (self.new.ended ≡ true)) }
@@ -82,7 +82,7 @@ impl Input {
             return Ok(true);
         }
         if self.reads_left == 0 {
-            return Err(Unread);
+            return Err(ReadError);
         }
         self.reads_left -= 1;
         self.start = 0;
@@ -93,7 +93,7 @@ impl Input {
                 self.ended = n == 0;
                 Ok(n > 0)
             }
-            Err(_) => Err(Unread),
+            Err(_) => Err(ReadError),
         }
     }
 }

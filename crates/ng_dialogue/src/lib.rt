@@ -1,6 +1,6 @@
 //! The parts of the console's dialogue: what it is asked, as the lines come, and how its answers are written (own).
 //!
-//! `next_order` reads lines, and the programs behind `load`, from any reader, in buffers of fixed size: specs/Orders says what a
+//! `next_order` reads lines, and the programs after `load`, from any reader, in buffers of fixed size: specs/Orders says what a
 //! text asks. The `tell_` functions write the line of an answer and flush it: an operator waits for it. After a fault a beginning of
 //! the line is written. Nothing here knows a controller.
 #![tactic(auto)]
@@ -12,7 +12,7 @@ mod listening;
 mod order;
 mod telling;
 
-pub use hearing::{Deaf, next_order};
+pub use hearing::{InputError, next_order};
 pub use input::Input;
 pub use order::Order;
-pub use telling::{Unsent, tell_refusal, tell_reply, tell_tick, tell_ticks};
+pub use telling::{OutputError, tell_refusal, tell_reply, tell_tick, tell_ticks};

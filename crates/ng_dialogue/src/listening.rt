@@ -1,18 +1,18 @@
 //! Lines of a reader.
 ghost use Rattle.std.specs.Prelude.{◌≡◌, ◌∷◌, ◌++◌, ◌+◌, ◌≤◌, ℕ, List, [], take, true, false, MatchOption, IfOk};
 ghost use Rattle.std.specs.Io.KnownBytes.{IsAtEnd};
-ghost use Rattle.ng_block.specs.Parts.{HasNoNewline};
+ghost use Rattle.ng_text.specs.Newlines.{HasNoNewline};
 ghost use Rattle.ng_dialogue.specs.Reading.{TakesLine};
 ghost use Rattle.ng_dialogue.specs.Waiting.{EndHolds, text_left};
 
-use crate::input::{Input, Unread};
+use crate::input::{Input, ReadError};
 use arrayvec::ArrayVec;
 use memchr::memchr;
 use ng_commands::LONGEST;
 use std::io::Read;
 
 /// The most bytes that are kept of a line: one more than a command's have.
-pub const CUT: usize = 301;
+pub const KEPT_COMMAND: usize = 301;
 
 /// The bytes before the first newline; none where there is no newline.
 fn front_of(bytes: &[u8]) -> Option<&[u8]>
@@ -25,10 +25,10 @@ fn front_of(bytes: &[u8]) -> Option<&[u8]>
 }
 
 /// Keeps what there is room for.
-fn keep(line: &mut ArrayVec<u8, CUT>, bytes: &[u8])
+fn keep(line: &mut ArrayVec<u8, KEPT_COMMAND>, bytes: &[u8])
     ensures { line.new.items ≡ take 301 (line.old.items ++ bytes.now) }
 {
-    let room = CUT - line.len();
+    let room = KEPT_COMMAND - line.len();
     let kept = bytes.len().min(room);
     let Ok(()) = line.try_extend_from_slice(&bytes[..kept]) else {
         unreachable!()
@@ -40,8 +40,8 @@ fn keep(line: &mut ArrayVec<u8, CUT>, bytes: &[u8])
 pub fn next_line<R: Read>(
     input: &mut Input,
     reader: &mut R,
-    line: &mut ArrayVec<u8, CUT>,
-) -> Result<bool, Unread>
+    line: &mut ArrayVec<u8, KEPT_COMMAND>,
+) -> Result<bool, ReadError>
     ensures some { IfOk result (λ more. more ≡ true → TakesLine 301 (text_left input.old (R.remaining reader.old)) (text_left input.new (R.remaining reader.new)) line.new.items) }
     ensures end { IfOk result (λ more. more ≡ false → IsAtEnd (text_left input.old (R.remaining reader.old)) × (input.new.ended ≡ true)) }
     ensures holds { EndHolds input.old (R.remaining reader.old) → EndHolds input.new (R.remaining reader.new) }
@@ -67,5 +67,5 @@ pub fn next_line<R: Read>(
             }
         }
     }
-    Err(Unread)
+    Err(ReadError)
 }

@@ -10,7 +10,7 @@ use std::io::Write;
 
 /// Why an answer isn't written: a beginning of it may be.
 #[derive(Clone, Copy, Debug, PartialEq, Eq)]
-pub enum Unsent {
+pub enum OutputError {
     /// A write or a flush failed, or a write took no byte.
     Writer,
     /// The line found no memory: nothing of it is written.
@@ -18,28 +18,28 @@ pub enum Unsent {
 }
 
 /// Writes all bytes.
-fn write_out<W: Write>(writer: &mut W, bytes: &[u8]) -> Result<(), Unsent>
+fn write_out<W: Write>(writer: &mut W, bytes: &[u8]) -> Result<(), OutputError>
     ensures { Sends (W.contents writer.old) (W.contents writer.new) bytes.now result }
 {
     let mut written: usize = 0;
     while written < bytes.len() {
         match writer.write(&bytes[written..]) {
-            Ok(0) => return Err(Unsent::Writer),
+            Ok(0) => return Err(OutputError::Writer),
             Ok(n) => written += n,
-            Err(_) => return Err(Unsent::Writer),
+            Err(_) => return Err(OutputError::Writer),
         }
     }
     Ok(())
 }
 
 /// Writes a line, and flushes it.
-fn send<W: Write>(writer: &mut W, line: &[u8]) -> Result<(), Unsent>
+fn send<W: Write>(writer: &mut W, line: &[u8]) -> Result<(), OutputError>
     ensures { Sends (W.contents writer.old) (W.contents writer.new) line.now result }
 {
     match write_out(writer, line) {
         Ok(()) => match writer.flush() {
             Ok(()) => Ok(()),
-            Err(_) => Err(Unsent::Writer),
+            Err(_) => Err(OutputError::Writer),
         },
         Err(fault) => Err(fault),
     }
@@ -50,13 +50,13 @@ pub fn tell_reply<W: Write, A: Allocator + Copy + Drop>(
     alloc: A,
     writer: &mut W,
     reply: &Reply,
-) -> Result<(), Unsent>
+) -> Result<(), OutputError>
     ensures { Sends (W.contents writer.old) (W.contents writer.new) (reply_line reply.now) result }
 {
     let mut line = Vec::new(alloc);
     match push_reply(&mut line, reply) {
         Ok(()) => send(writer, line.as_slice()),
-        Err(_) => Err(Unsent::Memory),
+        Err(_) => Err(OutputError::Memory),
     }
 }
 
@@ -65,13 +65,13 @@ pub fn tell_refusal<W: Write, A: Allocator + Copy + Drop>(
     alloc: A,
     writer: &mut W,
     fault: Fault,
-) -> Result<(), Unsent>
+) -> Result<(), OutputError>
     ensures { Sends (W.contents writer.old) (W.contents writer.new) (refused_line fault) result }
 {
     let mut line = Vec::new(alloc);
     match push_refusal(&mut line, fault) {
         Ok(()) => send(writer, line.as_slice()),
-        Err(_) => Err(Unsent::Memory),
+        Err(_) => Err(OutputError::Memory),
     }
 }
 
@@ -80,27 +80,27 @@ pub fn tell_tick<W: Write, A: Allocator + Copy + Drop>(
     alloc: A,
     writer: &mut W,
     reply: &Reply,
-) -> Result<(), Unsent>
+) -> Result<(), OutputError>
     ensures { Sends (W.contents writer.old) (W.contents writer.new) (tick_line reply.now) result }
 {
     let mut line = Vec::new(alloc);
     match push_tick(&mut line, reply) {
         Ok(()) => send(writer, line.as_slice()),
-        Err(_) => Err(Unsent::Memory),
+        Err(_) => Err(OutputError::Memory),
     }
 }
 
-/// Writes the line behind a command of ticks, likewise. Source: own.
+/// Writes the line after a command of ticks, likewise. Source: own.
 pub fn tell_ticks<W: Write, A: Allocator + Copy + Drop>(
     alloc: A,
     writer: &mut W,
     count: u32,
-) -> Result<(), Unsent>
+) -> Result<(), OutputError>
     ensures { Sends (W.contents writer.old) (W.contents writer.new) (ticks_line count) result }
 {
     let mut line = Vec::new(alloc);
     match push_ticks(&mut line, count) {
         Ok(()) => send(writer, line.as_slice()),
-        Err(_) => Err(Unsent::Memory),
+        Err(_) => Err(OutputError::Memory),
     }
 }

@@ -1,7 +1,8 @@
 //! Each line of the console's language: what it asks for, and how a reply reads.
 use linked_list_allocator::LocalHeap;
 use ng_commands::{
-    Command, LONGEST, command_of, goes_on, push_refusal, push_reply, push_tick, push_ticks,
+    ConsoleCommand, LONGEST, command_of, continues_ticks, push_refusal, push_reply, push_tick,
+    push_ticks,
 };
 use ng_layout::Source;
 use ng_num::{Fault, Len, Point};
@@ -27,20 +28,20 @@ enum Asked {
 }
 
 /// The command.
-fn command_for(asked: Asked) -> Command<'static> {
+fn command_for(asked: Asked) -> ConsoleCommand<'static> {
     match asked {
-        Asked::Load(length) => Command::Load(length),
-        Asked::Start => Command::Start,
-        Asked::Hold => Command::Hold,
-        Asked::Continue => Command::Continue,
-        Asked::Mdi(line) => Command::Mdi(line),
-        Asked::Resume => Command::Resume,
-        Asked::Abandon => Command::Abandon,
-        Asked::OptionalStop(is_on) => Command::OptionalStop(is_on),
-        Asked::BlockDelete(is_on) => Command::BlockDelete(is_on),
-        Asked::Tick(count) => Command::Tick(count),
-        Asked::Status => Command::Status,
-        Asked::Quit => Command::Quit,
+        Asked::Load(length) => ConsoleCommand::Load(length),
+        Asked::Start => ConsoleCommand::Start,
+        Asked::Hold => ConsoleCommand::Hold,
+        Asked::Continue => ConsoleCommand::Continue,
+        Asked::Mdi(line) => ConsoleCommand::Mdi(line),
+        Asked::Resume => ConsoleCommand::Resume,
+        Asked::Abandon => ConsoleCommand::Abandon,
+        Asked::OptionalStop(is_on) => ConsoleCommand::OptionalStop(is_on),
+        Asked::BlockDelete(is_on) => ConsoleCommand::BlockDelete(is_on),
+        Asked::Tick(count) => ConsoleCommand::Tick(count),
+        Asked::Status => ConsoleCommand::Status,
+        Asked::Quit => ConsoleCommand::Quit,
     }
 }
 
@@ -95,7 +96,7 @@ const ROWS: &[(&str, Option<Asked>)] = &[
     ("tick 18446744073709551617", None),
     ("tick -1", None),
     ("tick", None),
-    // all bytes behind the one blank belong to the operator's line
+    // all bytes after the one blank belong to the operator's line
     ("mdi G0 X1", Some(Asked::Mdi(b"G0 X1"))),
     ("mdi ", Some(Asked::Mdi(b""))),
     ("mdi  G0\r", Some(Asked::Mdi(b" G0\r"))),
@@ -161,7 +162,7 @@ const REFERENCES: &[(&str, Option<(i64, i64, i64)>)] = &[
 /// The nanometres of the coordinates that a line tells.
 fn told_by(line: &[u8]) -> Option<(i64, i64, i64)> {
     match command_of(line) {
-        Some(Command::Reference(point)) => Some((point.x.nm(), point.y.nm(), point.z.nm())),
+        Some(ConsoleCommand::Reference(point)) => Some((point.x.nm(), point.y.nm(), point.z.nm())),
         _ => None,
     }
 }
@@ -192,7 +193,7 @@ fn a_line_has_at_most_300_bytes(rt: HostRuntime) -> Result<(), Fail> {
     assert_eq!(rt; LONGEST, 300);
     let mut line = Vec::from_slice(rt.alloc(), b"mdi (")?;
     line.resize(300, b'x')?;
-    assert!(rt; command_of(line.as_slice()) == Some(Command::Mdi(&line.as_slice()[4..])));
+    assert!(rt; command_of(line.as_slice()) == Some(ConsoleCommand::Mdi(&line.as_slice()[4..])));
     line.push(b')')?;
     assert!(rt; command_of(line.as_slice()).is_none());
     Ok(())
@@ -230,7 +231,7 @@ fn reply_of(plain: &Plain) -> Reply {
     }
 }
 
-/// Replies, the line of each, whether that of a tick is the same, and whether ticks go on behind it.
+/// Replies, the line of each, whether that of a tick is the same, and whether ticks go on after it.
 const TOLD: &[(Plain, &str, bool, bool)] = &[
     (Plain::Done(0), "done 0\n", true, true),
     (
@@ -268,7 +269,7 @@ const TOLD: &[(Plain, &str, bool, bool)] = &[
     ),
 ];
 
-/// Whether a reply is told as this line, behind what was there.
+/// Whether a reply is told as this line, after what was there.
 fn is_told(alloc: Global, reply: &Reply, line: &str) -> Result<bool, AllocError> {
     let mut told = Vec::from_slice(alloc, b"> ")?;
     push_reply(&mut told, reply)?;
@@ -290,7 +291,7 @@ fn replies_are_told_in_lines(rt: HostRuntime) -> Result<(), Fail> {
         let of_a_tick = if *is_same { *line } else { "" };
         let told_of_a_tick = is_told_of_a_tick(rt.alloc(), &reply, of_a_tick)?;
         assert_eq!(rt;
-            (told, told_of_a_tick, goes_on(&reply)),
+            (told, told_of_a_tick, continues_ticks(&reply)),
             (true, true, *goes),
             "{line:?}"
         );
@@ -304,7 +305,7 @@ struct Shown {
     entries: u64,
     place: u64,
     nm: (i64, i64, i64),
-    place_known: bool,
+    point_known: bool,
     half: Option<HalfShown>,
     condition: Condition,
     line: &'static str,
@@ -315,7 +316,7 @@ const SHOWN: &[Shown] = &[
         entries: 3,
         place: 0,
         nm: (2_000, 0, 0),
-        place_known: true,
+        point_known: true,
         half: None,
         condition: Condition::Idle,
         line: "status entries 3 place 0 at 0.002000 0.000000 0.000000 known half none idle\n",
@@ -324,7 +325,7 @@ const SHOWN: &[Shown] = &[
         entries: 0,
         place: 0,
         nm: (0, 0, 0),
-        place_known: false,
+        point_known: false,
         half: Some(HalfShown {
             source: Source::Mdi,
             index: 0,
@@ -336,7 +337,7 @@ const SHOWN: &[Shown] = &[
         entries: 1_000_000_000_000,
         place: 131_072,
         nm: (-1_500_000, 25, -9_999_999_999_999),
-        place_known: true,
+        point_known: true,
         half: Some(HalfShown {
             source: Source::Program,
             index: 18_446_744_073_709_551_615,
@@ -348,7 +349,7 @@ const SHOWN: &[Shown] = &[
         entries: 7,
         place: 12,
         nm: (1, -1, 1_000_000),
-        place_known: false,
+        point_known: false,
         half: Some(HalfShown {
             source: Source::Program,
             index: 2,
@@ -360,7 +361,7 @@ const SHOWN: &[Shown] = &[
         entries: 8,
         place: 12,
         nm: (0, 0, 0),
-        place_known: true,
+        point_known: true,
         half: None,
         condition: Condition::Stopped,
         line: "status entries 8 place 12 at 0.000000 0.000000 0.000000 known half none stopped\n",
@@ -369,7 +370,7 @@ const SHOWN: &[Shown] = &[
         entries: 8,
         place: 12,
         nm: (0, 0, 0),
-        place_known: true,
+        point_known: true,
         half: None,
         condition: Condition::Broken,
         line: "status entries 8 place 12 at 0.000000 0.000000 0.000000 known half none broken\n",
@@ -393,7 +394,7 @@ fn a_status_is_told_in_a_line(rt: HostRuntime) -> Result<(), Fail> {
             entries: shown.entries,
             place: shown.place,
             point,
-            place_known: shown.place_known,
+            point_known: shown.point_known,
             half: shown.half,
             condition: shown.condition,
         });

@@ -1,7 +1,8 @@
 //! What a text asks of the console, from readers of every size, and answers over writers that fail.
 use linked_list_allocator::LocalHeap;
 use ng_dialogue::{
-    Deaf, Input, Order, Unsent, next_order, tell_refusal, tell_reply, tell_tick, tell_ticks,
+    Input, InputError, Order, OutputError, next_order, tell_refusal, tell_reply, tell_tick,
+    tell_ticks,
 };
 use ng_num::Fault;
 use ng_session::{Event, Reply};
@@ -70,7 +71,7 @@ fn orders_of<R: Read, A: Allocator + Copy + Drop>(
     alloc: Global,
     heap: A,
     reader: &mut R,
-) -> Result<(Vec<u8>, Option<Deaf>), AllocError> {
+) -> Result<(Vec<u8>, Option<InputError>), AllocError> {
     let mut input = Input::new();
     let mut shown = Vec::new(alloc);
     for _ in 0..10_000 {
@@ -99,7 +100,7 @@ const TEXTS: &[(&str, &str)] = &[
         "reference 1 -2. +.5\nresume\nabandon\nreference 1 2\n",
         "reference|resume|abandon|U1 BadCommand|",
     ),
-    // behind quit nothing is heard
+    // after quit nothing is heard
     ("hold\nquit\nstart\n", "hold|"),
     ("hold\nquit", "hold|"),
     // a carriage return is a byte of the line
@@ -108,7 +109,7 @@ const TEXTS: &[(&str, &str)] = &[
         "U1 BadCommand|mdi:G0 X1\r|U1 BadCommand|",
     ),
     ("mdi \nmdi\n", "mdi:|U1 BadCommand|"),
-    // the bytes of a program are none of the console's lines, and none is passed over behind them
+    // the bytes of a program are none of the console's lines, and none is passed over after them
     (
         "load 13\nG0 X0.002\nM2\nstart\n",
         "load:G0 X0.002\nM2\n|start|",
@@ -129,7 +130,7 @@ fn first_astray(
     alloc: Global,
     text: &str,
     asked: &str,
-) -> Result<Option<(usize, Option<Deaf>)>, AllocError> {
+) -> Result<Option<(usize, Option<InputError>)>, AllocError> {
     for at_most in 1..10 {
         let mut reader = Drip {
             bytes: text.as_bytes(),
@@ -191,7 +192,7 @@ fn long_order(alloc: Global, length: usize) -> Result<Vec<u8>, AllocError> {
 fn long_line_heard(
     alloc: Global,
     (length, is_long, at_most): (usize, bool, usize),
-) -> Result<(bool, Option<Deaf>), AllocError> {
+) -> Result<(bool, Option<InputError>), AllocError> {
     let text = long_text(alloc, length)?;
     let order = long_order(alloc, length)?;
     let asked = if is_long {
@@ -225,7 +226,7 @@ const FAILING: (&str, &str) = (
 
 /// That text, a byte at a read, where so many reads succeed: why it ended before its end, if it did, and whether all that it asks
 /// is heard, or a beginning where it ended before.
-fn heard_behind(alloc: Global, reads_left: usize) -> Result<(Option<Deaf>, bool), AllocError> {
+fn heard_after(alloc: Global, reads_left: usize) -> Result<(Option<InputError>, bool), AllocError> {
     let (text, asked) = FAILING;
     let mut reader = Drip {
         bytes: text.as_bytes(),
@@ -245,11 +246,11 @@ fn a_reader_that_fails_ends_the_dialogue(rt: HostRuntime) -> Result<(), Fail> {
     for reads_left in 0..40 {
         // 28 bytes, and the read that finds the end
         let wanted = if reads_left < 29 {
-            Some(Deaf::Reader)
+            Some(InputError::Reader)
         } else {
             None
         };
-        let found = heard_behind(rt.alloc(), reads_left)?;
+        let found = heard_after(rt.alloc(), reads_left)?;
         assert_eq!(rt; found, (wanted, true), "{reads_left}");
     }
     Ok(())
@@ -278,7 +279,7 @@ fn a_program_without_memory_is_passed_over(rt: HostRuntime) -> Result<(), Fail> 
     let (short, ended) = orders_of(rt.alloc(), &heap, &mut reader)?;
     assert_eq!(rt;
         ((is_passed_over, deaf), (short.len(), ended)),
-        ((true, None), (0, Some(Deaf::Memory)))
+        ((true, None), (0, Some(InputError::Memory)))
     );
     Ok(())
 }
@@ -330,7 +331,7 @@ impl Write for Slow {
 }
 
 /// Tells four answers, one of each kind.
-fn tell_all<W: Write>(alloc: Global, writer: &mut W) -> Result<(), Unsent> {
+fn tell_all<W: Write>(alloc: Global, writer: &mut W) -> Result<(), OutputError> {
     tell_reply(alloc, writer, &Reply::Begun)?;
     tell_tick(alloc, writer, &Reply::Done(7))?;
     tell_ticks(alloc, writer, 12)?;
@@ -342,11 +343,11 @@ const ANSWERS: &str = "begun\ndone 7\nticks 12\nrefused K1 Busy\n";
 
 /// Tells them to a writer of which so many calls succeed: how that ends, whether all is written, or a beginning where it ends in an
 /// error, and how many calls are left.
-fn told_behind(
+fn told_after(
     alloc: Global,
     calls_left: usize,
     takes_none: bool,
-) -> (Result<(), Unsent>, bool, usize) {
+) -> (Result<(), OutputError>, bool, usize) {
     let mut writer = Slow {
         taken: Vec::new(alloc),
         calls_left,
@@ -367,13 +368,13 @@ fn an_answer_is_written_and_flushed_or_a_beginning_of_it(rt: HostRuntime) -> Res
     let calls = ANSWERS.len().saturating_add(4);
     for calls_left in 0..60usize {
         let ended = if calls_left < calls {
-            Err(Unsent::Writer)
+            Err(OutputError::Writer)
         } else {
             Ok(())
         };
         let found = [
-            told_behind(rt.alloc(), calls_left, false),
-            told_behind(rt.alloc(), calls_left, true),
+            told_after(rt.alloc(), calls_left, false),
+            told_after(rt.alloc(), calls_left, true),
         ];
         let wanted = (ended, true, calls_left.saturating_sub(calls));
         assert_eq!(rt; found, [wanted; 2], "{calls_left}");

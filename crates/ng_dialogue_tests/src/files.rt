@@ -1,7 +1,7 @@
 //! Devices over bytes of a storage: which bytes a sector is, the lines of what is handed out, and what a storage or a writer that
 //! fails leaves.
 use linked_list_allocator::LocalHeap;
-use ng_canon::{Item, Outputs, Pulse, Spindle, Step};
+use ng_canon::{AxisStep, Item, Outputs, Pulse, Spindle};
 use ng_file::{FileRig, OpenedFile, Storage};
 use ng_num::Num;
 use ng_rig::{Failed, Rig};
@@ -123,7 +123,7 @@ fn two_sectors<R: Rig>(rig: &mut R) -> ([bool; 2], [bool; 3], bool) {
     (written, held, rig.sync().is_ok())
 }
 
-/// Runs of a byte, one behind the other: where each ends, and its byte.
+/// Runs of a byte, one after the other: where each ends, and its byte.
 const RUNS: &[(usize, u8)] = &[(512, 0), (1_024, 7), (1_536, 9), (1_600, 0)];
 
 /// The bytes of those runs.
@@ -159,7 +159,7 @@ fn a_full_disk_fails_and_keeps_what_it_has(rt: HostRuntime) -> Result<(), Fail> 
     Ok(())
 }
 
-/// Writes the last of three sectors and reads it, and does both again, with how many failures are counted behind each; and
+/// Writes the last of three sectors and reads it, and does both again, with how many failures are counted after each; and
 /// the device's size between them.
 fn last_sector_twice<R: Rig>(rig: &mut R) -> ([bool; 2], [(bool, u64); 2], usize) {
     let whole = [fill(rig, 2, 7).is_ok(), holds(rig, 2, 7)];
@@ -188,9 +188,9 @@ fn a_file_that_gets_shorter_fails_and_stays_short(rt: HostRuntime) -> Result<(),
 /// Items of each kind.
 fn items() -> [Item; 4] {
     let pulse = Pulse {
-        x: Step::Forward,
-        y: Step::Still,
-        z: Step::Backward,
+        x: AxisStep::Forward,
+        y: AxisStep::Still,
+        z: AxisStep::Backward,
         period_us: 50,
     };
     let outputs = Outputs {
@@ -209,7 +209,7 @@ fn items() -> [Item; 4] {
     ]
 }
 
-/// A line that is there before, and those of the items behind it.
+/// A line that is there before, and those of the items after it.
 const LINES: &str =
     "D 1\nP 1 0 -1 50\nD 10000000\nS 0 0.000000 0 0 0 0\nS 2 1200.500000 1 0 3 64\n";
 
@@ -222,7 +222,7 @@ fn hand_out_each<R: Rig>(rig: &mut R) -> Result<(), Failed> {
 }
 
 #[test]
-fn what_is_handed_out_is_a_line_behind_those_before(rt: HostRuntime) -> Result<(), Fail> {
+fn what_is_handed_out_is_a_line_after_those_before(rt: HostRuntime) -> Result<(), Fail> {
     let out = Vec::from_slice(rt.alloc(), b"D 1\n")?;
     let mut rig = FileRig::over(rt.alloc(), disk_with(rt.alloc(), 0, 0)?, out)?;
     let handed = hand_out_each(&mut rig);

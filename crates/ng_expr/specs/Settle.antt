@@ -22,8 +22,8 @@ abbrev pub followed : Settled → Settled → Settled
 followed a b = record { words = a.words ++ b.words; settings = a.settings ++ b.settings }
 
 -- what is there, and then what an answer gives
-abbrev pub behind : Settled → Result Settled Fault → Result Settled Fault
-behind a answer = and_then answer (λ b. Ok (followed a b))
+abbrev pub followed_if_ok : Settled → Result Settled Fault → Result Settled Fault
+followed_if_ok a answer = and_then answer (λ b. Ok (followed a b))
 
 -- a word alone, a setting alone
 abbrev pub one_word : Word → Settled
@@ -48,9 +48,9 @@ given table (comment text) = Ok nothing
 
 -- what the pieces of a line give, each from the table as it was before the line (NISTIR 6556, 3.3.3); the first without
 -- a value decides the fault
-abbrev pub settled : List Piece → List ℤ → Result Settled Fault
-settled [] table = Ok nothing
-settled (p ∷ pieces) table = and_then (given table p) (λ first. behind first (settled pieces table))
+abbrev pub settled_pieces : List Piece → List ℤ → Result Settled Fault
+settled_pieces [] table = Ok nothing
+settled_pieces (p ∷ pieces) table = and_then (given table p) (λ first. followed_if_ok first (settled_pieces pieces table))
 
 -- what was read into places
 abbrev pub settled_of : Values → Settled

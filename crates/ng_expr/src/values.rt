@@ -2,7 +2,7 @@ ghost use Rattle.std.specs.Prelude.{◌≡◌, ◌<◌, ◌≤◌, ◌+◌, leng
 ghost use Rattle.ng_words.specs.Grammar.{setting, word};
 ghost use Rattle.ng_words.specs.Kept.{pieces_by, tree_by};
 ghost use Rattle.ng_words.specs.Lines.{piece_of};
-ghost use Rattle.ng_expr.specs.Settle.{settled, settled_of};
+ghost use Rattle.ng_expr.specs.Settle.{settled_pieces, settled_of};
 
 use crate::setting::change_on;
 use crate::stack::Stack;
@@ -11,7 +11,7 @@ use crate::word::Word;
 use arrayvec::ArrayVec;
 use ng_num::Fault;
 use ng_params::{Change, Params};
-use ng_words::{Letter, Line, PIECES, Piece, Tree};
+use ng_words::{Letter, Line, PIECES, PieceRef, Tree};
 use std::alloc::Allocator;
 
 /// The values of a line, in its order. Its places serve any number of lines, one after the other.
@@ -25,7 +25,7 @@ pub struct Values {
 }
 
 impl Values {
-    ghost use Rattle.ng_expr.specs.Settle.{behind, given, nothing};
+    ghost use Rattle.ng_expr.specs.Settle.{followed_if_ok, given, nothing};
 
     /// No values yet.
     pub fn new() -> Values
@@ -47,7 +47,7 @@ impl Values {
         tree: &Tree<'_>,
     ) -> Result<(), Fault>
         requires { length self.old.words.items < 128 }
-        ensures found { MatchResult result (λ _. behind (settled_of self.old) (given params.now (word letter (tree_by tree.now))) ≡ Ok (settled_of self.new)) (λ e. given params.now (word letter (tree_by tree.now)) ≡ Err e) }
+        ensures found { MatchResult result (λ _. followed_if_ok (settled_of self.old) (given params.now (word letter (tree_by tree.now))) ≡ Ok (settled_of self.new)) (λ e. given params.now (word letter (tree_by tree.now)) ≡ Err e) }
         ensures few { length self.new.words.items + length self.new.settings.items ≤ length self.old.words.items + length self.old.settings.items + 1 }
     {
         match value_on(&mut self.stack, params, tree) {
@@ -67,7 +67,7 @@ impl Values {
         value: &Tree<'_>,
     ) -> Result<(), Fault>
         requires { length self.old.settings.items < 128 }
-        ensures found { MatchResult result (λ _. behind (settled_of self.old) (given params.now (setting (tree_by index.now) (tree_by value.now))) ≡ Ok (settled_of self.new)) (λ e. given params.now (setting (tree_by index.now) (tree_by value.now)) ≡ Err e) }
+        ensures found { MatchResult result (λ _. followed_if_ok (settled_of self.old) (given params.now (setting (tree_by index.now) (tree_by value.now))) ≡ Ok (settled_of self.new)) (λ e. given params.now (setting (tree_by index.now) (tree_by value.now)) ≡ Err e) }
         ensures few { length self.new.words.items + length self.new.settings.items ≤ length self.old.words.items + length self.old.settings.items + 1 }
     {
         match change_on(&mut self.stack, params, index, value) {
@@ -84,16 +84,16 @@ impl Values {
     fn add<A: Allocator + Copy + Drop>(
         &mut self,
         params: &Params<A>,
-        piece: &Piece<'_>,
+        piece: &PieceRef<'_>,
     ) -> Result<(), Fault>
         requires { length self.old.words.items + length self.old.settings.items < 128 }
-        ensures found { MatchResult result (λ _. behind (settled_of self.old) (given params.now (piece_of piece.now)) ≡ Ok (settled_of self.new)) (λ e. given params.now (piece_of piece.now) ≡ Err e) }
+        ensures found { MatchResult result (λ _. followed_if_ok (settled_of self.old) (given params.now (piece_of piece.now)) ≡ Ok (settled_of self.new)) (λ e. given params.now (piece_of piece.now) ≡ Err e) }
         ensures few { length self.new.words.items + length self.new.settings.items ≤ length self.old.words.items + length self.old.settings.items + 1 }
     {
         match piece {
-            Piece::Word(letter, value) => self.add_word(params, *letter, value),
-            Piece::Setting(index, value) => self.add_setting(params, index, value),
-            Piece::Comment(_) => Ok(()),
+            PieceRef::Word(letter, value) => self.add_word(params, *letter, value),
+            PieceRef::Setting(index, value) => self.add_setting(params, index, value),
+            PieceRef::Comment(_) => Ok(()),
         }
     }
 
@@ -113,7 +113,7 @@ impl Values {
         line: &Line,
         params: &Params<A>,
     ) -> Result<(), Fault>
-        ensures values { MatchResult result (λ _. settled (pieces_by line.now.places) params.now ≡ Ok (settled_of self.new)) (λ e. settled (pieces_by line.now.places) params.now ≡ Err e) }
+        ensures values { MatchResult result (λ _. settled_pieces (pieces_by line.now.places) params.now ≡ Ok (settled_of self.new)) (λ e. settled_pieces (pieces_by line.now.places) params.now ≡ Err e) }
         ensures cleared { OnErr result (settled_of self.new ≡ nothing) }
     {
         self.clear();
@@ -137,7 +137,7 @@ pub fn evaluate<A: Allocator + Copy + Drop>(
     line: &Line,
     params: &Params<A>,
 ) -> Result<Values, Fault>
-    ensures { MatchResult result (λ v. settled (pieces_by line.now.places) params.now ≡ Ok (settled_of v)) (λ e. settled (pieces_by line.now.places) params.now ≡ Err e) }
+    ensures { MatchResult result (λ v. settled_pieces (pieces_by line.now.places) params.now ≡ Ok (settled_of v)) (λ e. settled_pieces (pieces_by line.now.places) params.now ≡ Err e) }
 {
     let mut values = Values::new();
     match values.evaluate_into(line, params) {

@@ -15,10 +15,12 @@ mod hold;
 mod line;
 mod opened;
 mod rig;
+mod same;
 mod storage;
 
 pub use device::{NoDevice, make_device, open_device};
 pub use hold::{Hold, NotHeld};
 pub use opened::OpenedFile;
 pub use rig::FileRig;
+pub use same::is_same_file;
 pub use storage::Storage;

@@ -2,17 +2,17 @@
 ghost use Rattle.std.specs.Prelude.{◌≡◌, ◌++◌, OnOk};
 ghost use Rattle.ng_file.specs.Lines.{item_line, pulse_line, slots_text, spindle_text, step_text, switch_line, truth_digit, turning_text};
 
-use ng_canon::{Item, Outputs, Pulse, Spindle, Step};
+use ng_canon::{AxisStep, Item, Outputs, Pulse, Spindle};
 use ng_num::{print_number, print_whole};
 use std::alloc::{AllocError, Allocator};
 
-fn step_text(step: Step) -> &'static [u8]
+fn step_text(step: AxisStep) -> &'static [u8]
     ensures { result.now ≡ step_text step }
 {
     match step {
-        Step::Backward => b"-1",
-        Step::Still => b"0",
-        Step::Forward => b"1",
+        AxisStep::Backward => b"-1",
+        AxisStep::Still => b"0",
+        AxisStep::Forward => b"1",
     }
 }
 
@@ -59,7 +59,7 @@ fn push_dwell<A: Allocator + Copy + Drop>(text: &mut Vec<u8, A>, us: u64) -> Res
     text.extend_from_slice(b"\n")
 }
 
-/// Appends how the spindle turns and what coolant flows, and the blank behind it.
+/// Appends how the spindle turns and what coolant flows, and the blank after it.
 fn push_turning<A: Allocator + Copy + Drop>(
     text: &mut Vec<u8, A>,
     outputs: &Outputs,

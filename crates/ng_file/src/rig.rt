@@ -15,7 +15,7 @@ const SECTOR: u64 = 512;
 /// Room for the line of any item.
 const LINE: usize = 64;
 
-/// A device whose sectors are those of a file, and whose hand-outs are lines behind those that a writer has.
+/// A device whose sectors are those of a file, and whose hand-outs are lines after those that a writer has.
 ///
 /// It has as many sectors as were whole when it was made. A call fails where the file or the writer fails, and a write also
 /// where the file has become shorter than its sector.
@@ -31,7 +31,7 @@ pub struct FileRig<S, W, A: Allocator> {
 
 impl<S: Storage + Drop, W: Write + Drop, A: Allocator + Copy + Drop> FileRig<S, W, A> {
     ghost use Rattle.std.specs.Prelude.{◌≡◌, ◌+◌, ◌*◌, ◌/◌, ◌%◌, ◌^◌, ◌<◌, ◌≤◌, IfOk, IfSome, OnOk, OnErr, is_ok, length};
-    ghost use Rattle.ng_rig.specs.Calls.{Counts};
+    ghost use Rattle.ng_rig.specs.Calls.{FailureCountSpec};
     ghost use Rattle.std.specs.Io.KnownBytes.{Appends};
     ghost use Rattle.ng_file.specs.Bytes.{Put, PutInPart};
     ghost use Rattle.ng_file.specs.FileRig.{failure_count, outlet, sector_count, storage};
@@ -99,7 +99,7 @@ impl<S: Storage + Drop, W: Write + Drop, A: Allocator + Copy + Drop> FileRig<S, 
     /// Counts a failure of the file or the writer.
     fn counted(&mut self, outcome: io::Result<()>) -> Result<(), Failed>
         ensures same { is_ok result ≡ is_ok outcome }
-        ensures failures { Counts result (failure_count self.old) (failure_count self.new) }
+        ensures failures { FailureCountSpec result (failure_count self.old) (failure_count self.new) }
         ensures others { (storage self.new ≡ storage self.old) × (outlet self.new ≡ outlet self.old) × (sector_count self.new ≡ sector_count self.old) }
     {
         match outcome {
@@ -115,13 +115,13 @@ impl<S: Storage + Drop, W: Write + Drop, A: Allocator + Copy + Drop> FileRig<S, 
 impl<S: Storage + Drop, W: Write + Drop, A: Allocator + Copy + Drop> Rig for FileRig<S, W, A> {
     ghost use Rattle.std.specs.Prelude.{◌≡◌, ◌+◌, ◌*◌, ◌<◌, ◌≤◌, [], IfSome, OnOk, OnErr, Some, length};
     ghost use Rattle.std.specs.Io.KnownBytes.{Appends};
-    ghost use Rattle.ng_rig.specs.Calls.{Counts};
-    ghost use Rattle.ng_rig.specs.Life.{Began};
+    ghost use Rattle.ng_rig.specs.Calls.{FailureCountSpec};
+    ghost use Rattle.ng_rig.specs.Trace.{Began};
     ghost use Rattle.ng_file.specs.Bytes.{Put, PutInPart, sector_of};
     ghost use Rattle.ng_file.specs.FileRig.{failure_count, outlet, sector_count, storage};
     ghost use Rattle.ng_file.specs.Lines.{item_line};
 
-    ghost life = { λ _. Began (λ _. []) };
+    ghost trace = { λ _. Began (λ _. []) };
 
     ghost honest = { λ _. ⊥ };
 
@@ -143,7 +143,7 @@ impl<S: Storage + Drop, W: Write + Drop, A: Allocator + Copy + Drop> Rig for Fil
         ensures value { OnOk result (IfSome (S.content (storage self.old)) (λ held. into.new ≡ sector_of sector held)) }
         ensures stays { (S.content (storage self.new) ≡ S.content (storage self.old)) × (outlet self.new ≡ outlet self.old) }
         ensures size { sector_count self.new ≡ sector_count self.old }
-        ensures failures { Counts result (failure_count self.old) (failure_count self.new) }
+        ensures failures { FailureCountSpec result (failure_count self.old) (failure_count self.new) }
     {
         let read = self.file.read_at(sector as u64 * SECTOR, into);
         self.counted(read)
@@ -157,7 +157,7 @@ impl<S: Storage + Drop, W: Write + Drop, A: Allocator + Copy + Drop> Rig for Fil
         ensures part { OnErr result (PutInPart (512 * sector) (S.content (storage self.old)) (S.content (storage self.new))) }
         ensures stays { outlet self.new ≡ outlet self.old }
         ensures size { sector_count self.new ≡ sector_count self.old }
-        ensures failures { Counts result (failure_count self.old) (failure_count self.new) }
+        ensures failures { FailureCountSpec result (failure_count self.old) (failure_count self.new) }
     {
         let put = self.put(sector, bytes);
         self.counted(put)
@@ -168,7 +168,7 @@ impl<S: Storage + Drop, W: Write + Drop, A: Allocator + Copy + Drop> Rig for Fil
         ensures lasts { OnOk result (IfSome (S.lasting (storage self.new)) (λ kept. S.content (storage self.new) ≡ Some kept)) }
         ensures stays { (S.content (storage self.new) ≡ S.content (storage self.old)) × (outlet self.new ≡ outlet self.old) }
         ensures size { sector_count self.new ≡ sector_count self.old }
-        ensures failures { Counts result (failure_count self.old) (failure_count self.new) }
+        ensures failures { FailureCountSpec result (failure_count self.old) (failure_count self.new) }
     {
         let synced = self.file.sync();
         self.counted(synced)
@@ -179,7 +179,7 @@ impl<S: Storage + Drop, W: Write + Drop, A: Allocator + Copy + Drop> Rig for Fil
         ensures line { OnOk result (Appends (W.contents (outlet self.old)) (W.contents (outlet self.new)) (item_line item)) }
         ensures stays { storage self.new ≡ storage self.old }
         ensures size { sector_count self.new ≡ sector_count self.old }
-        ensures failures { Counts result (failure_count self.old) (failure_count self.new) }
+        ensures failures { FailureCountSpec result (failure_count self.old) (failure_count self.new) }
     {
         let put = self.put_line(item);
         self.counted(put)

@@ -4,36 +4,37 @@ use Rattle.std.proofs.lemmas.Bool.{cases_eq}
 use Rattle.std.proofs.lemmas.List.{length-replicate}
 use Rattle.std.proofs.Math.ListN.{length-set}
 use Rattle.std.specs.Prelude.{OnOk}
-use Rattle.ng_rig.specs.Life.{Image, Life, Wrote, Synced, reads}
-use Rattle.ng_rig.specs.Calls.{Writes, Syncs}
+use Rattle.ng_rig.specs.Trace.{Image, Trace, Wrote, Synced, reads}
+use Rattle.ng_rig.specs.Calls.{WriteSpec, SyncSpec}
 use Rattle.ng_rig.proofs.Running.{is_synced}
 use Rattle.ng_rig.proofs.Writes_only.{only_more, only_write, only_synced}
 use Rattle.ng_layout.specs.Fields.{number_at}
-use Rattle.ng_layout.specs.Header.{HoldsHeader, header_at, is_marked, is_within, header_in}
+use Rattle.ng_layout.specs.Header.{HoldsHeader, header_at, is_marked, is_valid_header, header_in}
 use Rattle.ng_layout.specs.Areas.{log_size, snapshot_first, snapshot_size, program_first, program_size, log_first}
-use Rattle.ng_layout.specs.Sectors.{text_of}
+use Rattle.ng_layout.specs.Sectors.{program_text}
 use Rattle.ng_layout.specs.Snapshot.{HoldsPart}
 use Rattle.ng_layout.specs.Spare.{IsAmong}
 use Rattle.ng_layout.specs.Stands.{stretch, newer, in_force, snapshot, IsWritten}
-use Rattle.ng_layout.specs.Stored.{Saved}
+use Rattle.ng_layout.specs.Stored.{StoredModel}
 use Rattle.ng_layout.proofs.Rows.{number-zeros}
 use Rattle.ng_layout.proofs.Images.{stretch-at, is-written}
 use Rattle.ng_layout.proofs.Snapshots.{snapshot-new}
 use Rattle.ng_journal.specs.Area.{BelongsIn}
 use Rattle.ng_log.specs.AtEnd.{no_records, EndsIn, IsAtEnd}
 use Rattle.ng_journal.specs.AtRest.{IsLaidOut}
-use Rattle.ng_journal.specs.Formats.{IsEmpty, OverwritesTo, Overwrites, first_header}
+use Rattle.ng_journal.specs.Formats.{IsEmpty, first_header}
+use Rattle.ng_journal.specs.Private.Overwrites.{OverwritesTo, Overwrites}
 use Rattle.ng_journal.proofs.Framing.{there, elsewhere, WritesFirst, first_headers, first_log, first_area, first_sync, first_write, laid_out}
 
 -- what a read of another sector gives after a write that may have failed
-untouched : {T E : Type 0} (result : Result T E) (m n : ℕ) (bytes : List ℕ) (old new : Life) → m ≢ n → Writes result n bytes old new → reads new m ≡ reads old m
-untouched (Ok _) m n bytes old new other is = ap (λ (l : Life). reads l m) is ∙ elsewhere m n bytes old other
-untouched (Err _) m n bytes old new other (inl is) = ap (λ (l : Life). reads l m) is
-untouched (Err _) m n bytes old new other (inr (inl is)) = ap (λ (l : Life). reads l m) is ∙ elsewhere m n bytes old other
-untouched (Err _) m n bytes old new other (inr (inr is)) = ap (λ (l : Life). reads l m) is
+untouched : {T E : Type 0} (result : Result T E) (m n : ℕ) (bytes : List ℕ) (old new : Trace) → m ≢ n → WriteSpec result n bytes old new → reads new m ≡ reads old m
+untouched (Ok _) m n bytes old new other is = ap (λ (l : Trace). reads l m) is ∙ elsewhere m n bytes old other
+untouched (Err _) m n bytes old new other (inl is) = ap (λ (l : Trace). reads l m) is
+untouched (Err _) m n bytes old new other (inr (inl is)) = ap (λ (l : Trace). reads l m) is ∙ elsewhere m n bytes old other
+untouched (Err _) m n bytes old new other (inr (inr is)) = ap (λ (l : Trace). reads l m) is
 
 -- One sector more of a stretch, and right.
-module _ (n at first size : ℕ) (IsRight : ℕ → List ℕ → Type 0) (bytes : List ℕ) (old mid : Life) (lt : n < size) (at_is : at ≡ first + n) (right : IsRight n bytes) (w : OverwritesTo n first size IsRight old mid) where
+module _ (n at first size : ℕ) (IsRight : ℕ → List ℕ → Type 0) (bytes : List ℕ) (old mid : Trace) (lt : n < size) (at_is : at ≡ first + n) (right : IsRight n bytes) (w : OverwritesTo n first size IsRight old mid) where
   abbrev May : ℕ → List ℕ → Type 0
   May m c = BelongsIn first size IsRight m c
 
@@ -43,11 +44,11 @@ module _ (n at first size : ℕ) (IsRight : ℕ → List ℕ → Type 0) (bytes 
   beside_it : (m : ℕ) → ¬ IsAmong first size m → m ≢ at
   beside_it m out e = out (record { from = omega arith; to = omega arith })
 
-  pub written : (new : Life) → new ≡ Wrote at bytes mid → OverwritesTo (n + 1) first size IsRight old new
+  pub written : (new : Trace) → new ≡ Wrote at bytes mid → OverwritesTo (n + 1) first size IsRight old new
   written new is =
       let ok : Result ℕ ℕ = Ok 0 in
       let there_is : reads (Wrote at bytes mid) (first + n) ≡ bytes = ap (λ (m : ℕ). reads (Wrote at bytes mid) m) (sym at_is) ∙ there at bytes mid in
-      subst (λ (l : Life). OverwritesTo (n + 1) first size IsRight old l) (sym is) (record {
+      subst (λ (l : Trace). OverwritesTo (n + 1) first size IsRight old l) (sym is) (record {
         writes = only_more May old mid (Wrote at bytes mid) w.writes (only_write May ok at bytes mid (Wrote at bytes mid) may refl);
         outside = λ m out. elsewhere m at bytes mid (beside_it m out) ∙ w.outside m out;
         parts = λ j below. elim (cases_eq j n) [
@@ -57,7 +58,7 @@ module _ (n at first size : ℕ) (IsRight : ℕ → List ℕ → Type 0) (bytes 
       })
 
   -- or its write failed
-  pub not_written : {T E F : Type 0} (e : E) (result : Result T F) (new : Life) → Writes result at bytes mid new → Overwrites {T = T} (Err e) first size IsRight old new
+  pub not_written : {T E F : Type 0} (e : E) (result : Result T F) (new : Trace) → WriteSpec result at bytes mid new → Overwrites {T = T} (Err e) first size IsRight old new
   not_written e result new is = record {
     writes = only_more May old mid new w.writes (only_write May result at bytes mid new may is);
     outside = λ m out. untouched result m at bytes mid new (beside_it m out) is ∙ w.outside m out;
@@ -65,11 +66,11 @@ module _ (n at first size : ℕ) (IsRight : ℕ → List ℕ → Type 0) (bytes 
   }
 
 -- A sync changes nothing of that.
-pub written_on : (n first size : ℕ) (IsRight : ℕ → List ℕ → Type 0) (old mid new : Life) → OverwritesTo n first size IsRight old mid → new ≡ Synced mid → OverwritesTo n first size IsRight old new
-written_on n first size IsRight old mid new w is = subst (λ (l : Life). OverwritesTo n first size IsRight old l) (sym is) (record { writes = only_synced (λ m c. BelongsIn first size IsRight m c) old mid w.writes; outside = w.outside; parts = w.parts })
+pub written_on : (n first size : ℕ) (IsRight : ℕ → List ℕ → Type 0) (old mid new : Trace) → OverwritesTo n first size IsRight old mid → new ≡ Synced mid → OverwritesTo n first size IsRight old new
+written_on n first size IsRight old mid new w is = subst (λ (l : Trace). OverwritesTo n first size IsRight old l) (sym is) (record { writes = only_synced (λ m c. BelongsIn first size IsRight m c) old mid w.writes; outside = w.outside; parts = w.parts })
 
-pub not_synced : {T E : Type 0} (e : E) (n first size : ℕ) (IsRight : ℕ → List ℕ → Type 0) (old mid new : Life) → OverwritesTo n first size IsRight old mid → new ≡ mid → Overwrites {T = T} (Err e) first size IsRight old new
-not_synced {T = T} {E = E} e n first size IsRight old mid new w same = subst (λ (l : Life). Overwrites {T = T} {E = E} (Err e) first size IsRight old l) (sym same) (record { writes = w.writes; outside = w.outside; parts = tt })
+pub not_synced : {T E : Type 0} (e : E) (n first size : ℕ) (IsRight : ℕ → List ℕ → Type 0) (old mid new : Trace) → OverwritesTo n first size IsRight old mid → new ≡ mid → Overwrites {T = T} (Err e) first size IsRight old new
+not_synced {T = T} {E = E} e n first size IsRight old mid new w same = subst (λ (l : Trace). Overwrites {T = T} {E = E} (Err e) first size IsRight old l) (sym same) (record { writes = w.writes; outside = w.outside; parts = tt })
 
 -- No header and no part in a sector that begins with zeros.
 no_mark : (bytes : List ℕ) → number_at 8 0 bytes ≡ 0 → is_marked bytes ≡ false
@@ -78,28 +79,28 @@ no_mark bytes is = rw is refl
 
 no_header : (k : ℕ) (bytes : List ℕ) → number_at 8 0 bytes ≡ 0 → header_in k bytes ≡ None
 unfolding header_in
-no_header k bytes is = λ i. if no_mark bytes is i && is_within (header_at bytes) && (header_at bytes).epoch % 2 == k then Some (header_at bytes) else None
+no_header k bytes is = λ i. if no_mark bytes is i && is_valid_header (header_at bytes) && (header_at bytes).epoch % 2 == k then Some (header_at bytes) else None
 
-no_text : (row : ℕ → List ℕ) → text_of 0 row ≡ []
-unfolding text_of
+no_text : (row : ℕ → List ℕ) → program_text 0 row ≡ []
+unfolding program_text
 no_text row = refl
 
 -- An image with the header of the first epoch and a log of zeros.
-pub record IsMade (image : Image) (saved : Saved) : Type 0 where
+pub record IsMade (image : Image) (saved : StoredModel) : Type 0 where
   pub other : number_at 8 0 (image 0) ≡ 0
   pub header : header_in 1 (image 1) ≡ Some first_header
   pub parts : (j : ℕ) → j < snapshot_size → HoldsPart saved j (image (snapshot_first 1 + j))
   pub log : (m : ℕ) → m < log_size → number_at 8 0 (image (log_first + m)) ≡ 0
 
-made_force : (image : Image) (saved : Saved) → IsMade image saved → in_force image ≡ Some first_header
+made_force : (image : Image) (saved : StoredModel) → IsMade image saved → in_force image ≡ Some first_header
 unfolding in_force
 made_force image saved m = λ i. newer (no_header 0 (image 0) m.other i) (m.header i)
 
-made_written : (image : Image) (saved : Saved) → IsMade image saved → IsWritten image
+made_written : (image : Image) (saved : StoredModel) → IsMade image saved → IsWritten image
 made_written image saved m = is-written image (λ n lt. let e = m.log n lt in omega (arith, e))
 
 -- stands for what was written, and its log is empty
-made_ends : (image : Image) (saved : Saved) → IsMade image saved → saved.length ≡ 0 → length saved.setup.params ≡ 5399 → EndsIn image first_header (record { saved = saved; program = [] }) no_records
+made_ends : (image : Image) (saved : StoredModel) → IsMade image saved → saved.length ≡ 0 → length saved.setup.params ≡ 5399 → EndsIn image first_header (record { saved = saved; program = [] }) no_records
 made_ends image saved m long table =
     let row = stretch (snapshot_first 1) snapshot_size image in
     let parts : (j : ℕ) → j < snapshot_size → HoldsPart saved j (row j) = λ j lt. subst (HoldsPart saved j) (sym (stretch-at (snapshot_first 1) snapshot_size image j lt)) (m.parts j lt) in
@@ -118,13 +119,13 @@ made_ends image saved m long table =
     }
 
 -- The three stretches, written one after the other.
-pub record Steps (saved : Saved) (old a b c : Life) : Type 0 where
+pub record Steps (saved : StoredModel) (old a b c : Trace) : Type 0 where
   pub writes : WritesFirst saved old c
   pub other : IsEmpty 0 (reads c 0)
   pub parts : (j : ℕ) → j < snapshot_size → HoldsPart saved j (reads c (snapshot_first 1 + j))
   pub log : (m : ℕ) → m < log_size → IsEmpty m (reads c (log_first + m))
 
-pub steps : {T U V E F G : Type 0} (t : T) (u : U) (v : V) (saved : Saved) (old a b c : Life) (first : ℕ) → first ≡ snapshot_first 1
+pub steps : {T U V E F G : Type 0} (t : T) (u : U) (v : V) (saved : StoredModel) (old a b c : Trace) (first : ℕ) → first ≡ snapshot_first 1
     → Overwrites {E = E} (Ok t) 0 2 IsEmpty old a → Overwrites {E = F} (Ok u) log_first log_size IsEmpty a b → Overwrites {E = G} (Ok v) first snapshot_size (HoldsPart saved) b c → Steps saved old a b c
 steps {E = E} {F = F} {G = G} t u v saved old a b c first is headers log area =
     let t_is : Result _ E = Ok t in
@@ -138,7 +139,7 @@ steps {E = E} {F = F} {G = G} t u v saved old a b c first is headers log area =
       log = λ m lt. here.outside (log_first + m) (λ x. omega (arith, x.to)) ∙ log.parts m lt;
     }
 
-made : (saved : Saved) (old a b c : Life) (bytes : List ℕ) → Steps saved old a b c → header_in 1 bytes ≡ Some first_header → IsMade (reads (Wrote 1 bytes (Synced c))) saved
+made : (saved : StoredModel) (old a b c : Trace) (bytes : List ℕ) → Steps saved old a b c → header_in 1 bytes ≡ Some first_header → IsMade (reads (Wrote 1 bytes (Synced c))) saved
 made saved old a b c bytes s is = record {
   other = ap (number_at 8 0) (elsewhere 0 1 bytes (Synced c) (λ e. omega (arith, e)) ∙ s.other) ∙ number-zeros 8 0 512;
   header = ap (header_in 1) (there 1 bytes (Synced c)) ∙ is;
@@ -147,7 +148,7 @@ made saved old a b c bytes s is = record {
 }
 
 -- the zeros that are left
-made_zeros : (saved : Saved) (old a b c : Life) (bytes : List ℕ) → Steps saved old a b c → (n : ℕ) → (n ≡ 0) ⊎ IsAmong log_first log_size n → IsEmpty n (reads (Wrote 1 bytes (Synced c)) n)
+made_zeros : (saved : StoredModel) (old a b c : Trace) (bytes : List ℕ) → Steps saved old a b c → (n : ℕ) → (n ≡ 0) ⊎ IsAmong log_first log_size n → IsEmpty n (reads (Wrote 1 bytes (Synced c)) n)
 made_zeros saved old a b c bytes s n (inl first) = elsewhere n 1 bytes (Synced c) (λ e. omega arith) ∙ ap (reads c) first ∙ s.other
 made_zeros saved old a b c bytes s n (inr log) =
     let from = log.from in
@@ -160,19 +161,19 @@ pub table_long : (n p : ℕ) (v : ℤ) → length (set (replicate n (pos 0)) p v
 table_long n p v = length-set (replicate n (pos 0)) p v ∙ length-replicate n (pos 0)
 
 -- What is made, whatever is stored.
-pub record Begins {T E : Type 0} (result : Result T E) (saved : Saved) (old new : Life) : Type 0 where
+pub record Begins {T E : Type 0} (result : Result T E) (saved : StoredModel) (old new : Trace) : Type 0 where
   pub writes : WritesFirst saved old new
   pub at : OnOk result (IsAtEnd new first_header (record { saved = saved; program = [] }) no_records)
   pub laid : OnOk result (IsLaidOut first_header saved (reads new))
   pub zeros : OnOk result ((n : ℕ) → (n ≡ 0) ⊎ IsAmong log_first log_size n → IsEmpty n (reads new n))
 
 -- and after the last sync
-pub finished : {T E : Type 0} (result : Result T E) (saved : Saved) (old a b c synced wrote last : Life) (bytes : List ℕ) → Steps saved old a b c → saved.length ≡ 0 → length saved.setup.params ≡ 5399 → header_in 1 bytes ≡ Some first_header → HoldsHeader first_header bytes → synced ≡ Synced c → wrote ≡ Wrote 1 bytes synced → Syncs result wrote last
+pub finished : {T E : Type 0} (result : Result T E) (saved : StoredModel) (old a b c synced wrote last : Trace) (bytes : List ℕ) → Steps saved old a b c → saved.length ≡ 0 → length saved.setup.params ≡ 5399 → header_in 1 bytes ≡ Some first_header → HoldsHeader first_header bytes → synced ≡ Synced c → wrote ≡ Wrote 1 bytes synced → SyncSpec result wrote last
     → Begins result saved old last
-finished {T = T} {E = E} result saved old a b c synced wrote last bytes s long table header holds is is_written done = go result (subst (λ (l : Life). Syncs result l last) whole done)
+finished {T = T} {E = E} result saved old a b c synced wrote last bytes s long table header holds is is_written done = go result (subst (λ (l : Trace). SyncSpec result l last) whole done)
   where
     whole : wrote ≡ Wrote 1 bytes (Synced c)
-    whole = is_written ∙ ap (λ (l : Life). Wrote 1 bytes l) is
+    whole = is_written ∙ ap (λ (l : Trace). Wrote 1 bytes l) is
 
     ok : Result ℕ ℕ
     ok = Ok 0
@@ -180,17 +181,17 @@ finished {T = T} {E = E} result saved old a b c synced wrote last bytes s long t
     upto : WritesFirst saved old (Wrote 1 bytes (Synced c))
     upto = first_write ok saved bytes old (Synced c) (Wrote 1 bytes (Synced c)) holds (first_sync ok saved old c (Synced c) s.writes refl) refl
 
-    go : (result : Result T E) → Syncs result (Wrote 1 bytes (Synced c)) last → Begins result saved old last
-    go (Err e) same = record { writes = subst (λ (l : Life). WritesFirst saved old l) (sym same) upto; at = tt; laid = tt; zeros = tt }
+    go : (result : Result T E) → SyncSpec result (Wrote 1 bytes (Synced c)) last → Begins result saved old last
+    go (Err e) same = record { writes = subst (λ (l : Trace). WritesFirst saved old l) (sym same) upto; at = tt; laid = tt; zeros = tt }
     go (Ok v) same =
         let m = made saved old a b c bytes s header in
         let image = reads (Wrote 1 bytes (Synced c)) in
         record {
           writes = first_sync ok saved old (Wrote 1 bytes (Synced c)) last upto same;
-          at = subst (λ (l : Life). IsAtEnd l first_header (record { saved = saved; program = [] }) no_records) (sym same) (record {
+          at = subst (λ (l : Trace). IsAtEnd l first_header (record { saved = saved; program = [] }) no_records) (sym same) (record {
             synced = is_synced (Wrote 1 bytes (Synced c));
             image = made_ends image saved m long table;
           });
-          laid = subst (λ (l : Life). IsLaidOut first_header saved (reads l)) (sym same) (laid_out first_header saved bytes c s.parts holds);
-          zeros = subst (λ (l : Life). (n : ℕ) → (n ≡ 0) ⊎ IsAmong log_first log_size n → IsEmpty n (reads l n)) (sym same) (made_zeros saved old a b c bytes s);
+          laid = subst (λ (l : Trace). IsLaidOut first_header saved (reads l)) (sym same) (laid_out first_header saved bytes c s.parts holds);
+          zeros = subst (λ (l : Trace). (n : ℕ) → (n ≡ 0) ⊎ IsAmong log_first log_size n → IsEmpty n (reads l n)) (sym same) (made_zeros saved old a b c bytes s);
         }

@@ -1,77 +1,78 @@
 -- What was read, and what it says of what the image stands for.
 use Rattle.std.proofs.Common.{◌≡◌, ◌≤◌, inl, inr, ◌⊎◌, ℕ, zero, suc, Bool, true, false, Option, Some, None, Ok, Err, refl, sym, ◌∙◌, ap, subst}
 use Rattle.ng_num.specs.declared.fault.Fault.TheVariants.{NotFormatted, Damaged}
-use Rattle.ng_rig.specs.Life.{Image}
+use Rattle.ng_rig.specs.Trace.{Image}
 use Rattle.ng_layout.specs.declared.header.Header.{Header}
 use Rattle.ng_layout.specs.Areas.{log_size, log_first, program_first, program_size, snapshot_first, snapshot_size}
-use Rattle.ng_layout.specs.Log.{Place, after_step, next, run, with_record}
+use Rattle.ng_layout.specs.Log.{LogPosition, after_step, next, run, with_record}
 use Rattle.ng_layout.specs.Report.{and_then}
-use Rattle.ng_layout.specs.Sectors.{text_of}
-use Rattle.ng_layout.specs.Stands.{by_header, in_force, snapshot, standing, standing_of, stands, stretch}
-use Rattle.ng_layout.specs.Stored.{Saved}
+use Rattle.ng_layout.specs.Sectors.{program_text}
+use Rattle.ng_layout.specs.Stands.{by_header, in_force, snapshot, standing, durable_state_under, stands, stretch}
+use Rattle.ng_layout.specs.Stored.{StoredModel}
 use Rattle.ng_log.specs.declared.log_end.LogEnd.{LogEnd}
 use Rattle.ng_log.specs.Reading.{IsRunOf}
 use Rattle.ng_log.proofs.Epochs.{run-stands, run-damaged}
 use Rattle.ng_log.proofs.Runs.{step-from}
-use Rattle.ng_journal.specs.Reading.{IsSnapshotOf}
-use Rattle.ng_journal.specs.Recovery.{HasCause, StandsUnder}
+use Rattle.ng_journal.specs.Private.SnapshotRead.{IsSnapshotOf}
+use Rattle.ng_journal.specs.Recovery.{HasCause}
+use Rattle.ng_journal.specs.Private.RecoverySteps.{StandsUnder}
 
 -- no header is in force
 pub none_found : (image : Image) (h : Option Header) → h ≡ in_force image → h ≡ None → stands image ≡ Err NotFormatted
 unfolding stands
 none_found image h is none =
     let e : in_force image ≡ None = sym is ∙ none in
-    λ i. by_header (e i) (λ x. standing_of x (stretch (snapshot_first x.epoch) snapshot_size image) (stretch (program_first x.area) (program_size x.area) image) (stretch log_first log_size image))
+    λ i. by_header (e i) (λ x. durable_state_under x (stretch (snapshot_first x.epoch) snapshot_size image) (stretch (program_first x.area) (program_size x.area) image) (stretch log_first log_size image))
 
--- the snapshot is damaged, and so is what is found with each record behind it
-by_cases : (o : Option Place) → (o ≡ None) ⊎ ((m : Place) × (o ≡ Some m))
+-- the snapshot is damaged, and so is what is found with each record after it
+by_cases : (o : Option LogPosition) → (o ≡ None) ⊎ ((m : LogPosition) × (o ≡ Some m))
 by_cases None = inl refl
 by_cases (Some m) = inr (m, refl)
 
-run_none : (fuel length : ℕ) (log : Image) (epoch : ℕ) (p : Place) → p.found ≡ None → (run fuel log_size length log epoch p).found ≡ None
+run_none : (fuel length : ℕ) (log : Image) (epoch : ℕ) (p : LogPosition) → p.found ≡ None → (run fuel log_size length log epoch p).found ≡ None
 unfolding run
 run_none zero length log epoch p none = none
 run_none (suc n) length log epoch p none = elim (by_cases (next log_size length log epoch p)) [
-  | inl last ↦ ap (λ (o : Option Place). (after_step o (λ q. run n log_size length log epoch q) p).found) last ∙ none
+  | inl last ↦ ap (λ (o : Option LogPosition). (after_step o (λ q. run n log_size length log epoch q) p).found) last ∙ none
   | inr on ↦
       let s = step-from log_size length log epoch p on.0 on.1 in
-      let none_on : on.0.found ≡ None = ap (λ (x : Place). x.found) s.is ∙ (λ i. and_then (none i) (λ before. with_record length log p.at s.changes before)) in
-      ap (λ (o : Option Place). (after_step o (λ q. run n log_size length log epoch q) p).found) on.1 ∙ run_none n length log epoch on.0 none_on
+      let none_on : on.0.found ≡ None = ap (λ (x : LogPosition). x.found) s.is ∙ (λ i. and_then (none i) (λ before. with_record length log p.at s.changes before)) in
+      ap (λ (o : Option LogPosition). (after_step o (λ q. run n log_size length log epoch q) p).found) on.1 ∙ run_none n length log epoch on.0 none_on
 ]
 
-pub damage_found : (image : Image) (h : Option Header) (header : Header) (whole : Bool) (saved : Saved) → h ≡ in_force image → h ≡ Some header → IsSnapshotOf (snapshot_first header.epoch) header.length saved image whole → whole ≡ false → HasCause Damaged image
-unfolding stands standing_of
+pub damage_found : (image : Image) (h : Option Header) (header : Header) (whole : Bool) (saved : StoredModel) → h ≡ in_force image → h ≡ Some header → IsSnapshotOf (snapshot_first header.epoch) header.length saved image whole → whole ≡ false → HasCause Damaged image
+unfolding stands durable_state_under
 damage_found image h header whole saved is some read broken =
     let damaged : snapshot header.length (stretch (snapshot_first header.epoch) snapshot_size image) ≡ None = subst (λ (b : Bool). IsSnapshotOf (snapshot_first header.epoch) header.length saved image b) broken read in
     let force : in_force image ≡ Some header = sym is ∙ some in
     let log = stretch log_first log_size image in
-    let text = text_of header.length (stretch (program_first header.area) (program_size header.area) image) in
-    (λ i. by_header (force i) (λ x. standing_of x (stretch (snapshot_first x.epoch) snapshot_size image) (stretch (program_first x.area) (program_size x.area) image) log))
+    let text = program_text header.length (stretch (program_first header.area) (program_size header.area) image) in
+    (λ i. by_header (force i) (λ x. durable_state_under x (stretch (snapshot_first x.epoch) snapshot_size image) (stretch (program_first x.area) (program_size x.area) image) log))
     ∙ (λ i. standing (run log_size log_size header.length log header.epoch (record { at = 0; number = 0; found = damaged i })).found text header.length)
     ∙ (λ i. standing (run_none log_size header.length log header.epoch (record { at = 0; number = 0; found = None }) refl i) text header.length)
 
 -- What a whole snapshot says.
-pub record Snapped (image : Image) (header : Header) (snap : Saved) : Type 0 where
+pub record Snapped (image : Image) (header : Header) (snap : StoredModel) : Type 0 where
   pub force : in_force image ≡ Some header
   pub is : IsSnapshotOf (snapshot_first header.epoch) header.length snap image true
 
-pub snapped : (image : Image) (h : Option Header) (header : Header) (whole : Bool) (snap : Saved) → h ≡ in_force image → h ≡ Some header → IsSnapshotOf (snapshot_first header.epoch) header.length snap image whole → whole ≡ true → Snapped image header snap
+pub snapped : (image : Image) (h : Option Header) (header : Header) (whole : Bool) (snap : StoredModel) → h ≡ in_force image → h ≡ Some header → IsSnapshotOf (snapshot_first header.epoch) header.length snap image whole → whole ≡ true → Snapped image header snap
 snapped image h header whole snap is some read sound = record {
   force = sym is ∙ some;
   is = subst (λ (b : Bool). IsSnapshotOf (snapshot_first header.epoch) header.length snap image b) sound read;
 }
 
--- the log behind it is damaged
-pub log_damaged : (image : Image) (header : Header) (snap saved : Saved) (found : Option LogEnd) → Snapped image header snap → found ≡ None → IsRunOf header snap saved image found → HasCause Damaged image
+-- the log after it is damaged
+pub log_damaged : (image : Image) (header : Header) (snap saved : StoredModel) (found : Option LogEnd) → Snapped image header snap → found ≡ None → IsRunOf header snap saved image found → HasCause Damaged image
 log_damaged image header snap saved found s none r = run-damaged image header snap saved s.force s.is.0 (subst (λ (o : Option LogEnd). IsRunOf header snap saved image o) none r)
 
 -- all is found
-pub all_found : (image : Image) (header : Header) (snap saved : Saved) (found : Option LogEnd) (end : LogEnd) → Snapped image header snap → found ≡ Some end → end.sector ≤ log_size → IsRunOf header snap saved image found → StandsUnder header saved image
+pub all_found : (image : Image) (header : Header) (snap saved : StoredModel) (found : Option LogEnd) (end : LogEnd) → Snapped image header snap → found ≡ Some end → end.sector ≤ log_size → IsRunOf header snap saved image found → StandsUnder header saved image
 all_found image header snap saved found end s some room r =
     let run : IsRunOf header snap saved image (Some end) = subst (λ (o : Option LogEnd). IsRunOf header snap saved image o) some r in
     record {
       force = s.force;
       state = run-stands image header snap saved end s.force s.is.0 room run
-          ∙ (λ i. Ok (record { saved = saved; program = text_of (sym run.1 i) (stretch (program_first header.area) (program_size header.area) image) }));
+          ∙ (λ i. Ok (record { saved = saved; program = program_text (sym run.1 i) (stretch (program_first header.area) (program_size header.area) image) }));
       long = run.1;
     }

@@ -4,9 +4,9 @@ use Rattle.std.proofs.Common.{◌≡◌, ◌≢◌, ◌⊎◌, inl, inr, ⊎_eli
 use Rattle.std.proofs.lemmas.Bool.{cases_eq}
 use Rattle.std.proofs.lemmas.Bool.Decides.{nat_tests}
 use Rattle.std.specs.Prelude.{OnOk}
-use Rattle.ng_rig.specs.Life.{Life, Wrote, Synced, reads}
-use Rattle.ng_rig.specs.Calls.{Writes, Syncs}
-use Rattle.ng_rig.specs.Onward.{IsSynced}
+use Rattle.ng_rig.specs.Trace.{Trace, Wrote, Synced, reads}
+use Rattle.ng_rig.specs.Calls.{WriteSpec, SyncSpec}
+use Rattle.ng_rig.specs.Continuation.{IsSynced}
 use Rattle.ng_rig.specs.Only.{WritesOnly}
 use Rattle.ng_rig.proofs.Running.{is_synced}
 use Rattle.ng_rig.proofs.Writes_only.{only_more, only_write, only_syncs, only_wider, reads_blend}
@@ -16,45 +16,48 @@ use Rattle.ng_layout.specs.Areas.{log_size, snapshot_first, snapshot_size, progr
 use Rattle.ng_layout.specs.Sectors.{HoldsText}
 use Rattle.ng_layout.specs.Snapshot.{HoldsPart}
 use Rattle.ng_layout.specs.Spare.{IsAmong}
-use Rattle.ng_layout.specs.Stored.{Saved, Standing}
-use Rattle.ng_journal.specs.Area.{BelongsIn, AreaTo, WritesArea}
-use Rattle.ng_journal.specs.AtRest.{IsOfEpoch, BelongsTo, WritesState, StoresState, IsLaidOut, next_header}
-use Rattle.ng_journal.specs.Formats.{IsEmpty, Overwrites, first_header}
-use Rattle.ng_journal.specs.Loads.{BelongsToText, BelongsToLoad, IsTextAt, TextTo, WritesLoad, WritesText}
+use Rattle.ng_layout.specs.Stored.{StoredModel, DurableState}
+use Rattle.ng_journal.specs.Area.{BelongsIn}
+use Rattle.ng_journal.specs.Private.CheckpointSteps.{AreaTo, WritesArea, WritesState, StoresState}
+use Rattle.ng_journal.specs.AtRest.{IsOfEpoch, BelongsTo, IsLaidOut, next_header}
+use Rattle.ng_journal.specs.Formats.{IsEmpty, first_header}
+use Rattle.ng_journal.specs.Private.Overwrites.{Overwrites}
+use Rattle.ng_journal.specs.Loads.{BelongsToText, BelongsToLoad, IsTextAt, WritesLoad}
+use Rattle.ng_journal.specs.Private.LoadSteps.{TextTo, WritesText}
 
 -- what a read gives after a write
-pub there : (n : ℕ) (bytes : List ℕ) (life : Life) → reads (Wrote n bytes life) n ≡ bytes
-there n bytes life = grind (arith, nat_tests)
+pub there : (n : ℕ) (bytes : List ℕ) (trace : Trace) → reads (Wrote n bytes trace) n ≡ bytes
+there n bytes trace = grind (arith, nat_tests)
 
-pub elsewhere : (m n : ℕ) (bytes : List ℕ) (life : Life) → m ≢ n → reads (Wrote n bytes life) m ≡ reads life m
-elsewhere m n bytes life other = grind (arith, nat_tests)
+pub elsewhere : (m n : ℕ) (bytes : List ℕ) (trace : Trace) → m ≢ n → reads (Wrote n bytes trace) m ≡ reads trace m
+elsewhere m n bytes trace other = grind (arith, nat_tests)
 
 -- which sectors these are
-pub among : (first size : ℕ) (IsRight : ℕ → List ℕ → Type 0) (old new : Life) → WritesOnly (BelongsIn first size IsRight) old new → WritesOnly (λ n c. IsAmong first size n) old new
+pub among : (first size : ℕ) (IsRight : ℕ → List ℕ → Type 0) (old new : Trace) → WritesOnly (BelongsIn first size IsRight) old new → WritesOnly (λ n c. IsAmong first size n) old new
 among first size IsRight old new w = only_wider (BelongsIn first size IsRight) (λ n c. IsAmong first size n) old new (λ n c b. in_stretch n c b) w
   where
     in_stretch : (n : ℕ) (c : List ℕ) → BelongsIn first size IsRight n c → IsAmong first size n
     in_stretch n c b = let is = b.is in let within = b.within in record { from = omega arith; to = omega arith }
 
-pub among_text : (area : ℕ) (text : List ℕ) (old new : Life) → WritesOnly (λ n c. BelongsToText text area n c) old new → WritesOnly (λ n c. IsAmong (program_first area) (program_size area) n) old new
+pub among_text : (area : ℕ) (text : List ℕ) (old new : Trace) → WritesOnly (λ n c. BelongsToText text area n c) old new → WritesOnly (λ n c. IsAmong (program_first area) (program_size area) n) old new
 among_text area text old new w = among (program_first area) (program_size area) (λ j part. HoldsText text (512 * j) part) old new w
 
 -- A checkpoint: the snapshot, a sync, the header, a sync.
-abbrev May : Header → Saved → ℕ → List ℕ → Type 0
+abbrev May : Header → StoredModel → ℕ → List ℕ → Type 0
 May header saved n bytes = BelongsTo header saved n bytes
 
-pub state_area : {T E : Type 0} (result : Result T E) (first : ℕ) (header : Header) (saved : Saved) (old new : Life) → first ≡ snapshot_first header.epoch → WritesArea result first saved old new → WritesState header saved old new
+pub state_area : {T E : Type 0} (result : Result T E) (first : ℕ) (header : Header) (saved : StoredModel) (old new : Trace) → first ≡ snapshot_first header.epoch → WritesArea result first saved old new → WritesState header saved old new
 state_area result first header saved old new is area =
     only_wider (BelongsIn first snapshot_size (HoldsPart saved)) (May header saved) old new (λ n c b. inl (subst (λ (k : ℕ). BelongsIn k snapshot_size (HoldsPart saved) n c) is b)) area.writes
 
-pub state_sync : {T E : Type 0} (result : Result T E) (header : Header) (saved : Saved) (old mid new : Life) → WritesState header saved old mid → Syncs result mid new → WritesState header saved old new
+pub state_sync : {T E : Type 0} (result : Result T E) (header : Header) (saved : StoredModel) (old mid new : Trace) → WritesState header saved old mid → SyncSpec result mid new → WritesState header saved old new
 state_sync result header saved old mid new w is = only_syncs (May header saved) result old mid new w is
 
-pub state_header : {T E : Type 0} (result : Result T E) (header : Header) (saved : Saved) (bytes : List ℕ) (old mid new : Life) → HoldsHeader header bytes → WritesState header saved old mid → Writes result (header.epoch % 2) bytes mid new → WritesState header saved old new
+pub state_header : {T E : Type 0} (result : Result T E) (header : Header) (saved : StoredModel) (bytes : List ℕ) (old mid new : Trace) → HoldsHeader header bytes → WritesState header saved old mid → WriteSpec result (header.epoch % 2) bytes mid new → WritesState header saved old new
 state_header result header saved bytes old mid new holds w is = only_more (May header saved) old mid new w (only_write (May header saved) result (header.epoch % 2) bytes mid new (inr (refl, holds)) is)
 
 -- and then it stands there
-pub laid_out : (header : Header) (saved : Saved) (bytes : List ℕ) (mid : Life) → ((j : ℕ) → j < snapshot_size → HoldsPart saved j (reads mid (snapshot_first header.epoch + j))) → HoldsHeader header bytes → IsLaidOut header saved (reads (Wrote (header.epoch % 2) bytes (Synced mid)))
+pub laid_out : (header : Header) (saved : StoredModel) (bytes : List ℕ) (mid : Trace) → ((j : ℕ) → j < snapshot_size → HoldsPart saved j (reads mid (snapshot_first header.epoch + j))) → HoldsHeader header bytes → IsLaidOut header saved (reads (Wrote (header.epoch % 2) bytes (Synced mid)))
 laid_out header saved bytes mid parts holds n (inl among) =
     let first = snapshot_first header.epoch in
     let from = among.from in
@@ -64,87 +67,87 @@ laid_out header saved bytes mid parts holds n (inl among) =
     inl (record { place = n - first; within = omega arith; is = at; right = subst (HoldsPart saved (n - first)) (sym (same ∙ ap (reads mid) at)) (parts (n - first) (omega arith)) })
 laid_out header saved bytes mid parts holds n (inr is) = inr (is, subst (HoldsHeader header) (sym (ap (reads (Wrote (header.epoch % 2) bytes (Synced mid))) is ∙ there (header.epoch % 2) bytes (Synced mid))) holds)
 
-pub state_laid : {T E U F : Type 0} (result : Result T E) (u : U) (first : ℕ) (header : Header) (saved : Saved) (bytes : List ℕ) (old mid synced wrote new : Life) → first ≡ snapshot_first header.epoch → WritesArea {E = F} (Ok u) first saved old mid → HoldsHeader header bytes → synced ≡ Synced mid → wrote ≡ Wrote (header.epoch % 2) bytes synced → Syncs result wrote new → OnOk result (IsLaidOut header saved (reads new))
+pub state_laid : {T E U F : Type 0} (result : Result T E) (u : U) (first : ℕ) (header : Header) (saved : StoredModel) (bytes : List ℕ) (old mid synced wrote new : Trace) → first ≡ snapshot_first header.epoch → WritesArea {E = F} (Ok u) first saved old mid → HoldsHeader header bytes → synced ≡ Synced mid → wrote ≡ Wrote (header.epoch % 2) bytes synced → SyncSpec result wrote new → OnOk result (IsLaidOut header saved (reads new))
 state_laid (Err _) u first header saved bytes old mid synced wrote new is area holds is_synced is_wrote done = tt
 state_laid (Ok _) u first header saved bytes old mid synced wrote new is area holds is_synced is_wrote done =
-    let whole : new ≡ Synced (Wrote (header.epoch % 2) bytes (Synced mid)) = done ∙ ap (λ (l : Life). Synced l) (is_wrote ∙ ap (λ (l : Life). Wrote (header.epoch % 2) bytes l) is_synced) in
+    let whole : new ≡ Synced (Wrote (header.epoch % 2) bytes (Synced mid)) = done ∙ ap (λ (l : Trace). Synced l) (is_wrote ∙ ap (λ (l : Trace). Wrote (header.epoch % 2) bytes l) is_synced) in
     let parts : (j : ℕ) → j < snapshot_size → HoldsPart saved j (reads mid (snapshot_first header.epoch + j)) = λ j lt. subst (λ (k : ℕ). HoldsPart saved j (reads mid (k + j))) is (area.parts j lt) in
-    subst (λ (l : Life). IsLaidOut header saved (reads l)) (sym whole) (laid_out header saved bytes mid parts holds)
+    subst (λ (l : Trace). IsLaidOut header saved (reads l)) (sym whole) (laid_out header saved bytes mid parts holds)
 
-pub synced_by : {T E : Type 0} (result : Result T E) (old new : Life) → Syncs result old new → OnOk result (IsSynced new)
+pub synced_by : {T E : Type 0} (result : Result T E) (old new : Trace) → SyncSpec result old new → OnOk result (IsSynced new)
 synced_by (Err _) old new is = tt
 synced_by (Ok _) old new is = subst IsSynced (sym is) (is_synced old)
 
-pub state_under : {T E : Type 0} (result : Result T E) (next header : Header) (saved : Saved) (old new : Life) → next ≡ header → StoresState result next saved old new → StoresState result header saved old new
+pub state_under : {T E : Type 0} (result : Result T E) (next header : Header) (saved : StoredModel) (old new : Trace) → next ≡ header → StoresState result next saved old new → StoresState result header saved old new
 state_under result next header saved old new is s = subst (λ (h : Header). StoresState result h saved old new) is s
 
 -- one sector more of a stretch, and right
-pub one_more : (n first size : ℕ) (IsRight : ℕ → List ℕ → Type 0) (bytes : List ℕ) (old mid new : Life) → n < size → IsRight n bytes
+pub one_more : (n first size : ℕ) (IsRight : ℕ → List ℕ → Type 0) (bytes : List ℕ) (old mid new : Trace) → n < size → IsRight n bytes
     → WritesOnly (BelongsIn first size IsRight) old mid → ((j : ℕ) → j < n → IsRight j (reads mid (first + j))) → new ≡ Wrote (first + n) bytes mid
     → WritesOnly (BelongsIn first size IsRight) old new × ((j : ℕ) → j < n + 1 → IsRight j (reads new (first + j)))
 one_more n first size IsRight bytes old mid new lt right w parts is =
     let ok : Result ℕ ℕ = Ok 0 in (
       only_more (BelongsIn first size IsRight) old mid new w (only_write (BelongsIn first size IsRight) ok (first + n) bytes mid new (record { place = n; within = lt; is = refl; right = right }) is),
       λ j below. elim (cases_eq j n) [
-        | inl same ↦ subst (λ (x : ℕ). IsRight x (reads new (first + x))) (sym same) (subst (IsRight n) (sym (ap (λ (l : Life). reads l (first + n)) is ∙ there (first + n) bytes mid)) right)
-        | inr other ↦ subst (IsRight j) (sym (ap (λ (l : Life). reads l (first + j)) is ∙ elsewhere (first + j) (first + n) bytes mid (λ e. other (omega arith)))) (parts j (omega arith))
+        | inl same ↦ subst (λ (x : ℕ). IsRight x (reads new (first + x))) (sym same) (subst (IsRight n) (sym (ap (λ (l : Trace). reads l (first + n)) is ∙ there (first + n) bytes mid)) right)
+        | inr other ↦ subst (IsRight j) (sym (ap (λ (l : Trace). reads l (first + j)) is ∙ elsewhere (first + j) (first + n) bytes mid (λ e. other (omega arith)))) (parts j (omega arith))
       ],
     )
 
 -- or its write failed
-pub one_failed : {T E : Type 0} (result : Result T E) (n first size : ℕ) (IsRight : ℕ → List ℕ → Type 0) (bytes : List ℕ) (old mid new : Life) → n < size → IsRight n bytes
-    → WritesOnly (BelongsIn first size IsRight) old mid → Writes result (first + n) bytes mid new → WritesOnly (BelongsIn first size IsRight) old new
+pub one_failed : {T E : Type 0} (result : Result T E) (n first size : ℕ) (IsRight : ℕ → List ℕ → Type 0) (bytes : List ℕ) (old mid new : Trace) → n < size → IsRight n bytes
+    → WritesOnly (BelongsIn first size IsRight) old mid → WriteSpec result (first + n) bytes mid new → WritesOnly (BelongsIn first size IsRight) old new
 one_failed result n first size IsRight bytes old mid new lt right w is =
     only_more (BelongsIn first size IsRight) old mid new w (only_write (BelongsIn first size IsRight) result (first + n) bytes mid new (record { place = n; within = lt; is = refl; right = right }) is)
 
-pub area_more : (n first : ℕ) (saved : Saved) (bytes : List ℕ) (old mid new : Life) → n < snapshot_size → HoldsPart saved n bytes → AreaTo n first saved old mid → new ≡ Wrote (first + n) bytes mid → AreaTo (n + 1) first saved old new
+pub area_more : (n first : ℕ) (saved : StoredModel) (bytes : List ℕ) (old mid new : Trace) → n < snapshot_size → HoldsPart saved n bytes → AreaTo n first saved old mid → new ≡ Wrote (first + n) bytes mid → AreaTo (n + 1) first saved old new
 area_more n first saved bytes old mid new lt right w is =
     let more = one_more n first snapshot_size (HoldsPart saved) bytes old mid new lt right w.writes w.parts is in
     record { writes = more.0; parts = more.1 }
 
-pub text_more : (n first area : ℕ) (text bytes : List ℕ) (old mid new : Life) → first ≡ program_first area → n < program_size area → HoldsText text (512 * n) bytes → TextTo n area text old mid → new ≡ Wrote (first + n) bytes mid → TextTo (n + 1) area text old new
+pub text_more : (n first area : ℕ) (text bytes : List ℕ) (old mid new : Trace) → first ≡ program_first area → n < program_size area → HoldsText text (512 * n) bytes → TextTo n area text old mid → new ≡ Wrote (first + n) bytes mid → TextTo (n + 1) area text old new
 text_more n first area text bytes old mid new at lt right w is =
     let more = one_more n (program_first area) (program_size area) (λ j part. HoldsText text (512 * j) part) bytes old mid new lt right w.writes w.parts (is ∙ ap (λ (k : ℕ). Wrote (k + n) bytes mid) at) in
     record { writes = more.0; parts = more.1 }
 
-pub text_failed : {T E F : Type 0} (e : E) (result : Result T F) (n first area : ℕ) (text bytes : List ℕ) (old mid new : Life) → first ≡ program_first area → n < program_size area → HoldsText text (512 * n) bytes → TextTo n area text old mid → Writes result (first + n) bytes mid new → WritesText {T = T} (Err e) area text old new
+pub text_failed : {T E F : Type 0} (e : E) (result : Result T F) (n first area : ℕ) (text bytes : List ℕ) (old mid new : Trace) → first ≡ program_first area → n < program_size area → HoldsText text (512 * n) bytes → TextTo n area text old mid → WriteSpec result (first + n) bytes mid new → WritesText {T = T} (Err e) area text old new
 text_failed e result n first area text bytes old mid new at lt right w is =
-    record { writes = one_failed result n (program_first area) (program_size area) (λ j part. HoldsText text (512 * j) part) bytes old mid new lt right w.writes (subst (λ (k : ℕ). Writes result (k + n) bytes mid new) at is); parts = tt }
+    record { writes = one_failed result n (program_first area) (program_size area) (λ j part. HoldsText text (512 * j) part) bytes old mid new lt right w.writes (subst (λ (k : ℕ). WriteSpec result (k + n) bytes mid new) at is); parts = tt }
 
 -- the write of a part that failed
-pub area_failed : {T E F : Type 0} (e : E) (result : Result T F) (n first : ℕ) (saved : Saved) (bytes : List ℕ) (old mid new : Life) → n < snapshot_size → HoldsPart saved n bytes → AreaTo n first saved old mid → Writes result (first + n) bytes mid new → WritesArea {T = T} (Err e) first saved old new
+pub area_failed : {T E F : Type 0} (e : E) (result : Result T F) (n first : ℕ) (saved : StoredModel) (bytes : List ℕ) (old mid new : Trace) → n < snapshot_size → HoldsPart saved n bytes → AreaTo n first saved old mid → WriteSpec result (first + n) bytes mid new → WritesArea {T = T} (Err e) first saved old new
 area_failed e result n first saved bytes old mid new lt right w is =
     record { writes = one_failed result n first snapshot_size (HoldsPart saved) bytes old mid new lt right w.writes is; parts = tt }
 
 -- all of that is in sectors of the epoch
-pub of_epoch : (header : Header) (saved : Saved) (n : ℕ) (bytes : List ℕ) → BelongsTo header saved n bytes → IsOfEpoch header.epoch n
+pub of_epoch : (header : Header) (saved : StoredModel) (n : ℕ) (bytes : List ℕ) → BelongsTo header saved n bytes → IsOfEpoch header.epoch n
 of_epoch header saved n bytes (inl b) = let is = b.is in let within = b.within in inl (record { from = omega arith; to = omega arith })
 of_epoch header saved n bytes (inr h) = inr h.0
 
 -- A load: the text, a sync, a checkpoint.
-abbrev MayLoad : Header → Standing → ℕ → List ℕ → Type 0
+abbrev MayLoad : Header → DurableState → ℕ → List ℕ → Type 0
 MayLoad header loaded n bytes = BelongsToLoad header loaded n bytes
 
-pub load_text : {T E : Type 0} (result : Result T E) (area : ℕ) (header : Header) (loaded : Standing) (old new : Life) → area ≡ spare_area header.area → WritesText result area loaded.program old new → WritesLoad header loaded old new
+pub load_text : {T E : Type 0} (result : Result T E) (area : ℕ) (header : Header) (loaded : DurableState) (old new : Trace) → area ≡ spare_area header.area → WritesText result area loaded.program old new → WritesLoad header loaded old new
 load_text result area header loaded old new is w =
     only_wider (λ n c. BelongsToText loaded.program area n c) (MayLoad header loaded) old new (λ n c b. inl (subst (λ (k : ℕ). BelongsToText loaded.program k n c) is b)) w.writes
 
-pub load_sync : {T E : Type 0} (result : Result T E) (header : Header) (loaded : Standing) (old mid new : Life) → WritesLoad header loaded old mid → Syncs result mid new → WritesLoad header loaded old new
+pub load_sync : {T E : Type 0} (result : Result T E) (header : Header) (loaded : DurableState) (old mid new : Trace) → WritesLoad header loaded old mid → SyncSpec result mid new → WritesLoad header loaded old new
 load_sync result header loaded old mid new w is = only_syncs (MayLoad header loaded) result old mid new w is
 
-pub load_state : (header : Header) (loaded : Standing) (old mid new : Life) → WritesLoad header loaded old mid → WritesState (next_header header (spare_area header.area) loaded.saved.length) loaded.saved mid new → WritesLoad header loaded old new
+pub load_state : (header : Header) (loaded : DurableState) (old mid new : Trace) → WritesLoad header loaded old mid → WritesState (next_header header (spare_area header.area) loaded.saved.length) loaded.saved mid new → WritesLoad header loaded old new
 load_state header loaded old mid new w last =
     only_more (MayLoad header loaded) old mid new w (only_wider (May (next_header header (spare_area header.area) loaded.saved.length) loaded.saved) (MayLoad header loaded) mid new (λ n c own. inr own) last)
 
 -- the text stays where it stands
-pub text_stays : {T E U F : Type 0} (result : Result T E) (u : U) (area : ℕ) (header : Header) (loaded : Standing) (old mid synced new : Life) → area ≡ spare_area header.area → WritesText {E = F} (Ok u) area loaded.program old mid → synced ≡ Synced mid → WritesState (next_header header (spare_area header.area) loaded.saved.length) loaded.saved synced new
+pub text_stays : {T E U F : Type 0} (result : Result T E) (u : U) (area : ℕ) (header : Header) (loaded : DurableState) (old mid synced new : Trace) → area ≡ spare_area header.area → WritesText {E = F} (Ok u) area loaded.program old mid → synced ≡ Synced mid → WritesState (next_header header (spare_area header.area) loaded.saved.length) loaded.saved synced new
     → OnOk result (IsTextAt (spare_area header.area) loaded.program (reads new))
 text_stays (Err _) u area header loaded old mid synced new is w is_synced last = tt
 text_stays (Ok _) u area header loaded old mid synced new is w is_synced last = λ j lt.
     subst (HoldsText loaded.program (512 * j)) (sym (same (program_first (spare_area header.area) + j) (omega arith))) (subst (λ (k : ℕ). HoldsText loaded.program (512 * j) (reads mid (program_first k + j))) is (w.parts j lt))
   where
     on : WritesOnly (May (next_header header (spare_area header.area) loaded.saved.length) loaded.saved) (Synced mid) new
-    on = subst (λ (l : Life). WritesOnly (May (next_header header (spare_area header.area) loaded.saved.length) loaded.saved) l new) is_synced last
+    on = subst (λ (l : Trace). WritesOnly (May (next_header header (spare_area header.area) loaded.saved.length) loaded.saved) l new) is_synced last
 
     apart : (n : ℕ) → 174 ≤ n → IsOfEpoch (header.epoch + 1) n → ⊥
     apart n le (inl among) = let to = among.to in omega arith
@@ -154,24 +157,24 @@ text_stays (Ok _) u area header loaded old mid synced new is w is_synced last = 
     same n le = ⊎_elim (λ was. was) (λ own. absurd (apart n le (of_epoch (next_header header (spare_area header.area) loaded.saved.length) loaded.saved n (reads new n) own))) ((reads_blend (May (next_header header (spare_area header.area) loaded.saved.length) loaded.saved) (Synced mid) new on).each n)
 
 -- A format of whatever is stored: each of the three stretches, a sync, the header, a sync.
-abbrev pub MayFormat : Saved → ℕ → List ℕ → Type 0
+abbrev pub MayFormat : StoredModel → ℕ → List ℕ → Type 0
 MayFormat saved n bytes = BelongsIn 0 2 IsEmpty n bytes ⊎ (BelongsIn log_first log_size IsEmpty n bytes ⊎ BelongsTo first_header saved n bytes)
 
-abbrev pub WritesFirst : Saved → Life → Life → Type 0
+abbrev pub WritesFirst : StoredModel → Trace → Trace → Type 0
 WritesFirst saved = WritesOnly (λ n bytes. MayFormat saved n bytes)
 
-pub first_headers : {T E : Type 0} (result : Result T E) (saved : Saved) (old new : Life) → Overwrites result 0 2 IsEmpty old new → WritesFirst saved old new
+pub first_headers : {T E : Type 0} (result : Result T E) (saved : StoredModel) (old new : Trace) → Overwrites result 0 2 IsEmpty old new → WritesFirst saved old new
 first_headers result saved old new w = only_wider (BelongsIn 0 2 IsEmpty) (MayFormat saved) old new (λ n c b. inl b) w.writes
 
-pub first_log : {T E : Type 0} (result : Result T E) (saved : Saved) (old mid new : Life) → WritesFirst saved old mid → Overwrites result log_first log_size IsEmpty mid new → WritesFirst saved old new
+pub first_log : {T E : Type 0} (result : Result T E) (saved : StoredModel) (old mid new : Trace) → WritesFirst saved old mid → Overwrites result log_first log_size IsEmpty mid new → WritesFirst saved old new
 first_log result saved old mid new w log = only_more (MayFormat saved) old mid new w (only_wider (BelongsIn log_first log_size IsEmpty) (MayFormat saved) mid new (λ n c b. inr (inl b)) log.writes)
 
-pub first_area : {T E : Type 0} (result : Result T E) (first : ℕ) (saved : Saved) (old mid new : Life) → first ≡ snapshot_first 1 → WritesFirst saved old mid → Overwrites result first snapshot_size (HoldsPart saved) mid new → WritesFirst saved old new
+pub first_area : {T E : Type 0} (result : Result T E) (first : ℕ) (saved : StoredModel) (old mid new : Trace) → first ≡ snapshot_first 1 → WritesFirst saved old mid → Overwrites result first snapshot_size (HoldsPart saved) mid new → WritesFirst saved old new
 first_area result first saved old mid new is w area =
     only_more (MayFormat saved) old mid new w (only_wider (BelongsIn first snapshot_size (HoldsPart saved)) (MayFormat saved) mid new (λ n c b. inr (inr (inl (subst (λ (k : ℕ). BelongsIn k snapshot_size (HoldsPart saved) n c) is b)))) area.writes)
 
-pub first_sync : {T E : Type 0} (result : Result T E) (saved : Saved) (old mid new : Life) → WritesFirst saved old mid → Syncs result mid new → WritesFirst saved old new
+pub first_sync : {T E : Type 0} (result : Result T E) (saved : StoredModel) (old mid new : Trace) → WritesFirst saved old mid → SyncSpec result mid new → WritesFirst saved old new
 first_sync result saved old mid new w is = only_syncs (MayFormat saved) result old mid new w is
 
-pub first_write : {T E : Type 0} (result : Result T E) (saved : Saved) (bytes : List ℕ) (old mid new : Life) → HoldsHeader first_header bytes → WritesFirst saved old mid → Writes result 1 bytes mid new → WritesFirst saved old new
+pub first_write : {T E : Type 0} (result : Result T E) (saved : StoredModel) (bytes : List ℕ) (old mid new : Trace) → HoldsHeader first_header bytes → WritesFirst saved old mid → WriteSpec result 1 bytes mid new → WritesFirst saved old new
 first_write result saved bytes old mid new holds w is = only_more (MayFormat saved) old mid new w (only_write (MayFormat saved) result 1 bytes mid new (inr (inr (inr (refl, holds)))) is)

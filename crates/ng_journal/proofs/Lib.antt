@@ -1,12 +1,11 @@
 pub mod Beginning
-pub mod Recording
 pub mod Finding
-pub mod FirstLineLemmas
 pub mod FirstLinesRead
 pub mod Framing
-pub mod Moving
 pub mod LinesRead
+pub mod Moving
 pub mod Overwriting
+pub mod Recording
 pub mod Recovering
 pub mod Renewing
 pub mod Resting

@@ -1,24 +1,24 @@
 -- The line of a program at a place, from the sectors in which it lies.
-use Rattle.std.proofs.Common.{◌≡◌, ◌≢◌, ◌⊎◌, inl, inr, ℕ, zero, suc, ◌+◌, ◌-◌, ◌*◌, ◌/◌, ◌%◌, ◌<◌, ◌≤◌, ◌==◌, min, max, Bool, true, false, List, [], ◌∷◌, ◌++◌, length, take, drop, get_or, slice_index, Option, Some, None, Result, Ok, Err, if◌then◌else◌, refl, sym, ◌∙◌, ap, subst, arith}
+use Rattle.std.proofs.Common.{◌≡◌, ◌⊎◌, inl, inr, ℕ, zero, suc, ◌+◌, ◌-◌, ◌*◌, ◌/◌, ◌%◌, ◌<◌, ◌≤◌, ◌==◌, min, max, Bool, true, false, List, [], ◌∷◌, ◌++◌, length, take, drop, get_or, slice_index, Option, Some, None, Result, Ok, Err, if◌then◌else◌, refl, sym, ◌∙◌, ap, subst, arith, length-drop}
 use Rattle.std.specs.Prelude.{IsOk, OnOk, ◌↔◌}
 use Rattle.std.proofs.lemmas.Bool.Decides.{nat_tests}
 use Rattle.std.proofs.lemmas.List.{take_all, take-take, take-append-drop, get_or-take, get_or-drop, length-take-le}
 use Rattle.std.proofs.lemmas.List.FromFn.{fill_by_all, get_or-map-range_with_len, length-map-range_with_len}
-use Rattle.std.proofs.Common.{length-drop}
-use Rattle.ng_rig.specs.Life.{Life, reads}
-use Rattle.ng_layout.specs.Sectors.{text_of}
+use Rattle.ng_rig.specs.Trace.{Trace, reads}
+use Rattle.ng_layout.specs.Sectors.{program_text}
 use Rattle.ng_layout.specs.declared.header.Header.{Header}
 use Rattle.ng_layout.specs.Areas.{program_first, program_size}
 use Rattle.ng_layout.specs.Stands.{stretch}
-use Rattle.ng_layout.specs.Stored.{Standing}
+use Rattle.ng_layout.specs.Stored.{DurableState}
 use Rattle.ng_log.specs.declared.log_end.LogEnd.{LogEnd}
 use Rattle.ng_log.specs.AtEnd.{IsAtEnd}
 use Rattle.ng_layout.proofs.Images.{stretch-at}
 use Rattle.std.specs.Str.Lines.{lines, strip_carriage_return}
-use Rattle.ng_block.specs.Parts.{HasNoNewline}
-use Rattle.ng_block.proofs.LineLemmas.{HasNoNewline-append, parted, lines-newline, lines-alone}
-use Rattle.ng_layout.specs.Programs.{Line, span, place_behind, first_line, line_at}
-use Rattle.ng_journal.specs.ProgramLines.{IsPart, Keeps, IsEnd, TakesPart}
+use Rattle.ng_text.specs.Newlines.{HasNoNewline}
+use Rattle.ng_text.proofs.LineLemmas.{HasNoNewline-append, parted, lines-newline, lines-alone}
+use Rattle.ng_text.specs.Programs.{ProgramLineModel, span, next_line_start, first_line, program_line_at}
+use Rattle.ng_text.proofs.PlaceLemmas.{span-newline, span-alone}
+use Rattle.ng_journal.specs.Private.LineParts.{IsPart, KeepsLineFront, IsEnd, TakesPart}
 
 take_over : (xs ys : List ℕ) (room n : ℕ) → length xs + room ≡ n → take n (xs ++ ys) ≡ xs ++ take room ys
 take_over [] ys room n is = let e : n ≡ room = omega arith in ap (λ (k : ℕ). take k ys) e
@@ -48,44 +48,44 @@ kept_more r xs ys new room m is m_is fits ok =
 pub same_lists : (n : ℕ) (xs ys : List ℕ) → length xs ≡ n → length ys ≡ n → ((k : ℕ) → k < n → get_or xs k 0 ≡ get_or ys k 0) → xs ≡ ys
 same_lists n xs ys long_xs long_ys each = fill_by_all (λ k. get_or ys k 0) xs n 0 long_xs each ∙ sym (fill_by_all (λ k. get_or ys k 0) ys n 0 long_ys (λ k lt. refl))
 
-pub length-text : (n : ℕ) (row : ℕ → List ℕ) → length (text_of n row) ≡ n
-unfolding text_of
+pub length-text : (n : ℕ) (row : ℕ → List ℕ) → length (program_text n row) ≡ n
+unfolding program_text
 length-text n row = length-map-range_with_len (λ i. get_or (row (i / 512)) (i % 512) 0) 0 n
 
-pub text-at : (n : ℕ) (row : ℕ → List ℕ) (i : ℕ) → i < n → get_or (text_of n row) i 0 ≡ get_or (row (i / 512)) (i % 512) 0
-unfolding text_of
+pub text-at : (n : ℕ) (row : ℕ → List ℕ) (i : ℕ) → i < n → get_or (program_text n row) i 0 ≡ get_or (row (i / 512)) (i % 512) 0
+unfolding program_text
 text-at n row i lt = get_or-map-range_with_len (λ i. get_or (row (i / 512)) (i % 512) 0) 0 n i i 0 lt (omega arith)
 
 -- a part of a sector is that part of the text
 part_same : (row : ℕ → List ℕ) (sector : List ℕ) (size place n from to skipped : ℕ) → length sector ≡ 512 → sector ≡ row n → from ≤ to → to ≤ 512 → 512 * n + to ≤ size → place + skipped ≡ 512 * n + from
-    → take (to - from) (drop from sector) ≡ take (to - from) (drop skipped (drop place (text_of size row)))
+    → take (to - from) (drop from sector) ≡ take (to - from) (drop skipped (drop place (program_text size row)))
 part_same row sector size place n from to skipped full is ordered within inside placed =
     same_lists (to - from) _ _
     (length-take-le (to - from) (drop from sector) (omega (arith, length-drop from sector)))
-    (length-take-le (to - from) (drop skipped (drop place (text_of size row))) (omega (arith, length-drop skipped (drop place (text_of size row)), length-drop place (text_of size row), length-text size row)))
+    (length-take-le (to - from) (drop skipped (drop place (program_text size row))) (omega (arith, length-drop skipped (drop place (program_text size row)), length-drop place (program_text size row), length-text size row)))
     (λ k lt. here k lt ∙ sym (there k lt))
   where
     here : (k : ℕ) → k < to - from → get_or (take (to - from) (drop from sector)) k 0 ≡ get_or (row n) (from + k) 0
     here k lt = get_or-take (to - from) (drop from sector) k 0 lt ∙ get_or-drop from sector k 0 ∙ ap (λ (l : List ℕ). get_or l (from + k) 0) is
 
-    there : (k : ℕ) → k < to - from → get_or (take (to - from) (drop skipped (drop place (text_of size row)))) k 0 ≡ get_or (row n) (from + k) 0
+    there : (k : ℕ) → k < to - from → get_or (take (to - from) (drop skipped (drop place (program_text size row)))) k 0 ≡ get_or (row n) (from + k) 0
     there k lt =
         let i = place + (skipped + k) in
         let sector_is : i / 512 ≡ n = omega arith in
         let byte_is : i % 512 ≡ from + k = omega arith in
-        get_or-take (to - from) (drop skipped (drop place (text_of size row))) k 0 lt
-        ∙ get_or-drop skipped (drop place (text_of size row)) k 0
-        ∙ get_or-drop place (text_of size row) (skipped + k) 0
+        get_or-take (to - from) (drop skipped (drop place (program_text size row))) k 0 lt
+        ∙ get_or-drop skipped (drop place (program_text size row)) k 0
+        ∙ get_or-drop place (program_text size row) (skipped + k) 0
         ∙ text-at size row i (omega arith)
         ∙ (λ j. get_or (row (sector_is j)) (byte_is j) 0)
 
-pub part_is : (row : ℕ → List ℕ) (sector : List ℕ) (size place n from to : ℕ) → length sector ≡ 512 → sector ≡ row n → place ≤ size → place < 512 * n + 512 → 512 * n < size → from ≡ max place (512 * n) - 512 * n → to ≡ min 512 (size - 512 * n) → IsPart (text_of size row) place (512 * n) (take (to - from) (drop from sector))
+pub part_is : (row : ℕ → List ℕ) (sector : List ℕ) (size place n from to : ℕ) → length sector ≡ 512 → sector ≡ row n → place ≤ size → place < 512 * n + 512 → 512 * n < size → from ≡ max place (512 * n) - 512 * n → to ≡ min 512 (size - 512 * n) → IsPart (program_text size row) place (512 * n) (take (to - from) (drop from sector))
 part_is row sector size place n from to full is place_in begins ends from_is to_is =
     let ordered : from ≤ to = omega arith in
     let long : length (take (to - from) (drop from sector)) ≡ to - from = length-take-le (to - from) (drop from sector) (omega (arith, length-drop from sector)) in
     let same = part_same row sector size place n from to (512 * n - place) full is ordered (omega arith) (omega arith) (omega arith) in
     record {
-      is = same ∙ ap (λ (k : ℕ). take k (drop (512 * n - place) (drop place (text_of size row)))) (sym long);
+      is = same ∙ ap (λ (k : ℕ). take k (drop (512 * n - place) (drop place (program_text size row)))) (sym long);
       whole = omega (arith, long, length-text size row);
     }
 
@@ -103,8 +103,8 @@ take_sum m k xs within =
     ap (λ (l : List ℕ). take (m + k) l) (sym (take-append-drop m xs))
     ∙ take_over (take m xs) (drop m xs) k (m + k) (omega (arith, length-take-le m xs within))
 
-pub none_kept : (rest kept : List ℕ) (n : ℕ) → n ≡ 0 → kept ≡ [] → Keeps rest n kept
-none_kept rest kept n is none = subst (λ (k : ℕ). Keeps rest k kept) (sym is) (record { plain = tt; kept_is = none })
+pub none_kept : (rest kept : List ℕ) (n : ℕ) → n ≡ 0 → kept ≡ [] → KeepsLineFront rest n kept
+none_kept rest kept n is none = subst (λ (k : ℕ). KeepsLineFront rest k kept) (sym is) (record { plain = tt; kept_is = none })
 
 -- the same text, so many bytes of it in front
 abbrev rest_of : List ℕ → ℕ → List ℕ
@@ -120,7 +120,7 @@ front text place start n part p le =
     take_sum m n rest (omega (arith, within_rest text place start part p))
     ∙ ap (λ (l : List ℕ). take m rest ++ l) (sym (take-take n (length part) (drop m rest) le) ∙ ap (λ (l : List ℕ). take n l) (sym p.is))
 
-kept_front : (text old new : List ℕ) (place start n : ℕ) (part : List ℕ) → IsPart text place start part → n ≤ length part → Keeps (rest_of text place) (start - place) old → HasNoNewline (take n part) → new ≡ take 257 (old ++ take n part) → Keeps (rest_of text place) (start - place + n) new
+kept_front : (text old new : List ℕ) (place start n : ℕ) (part : List ℕ) → IsPart text place start part → n ≤ length part → KeepsLineFront (rest_of text place) (start - place) old → HasNoNewline (take n part) → new ≡ take 257 (old ++ take n part) → KeepsLineFront (rest_of text place) (start - place + n) new
 kept_front text old new place start n part p le so_far plain is =
     let m = start - place in
     let rest = rest_of text place in
@@ -130,7 +130,7 @@ kept_front text old new place start n part p le so_far plain is =
       kept_is = is ∙ ap (λ (l : List ℕ). take 257 (l ++ take n part)) so_far.kept_is ∙ keep_keep 257 (take m rest) (take n part) ∙ ap (λ (l : List ℕ). take 257 l) (sym joined);
     }
 
-pub part_kept : (text old new : List ℕ) (place n : ℕ) (part : List ℕ) → IsPart text place (512 * n) part → Keeps (drop place text) (512 * n - place) old → TakesPart old new part None → Keeps (drop place text) (512 * (n + 1) - place) new
+pub part_kept : (text old new : List ℕ) (place n : ℕ) (part : List ℕ) → IsPart text place (512 * n) part → KeepsLineFront (drop place text) (512 * n - place) old → TakesPart old new part None → KeepsLineFront (drop place text) (512 * (n + 1) - place) new
 part_kept text old new place n part p so_far taken =
     let rest = rest_of text place in
     let all : take (length part) part ≡ part = take_all (length part) part (omega arith) in
@@ -139,7 +139,7 @@ part_kept text old new place n part p so_far taken =
     let whole : take (512 * n - place + length part) rest ≡ take (512 * (n + 1) - place) rest = ap (λ (x : ℕ). take x rest) sum ∙ take_min rest (512 * (n + 1) - place) in
     record { plain = subst HasNoNewline whole k.plain; kept_is = k.kept_is ∙ ap (λ (l : List ℕ). take 257 l) whole }
 
-pub end_found : (text old new : List ℕ) (place n i : ℕ) (part : List ℕ) → IsPart text place (512 * n) part → Keeps (drop place text) (512 * n - place) old → TakesPart old new part (Some i) → IsEnd (drop place text) new (Some (512 * n - place + i))
+pub end_found : (text old new : List ℕ) (place n i : ℕ) (part : List ℕ) → IsPart text place (512 * n) part → KeepsLineFront (drop place text) (512 * n - place) old → TakesPart old new part (Some i) → IsEnd (drop place text) new (Some (512 * n - place + i))
 end_found text old new place n i part p so_far taken =
     let m = 512 * n - place in
     let rest = rest_of text place in (
@@ -148,31 +148,10 @@ end_found text old new place n i part p so_far taken =
       sym (get_or-drop m rest i 0) ∙ sym (get_or-take (length part) (drop m rest) i 0 taken.1) ∙ ap (λ (l : List ℕ). get_or l i 0) (sym p.is) ∙ taken.2,
     )
 
-pub all_kept : (rest kept : List ℕ) (n : ℕ) → length rest ≤ n → Keeps rest n kept → IsEnd rest kept None
+pub all_kept : (rest kept : List ℕ) (n : ℕ) → length rest ≤ n → KeepsLineFront rest n kept → IsEnd rest kept None
 all_kept rest kept n all k =
     let whole : take n rest ≡ take (length rest) rest = take_all n rest all ∙ sym (take_all (length rest) rest (omega arith)) in
     record { plain = subst HasNoNewline whole k.plain; kept_is = k.kept_is ∙ ap (λ (l : List ℕ). take 257 l) whole }
-
--- The line that they make.
-span-newline : (raw more : List ℕ) → HasNoNewline raw → span (raw ++ (10 ∷ more)) ≡ length raw + 1
-span-newline [] more plain = refl
-span-newline (b ∷ raw) more plain =
-    let e : (b == 10) ≡ false = not_newline b plain.0 in
-    let s = span-newline raw more plain.1 in
-    rw e (omega (arith, s))
-  where
-    not_newline : (b : ℕ) → b ≢ 10 → (b == 10) ≡ false
-    not_newline b other = grind (arith, nat_tests)
-
-span-alone : (raw : List ℕ) → HasNoNewline raw → span raw ≡ length raw
-span-alone [] plain = refl
-span-alone (b ∷ raw) plain =
-    let e : (b == 10) ≡ false = not_newline b plain.0 in
-    let s = span-alone raw plain.1 in
-    rw e (omega (arith, s))
-  where
-    not_newline : (b : ℕ) → b ≢ 10 → (b == 10) ≡ false
-    not_newline b other = grind (arith, nat_tests)
 
 strip_short : (l : List ℕ) → length l ≤ 257 → take 257 (strip_carriage_return l) ≡ strip_carriage_return l
 strip_short l short = go (slice_index l (length l - 1) == 13)
@@ -191,8 +170,8 @@ strip_long l long = go (slice_index l (length l - 1) == 13)
 whole_rest : (rest kept : List ℕ) (n : ℕ) → IsEnd rest kept (Some n) → rest ≡ take n rest ++ (10 ∷ drop (suc n) rest)
 whole_rest rest kept n e = parted rest n e.1 (let is = e.2 in grind (arith, nat_tests))
 
-found_line : (program kept text : List ℕ) (place n : ℕ) → IsEnd (drop place program) kept (Some n) → take 257 (strip_carriage_return (take n (drop place program))) ≡ text → Some (record { text = text; next = place + n + 1 }) ≡ line_at program place
-unfolding line_at place_behind
+found_line : (program kept text : List ℕ) (place n : ℕ) → IsEnd (drop place program) kept (Some n) → take 257 (strip_carriage_return (take n (drop place program))) ≡ text → Some (record { text = text; next = place + n + 1 }) ≡ program_line_at program place
+unfolding program_line_at next_line_start
 found_line program kept text place n e is =
     let rest = drop place program in
     let raw = take n rest in
@@ -204,28 +183,28 @@ found_line program kept text place n e is =
     let next : place + span rest ≡ place + n + 1 = omega (arith, spanned) in
     sym ((λ i. first_line (lines_are i) (next i)) ∙ ap (λ (l : List ℕ). Some (record { text = l; next = place + n + 1 })) is)
 
-pub short_line : (program kept text : List ℕ) (place n : ℕ) → IsEnd (drop place program) kept (Some n) → n ≤ 257 → text ≡ strip_carriage_return kept → Some (record { text = text; next = place + n + 1 }) ≡ line_at program place
+pub short_line : (program kept text : List ℕ) (place n : ℕ) → IsEnd (drop place program) kept (Some n) → n ≤ 257 → text ≡ strip_carriage_return kept → Some (record { text = text; next = place + n + 1 }) ≡ program_line_at program place
 short_line program kept text place n e short is =
     let raw = take n (drop place program) in
     let long : length raw ≡ n = length-take-le n (drop place program) (let lt = e.1 in omega arith) in
     let kept_is : kept ≡ raw = e.0.kept_is ∙ take_all 257 raw (omega arith) in
     found_line program kept text place n e (strip_short raw (omega arith) ∙ ap strip_carriage_return (sym kept_is) ∙ sym is)
 
-pub long_line : (program kept text : List ℕ) (place n : ℕ) → IsEnd (drop place program) kept (Some n) → 257 < n → text ≡ kept → Some (record { text = text; next = place + n + 1 }) ≡ line_at program place
+pub long_line : (program kept text : List ℕ) (place n : ℕ) → IsEnd (drop place program) kept (Some n) → 257 < n → text ≡ kept → Some (record { text = text; next = place + n + 1 }) ≡ program_line_at program place
 long_line program kept text place n e long is =
     let raw = take n (drop place program) in
     let size : length raw ≡ n = length-take-le n (drop place program) (let lt = e.1 in omega arith) in
     found_line program kept text place n e (strip_long raw (omega arith) ∙ sym e.0.kept_is ∙ sym is)
 
-alone : (rest kept : List ℕ) (next : ℕ) → 0 < length rest → Keeps rest (length rest) kept → first_line (lines rest) next ≡ Some (record { text = kept; next = next })
+alone : (rest kept : List ℕ) (next : ℕ) → 0 < length rest → KeepsLineFront rest (length rest) kept → first_line (lines rest) next ≡ Some (record { text = kept; next = next })
 alone [] kept next some k = absurd (omega arith)
 alone (b ∷ rest) kept next some k =
     let all : take (length (b ∷ rest)) (b ∷ rest) ≡ b ∷ rest = take_all (length (b ∷ rest)) (b ∷ rest) (omega arith) in
     ap (λ (l : List (List ℕ)). first_line l next) (lines-alone b rest (subst HasNoNewline all k.plain))
     ∙ ap (λ (l : List ℕ). Some (record { text = l; next = next })) (sym (k.kept_is ∙ ap (λ (l : List ℕ). take 257 l) all))
 
-pub last_line : (program kept : List ℕ) (place size : ℕ) → length program ≡ size → place < size → IsEnd (drop place program) kept None → Some (record { text = kept; next = size }) ≡ line_at program place
-unfolding line_at place_behind
+pub last_line : (program kept : List ℕ) (place size : ℕ) → length program ≡ size → place < size → IsEnd (drop place program) kept None → Some (record { text = kept; next = size }) ≡ program_line_at program place
+unfolding program_line_at next_line_start
 last_line program kept place size long lt k =
     let rest = drop place program in
     let all : take (length rest) rest ≡ rest = take_all (length rest) rest (omega arith) in
@@ -237,14 +216,14 @@ empty : (l : List ℕ) → length l ≡ 0 → l ≡ []
 empty [] none = refl
 empty (x ∷ l) none = absurd (omega arith)
 
-pub no_line : (program : List ℕ) (place size : ℕ) → length program ≡ size → place ≡ size → None ≡ line_at program place
-unfolding line_at place_behind
+pub no_line : (program : List ℕ) (place size : ℕ) → length program ≡ size → place ≡ size → None ≡ program_line_at program place
+unfolding program_line_at next_line_start
 no_line program place size long end =
     let none = empty (drop place program) (omega (arith, length-drop place program)) in
     sym (ap (λ (l : List ℕ). first_line (lines l) (place + span l)) none)
 
 -- A sector read of a program area.
-pub sector_at : (area first n : ℕ) (begun now : Life) (sector : List ℕ) → first ≡ program_first area → n < program_size area → now ≡ begun → sector ≡ reads now (first + n) → sector ≡ stretch (program_first area) (program_size area) (reads begun) n
+pub sector_at : (area first n : ℕ) (begun now : Trace) (sector : List ℕ) → first ≡ program_first area → n < program_size area → now ≡ begun → sector ≡ reads now (first + n) → sector ≡ stretch (program_first area) (program_size area) (reads begun) n
 sector_at area first n begun now sector at lt same is = is ∙ (λ i. reads (same i) (at i + n)) ∙ sym (stretch-at (program_first area) (program_size area) (reads begun) n lt)
 
 pub end_some : (rest kept : List ℕ) (o : Option ℕ) (n : ℕ) → o ≡ Some n → IsEnd rest kept o → IsEnd rest kept (Some n)
@@ -254,5 +233,5 @@ pub end_none : (rest kept : List ℕ) (o : Option ℕ) → o ≡ None → IsEnd 
 end_none rest kept o is e = subst (IsEnd rest kept) is e
 
 -- The program of what stands is that of the area in force.
-pub line_in_force : {end : LogEnd} (old : Life) (header : Header) (standing : Standing) (place : ℕ) (line : Option Line) → IsAtEnd old header standing end → line ≡ line_at (text_of header.length (stretch (program_first header.area) (program_size header.area) (reads old))) place → line ≡ line_at standing.program place
-line_in_force old header standing place line at found = found ∙ ap (λ (l : List ℕ). line_at l place) at.image.program
+pub line_in_force : {end : LogEnd} (old : Trace) (header : Header) (standing : DurableState) (place : ℕ) (line : Option ProgramLineModel) → IsAtEnd old header standing end → line ≡ program_line_at (program_text header.length (stretch (program_first header.area) (program_size header.area) (reads old))) place → line ≡ program_line_at standing.program place
+line_in_force old header standing place line at found = found ∙ ap (λ (l : List ℕ). program_line_at l place) at.image.program

@@ -1,23 +1,23 @@
 -- What is stored moves a journal at rest from what stood to the new.
 use Rattle.std.proofs.Common.{◌≡◌, ◌∙◌, inl, inr, ⊎_elim, Result, Ok, Err, sym, subst}
-use Rattle.ng_rig.specs.Life.{Life, reads, items}
-use Rattle.ng_rig.specs.Onward.{Onward}
+use Rattle.ng_rig.specs.Trace.{Trace, reads, items}
+use Rattle.ng_rig.specs.Continuation.{IsContinuation}
 use Rattle.ng_rig.proofs.Running.{weaker}
 use Rattle.ng_layout.specs.declared.header.Header.{Header}
 use Rattle.ng_layout.specs.Areas.{spare_area}
 use Rattle.ng_layout.specs.Stands.{stands}
-use Rattle.ng_layout.specs.Stored.{Saved, Standing}
+use Rattle.ng_layout.specs.Stored.{StoredModel, DurableState}
 use Rattle.ng_log.specs.declared.log_end.LogEnd.{LogEnd}
 use Rattle.ng_log.specs.AtEnd.{no_records, IsAtEnd}
 use Rattle.ng_log.proofs.Ending.{ends-stand}
 use Rattle.ng_journal.specs.declared.storing.Tip.{Tip}
 use Rattle.ng_journal.specs.AtRest.{IsEither, next_header}
-use Rattle.ng_journal.specs.Loads.{Loads}
-use Rattle.ng_journal.specs.Journal.{Logbook, Moves}
-use Rattle.ng_journal.specs.Records.{tip_of, Stores}
+use Rattle.ng_journal.specs.Private.LoadSteps.{LoadSpec}
+use Rattle.ng_journal.specs.Journal.{JournalModel, CommitSpec}
+use Rattle.ng_journal.specs.Private.Records.{tip_of, StoreRecordSpec}
 use Rattle.ng_journal.specs.Storing.{Ledger, StoresRecord, ledger_of}
 
-pub moved : {R T E F : Type 0} (v : T) (tip : Tip) (journal : Logbook R) (before : Standing) (saved : Saved) (old new : Life) → tip ≡ tip_of (ledger_of journal) → journal.saved ≡ saved → Stores {E = F} (Ok tip) before saved old new → Moves {E = E} (Ok v) journal before (record before { saved = saved }) old new
+pub moved : {R T E F : Type 0} (v : T) (tip : Tip) (journal : JournalModel R) (before : DurableState) (saved : StoredModel) (old new : Trace) → tip ≡ tip_of (ledger_of journal) → journal.saved ≡ saved → StoreRecordSpec {E = F} (Ok tip) before saved old new → CommitSpec {E = E} (Ok v) journal before (record before { saved = saved }) old new
 moved v tip journal before saved old new is saved_is s = record {
   stops = s.stops;
   items_are = s.items_are;
@@ -25,26 +25,26 @@ moved v tip journal before saved old new is saved_is s = record {
 }
 
 -- or fails to
-pub not_moved : {R T E F : Type 0} (e : E) (result : Result Tip F) (journal : Logbook R) (before : Standing) (saved : Saved) (old new : Life) → Stores result before saved old new → Moves {T = T} (Err e) journal before (record before { saved = saved }) old new
+pub not_moved : {R T E F : Type 0} (e : E) (result : Result Tip F) (journal : JournalModel R) (before : DurableState) (saved : StoredModel) (old new : Trace) → StoreRecordSpec result before saved old new → CommitSpec {T = T} (Err e) journal before (record before { saved = saved }) old new
 not_moved e result journal before saved old new s = record { stops = s.stops; items_are = s.items_are; at = tt }
 
 -- what is written, as another call answers for it
-pub stored_as : {T U E F : Type 0} (t : T) (u : U) (l : Ledger) (saved : Saved) (old new : Life) → StoresRecord {E = F} (Ok u) l saved old new → StoresRecord {E = E} (Ok t) l saved old new
+pub stored_as : {T U E F : Type 0} (t : T) (u : U) (l : Ledger) (saved : StoredModel) (old new : Trace) → StoresRecord {E = F} (Ok u) l saved old new → StoresRecord {E = E} (Ok t) l saved old new
 stored_as t u l saved old new s = record { writes = s.writes; laid = s.laid }
 
-pub not_stored_as : {T U E F : Type 0} (e : E) (result : Result U F) (l : Ledger) (saved : Saved) (old new : Life) → StoresRecord result l saved old new → StoresRecord {T = T} (Err e) l saved old new
+pub not_stored_as : {T U E F : Type 0} (e : E) (result : Result U F) (l : Ledger) (saved : StoredModel) (old new : Trace) → StoresRecord result l saved old new → StoresRecord {T = T} (Err e) l saved old new
 not_stored_as e result l saved old new s = record { writes = s.writes; laid = tt }
 
 -- A load that is done moves it too.
-as_moved : (old new : Life) (header : Header) (end : LogEnd) (before loaded : Standing) → IsAtEnd old header before end → Onward old new (IsEither (stands (reads old)) (Ok loaded) (items old)) → Onward old new (IsEither (Ok before) (Ok loaded) (items old))
+as_moved : (old new : Trace) (header : Header) (end : LogEnd) (before loaded : DurableState) → IsAtEnd old header before end → IsContinuation old new (IsEither (stands (reads old)) (Ok loaded) (items old)) → IsContinuation old new (IsEither (Ok before) (Ok loaded) (items old))
 as_moved old new header end before loaded at stops = weaker old new (IsEither (stands (reads old)) (Ok loaded) (items old)) (IsEither (Ok before) (Ok loaded) (items old)) stops (λ image handed p. record {
   state = ⊎_elim (λ b. inl (b ∙ ends-stand (reads old) header before end at.image)) (λ a. inr a) p.state;
   written = p.written;
   handed_is = p.handed_is;
 })
 
-pub loaded : {R T U E F : Type 0} (v : T) (u : U) (journal : Logbook R) (header next : Header) (end : LogEnd) (before after : Standing) (old new : Life) → tip_of (ledger_of journal) ≡ record { header = next; end = no_records } → next ≡ next_header header (spare_area header.area) after.saved.length → journal.saved ≡ after.saved
-    → IsAtEnd old header before end → Loads {E = F} (Ok u) header after old new → Moves {E = E} (Ok v) journal before after old new
+pub loaded : {R T U E F : Type 0} (v : T) (u : U) (journal : JournalModel R) (header next : Header) (end : LogEnd) (before after : DurableState) (old new : Trace) → tip_of (ledger_of journal) ≡ record { header = next; end = no_records } → next ≡ next_header header (spare_area header.area) after.saved.length → journal.saved ≡ after.saved
+    → IsAtEnd old header before end → LoadSpec {E = F} (Ok u) header after old new → CommitSpec {E = E} (Ok v) journal before after old new
 loaded v u journal header next end before after old new tip_is next_is saved_is at l = record {
   stops = as_moved old new header end before after at l.stops;
   items_are = l.items_are;
@@ -54,5 +54,5 @@ loaded v u journal header next end before after old new tip_is next_is saved_is 
   };
 }
 
-pub not_loaded : {R T U E F : Type 0} (e : E) (result : Result U F) (journal : Logbook R) (header : Header) (end : LogEnd) (before after : Standing) (old new : Life) → IsAtEnd old header before end → Loads result header after old new → Moves {T = T} (Err e) journal before after old new
+pub not_loaded : {R T U E F : Type 0} (e : E) (result : Result U F) (journal : JournalModel R) (header : Header) (end : LogEnd) (before after : DurableState) (old new : Trace) → IsAtEnd old header before end → LoadSpec result header after old new → CommitSpec {T = T} (Err e) journal before after old new
 not_loaded e result journal header end before after old new at l = record { stops = as_moved old new header end before after at l.stops; items_are = l.items_are; at = tt }

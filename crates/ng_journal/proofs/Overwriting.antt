@@ -2,36 +2,38 @@
 use Rattle.std.proofs.Common.{◌≡◌, inl, inr, ⊎_elim, ℕ, ◌+◌, ◌*◌, ◌<◌, ◌≤◌, List, Result, Ok, Err, length, sym, ◌∙◌, ap, subst, arith}
 use Rattle.std.specs.Prelude.{OnOk}
 use Rattle.ng_canon.specs.declared.item.Item.{Item}
-use Rattle.ng_rig.specs.Life.{Image, Life, Synced, reads, items}
-use Rattle.ng_rig.specs.Onward.{Onward}
-use Rattle.ng_rig.specs.Only.{Blend, WritesOnly}
+use Rattle.ng_rig.specs.Trace.{Image, Trace, Synced, reads, items}
+use Rattle.ng_rig.specs.Continuation.{IsContinuation}
+use Rattle.ng_rig.specs.Only.{IsMixOf, WritesOnly}
 use Rattle.ng_rig.proofs.Running.{joined, weaker, is_synced}
 use Rattle.ng_rig.proofs.Writes_only.{reads_blend, only_sync}
 use Rattle.ng_layout.specs.declared.header.Header.{Header}
-use Rattle.ng_layout.specs.Sectors.{text_of, HoldsText}
-use Rattle.ng_layout.specs.Spare.{IsAmong, SameButSpare}
+use Rattle.ng_layout.specs.Sectors.{program_text, HoldsText}
+use Rattle.ng_layout.specs.Spare.{IsAmong}
+use Rattle.ng_layout.proofs.Spares.{SameButSpare}
 use Rattle.ng_layout.specs.Areas.{program_first, program_size, spare_area}
 use Rattle.ng_layout.specs.Limits.{longest_program}
 use Rattle.ng_layout.specs.Stands.{stretch, stands}
-use Rattle.ng_layout.specs.Stored.{Saved, Standing}
+use Rattle.ng_layout.specs.Stored.{StoredModel, DurableState}
 use Rattle.ng_layout.proofs.Images.{stretch-at, force-frame, stands-frame, written-frame}
 use Rattle.ng_layout.proofs.Snapshots.{text-whole}
 use Rattle.ng_log.specs.AtEnd.{no_records, IsAtEnd}
-use Rattle.ng_journal.specs.AtRest.{IsOwn, IsEither, beside, next_header, Checkpoints}
-use Rattle.ng_journal.specs.Loads.{WritesText, Loads}
+use Rattle.ng_journal.specs.Private.CheckpointSteps.{IsOwnImage, beside, CheckpointSpec}
+use Rattle.ng_journal.specs.AtRest.{IsEither, next_header}
+use Rattle.ng_journal.specs.Private.LoadSteps.{WritesText, LoadSpec}
 use Rattle.ng_journal.proofs.Framing.{among_text}
 
 abbrev In : ℕ → ℕ → List ℕ → Type 0
 In area n c = IsAmong (program_first area) (program_size area) n
 
-abbrev P : Life → Standing → Image → List Item → Type 0
+abbrev P : Trace → DurableState → Image → List Item → Type 0
 P old loaded = IsEither (stands (reads old)) (Ok loaded) (items old)
 
 -- an image of writes to that area alone
-same_but_spare : (old : Life) (header : Header) → IsOwn old header → (image : Image) (handed : List Item) → Blend old (In (spare_area header.area)) image handed → SameButSpare header image (reads old)
+same_but_spare : (old : Trace) (header : Header) → IsOwnImage old header → (image : Image) (handed : List Item) → IsMixOf old (In (spare_area header.area)) image handed → SameButSpare header image (reads old)
 same_but_spare old header at image handed p = record { each = λ n. ⊎_elim (λ may. inr (at.synced.one n (image n) may)) (λ among. inl (inr among)) (p.each n) }
 
-blend_is_old : (old : Life) (header : Header) (loaded : Standing) → IsOwn old header → (image : Image) (handed : List Item) → Blend old (In (spare_area header.area)) image handed → P old loaded image handed
+blend_is_old : (old : Trace) (header : Header) (loaded : DurableState) → IsOwnImage old header → (image : Image) (handed : List Item) → IsMixOf old (In (spare_area header.area)) image handed → P old loaded image handed
 blend_is_old old header loaded at image handed p =
     let same = same_but_spare old header at image handed p in
     record {
@@ -40,49 +42,49 @@ blend_is_old old header loaded at image handed p =
       handed_is = p.handed_is;
     }
 
-after_text : (old mid : Life) (header : Header) (loaded : Standing) → IsOwn old header → WritesOnly (In (spare_area header.area)) old mid → Onward old mid (P old loaded)
-after_text old mid header loaded at w = weaker old mid (Blend old (In (spare_area header.area))) (P old loaded) w.stops (blend_is_old old header loaded at)
+after_text : (old mid : Trace) (header : Header) (loaded : DurableState) → IsOwnImage old header → WritesOnly (In (spare_area header.area)) old mid → IsContinuation old mid (P old loaded)
+after_text old mid header loaded at w = weaker old mid (IsMixOf old (In (spare_area header.area))) (P old loaded) w.stops (blend_is_old old header loaded at)
 
-at_sync : (old mid : Life) (header : Header) (loaded : Standing) → IsOwn old header → WritesOnly (In (spare_area header.area)) old mid → Onward old (Synced mid) (P old loaded)
-at_sync old mid header loaded at w = weaker old (Synced mid) (Blend old (In (spare_area header.area))) (P old loaded) (only_sync (In (spare_area header.area)) old mid w) (blend_is_old old header loaded at)
+at_sync : (old mid : Trace) (header : Header) (loaded : DurableState) → IsOwnImage old header → WritesOnly (In (spare_area header.area)) old mid → IsContinuation old (Synced mid) (P old loaded)
+at_sync old mid header loaded at w = weaker old (Synced mid) (IsMixOf old (In (spare_area header.area))) (P old loaded) (only_sync (In (spare_area header.area)) old mid w) (blend_is_old old header loaded at)
 
-same_reads : (old mid : Life) (header : Header) → IsOwn old header → WritesOnly (In (spare_area header.area)) old mid → SameButSpare header (reads mid) (reads old)
+same_reads : (old mid : Trace) (header : Header) → IsOwnImage old header → WritesOnly (In (spare_area header.area)) old mid → SameButSpare header (reads mid) (reads old)
 same_reads old mid header at w = same_but_spare old header at (reads mid) (items mid) (reads_blend (In (spare_area header.area)) old mid w)
 
 -- the device is at rest again, under the same header
-pub own_again : (old mid synced : Life) (area : ℕ) (header : Header) → IsOwn old header → area ≡ spare_area header.area → WritesOnly (In area) old mid → synced ≡ Synced mid → IsOwn synced header
+pub own_again : (old mid synced : Trace) (area : ℕ) (header : Header) → IsOwnImage old header → area ≡ spare_area header.area → WritesOnly (In area) old mid → synced ≡ Synced mid → IsOwnImage synced header
 own_again old mid synced area header at place writes is =
     let w = subst (λ (n : ℕ). WritesOnly (In n) old mid) place writes in
     let same = same_reads old mid header at w in
-    subst (λ (l : Life). IsOwn l header) (sym is) (record {
+    subst (λ (l : Trace). IsOwnImage l header) (sym is) (record {
       synced = is_synced mid;
       force = force-frame header (reads mid) (reads old) same ∙ at.force;
       written = written-frame header (reads mid) (reads old) same at.written;
     })
 
 -- the text stands in that area
-text_is : (area : ℕ) (text : List ℕ) (image : Image) → length text ≤ longest_program → ((j : ℕ) → 512 * j < length text → HoldsText text (512 * j) (image (program_first area + j))) → text_of (length text) (stretch (program_first area) (program_size area) image) ≡ text
+text_is : (area : ℕ) (text : List ℕ) (image : Image) → length text ≤ longest_program → ((j : ℕ) → 512 * j < length text → HoldsText text (512 * j) (image (program_first area + j))) → program_text (length text) (stretch (program_first area) (program_size area) image) ≡ text
 text_is area text image short parts = text-whole text (stretch (program_first area) (program_size area) image) (λ j lt. subst (HoldsText text (512 * j)) (sym (stretch-at (program_first area) (program_size area) image j (omega arith))) (parts j lt))
 
-beside_is : (saved : Saved) (area : ℕ) (text : List ℕ) (image : Image) → saved.length ≡ length text → length text ≤ longest_program → ((j : ℕ) → 512 * j < length text → HoldsText text (512 * j) (image (program_first area + j))) → beside saved area image ≡ record { saved = saved; program = text }
-beside_is saved area text image long short parts = λ i. record { saved = saved; program = (ap (λ (n : ℕ). text_of n (stretch (program_first area) (program_size area) image)) long ∙ text_is area text image short parts) i }
+beside_is : (saved : StoredModel) (area : ℕ) (text : List ℕ) (image : Image) → saved.length ≡ length text → length text ≤ longest_program → ((j : ℕ) → 512 * j < length text → HoldsText text (512 * j) (image (program_first area + j))) → beside saved area image ≡ record { saved = saved; program = text }
+beside_is saved area text image long short parts = λ i. record { saved = saved; program = (ap (λ (n : ℕ). program_text n (stretch (program_first area) (program_size area) image)) long ∙ text_is area text image short parts) i }
 
 -- The exits.
-pub exit_text : {T E F : Type 0} (e : E) (result : Result T F) (old mid : Life) (area : ℕ) (header : Header) (loaded : Standing) (text : List ℕ) → IsOwn old header → area ≡ spare_area header.area → WritesText result area text old mid → Loads {T = T} (Err e) header loaded old mid
+pub exit_text : {T E F : Type 0} (e : E) (result : Result T F) (old mid : Trace) (area : ℕ) (header : Header) (loaded : DurableState) (text : List ℕ) → IsOwnImage old header → area ≡ spare_area header.area → WritesText result area text old mid → LoadSpec {T = T} (Err e) header loaded old mid
 exit_text e result old mid area header loaded text at place w =
     let writes = subst (λ (n : ℕ). WritesOnly (In n) old mid) place (among_text area text old mid w.writes) in
     record { stops = after_text old mid header loaded at writes; items_are = w.writes.items_are; at = tt }
 
-pub exit_sync : {T E F : Type 0} (e : E) (result : Result T F) (old mid last : Life) (area : ℕ) (header : Header) (loaded : Standing) (text : List ℕ) → IsOwn old header → area ≡ spare_area header.area → WritesText result area text old mid → last ≡ mid → Loads {T = T} (Err e) header loaded old last
-exit_sync {T = T} e result old mid last area header loaded text at place w same = subst (λ (l : Life). Loads {T = T} (Err e) header loaded old l) (sym same) (exit_text e result old mid area header loaded text at place w)
+pub exit_sync : {T E F : Type 0} (e : E) (result : Result T F) (old mid last : Trace) (area : ℕ) (header : Header) (loaded : DurableState) (text : List ℕ) → IsOwnImage old header → area ≡ spare_area header.area → WritesText result area text old mid → last ≡ mid → LoadSpec {T = T} (Err e) header loaded old last
+exit_sync {T = T} e result old mid last area header loaded text at place w same = subst (λ (l : Trace). LoadSpec {T = T} (Err e) header loaded old l) (sym same) (exit_text e result old mid area header loaded text at place w)
 
-pub loaded_all : {T E U F : Type 0} (result : Result T E) (u : U) (old mid synced last : Life) (area : ℕ) (header next : Header) (saved : Saved) (text : List ℕ) → IsOwn old header → area ≡ spare_area header.area → saved.length ≡ length text → length text ≤ longest_program
-    → WritesText {E = F} (Ok u) area text old mid → synced ≡ Synced mid → next ≡ next_header header (spare_area header.area) saved.length → Checkpoints result next saved synced last → Loads result header (record { saved = saved; program = text }) old last
+pub loaded_all : {T E U F : Type 0} (result : Result T E) (u : U) (old mid synced last : Trace) (area : ℕ) (header next : Header) (saved : StoredModel) (text : List ℕ) → IsOwnImage old header → area ≡ spare_area header.area → saved.length ≡ length text → length text ≤ longest_program
+    → WritesText {E = F} (Ok u) area text old mid → synced ≡ Synced mid → next ≡ next_header header (spare_area header.area) saved.length → CheckpointSpec result next saved synced last → LoadSpec result header (record { saved = saved; program = text }) old last
 loaded_all {T = T} {E = E} {F = F} result u old mid synced last area header next saved text at place long short w is next_is c_next =
     record {
-      stops = joined old synced last (P old loaded) (subst (λ (l : Life). Onward old l (P old loaded)) (sym is) (at_sync old mid header loaded at only))
+      stops = joined old synced last (P old loaded) (subst (λ (l : Trace). IsContinuation old l (P old loaded)) (sym is) (at_sync old mid header loaded at only))
           (weaker synced last (IsEither (stands (reads synced)) (Ok (beside saved (spare_area header.area) (reads synced))) (items synced)) (P old loaded) c.stops (λ image handed p. record {
-            state = ⊎_elim (λ b. inl (b ∙ before)) (λ a. inr (a ∙ ap (λ (s : Standing). Ok s) made)) p.state;
+            state = ⊎_elim (λ b. inl (b ∙ before)) (λ a. inr (a ∙ ap (λ (s : DurableState). Ok s) made)) p.state;
             written = p.written;
             handed_is = p.handed_is ∙ same_items;
           }));
@@ -90,10 +92,10 @@ loaded_all {T = T} {E = E} {F = F} result u old mid synced last area header next
       at = go result c.at;
     }
   where
-    c : Checkpoints result (next_header header (spare_area header.area) saved.length) saved synced last
-    c = subst (λ (h : Header). Checkpoints result h saved synced last) next_is c_next
+    c : CheckpointSpec result (next_header header (spare_area header.area) saved.length) saved synced last
+    c = subst (λ (h : Header). CheckpointSpec result h saved synced last) next_is c_next
 
-    loaded : Standing
+    loaded : DurableState
     loaded = record { saved = saved; program = text }
 
     writes : WritesText {E = F} (Ok u) (spare_area header.area) text old mid
@@ -106,11 +108,11 @@ loaded_all {T = T} {E = E} {F = F} result u old mid synced last area header next
     same_items = ap items is ∙ writes.writes.items_are
 
     before : stands (reads synced) ≡ stands (reads old)
-    before = ap (λ (l : Life). stands (reads l)) is ∙ stands-frame header (reads mid) (reads old) at.force (same_reads old mid header at only)
+    before = ap (λ (l : Trace). stands (reads l)) is ∙ stands-frame header (reads mid) (reads old) at.force (same_reads old mid header at only)
 
     made : beside saved (spare_area header.area) (reads synced) ≡ loaded
-    made = ap (λ (l : Life). beside saved (spare_area header.area) (reads l)) is ∙ beside_is saved (spare_area header.area) text (reads mid) long short writes.parts
+    made = ap (λ (l : Trace). beside saved (spare_area header.area) (reads l)) is ∙ beside_is saved (spare_area header.area) text (reads mid) long short writes.parts
 
     go : (result : Result T E) → OnOk result (IsAtEnd last (next_header header (spare_area header.area) saved.length) (beside saved (spare_area header.area) (reads synced)) no_records) → OnOk result (IsAtEnd last (next_header header (spare_area header.area) saved.length) loaded no_records)
     go (Err e) at = tt
-    go (Ok v) at = subst (λ (s : Standing). IsAtEnd last (next_header header (spare_area header.area) saved.length) s no_records) made at
+    go (Ok v) at = subst (λ (s : DurableState). IsAtEnd last (next_header header (spare_area header.area) saved.length) s no_records) made at

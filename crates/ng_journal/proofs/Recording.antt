@@ -2,88 +2,89 @@
 use Rattle.std.proofs.Common.{◌≡◌, inl, inr, ⊎_elim, ℕ, ◌+◌, ◌<◌, ◌≤◌, ◌↔◌, Bool, true, false, List, ℤ, Result, Ok, Err, length, refl, sym, ◌∙◌, ap, subst, arith}
 use Rattle.std.specs.Prelude.{OnOk}
 use Rattle.std.proofs.lemmas.Bool.{cases_lt}
-use Rattle.ng_rig.specs.Life.{Life, reads, items}
-use Rattle.ng_rig.specs.Onward.{Onward}
+use Rattle.ng_rig.specs.Trace.{Trace, reads, items}
+use Rattle.ng_rig.specs.Continuation.{IsContinuation}
 use Rattle.ng_rig.specs.Only.{WritesOnly}
 use Rattle.ng_rig.proofs.Running.{stays, joined, weaker}
 use Rattle.ng_rig.proofs.Writes_only.{only_none, only_more, only_wider, reads_blend}
 use Rattle.ng_layout.specs.declared.header.Header.{Header}
 use Rattle.ng_layout.specs.Areas.{log_size_of, program_first, program_size}
 use Rattle.ng_layout.specs.Log.{parts_for}
-use Rattle.ng_layout.specs.Sectors.{text_of}
+use Rattle.ng_layout.specs.Sectors.{program_text}
 use Rattle.ng_layout.specs.Stands.{stands, stretch}
-use Rattle.ng_layout.specs.Stored.{Saved, Standing}
+use Rattle.ng_layout.specs.Stored.{StoredModel, DurableState}
 use Rattle.ng_log.specs.declared.log_end.LogEnd.{LogEnd}
 use Rattle.ng_log.specs.AtEnd.{no_records, IsAtEnd}
-use Rattle.ng_log.specs.Appends.{Appends, WritesRecord}
-use Rattle.ng_log.specs.Differences.{differences}
+use Rattle.ng_log.specs.Appends.{AppendSpec, WritesRecord}
+use Rattle.ng_params.specs.Differences.{differences}
 use Rattle.ng_log.specs.Records.{LogRecord, BelongsToRecord, record_from}
-use Rattle.ng_log.proofs.Differing.{differences-none}
+use Rattle.ng_params.proofs.Differing.{differences-none}
 use Rattle.ng_log.proofs.Ending.{ends-stand}
 use Rattle.ng_journal.specs.declared.storing.Tip.{Tip}
-use Rattle.ng_journal.specs.AtRest.{IsOwn, IsEither, IsOfEpoch, BelongsTo, IsLaidOut, StoresState, beside, Checkpoints}
+use Rattle.ng_journal.specs.Private.CheckpointSteps.{IsOwnImage, StoresState, beside, CheckpointSpec}
+use Rattle.ng_journal.specs.AtRest.{IsEither, IsOfEpoch, BelongsTo, IsLaidOut}
 use Rattle.ng_journal.specs.Journal.{IsTip, StandsFor}
-use Rattle.ng_journal.specs.Records.{ledger, tip_of, IsRoom, MakesRoom, IsRenewed, StoresRoom, Stores}
+use Rattle.ng_journal.specs.Private.Records.{ledger, tip_of, IsRoom, MakeRoomSpec, IsRenewed, StoresRoom, StoreRecordSpec}
 use Rattle.ng_journal.specs.Storing.{Ledger, changes_to, HasRoomFor, IsFullFor, renewed, record_of, BelongsToStoring, IsRecorded, IsStoredIn, StoresRecord}
 
-pub own : {life : Life} {header : Header} {standing : Standing} {end : LogEnd} → IsAtEnd life header standing end → IsOwn life header
+pub own : {trace : Trace} {header : Header} {standing : DurableState} {end : LogEnd} → IsAtEnd trace header standing end → IsOwnImage trace header
 own at = record { synced = at.synced; force = at.image.force; written = at.image.written }
 
 -- ---- what stops leave
 
 -- what stands, beside the program in force
-pub same_standing : (life : Life) (header : Header) (before : Standing) (end : LogEnd) (saved : Saved) (area : ℕ) → IsAtEnd life header before end → before.saved ≡ saved → area ≡ header.area → beside saved area (reads life) ≡ before
-same_standing life header before end saved area at is area_is =
-    (λ i. beside (sym is i) (area_is i) (reads life))
-    ∙ (λ i. record { saved = before.saved; program = (ap (λ (n : ℕ). text_of n (stretch (program_first header.area) (program_size header.area) (reads life))) at.image.long ∙ at.image.program) i })
+pub same_standing : (trace : Trace) (header : Header) (before : DurableState) (end : LogEnd) (saved : StoredModel) (area : ℕ) → IsAtEnd trace header before end → before.saved ≡ saved → area ≡ header.area → beside saved area (reads trace) ≡ before
+same_standing trace header before end saved area at is area_is =
+    (λ i. beside (sym is i) (area_is i) (reads trace))
+    ∙ (λ i. record { saved = before.saved; program = (ap (λ (n : ℕ). program_text n (stretch (program_first header.area) (program_size header.area) (reads trace))) at.image.long ∙ at.image.program) i })
 
-module _ (old new : Life) (header next : Header) (before : Standing) (end : LogEnd) (saved : Saved) (at : IsAtEnd old header before end) (is : before.saved ≡ saved) (area_is : next.area ≡ header.area) where
+module _ (old new : Trace) (header next : Header) (before : DurableState) (end : LogEnd) (saved : StoredModel) (at : IsAtEnd old header before end) (is : before.saved ≡ saved) (area_is : next.area ≡ header.area) where
   same : beside saved next.area (reads old) ≡ before
   same = same_standing old header before end saved next.area at is area_is
 
   -- a checkpoint of what stands leaves it standing
-  keeps_standing : {T E : Type 0} (result : Result T E) → Checkpoints result next saved old new → Onward old new (StandsFor before (items old))
+  keeps_standing : {T E : Type 0} (result : Result T E) → CheckpointSpec result next saved old new → IsContinuation old new (StandsFor before (items old))
   keeps_standing result c = weaker old new (IsEither (stands (reads old)) (Ok (beside saved next.area (reads old))) (items old)) (StandsFor before (items old)) c.stops (λ image handed p. record {
-    state = ⊎_elim (λ was. was ∙ ends-stand (reads old) header before end at.image) (λ made. made ∙ ap (λ (s : Standing). Ok s) same) p.state;
+    state = ⊎_elim (λ was. was ∙ ends-stand (reads old) header before end at.image) (λ made. made ∙ ap (λ (s : DurableState). Ok s) same) p.state;
     written = p.written;
     handed_is = p.handed_is;
   })
 
-  pub room_failed : {T E F : Type 0} (e : E) (result : Result T F) → Checkpoints result next saved old new → MakesRoom (Err e) before old new
+  pub room_failed : {T E F : Type 0} (e : E) (result : Result T F) → CheckpointSpec result next saved old new → MakeRoomSpec (Err e) before old new
   room_failed e result c = record { stops = keeps_standing result c; items_are = c.items_are; at = tt }
 
-  pub room_made : {T E F : Type 0} (v : T) (tip : Tip) → tip ≡ record { header = next; end = no_records } → Checkpoints {E = F} (Ok v) next saved old new → MakesRoom {E = E} (Ok tip) before old new
+  pub room_made : {T E F : Type 0} (v : T) (tip : Tip) → tip ≡ record { header = next; end = no_records } → CheckpointSpec {E = F} (Ok v) next saved old new → MakeRoomSpec {E = E} (Ok tip) before old new
   room_made {F = F} v tip tip_is c =
       let ok : Result _ F = Ok v in
       record {
         stops = keeps_standing ok c;
         items_are = c.items_are;
-        at = subst (λ (t : Tip). IsAtEnd new t.header before t.end) (sym tip_is) (subst (λ (s : Standing). IsAtEnd new next s no_records) same c.at);
+        at = subst (λ (t : Tip). IsAtEnd new t.header before t.end) (sym tip_is) (subst (λ (s : DurableState). IsAtEnd new next s no_records) same c.at);
       }
 
 -- or the log has room
-pub room_there : {E : Type 0} (tip : Tip) (before : Standing) (life : Life) → IsAtEnd life tip.header before tip.end → MakesRoom {E = E} (Ok tip) before life life
-room_there tip before life at = record { stops = stays life (StandsFor before (items life)); items_are = refl; at = at }
+pub room_there : {E : Type 0} (tip : Tip) (before : DurableState) (trace : Trace) → IsAtEnd trace tip.header before tip.end → MakeRoomSpec {E = E} (Ok tip) before trace trace
+room_there tip before trace at = record { stops = stays trace (StandsFor before (items trace)); items_are = refl; at = at }
 
-pub appended : {E : Type 0} (tip after : Tip) (end : LogEnd) (before : Standing) (saved : Saved) (old new : Life) → after ≡ record { header = tip.header; end = end } → Appends {E = E} (Ok end) tip.header before saved old new → Stores {E = E} (Ok after) before saved old new
+pub appended : {E : Type 0} (tip after : Tip) (end : LogEnd) (before : DurableState) (saved : StoredModel) (old new : Trace) → after ≡ record { header = tip.header; end = end } → AppendSpec {E = E} (Ok end) tip.header before saved old new → StoreRecordSpec {E = E} (Ok after) before saved old new
 appended tip after end before saved old new is a = record {
   stops = a.stops;
   items_are = a.items_are;
   at = subst (λ (t : Tip). IsAtEnd new t.header (record before { saved = saved }) t.end) (sym is) a.at;
 }
 
-pub not_appended : {E F : Type 0} (e : E) (result : Result LogEnd F) (header : Header) (before : Standing) (saved : Saved) (old new : Life) → Appends result header before saved old new → Stores (Err e) before saved old new
+pub not_appended : {E F : Type 0} (e : E) (result : Result LogEnd F) (header : Header) (before : DurableState) (saved : StoredModel) (old new : Trace) → AppendSpec result header before saved old new → StoreRecordSpec (Err e) before saved old new
 not_appended e result header before saved old new a = record { stops = a.stops; items_are = a.items_are; at = tt }
 
-as_either : (before after : Standing) (old mid : Life) → Onward old mid (StandsFor before (items old)) → Onward old mid (IsEither (Ok before) (Ok after) (items old))
+as_either : (before after : DurableState) (old mid : Trace) → IsContinuation old mid (StandsFor before (items old)) → IsContinuation old mid (IsEither (Ok before) (Ok after) (items old))
 as_either before after old mid stops = weaker old mid (StandsFor before (items old)) (IsEither (Ok before) (Ok after) (items old)) stops (λ image handed p. record { state = inl p.state; written = p.written; handed_is = p.handed_is })
 
-pub no_room : {E F : Type 0} (e : E) (result : Result Tip F) (before : Standing) (saved : Saved) (old new : Life) → MakesRoom result before old new → Stores (Err e) before saved old new
+pub no_room : {E F : Type 0} (e : E) (result : Result Tip F) (before : DurableState) (saved : StoredModel) (old new : Trace) → MakeRoomSpec result before old new → StoreRecordSpec (Err e) before saved old new
 no_room e result before saved old new m = record { stops = as_either before (record before { saved = saved }) old new m.stops; items_are = m.items_are; at = tt }
 
-pub stored_after : {E F : Type 0} (result : Result Tip E) (tip : Tip) (before : Standing) (saved : Saved) (old mid new : Life) → MakesRoom {E = F} (Ok tip) before old mid → Stores result before saved mid new → Stores result before saved old new
+pub stored_after : {E F : Type 0} (result : Result Tip E) (tip : Tip) (before : DurableState) (saved : StoredModel) (old mid new : Trace) → MakeRoomSpec {E = F} (Ok tip) before old mid → StoreRecordSpec result before saved mid new → StoreRecordSpec result before saved old new
 stored_after result tip before saved old mid new m s =
-    let after : Standing = record before { saved = saved } in
+    let after : DurableState = record before { saved = saved } in
     record {
       stops = joined old mid new (IsEither (Ok before) (Ok after) (items old)) (as_either before after old mid m.stops)
           (weaker mid new (IsEither (Ok before) (Ok after) (items mid)) (IsEither (Ok before) (Ok after) (items old)) s.stops (λ image handed p. record { state = p.state; written = p.written; handed_is = p.handed_is ∙ m.items_are }));
@@ -96,20 +97,20 @@ stored_after result tip before saved old mid new m s =
 abbrev MayRoom : Ledger → ℕ → ℕ → List ℕ → Type 0
 MayRoom l changes n bytes = IsFullFor l.header l.end changes × BelongsTo (renewed l).header l.saved n bytes
 
-abbrev May : Ledger → Saved → ℕ → List ℕ → Type 0
+abbrev May : Ledger → StoredModel → ℕ → List ℕ → Type 0
 May l saved n bytes = BelongsToStoring l saved n bytes
 
-pub nothing_written : {T E : Type 0} (v : T) (l : Ledger) (changes : ℕ) (life : Life) → HasRoomFor l.header l.end changes → StoresRoom {E = E} (Ok v) l changes life life
-nothing_written v l changes life room = record { writes = only_none (MayRoom l changes) life; done = λ full. absurd (omega (arith, room, full)) }
+pub nothing_written : {T E : Type 0} (v : T) (l : Ledger) (changes : ℕ) (trace : Trace) → HasRoomFor l.header l.end changes → StoresRoom {E = E} (Ok v) l changes trace trace
+nothing_written v l changes trace room = record { writes = only_none (MayRoom l changes) trace; done = λ full. absurd (omega (arith, room, full)) }
 
-room_written : {T E : Type 0} (result : Result T E) (l : Ledger) (changes : ℕ) (next : Header) (old new : Life) → IsFullFor l.header l.end changes → next ≡ (renewed l).header → StoresState result next l.saved old new → WritesOnly (MayRoom l changes) old new
+room_written : {T E : Type 0} (result : Result T E) (l : Ledger) (changes : ℕ) (next : Header) (old new : Trace) → IsFullFor l.header l.end changes → next ≡ (renewed l).header → StoresState result next l.saved old new → WritesOnly (MayRoom l changes) old new
 room_written result l changes next old new full is s =
     only_wider (λ n bytes. BelongsTo next l.saved n bytes) (MayRoom l changes) old new (λ n c own. (full, subst (λ (h : Header). BelongsTo h l.saved n c) is own)) s.writes
 
-pub room_not_written : {T U E F : Type 0} (e : E) (result : Result U F) (l : Ledger) (changes : ℕ) (next : Header) (old new : Life) → IsFullFor l.header l.end changes → next ≡ (renewed l).header → StoresState result next l.saved old new → StoresRoom {T = T} (Err e) l changes old new
+pub room_not_written : {T U E F : Type 0} (e : E) (result : Result U F) (l : Ledger) (changes : ℕ) (next : Header) (old new : Trace) → IsFullFor l.header l.end changes → next ≡ (renewed l).header → StoresState result next l.saved old new → StoresRoom {T = T} (Err e) l changes old new
 room_not_written e result l changes next old new full is s = record { writes = room_written result l changes next old new full is s; done = tt }
 
-pub all_room_written : {T U E F : Type 0} (u : U) (v : T) (l : Ledger) (changes : ℕ) (next : Header) (old new : Life) → IsFullFor l.header l.end changes → next ≡ (renewed l).header → StoresState {E = F} (Ok v) next l.saved old new → StoresRoom {T = U} {E = E} (Ok u) l changes old new
+pub all_room_written : {T U E F : Type 0} (u : U) (v : T) (l : Ledger) (changes : ℕ) (next : Header) (old new : Trace) → IsFullFor l.header l.end changes → next ≡ (renewed l).header → StoresState {E = F} (Ok v) next l.saved old new → StoresRoom {T = U} {E = E} (Ok u) l changes old new
 all_room_written {F = F} u v l changes next old new full is s =
     let ok : Result _ F = Ok v in
     record {
@@ -117,14 +118,14 @@ all_room_written {F = F} u v l changes next old new full is s =
       done = λ _. record { laid = subst (λ (h : Header). IsLaidOut h l.saved (reads new)) is s.laid; synced = s.synced };
     }
 
-pub not_stored : {T U E F : Type 0} (e : E) (result : Result U F) (l : Ledger) (changes : ℕ) (saved : Saved) (old new : Life) → changes ≡ changes_to l saved → StoresRoom result l changes old new → StoresRecord {T = T} (Err e) l saved old new
+pub not_stored : {T U E F : Type 0} (e : E) (result : Result U F) (l : Ledger) (changes : ℕ) (saved : StoredModel) (old new : Trace) → changes ≡ changes_to l saved → StoresRoom result l changes old new → StoresRecord {T = T} (Err e) l saved old new
 not_stored e result l changes saved old new count r = record {
   writes = only_wider (MayRoom l changes) (May l saved) old new (λ n c b. inr (subst (IsFullFor l.header l.end) count b.0, inl b.1)) r.writes;
   laid = tt;
 }
 
 -- a record leaves what isn't in the log
-stays_laid : (l : Ledger) (r : LogRecord) (mid new : Life) → IsRenewed l mid → WritesOnly (BelongsToRecord r) mid new → IsLaidOut (renewed l).header l.saved (reads new)
+stays_laid : (l : Ledger) (r : LogRecord) (mid new : Trace) → IsRenewed l mid → WritesOnly (BelongsToRecord r) mid new → IsLaidOut (renewed l).header l.saved (reads new)
 stays_laid l r mid new done w = λ n own. subst (BelongsTo (renewed l).header l.saved n) (sym (same n own)) (done.laid n own)
   where
     low : (n : ℕ) → IsOfEpoch (renewed l).header.epoch n → n < 686
@@ -134,10 +135,10 @@ stays_laid l r mid new done w = λ n own. subst (BelongsTo (renewed l).header l.
     same : (n : ℕ) → IsOfEpoch (renewed l).header.epoch n → reads new n ≡ reads mid n
     same n own = ⊎_elim (λ may. done.synced.one n (reads new n) may) (λ there. absurd (omega (arith, low n own, there.log))) ((reads_blend (BelongsToRecord r) mid new w).each n)
 
-room_of : (tip : Tip) (l : Ledger) (saved : Saved) (at : Ledger) → tip ≡ tip_of at → at.saved ≡ l.saved → record_of (ledger tip l.saved) saved ≡ record_of at saved
+room_of : (tip : Tip) (l : Ledger) (saved : StoredModel) (at : Ledger) → tip ≡ tip_of at → at.saved ≡ l.saved → record_of (ledger tip l.saved) saved ≡ record_of at saved
 room_of tip l saved at is same = λ i. record_of (record { header = (is i).header; end = (is i).end; saved = sym same i }) saved
 
-pub stored : {T E F : Type 0} (result : Result T E) (tip : Tip) (l : Ledger) (changes : ℕ) (saved : Saved) (old mid new : Life) → changes ≡ changes_to l saved → IsRoom l changes tip → StoresRoom {E = F} (Ok tip) l changes old mid → WritesRecord result (record_of (ledger tip l.saved) saved) mid new → StoresRecord result l saved old new
+pub stored : {T E F : Type 0} (result : Result T E) (tip : Tip) (l : Ledger) (changes : ℕ) (saved : StoredModel) (old mid new : Trace) → changes ≡ changes_to l saved → IsRoom l changes tip → StoresRoom {E = F} (Ok tip) l changes old mid → WritesRecord result (record_of (ledger tip l.saved) saved) mid new → StoresRecord result l saved old new
 stored {T = T} {E = E} result tip l changes saved old mid new count (inl there) r w =
     let at : WritesRecord result (record_of l saved) mid new = subst (λ (e : LogRecord). WritesRecord result e mid new) (room_of tip l saved l there.1 refl) w in
     let room : HasRoomFor l.header l.end (changes_to l saved) = subst (HasRoomFor l.header l.end) count there.0 in
@@ -171,7 +172,7 @@ has_room tip l changes few (inl there) = subst (λ (t : Tip). HasRoomFor t.heade
 has_room tip l changes few (inr full) = subst (λ (t : Tip). HasRoomFor t.header t.end changes) (sym full.1) (let room : HasRoomFor (renewed l).header no_records changes = omega (arith, few) in room)
 
 -- a table has no changes to itself
-pub none_changed : (saved : Saved) → 0 ≡ length (differences saved.setup.params saved.setup.params)
+pub none_changed : (saved : StoredModel) → 0 ≡ length (differences saved.setup.params saved.setup.params)
 none_changed saved = ap length (sym (differences-none saved.setup.params))
 
 pub has_room_yet : (b : Bool) (header : Header) (end : LogEnd) (changes : ℕ) → ((b ≡ true) ↔ IsFullFor header end changes) → b ≡ false → HasRoomFor header end changes
@@ -185,18 +186,18 @@ pub same_length : (a b : ℕ) (tip : Tip) → b ≡ a → IsTip a tip.header tip
 same_length a b tip is t = record { lawful = t.lawful; long = is ∙ t.long; within = t.within; number = t.number }
 
 -- a record as another call answers for it
-pub not_recorded : {T U E F : Type 0} (e : E) (result : Result U F) (tip : Tip) (table : List ℤ) (was saved : Saved) (old new : Life) → table ≡ was.setup.params → WritesRecord result (record_from tip.header.epoch tip.end table saved) old new → WritesRecord {T = T} (Err e) (record_of (ledger tip was) saved) old new
+pub not_recorded : {T U E F : Type 0} (e : E) (result : Result U F) (tip : Tip) (table : List ℤ) (was saved : StoredModel) (old new : Trace) → table ≡ was.setup.params → WritesRecord result (record_from tip.header.epoch tip.end table saved) old new → WritesRecord {T = T} (Err e) (record_of (ledger tip was) saved) old new
 not_recorded e result tip table was saved old new is w = record { writes = subst (λ (t : List ℤ). WritesOnly (BelongsToRecord (record_from tip.header.epoch tip.end t saved)) old new) is w.writes; parts = tt }
 
-pub recorded : {T U E F : Type 0} (t : T) (u : U) (tip : Tip) (table : List ℤ) (was saved : Saved) (old new : Life) → table ≡ was.setup.params → WritesRecord {E = F} (Ok u) (record_from tip.header.epoch tip.end table saved) old new → WritesRecord {E = E} (Ok t) (record_of (ledger tip was) saved) old new
+pub recorded : {T U E F : Type 0} (t : T) (u : U) (tip : Tip) (table : List ℤ) (was saved : StoredModel) (old new : Trace) → table ≡ was.setup.params → WritesRecord {E = F} (Ok u) (record_from tip.header.epoch tip.end table saved) old new → WritesRecord {E = E} (Ok t) (record_of (ledger tip was) saved) old new
 recorded t u tip table was saved old new is w = record {
   writes = subst (λ (x : List ℤ). WritesOnly (BelongsToRecord (record_from tip.header.epoch tip.end x saved)) old new) is w.writes;
   parts = subst (λ (x : List ℤ). IsRecorded (record_from tip.header.epoch tip.end x saved) (reads new)) is w.parts;
 }
 
 -- what is stored with another half-done block
-pub as_taken : {E : Type 0} (result : Result Tip E) (before : Standing) (taken saved : Saved) (old new : Life) → taken ≡ saved → Stores result before taken old new → Stores result before saved old new
-as_taken result before taken saved old new is s = subst (λ (x : Saved). Stores result before x old new) is s
+pub as_taken : {E : Type 0} (result : Result Tip E) (before : DurableState) (taken saved : StoredModel) (old new : Trace) → taken ≡ saved → StoreRecordSpec result before taken old new → StoreRecordSpec result before saved old new
+as_taken result before taken saved old new is s = subst (λ (x : StoredModel). StoreRecordSpec result before x old new) is s
 
-pub recorded_as : {T E : Type 0} (result : Result T E) (tip : Tip) (taken saved : Saved) (old new : Life) → taken ≡ saved → WritesRecord result (record_of (ledger tip taken) taken) old new → WritesRecord result (record_of (ledger tip saved) saved) old new
-recorded_as result tip taken saved old new is w = subst (λ (x : Saved). WritesRecord result (record_of (ledger tip x) x) old new) is w
+pub recorded_as : {T E : Type 0} (result : Result T E) (tip : Tip) (taken saved : StoredModel) (old new : Trace) → taken ≡ saved → WritesRecord result (record_of (ledger tip taken) taken) old new → WritesRecord result (record_of (ledger tip saved) saved) old new
+recorded_as result tip taken saved old new is w = subst (λ (x : StoredModel). WritesRecord result (record_of (ledger tip x) x) old new) is w

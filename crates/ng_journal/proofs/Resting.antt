@@ -2,51 +2,51 @@
 use Rattle.std.proofs.Common.{◌≡◌, ◌⊎◌, ℕ, List, [], ◌∷◌, ◌++◌, Result, Ok, Err, sym, ◌∙◌, ap, subst}
 use Rattle.std.specs.Prelude.{OnOk}
 use Rattle.ng_canon.specs.declared.item.Item.{Item}
-use Rattle.ng_rig.specs.Life.{Image, Life, Handed, reads, items, moment, StopSince}
-use Rattle.ng_rig.specs.Calls.{Hands}
-use Rattle.ng_rig.specs.Onward.{HasBesides}
+use Rattle.ng_rig.specs.Trace.{Image, Trace, Handed, reads, items, moment, StopSince}
+use Rattle.ng_rig.specs.Calls.{HandOutSpec}
+use Rattle.ng_rig.specs.Continuation.{HasBesides}
 use Rattle.ng_rig.proofs.Running.{weaker, stop_now, one_image, hands}
 use Rattle.ng_layout.specs.declared.header.Header.{Header}
 use Rattle.ng_layout.specs.Stands.{stands, IsWritten}
-use Rattle.ng_layout.specs.Stored.{Standing}
+use Rattle.ng_layout.specs.Stored.{DurableState}
 use Rattle.ng_log.specs.declared.log_end.LogEnd.{LogEnd}
 use Rattle.ng_log.specs.AtEnd.{EndsIn, IsAtEnd}
 use Rattle.ng_log.proofs.Ending.{ends-stand}
 use Rattle.ng_journal.specs.declared.storing.Tip.{Tip}
-use Rattle.ng_journal.specs.AtRest.{IsAt}
-use Rattle.ng_journal.specs.Journal.{Logbook, RestsAt, StandsFor, HandsOut}
-use Rattle.ng_journal.specs.Records.{tip_of}
+use Rattle.ng_journal.specs.AtRest.{IsImageUnder}
+use Rattle.ng_journal.specs.Journal.{JournalModel, IsDurablyAt, StandsFor, JournalHandOutSpec}
+use Rattle.ng_journal.specs.Private.Records.{tip_of}
 use Rattle.ng_journal.specs.Storing.{ledger_of}
 
-stands_for : (life : Life) (header : Header) (standing : Standing) (given : List Item) (image : Image) (handed : List Item) → IsAt life header standing → image ≡ reads life → handed ≡ given → StandsFor standing given image handed
-stands_for life header standing given image handed at same is = record {
+stands_for : (trace : Trace) (header : Header) (standing : DurableState) (given : List Item) (image : Image) (handed : List Item) → IsImageUnder trace header standing → image ≡ reads trace → handed ≡ given → StandsFor standing given image handed
+stands_for trace header standing given image handed at same is = record {
   state = ap stands same ∙ at.stands_for;
   written = subst IsWritten (sym same) at.written;
   handed_is = is;
 }
 
-pub at_rest : {end : LogEnd} (life : Life) (header : Header) (standing : Standing) → IsAtEnd life header standing end → IsAt life header standing
-at_rest {end = end} life header standing at = record {
+pub at_rest : {end : LogEnd} (trace : Trace) (header : Header) (standing : DurableState) → IsAtEnd trace header standing end → IsImageUnder trace header standing
+at_rest {end = end} trace header standing at = record {
   synced = at.synced;
   force = at.image.force;
-  stands_for = ends-stand (reads life) header standing end at.image;
+  stands_for = ends-stand (reads trace) header standing end at.image;
   written = at.image.written;
 }
 
-pub rests_alone : (life : Life) (header : Header) (standing : Standing) (image : Image) (handed : List Item) → IsAt life header standing → StopSince life (moment life) image handed → StandsFor standing (items life) image handed
-rests_alone life header standing image handed at since =
-    let stop = stop_now life image handed since in
-    stands_for life header standing (items life) image handed at (one_image life image handed at.synced stop) stop.1
+pub rests_alone : (trace : Trace) (header : Header) (standing : DurableState) (image : Image) (handed : List Item) → IsImageUnder trace header standing → StopSince trace (moment trace) image handed → StandsFor standing (items trace) image handed
+rests_alone trace header standing image handed at since =
+    let stop = stop_now trace image handed since in
+    stands_for trace header standing (items trace) image handed at (one_image trace image handed at.synced stop) stop.1
 
-pub alone : {end : LogEnd} (life : Life) (header : Header) (standing : Standing) (image : Image) (handed : List Item) → IsAtEnd life header standing end → StopSince life (moment life) image handed → StandsFor standing (items life) image handed
-alone life header standing image handed at since = rests_alone life header standing image handed (at_rest life header standing at) since
+pub alone : {end : LogEnd} (trace : Trace) (header : Header) (standing : DurableState) (image : Image) (handed : List Item) → IsAtEnd trace header standing end → StopSince trace (moment trace) image handed → StandsFor standing (items trace) image handed
+alone trace header standing image handed at since = rests_alone trace header standing image handed (at_rest trace header standing at) since
 
-given_by : {T E : Type 0} (result : Result T E) (item : Item) (old new : Life) → Hands result item old new → OnOk result (items new ≡ items old ++ item ∷ [])
+given_by : {T E : Type 0} (result : Result T E) (item : Item) (old new : Trace) → HandOutSpec result item old new → OnOk result (items new ≡ items old ++ item ∷ [])
 given_by (Ok v) item old new is = ap items is
 given_by (Err e) item old new is = tt
 
 -- A hand-out changes nothing that is read.
-pub handed_out : {R T E : Type 0} (result : Result T E) (journal before : Logbook R) (standing : Standing) (item : Item) (old new : Life) → tip_of (ledger_of journal) ≡ tip_of (ledger_of before) → journal.saved ≡ before.saved → RestsAt old before standing → Hands result item old new → HandsOut result journal standing item old new
+pub handed_out : {R T E : Type 0} (result : Result T E) (journal before : JournalModel R) (standing : DurableState) (item : Item) (old new : Trace) → tip_of (ledger_of journal) ≡ tip_of (ledger_of before) → journal.saved ≡ before.saved → IsDurablyAt old before standing → HandOutSpec result item old new → JournalHandOutSpec result journal standing item old new
 handed_out result journal before standing item old new same saved_is rest is =
     let h = hands result item old new rest.at.synced is in
     record {
@@ -63,7 +63,7 @@ handed_out result journal before standing item old new same saved_is rest is =
     }
 
 -- one that failed handed out its item or nothing
-pub perhaps_handed : {R T F : Type 0} (f : F) (journal before : Logbook R) (standing : Standing) (item : Item) (old new : Life) → tip_of (ledger_of journal) ≡ tip_of (ledger_of before) → journal.saved ≡ before.saved → RestsAt old before standing → (new ≡ old) ⊎ (new ≡ Handed item old) → HandsOut {T = T} (Err f) journal standing item old new
+pub perhaps_handed : {R T F : Type 0} (f : F) (journal before : JournalModel R) (standing : DurableState) (item : Item) (old new : Trace) → tip_of (ledger_of journal) ≡ tip_of (ledger_of before) → journal.saved ≡ before.saved → IsDurablyAt old before standing → (new ≡ old) ⊎ (new ≡ Handed item old) → JournalHandOutSpec {T = T} (Err f) journal standing item old new
 perhaps_handed f journal before standing item old new same saved_is rest is =
     let err : Result ℕ ℕ = Err 0 in
     let out = handed_out err journal before standing item old new same saved_is rest is in

@@ -3,70 +3,70 @@ use Rattle.std.specs.Prelude.{◌≡◌, ◌⊎◌, ◌≤◌, ◌+◌, ◌%◌,
 use Rattle.ng_num.specs.declared.fault.Fault.{Fault}
 use Rattle.ng_num.specs.declared.fault.Fault.TheVariants.{DeviceFailed}
 use Rattle.ng_canon.specs.declared.item.Item.{Item}
-use Rattle.ng_rig.specs.Life.{Image, Life, items}
-use Rattle.ng_rig.specs.Onward.{Onward}
+use Rattle.ng_rig.specs.Trace.{Image, Trace, items}
+use Rattle.ng_rig.specs.Continuation.{IsContinuation}
 use Rattle.ng_layout.specs.declared.header.Header.{Header}
-use Rattle.ng_layout.specs.Header.{IsLawful}
+use Rattle.ng_layout.specs.Header.{IsValidHeader}
 use Rattle.ng_layout.specs.Limits.{greatest_count}
 use Rattle.ng_layout.specs.Areas.{log_size_of, least_size}
 use Rattle.ng_layout.specs.Stands.{stands, IsWritten}
 use Rattle.ng_layout.specs.Storable.{IsStorable}
-use Rattle.ng_layout.specs.Stored.{Saved, Standing}
+use Rattle.ng_layout.specs.Stored.{StoredModel, DurableState}
 use Rattle.ng_log.specs.declared.log_end.LogEnd.{LogEnd}
 use Rattle.ng_log.specs.AtEnd.{IsAtEnd}
 use Rattle.ng_journal.specs.AtRest.{IsEither}
 
 -- the device, the header in force, where its log ends, what is stored, and whether a call of the device failed
-pub record Logbook (R : Type 0) : Type 0 where
+pub record JournalModel (R : Type 0) : Type 0 where
   pub rig : R
   pub header : Header
   pub end : LogEnd
-  pub saved : Saved
+  pub saved : StoredModel
   pub broken : Bool
 
 -- The header is within its limits and names a program of this length; its log ends here, within its sectors, of which each record has one at least.
 pub record IsTip (length : ℕ) (header : Header) (end : LogEnd) : Type 0 where
-  pub lawful : IsLawful header
+  pub lawful : IsValidHeader header
   pub long : length ≡ header.length
   pub within : end.sector ≤ log_size_of header
   pub number : end.number ≤ end.sector
 
 -- What holds of every journal, whatever its device does.
-pub record IsSteady (sectors : ℕ) (header : Header) (end : LogEnd) (saved : Saved) : Type 0 where
+pub record IsSteady (sectors : ℕ) (header : Header) (end : LogEnd) (saved : StoredModel) : Type 0 where
   pub room : least_size ≤ sectors
   pub tip : IsTip saved.length header end
   pub storable : IsStorable saved
   pub count : saved.entries ≤ greatest_count
 
 -- The device has one image, which stands for this, and the log ends where the journal has it.
-pub record RestsAt {R : Type 0} (life : Life) (journal : Logbook R) (standing : Standing) : Type 0 where
-  pub at : IsAtEnd life journal.header standing journal.end
+pub record IsDurablyAt {R : Type 0} (trace : Trace) (journal : JournalModel R) (standing : DurableState) : Type 0 where
+  pub at : IsAtEnd trace journal.header standing journal.end
   pub saved_is : standing.saved ≡ journal.saved
 
 -- Each stop since stands for the one or for the other, after Ok for the other alone; nothing is handed out.
-pub record Moves {R T E : Type 0} (result : Result T E) (journal : Logbook R) (before after : Standing) (old new : Life) : Type 0 where
-  pub stops : Onward old new (IsEither (Ok before) (Ok after) (items old))
+pub record CommitSpec {R T E : Type 0} (result : Result T E) (journal : JournalModel R) (before after : DurableState) (old new : Trace) : Type 0 where
+  pub stops : IsContinuation old new (IsEither (Ok before) (Ok after) (items old))
   pub items_are : items new ≡ items old
-  pub at : OnOk result (RestsAt new journal after)
+  pub at : OnOk result (IsDurablyAt new journal after)
 
 -- An image stands for this and has no record of an epoch to come; this was handed out.
-pub record StandsFor (standing : Standing) (given : List Item) (image : Image) (handed : List Item) : Type 0 where
+pub record StandsFor (standing : DurableState) (given : List Item) (image : Image) (handed : List Item) : Type 0 where
   pub state : stands image ≡ Ok standing
   pub written : IsWritten image
   pub handed_is : handed ≡ given
 
 -- Each stop since has the item besides; what stands stays. After Ok it is handed out, else it or nothing.
-pub record HandsOut {R T E : Type 0} (result : Result T E) (journal : Logbook R) (standing : Standing) (item : Item) (old new : Life) : Type 0 where
-  pub stops : Onward old new (StandsFor standing (items old ++ item ∷ []))
+pub record JournalHandOutSpec {R T E : Type 0} (result : Result T E) (journal : JournalModel R) (standing : DurableState) (item : Item) (old new : Trace) : Type 0 where
+  pub stops : IsContinuation old new (StandsFor standing (items old ++ item ∷ []))
   pub items_are : (items new ≡ items old) ⊎ (items new ≡ items old ++ item ∷ [])
   pub given : OnOk result (items new ≡ items old ++ item ∷ [])
-  pub at : RestsAt new journal standing
+  pub at : IsDurablyAt new journal standing
 
 -- The device failed in that call exactly where that is the fault.
-abbrev pub Tells : {T : Type 0} → Result T Fault → ℕ → ℕ → Type 0
-Tells (Err DeviceFailed) old new = new ≡ (old + 1) % 2 ^ 64
-Tells (Err _) old new = new ≡ old
-Tells (Ok _) old new = new ≡ old
+abbrev pub CountsFailure : {T : Type 0} → Result T Fault → ℕ → ℕ → Type 0
+CountsFailure (Err DeviceFailed) old new = new ≡ (old + 1) % 2 ^ 64
+CountsFailure (Err _) old new = new ≡ old
+CountsFailure (Ok _) old new = new ≡ old
 
 -- A journal is broken exactly where the device failed.
 abbrev pub IsBrokenBy : {T : Type 0} → Result T Fault → Bool → Type 0

@@ -1,12 +1,10 @@
 pub mod Area
 pub mod AtRest
-pub mod FirstLines
 pub mod Formats
 pub mod Journal
 pub mod Loads
 pub mod ProgramLines
-pub mod Reading
-pub mod Records
 pub mod Recover
 pub mod Recovery
 pub mod Storing
+pub mod Private

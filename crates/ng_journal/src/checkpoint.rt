@@ -1,15 +1,15 @@
 //! A whole state written under the next epoch.
 ghost use Rattle.std.specs.Prelude.{◌≡◌, ◌≤◌, ◌<◌, ◌+◌, ◌%◌, Some};
-ghost use Rattle.ng_rig.specs.Calls.{Promises, Counts};
+ghost use Rattle.ng_rig.specs.Calls.{IfHonest, FailureCountSpec};
 ghost use Rattle.ng_layout.specs.Limits.{greatest_count};
 ghost use Rattle.ng_layout.specs.Areas.{least_size, snapshot_size};
 ghost use Rattle.ng_layout.specs.Storable.{IsStorable};
-ghost use Rattle.ng_layout.specs.Header.{header_in, HoldsHeader, IsLawful};
+ghost use Rattle.ng_layout.specs.Header.{header_in, HoldsHeader, IsValidHeader};
 ghost use Rattle.ng_layout.specs.declared.header.Header.{Header};
-ghost use Rattle.ng_journal.specs.Area.{WritesArea};
-ghost use Rattle.ng_journal.specs.AtRest.{IsOwn, Checkpoints, StoresState, next_header};
+ghost use Rattle.ng_journal.specs.Private.CheckpointSteps.{WritesArea, IsOwnImage, CheckpointSpec, StoresState};
+ghost use Rattle.ng_journal.specs.AtRest.{next_header};
 
-use ng_layout::{Header, SNAPSHOT_SIZE, Stored, snapshot_first};
+use ng_layout::{BYTES, Header, SNAPSHOT_SIZE, Stored, snapshot_first};
 use ng_rig::{Failed, Rig};
 use std::alloc::Allocator;
 
@@ -23,9 +23,9 @@ fn write_snapshot<R: Rig, A: Allocator + Copy + Drop>(
     requires within { first + snapshot_size ≤ least_size }
     requires count { stored.now.entries ≤ greatest_count }
     requires storable { IsStorable stored.now }
-    ensures area { Promises (R.honest rig.old) (R.honest rig.new) (WritesArea result first stored.now (R.life rig.old) (R.life rig.new)) }
+    ensures area { IfHonest (R.honest rig.old) (R.honest rig.new) (WritesArea result first stored.now (R.trace rig.old) (R.trace rig.new)) }
     ensures size { R.sectors rig.new ≡ R.sectors rig.old }
-    ensures failures { Counts result (R.failed rig.old) (R.failed rig.new) }
+    ensures failures { FailureCountSpec result (R.failed rig.old) (R.failed rig.new) }
 {
     for part in 0..SNAPSHOT_SIZE {
         rig.write(first + part, &stored.sector(part))?;
@@ -35,8 +35,8 @@ fn write_snapshot<R: Rig, A: Allocator + Copy + Drop>(
 
 /// The sector of a header that is within its limits.
 #[tactic(auto, unfolding(ng_layout::specs::Header::header_in))]
-pub(crate) fn header_sector(header: Header) -> [u8; 512]
-    requires { IsLawful header }
+pub(crate) fn header_sector(header: Header) -> [u8; BYTES]
+    requires { IsValidHeader header }
     ensures read { header_in (header.epoch % 2) result ≡ Some header }
     ensures holds { HoldsHeader header result }
 {
@@ -62,15 +62,15 @@ pub(crate) fn checkpoint<R: Rig, A: Allocator + Copy + Drop>(
     stored: &Stored<A>,
 ) -> Result<(), Failed>
     requires room { least_size ≤ R.sectors rig.old }
-    requires lawful { IsLawful next }
+    requires lawful { IsValidHeader next }
     requires long { stored.now.length ≡ next.length }
     requires count { stored.now.entries ≤ greatest_count }
     requires storable { IsStorable stored.now }
-    ensures stops { Promises (R.honest rig.old) (R.honest rig.new) ((header : Header) → IsOwn (R.life rig.old) header → next.epoch ≡ header.epoch + 1
-        → Checkpoints result next stored.now (R.life rig.old) (R.life rig.new)) }
-    ensures stores { Promises (R.honest rig.old) (R.honest rig.new) (StoresState result next stored.now (R.life rig.old) (R.life rig.new)) }
+    ensures stops { IfHonest (R.honest rig.old) (R.honest rig.new) ((header : Header) → IsOwnImage (R.trace rig.old) header → next.epoch ≡ header.epoch + 1
+        → CheckpointSpec result next stored.now (R.trace rig.old) (R.trace rig.new)) }
+    ensures stores { IfHonest (R.honest rig.old) (R.honest rig.new) (StoresState result next stored.now (R.trace rig.old) (R.trace rig.new)) }
     ensures size { R.sectors rig.new ≡ R.sectors rig.old }
-    ensures failures { Counts result (R.failed rig.old) (R.failed rig.new) }
+    ensures failures { FailureCountSpec result (R.failed rig.old) (R.failed rig.new) }
 {
     write_snapshot(rig, snapshot_first(next.epoch), stored)?;
     rig.sync()?;

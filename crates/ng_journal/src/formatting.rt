@@ -1,23 +1,26 @@
 //! A device made fresh: no header is left on it, then it stands for a fresh controller.
 ghost use Rattle.std.specs.Prelude.{◌≡◌, ◌≤◌, ◌<◌, ◌+◌, ◌⊎◌, ◌↔◌, replicate, IsErrOf, IfErr};
 ghost use Rattle.ng_num.specs.declared.fault.Fault.TheVariants.{DeviceFailed, NotFormatted};
-ghost use Rattle.ng_rig.specs.Calls.{Promises, Counts};
-ghost use Rattle.ng_layout.specs.Areas.{log_size, log_first, snapshot_first, snapshot_size, least_size};
+ghost use Rattle.ng_rig.specs.Calls.{IfHonest, FailureCountSpec};
+ghost use Rattle.ng_layout.specs.Areas.{header_count, log_size, log_first, snapshot_first, snapshot_size, least_size};
+ghost use Rattle.ng_layout.specs.Limits.{sector_size};
 ghost use Rattle.ng_layout.specs.Snapshot.{HoldsPart};
-ghost use Rattle.ng_layout.specs.Stored.{fresh};
-ghost use Rattle.ng_journal.specs.Formats.{Overwrites, IsEmpty, Formats};
-ghost use Rattle.ng_journal.specs.Journal.{Tells};
+ghost use Rattle.ng_layout.specs.Stored.{fresh_stored};
+ghost use Rattle.ng_journal.specs.Private.Overwrites.{Overwrites};
+ghost use Rattle.ng_journal.specs.Formats.{IsEmpty, FormatSpec};
+ghost use Rattle.ng_journal.specs.Journal.{CountsFailure};
 
 use crate::checkpoint::header_sector;
 use ng_layout::{
-    BYTES, Header, LEAST_SIZE, LOG_FIRST, LONGEST_LOG, SNAPSHOT_SIZE, fresh_sector, snapshot_first,
+    BYTES, HEADERS, Header, LEAST_SIZE, LOG_FIRST, LONGEST_LOG, SNAPSHOT_SIZE, fresh_sector,
+    snapshot_first,
 };
 use ng_num::Fault;
 use ng_rig::{Failed, Rig};
 
 /// A sector of zeros.
 fn empty_sector() -> [u8; BYTES]
-    ensures { result ≡ replicate 512 0 }
+    ensures { result ≡ replicate sector_size 0 }
 {
     [0; BYTES]
 }
@@ -25,11 +28,11 @@ fn empty_sector() -> [u8; BYTES]
 /// Takes the headers away, one after the other.
 fn clear_headers<R: Rig>(rig: &mut R) -> Result<(), Failed>
     requires { least_size ≤ R.sectors rig.old }
-    ensures clears { Promises (R.honest rig.old) (R.honest rig.new) (Overwrites result 0 2 IsEmpty (R.life rig.old) (R.life rig.new)) }
+    ensures clears { IfHonest (R.honest rig.old) (R.honest rig.new) (Overwrites result 0 header_count IsEmpty (R.trace rig.old) (R.trace rig.new)) }
     ensures size { R.sectors rig.new ≡ R.sectors rig.old }
-    ensures failures { Counts result (R.failed rig.old) (R.failed rig.new) }
+    ensures failures { FailureCountSpec result (R.failed rig.old) (R.failed rig.new) }
 {
-    for k in 0..2 {
+    for k in 0..HEADERS {
         rig.write(k, &empty_sector())?;
         rig.sync()?;
     }
@@ -39,9 +42,9 @@ fn clear_headers<R: Rig>(rig: &mut R) -> Result<(), Failed>
 /// Takes all parts of records away.
 fn clear_log<R: Rig>(rig: &mut R) -> Result<(), Failed>
     requires { least_size ≤ R.sectors rig.old }
-    ensures clears { Promises (R.honest rig.old) (R.honest rig.new) (Overwrites result log_first log_size IsEmpty (R.life rig.old) (R.life rig.new)) }
+    ensures clears { IfHonest (R.honest rig.old) (R.honest rig.new) (Overwrites result log_first log_size IsEmpty (R.trace rig.old) (R.trace rig.new)) }
     ensures size { R.sectors rig.new ≡ R.sectors rig.old }
-    ensures failures { Counts result (R.failed rig.old) (R.failed rig.new) }
+    ensures failures { FailureCountSpec result (R.failed rig.old) (R.failed rig.new) }
 {
     for n in 0..LONGEST_LOG {
         rig.write(LOG_FIRST + n, &empty_sector())?;
@@ -53,9 +56,9 @@ fn clear_log<R: Rig>(rig: &mut R) -> Result<(), Failed>
 fn write_fresh_snapshot<R: Rig>(rig: &mut R, first: usize) -> Result<(), Failed>
     requires sectors { least_size ≤ R.sectors rig.old }
     requires within { first + snapshot_size ≤ least_size }
-    ensures writes { Promises (R.honest rig.old) (R.honest rig.new) (Overwrites result first snapshot_size (HoldsPart fresh) (R.life rig.old) (R.life rig.new)) }
+    ensures writes { IfHonest (R.honest rig.old) (R.honest rig.new) (Overwrites result first snapshot_size (HoldsPart fresh_stored) (R.trace rig.old) (R.trace rig.new)) }
     ensures size { R.sectors rig.new ≡ R.sectors rig.old }
-    ensures failures { Counts result (R.failed rig.old) (R.failed rig.new) }
+    ensures failures { FailureCountSpec result (R.failed rig.old) (R.failed rig.new) }
 {
     for part in 0..SNAPSHOT_SIZE {
         rig.write(first + part, &fresh_sector(part))?;
@@ -66,9 +69,9 @@ fn write_fresh_snapshot<R: Rig>(rig: &mut R, first: usize) -> Result<(), Failed>
 /// Makes a device fresh that is large enough.
 fn make_fresh<R: Rig>(rig: &mut R) -> Result<(), Failed>
     requires { least_size ≤ R.sectors rig.old }
-    ensures formats { Promises (R.honest rig.old) (R.honest rig.new) (Formats result (R.life rig.old) (R.life rig.new)) }
+    ensures formats { IfHonest (R.honest rig.old) (R.honest rig.new) (FormatSpec result (R.trace rig.old) (R.trace rig.new)) }
     ensures size { R.sectors rig.new ≡ R.sectors rig.old }
-    ensures failures { Counts result (R.failed rig.old) (R.failed rig.new) }
+    ensures failures { FailureCountSpec result (R.failed rig.old) (R.failed rig.new) }
 {
     let header = Header {
         epoch: 1,
@@ -83,18 +86,18 @@ fn make_fresh<R: Rig>(rig: &mut R) -> Result<(), Failed>
     rig.sync()
 }
 
-/// Formats a device (own): after Ok it has one image, which stands for a fresh controller with no program, under epoch 1.
+/// FormatSpec a device (own): after Ok it has one image, which stands for a fresh controller with no program, under epoch 1.
 ///
 /// J2 for fewer than 1,710 sectors, with no call of the device. J1 where the device failed; nothing is said of what
 /// it stands for then, nor of a stop before Ok: it is formatted again. Only the headers' sectors, the log's and the first
 /// epoch's snapshot's are written. Nothing is handed out. It takes no memory.
 pub fn format<R: Rig>(rig: &mut R) -> Result<(), Fault>
-    ensures formats { least_size ≤ R.sectors rig.old → Promises (R.honest rig.old) (R.honest rig.new) (Formats result (R.life rig.old) (R.life rig.new)) }
+    ensures formats { least_size ≤ R.sectors rig.old → IfHonest (R.honest rig.old) (R.honest rig.new) (FormatSpec result (R.trace rig.old) (R.trace rig.new)) }
     ensures small { IsErrOf result NotFormatted ↔ (R.sectors rig.old < least_size) }
     ensures unchanged { IsErrOf result NotFormatted → rig.new ≡ rig.old }
     ensures size { R.sectors rig.new ≡ R.sectors rig.old }
     ensures errors { IfErr result (λ e. (e ≡ NotFormatted) ⊎ (e ≡ DeviceFailed)) }
-    ensures failures { Tells result (R.failed rig.old) (R.failed rig.new) }
+    ensures failures { CountsFailure result (R.failed rig.old) (R.failed rig.new) }
 {
     if rig.size() < LEAST_SIZE {
         return Err(Fault::NotFormatted);

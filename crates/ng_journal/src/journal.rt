@@ -1,21 +1,19 @@
 //! The journal of a device.
-ghost use Rattle.std.specs.Prelude.{◌≡◌, ◌≤◌, ◌<◌, ◌⊎◌, ◌↔◌, false, true, Some, length, OnOk, IfOk, IfErr, IfSome, IsSome, IsErrOf, IsErrAnd};
+ghost use Rattle.std.specs.Prelude.{◌≡◌, ◌≤◌, ◌<◌, ◌⊎◌, ◌↔◌, false, true, Some, length, OnOk, IfOk, IfErr, IsSome, IsErrOf, IsErrAnd};
 ghost use Rattle.ng_num.specs.declared.fault.Fault.TheVariants.{DeviceFailed, NotFormatted, CountersUsed, ProgramTooLong, OutOfMemory};
-ghost use Rattle.ng_rig.specs.Calls.{Promises, Hands};
+ghost use Rattle.ng_rig.specs.Calls.{IfHonest, HandOutSpec};
 ghost use Rattle.ng_layout.specs.Areas.{least_size};
-ghost use Rattle.ng_layout.specs.Limits.{greatest_count, longest_program, parameter_count};
-ghost use Rattle.ng_layout.specs.Storable.{CanWait, IsStorable};
-ghost use Rattle.ng_layout.specs.Stored.{Standing};
+ghost use Rattle.ng_layout.specs.Limits.{greatest_count, longest_program};
+ghost use Rattle.ng_params.specs.Numbers.{parameter_count};
+ghost use Rattle.ng_layout.specs.Storable.{IsStorableHalf, IsStorable};
+ghost use Rattle.ng_layout.specs.Stored.{DurableState};
 ghost use Rattle.ng_log.specs.AtEnd.{no_records};
-ghost use Rattle.ng_journal.specs.Recover.{Recovers, rig_of, fault_of};
-ghost use Rattle.ng_journal.specs.Journal.{Tells};
-ghost use Rattle.ng_journal.specs.ProgramLines.{FindsFirst, ReadsLine};
+ghost use Rattle.ng_journal.specs.Recover.{RecoverSpec, recover_rig, recover_fault};
+ghost use Rattle.ng_journal.specs.Journal.{CountsFailure};
 ghost use Rattle.ng_journal.specs.Loads.{StoresLoad};
 ghost use Rattle.ng_journal.specs.Storing.{Commit, Open, Load, UsesUp, IsFullFor, StoresRecord, ledger_of};
 
 use crate::checkpoint::next_header;
-use crate::line::{ProgramLine, read_line};
-use crate::lines_before::read_first_kind;
 use crate::loading::load;
 use crate::recovery::restore;
 use crate::storing::{Tip, changes_between, store, store_half, take_changed};
@@ -23,12 +21,13 @@ use ng_canon::Item;
 use ng_layout::{GREATEST_COUNT, Half, LEAST_SIZE, LONGEST_PROGRAM, Stored, spare_area};
 use ng_num::Fault;
 use ng_rig::{Failed, Rig};
-use ng_words::Kind;
 use std::alloc::{AllocError, Allocator};
 use std::marker::Model;
 
+mod program;
+
 /// What is stored of a controller, on a device (own). After a call of the device failed it is broken. Contracts see a
-/// `Logbook`.
+/// `JournalModel`.
 pub struct Journal<R: Rig, A: Allocator + Copy + Drop> {
     rig: R,
     tip: Tip,
@@ -37,9 +36,9 @@ pub struct Journal<R: Rig, A: Allocator + Copy + Drop> {
 }
 
 impl<R: Rig, A: Allocator + Copy + Drop> Model for Journal<R, A> {
-    ghost use Rattle.ng_journal.specs.Journal.{Logbook, IsSteady};
+    ghost use Rattle.ng_journal.specs.Journal.{JournalModel, IsSteady};
 
-    ghost Value = { Logbook R };
+    ghost Value = { JournalModel R };
 
     ghost view = { λ j. record { rig = j.rig; header = j.tip.header; end = j.tip.end; saved = j.stored; broken = j.broken } };
 
@@ -48,7 +47,7 @@ impl<R: Rig, A: Allocator + Copy + Drop> Model for Journal<R, A> {
 
 /// Powers on (own): finds what the device stands for, and writes it again under the next epoch with nothing open.
 ///
-/// What stands is the snapshot of the header in force with the complete records behind it. The log ends at its beginning then.
+/// What stands is the snapshot of the header in force with the complete records after it. The log ends at its beginning then.
 ///
 /// J2 for fewer than 1,710 sectors, with no call of the device, and where no header is valid; J3 where what stands is
 /// damaged; J4 where the epoch would be beyond its limit: all before any write. J1 where the device failed. M1 where
@@ -57,13 +56,13 @@ pub fn recover<R: Rig, A: Allocator + Copy + Drop>(
     alloc: A,
     mut rig: R,
 ) -> Result<(Journal<R, A>, Stored<A>), (Fault, R)>
-    ensures recovers { let after = rig_of result in least_size ≤ R.sectors rig → Promises (R.honest rig) (R.honest after) (Recovers result (R.life rig) (R.life after)) }
+    ensures recovers { let after = recover_rig result in least_size ≤ R.sectors rig → IfHonest (R.honest rig) (R.honest after) (RecoverSpec result (R.trace rig) (R.trace after)) }
     ensures journal { IfOk result (λ x. (x.0.broken ≡ false) × (x.0.saved ≡ x.1) × IsStorable x.1) }
     ensures end { IfOk result (λ x. x.0.end ≡ no_records) }
     ensures small { R.sectors rig < least_size → IsErrAnd result (λ e. (e.0 ≡ NotFormatted) × (e.1 ≡ rig)) }
     ensures memory { IfErr result (λ e. e.0 ≡ OutOfMemory → e.1 ≡ rig) }
-    ensures size { let after = rig_of result in R.sectors after ≡ R.sectors rig }
-    ensures failures { let after = rig_of result in Tells (fault_of result) (R.failed rig) (R.failed after) }
+    ensures size { let after = recover_rig result in R.sectors after ≡ R.sectors rig }
+    ensures failures { let after = recover_rig result in CountsFailure (recover_fault result) (R.failed rig) (R.failed after) }
 {
     if rig.size() < LEAST_SIZE {
         return Err((Fault::NotFormatted, rig));
@@ -96,7 +95,7 @@ fn two_fresh<A: Allocator + Copy + Drop>(alloc: A) -> Result<(Stored<A>, Stored<
 }
 
 impl<R: Rig, A: Allocator + Copy + Drop> Journal<R, A> {
-    ghost use Rattle.ng_journal.specs.Journal.{Logbook, RestsAt, Moves, HandsOut, IsBrokenBy};
+    ghost use Rattle.ng_journal.specs.Journal.{JournalModel, IsDurablyAt, CommitSpec, JournalHandOutSpec, IsBrokenBy};
 
     /// The device as it is, with no call to it.
     pub fn into_rig(self) -> R
@@ -118,7 +117,7 @@ impl<R: Rig, A: Allocator + Copy + Drop> Journal<R, A> {
         self.broken
     }
 
-    /// Stores an entry (own): what is stored from now on, beside the same program. It is written as a record behind the log's end, one
+    /// Stores an entry (own): what is stored from now on, beside the same program. It is written as a record after the log's end, one
     /// write a part and one sync. Where the log has no room for it, what stood is written under the next epoch before.
     ///
     /// J4 where the entry count would be beyond its limit, or where the next epoch is needed and would be; then nothing is changed. J1 where the device
@@ -129,9 +128,9 @@ impl<R: Rig, A: Allocator + Copy + Drop> Journal<R, A> {
         requires whole { self.old.broken ≡ false }
         requires storable { IsStorable stored.now }
         requires program { stored.now.length ≡ self.old.saved.length }
-        ensures stops { Promises (R.honest self.old.rig) (R.honest self.new.rig) ((before : Standing) → RestsAt (R.life self.old.rig) self.old before
-            → Moves result self.new before (record before { saved = stored.now }) (R.life self.old.rig) (R.life self.new.rig)) }
-        ensures stores { Promises (R.honest self.old.rig) (R.honest self.new.rig) (StoresRecord result (ledger_of self.old) stored.now (R.life self.old.rig) (R.life self.new.rig)) }
+        ensures stops { IfHonest (R.honest self.old.rig) (R.honest self.new.rig) ((before : DurableState) → IsDurablyAt (R.trace self.old.rig) self.old before
+            → CommitSpec result self.new before (record before { saved = stored.now }) (R.trace self.old.rig) (R.trace self.new.rig)) }
+        ensures stores { IfHonest (R.honest self.old.rig) (R.honest self.new.rig) (StoresRecord result (ledger_of self.old) stored.now (R.trace self.old.rig) (R.trace self.new.rig)) }
         ensures saved { OnOk result (self.new.saved ≡ stored.now) }
         ensures broken { IsBrokenBy result self.new.broken }
         ensures errors { IfErr result (λ e. (e ≡ CountersUsed) ⊎ (e ≡ DeviceFailed)) }
@@ -139,7 +138,7 @@ impl<R: Rig, A: Allocator + Copy + Drop> Journal<R, A> {
         ensures count { OnOk result (stored.now.entries ≤ greatest_count) }
         ensures unchanged { IsErrOf result CountersUsed → self.new ≡ self.old }
         ensures size { R.sectors self.new.rig ≡ R.sectors self.old.rig }
-        ensures failures { Tells result (R.failed self.old.rig) (R.failed self.new.rig) }
+        ensures failures { CountsFailure result (R.failed self.old.rig) (R.failed self.new.rig) }
     {
         let count = changes_between(&self.stored, stored);
         if stored.entries > GREATEST_COUNT || self.is_used_up_by(count) {
@@ -166,18 +165,18 @@ impl<R: Rig, A: Allocator + Copy + Drop> Journal<R, A> {
     #[tactic(auto, unfolding(crate::specs::Storing::UsesUp))]
     pub fn open_segment(&mut self, half: &Half) -> Result<(), Fault>
         requires whole { self.old.broken ≡ false }
-        requires half { CanWait half.now }
+        requires half { IsStorableHalf half.now }
         requires is_open { IsSome half.now.opened }
-        ensures stops { Promises (R.honest self.old.rig) (R.honest self.new.rig) ((before : Standing) → RestsAt (R.life self.old.rig) self.old before
-            → Moves result self.new before (record before { saved = record self.old.saved { half = Some half.now } }) (R.life self.old.rig) (R.life self.new.rig)) }
-        ensures stores { Promises (R.honest self.old.rig) (R.honest self.new.rig) (StoresRecord result (ledger_of self.old) (record self.old.saved { half = Some half.now }) (R.life self.old.rig) (R.life self.new.rig)) }
+        ensures stops { IfHonest (R.honest self.old.rig) (R.honest self.new.rig) ((before : DurableState) → IsDurablyAt (R.trace self.old.rig) self.old before
+            → CommitSpec result self.new before (record before { saved = record self.old.saved { half = Some half.now } }) (R.trace self.old.rig) (R.trace self.new.rig)) }
+        ensures stores { IfHonest (R.honest self.old.rig) (R.honest self.new.rig) (StoresRecord result (ledger_of self.old) (record self.old.saved { half = Some half.now }) (R.trace self.old.rig) (R.trace self.new.rig)) }
         ensures saved { OnOk result (self.new.saved ≡ record self.old.saved { half = Some half.now }) }
         ensures broken { IsBrokenBy result self.new.broken }
         ensures errors { IfErr result (λ e. (e ≡ CountersUsed) ⊎ (e ≡ DeviceFailed)) }
         ensures used_up { IsErrOf result CountersUsed ↔ UsesUp (ledger_of self.old) (Open half.now) }
         ensures unchanged { IsErrOf result CountersUsed → self.new ≡ self.old }
         ensures size { R.sectors self.new.rig ≡ R.sectors self.old.rig }
-        ensures failures { Tells result (R.failed self.old.rig) (R.failed self.new.rig) }
+        ensures failures { CountsFailure result (R.failed self.old.rig) (R.failed self.new.rig) }
     {
         if self.is_used_up_by(0) {
             return Err(Fault::CountersUsed);
@@ -204,9 +203,9 @@ impl<R: Rig, A: Allocator + Copy + Drop> Journal<R, A> {
         requires whole { self.old.broken ≡ false }
         requires storable { length text.now ≤ longest_program → IsStorable stored.now }
         requires long { stored.now.length ≡ length text.now }
-        ensures stops { Promises (R.honest self.old.rig) (R.honest self.new.rig) ((before : Standing) → RestsAt (R.life self.old.rig) self.old before
-            → Moves result self.new before (record { saved = stored.now; program = text.now }) (R.life self.old.rig) (R.life self.new.rig)) }
-        ensures stores { Promises (R.honest self.old.rig) (R.honest self.new.rig) (StoresLoad result self.old.header (record { saved = stored.now; program = text.now }) (R.life self.old.rig) (R.life self.new.rig)) }
+        ensures stops { IfHonest (R.honest self.old.rig) (R.honest self.new.rig) ((before : DurableState) → IsDurablyAt (R.trace self.old.rig) self.old before
+            → CommitSpec result self.new before (record { saved = stored.now; program = text.now }) (R.trace self.old.rig) (R.trace self.new.rig)) }
+        ensures stores { IfHonest (R.honest self.old.rig) (R.honest self.new.rig) (StoresLoad result self.old.header (record { saved = stored.now; program = text.now }) (R.trace self.old.rig) (R.trace self.new.rig)) }
         ensures saved { OnOk result (self.new.saved ≡ stored.now) }
         ensures end { OnOk result (self.new.end ≡ no_records) }
         ensures broken { IsBrokenBy result self.new.broken }
@@ -216,7 +215,7 @@ impl<R: Rig, A: Allocator + Copy + Drop> Journal<R, A> {
         ensures count { OnOk result (stored.now.entries ≤ greatest_count) }
         ensures unchanged { (IsErrOf result CountersUsed ⊎ IsErrOf result ProgramTooLong) → self.new ≡ self.old }
         ensures size { R.sectors self.new.rig ≡ R.sectors self.old.rig }
-        ensures failures { Tells result (R.failed self.old.rig) (R.failed self.new.rig) }
+        ensures failures { CountsFailure result (R.failed self.old.rig) (R.failed self.new.rig) }
     {
         if text.len() > LONGEST_PROGRAM as usize {
             return Err(Fault::ProgramTooLong);
@@ -243,14 +242,14 @@ impl<R: Rig, A: Allocator + Copy + Drop> Journal<R, A> {
     /// handed out. It takes no memory.
     pub fn hand_out(&mut self, item: Item) -> Result<(), Fault>
         requires whole { self.old.broken ≡ false }
-        ensures hands { Promises (R.honest self.old.rig) (R.honest self.new.rig) (Hands result item (R.life self.old.rig) (R.life self.new.rig)) }
-        ensures stops { Promises (R.honest self.old.rig) (R.honest self.new.rig) ((standing : Standing) → RestsAt (R.life self.old.rig) self.old standing
-            → HandsOut result self.new standing item (R.life self.old.rig) (R.life self.new.rig)) }
+        ensures hands { IfHonest (R.honest self.old.rig) (R.honest self.new.rig) (HandOutSpec result item (R.trace self.old.rig) (R.trace self.new.rig)) }
+        ensures stops { IfHonest (R.honest self.old.rig) (R.honest self.new.rig) ((standing : DurableState) → IsDurablyAt (R.trace self.old.rig) self.old standing
+            → JournalHandOutSpec result self.new standing item (R.trace self.old.rig) (R.trace self.new.rig)) }
         ensures ledger { ledger_of self.new ≡ ledger_of self.old }
         ensures broken { IsBrokenBy result self.new.broken }
         ensures errors { IfErr result (λ e. e ≡ DeviceFailed) }
         ensures size { R.sectors self.new.rig ≡ R.sectors self.old.rig }
-        ensures failures { Tells result (R.failed self.old.rig) (R.failed self.new.rig) }
+        ensures failures { CountsFailure result (R.failed self.old.rig) (R.failed self.new.rig) }
     {
         match self.rig.hand_out(item) {
             Ok(()) => Ok(()),
@@ -274,57 +273,5 @@ impl<R: Rig, A: Allocator + Copy + Drop> Journal<R, A> {
         ensures { (result ≡ true) ↔ ((greatest_count ≤ self.now.header.epoch) × IsFullFor self.now.header self.now.end count) }
     {
         self.tip.header.epoch >= GREATEST_COUNT && self.tip.is_full_for(count)
-    }
-
-    /// The kind of the first line before a place of the program in force that isn't blank; blank where all are (own). It reads no
-    /// further than to that line's end.
-    ///
-    /// J1 where the device failed: the journal is broken then. Nothing is written. It takes no memory.
-    pub fn first_kind(&mut self, place: u64) -> Result<Kind, Fault>
-        requires whole { self.old.broken ≡ false }
-        requires place { place ≤ self.old.saved.length }
-        ensures kind { Promises (R.honest self.old.rig) (R.honest self.new.rig) ((standing : Standing) → RestsAt (R.life self.old.rig) self.old standing
-            → FindsFirst result self.new standing place (R.life self.old.rig) (R.life self.new.rig)) }
-        ensures ledger { ledger_of self.new ≡ ledger_of self.old }
-        ensures broken { IsBrokenBy result self.new.broken }
-        ensures errors { IfErr result (λ e. e ≡ DeviceFailed) }
-        ensures size { R.sectors self.new.rig ≡ R.sectors self.old.rig }
-        ensures failures { Tells result (R.failed self.old.rig) (R.failed self.new.rig) }
-    {
-        let header = self.tip.header;
-        match read_first_kind(&mut self.rig, header.area, place as usize) {
-            Ok(kind) => Ok(kind),
-            Err(Failed) => {
-                self.broken = true;
-                Err(Fault::DeviceFailed)
-            }
-        }
-    }
-
-    /// The line of the program in force that begins at a place, and where the next one begins; none at the program's
-    /// end (own). A place in the middle of a line begins a line there.
-    ///
-    /// J1 where the device failed: the journal is broken then. Nothing is written. It takes no memory.
-    pub fn program_line(&mut self, place: u64) -> Result<Option<ProgramLine>, Fault>
-        requires whole { self.old.broken ≡ false }
-        requires place { place ≤ self.old.saved.length }
-        ensures line { Promises (R.honest self.old.rig) (R.honest self.new.rig) ((standing : Standing) → RestsAt (R.life self.old.rig) self.old standing
-            → ReadsLine result self.new standing place (R.life self.old.rig) (R.life self.new.rig)) }
-        ensures next { IfOk result (λ line. IfSome line (λ l. (place < l.next) × (l.next ≤ self.old.saved.length))) }
-        ensures ledger { ledger_of self.new ≡ ledger_of self.old }
-        ensures broken { IsBrokenBy result self.new.broken }
-        ensures errors { IfErr result (λ e. e ≡ DeviceFailed) }
-        ensures size { R.sectors self.new.rig ≡ R.sectors self.old.rig }
-        ensures failures { Tells result (R.failed self.old.rig) (R.failed self.new.rig) }
-    {
-        let header = self.tip.header;
-        let program_end = header.length as usize;
-        match read_line(&mut self.rig, header.area, place as usize, program_end) {
-            Ok(line) => Ok(line),
-            Err(Failed) => {
-                self.broken = true;
-                Err(Fault::DeviceFailed)
-            }
-        }
     }
 }

@@ -9,7 +9,6 @@
 #![tactic(auto)]
 
 mod checkpoint;
-mod first_line;
 mod formatting;
 mod journal;
 pub mod laws;

@@ -1,14 +1,14 @@
 //! A line of the program in force, read where it begins.
 ghost use Rattle.std.specs.Prelude.{◌≡◌, ℕ, max, List, [], ◌≤◌, ◌<◌, ◌+◌, ◌*◌, ◌-◌, ◌++◌, take, drop, length, IfOk, IfSome};
 ghost use Rattle.std.specs.Str.Lines.{strip_carriage_return};
-ghost use Rattle.ng_rig.specs.Calls.{Promises, Counts};
-ghost use Rattle.ng_layout.specs.Limits.{longest_program};
-ghost use Rattle.ng_layout.specs.Sectors.{text_of};
+ghost use Rattle.ng_rig.specs.Calls.{IfHonest, FailureCountSpec};
+ghost use Rattle.ng_layout.specs.Limits.{longest_program, sector_size};
+ghost use Rattle.ng_layout.specs.Sectors.{program_text};
 ghost use Rattle.ng_layout.specs.Areas.{program_size, least_size, greatest_area, program_first};
 ghost use Rattle.ng_layout.specs.Stands.{stretch};
-ghost use Rattle.ng_journal.specs.Reading.{Reads};
-ghost use Rattle.ng_layout.specs.Programs.{line_at};
-ghost use Rattle.ng_journal.specs.ProgramLines.{IsPart, TakesPart, IsEnd};
+ghost use Rattle.ng_log.specs.Reading.{ReadSpec};
+ghost use Rattle.ng_text.specs.Programs.{program_line_at};
+ghost use Rattle.ng_journal.specs.Private.LineParts.{IsPart, TakesPart, IsEnd};
 
 use arrayvec::ArrayVec;
 use memchr::memchr;
@@ -18,35 +18,36 @@ use ng_rig::{Failed, Rig};
 use std::marker::Model;
 
 /// How many bytes of a line are kept: one more than a line may have.
-pub const LINE: usize = 257;
+pub const KEPT_LINE: usize = 257;
 
-/// A line of a program (own). Contracts see a `Line`.
+/// A line of a program (own). Contracts see a `ProgramLineModel`.
 #[derive(Debug, Drop)]
 pub struct ProgramLine {
-    /// Its bytes without the line's end, at most 257 of them.
-    pub text: ArrayVec<u8, LINE>,
+    /// Its bytes without the line's end, at most `KEPT_LINE` of them.
+    pub text: ArrayVec<u8, KEPT_LINE>,
     /// The byte of the program at which the next line begins.
     pub next: u64,
 }
 
 impl Model for ProgramLine {
-    ghost use Rattle.ng_layout.specs.Programs.{Line};
+    ghost use Rattle.ng_text.specs.Programs.{ProgramLineModel};
 
-    ghost Value = { Line };
+    ghost Value = { ProgramLineModel };
 
     ghost view = { λ l. record { text = l.text.items; next = l.next } };
 }
 
 /// Keeps these bytes as far as there is room.
-fn keep(text: &mut ArrayVec<u8, LINE>, bytes: &[u8])
-    ensures { text.new.items ≡ take 257 (text.old.items ++ bytes.now) }
+fn keep(text: &mut ArrayVec<u8, KEPT_LINE>, bytes: &[u8])
+    ensures { text.new.items ≡ take KEPT_LINE (text.old.items ++ bytes.now) }
 {
     let room = text.remaining_capacity();
+    // the answer is Ok: so many bytes have room
     let _ = text.try_extend_from_slice(&bytes[..bytes.len().min(room)]);
 }
 
 /// Keeps the bytes before the first newline, and says where that is; else all of them.
-fn take_part(text: &mut ArrayVec<u8, LINE>, part: &[u8]) -> Option<usize>
+fn take_part(text: &mut ArrayVec<u8, KEPT_LINE>, part: &[u8]) -> Option<usize>
     ensures found { IfSome result (λ end. end < length part.now) }
     ensures taken { TakesPart text.old.items text.new.items part.now result }
 {
@@ -65,18 +66,18 @@ fn take_part(text: &mut ArrayVec<u8, LINE>, part: &[u8]) -> Option<usize>
 /// The bytes of a program's sector that belong to the program from a place on.
 pub(crate) fn part_of(sector: &[u8; BYTES], n: usize, place: usize, program_end: usize) -> &[u8]
     requires place { place ≤ program_end }
-    requires from { place < 512 * n + 512 }
-    requires to { 512 * n < program_end }
+    requires from { place < sector_size * n + sector_size }
+    requires to { sector_size * n < program_end }
     requires small { program_end ≤ longest_program }
-    ensures within { max place (512 * n) + length result.now ≤ program_end }
-    ensures part { (row : ℕ → List ℕ) → sector.now ≡ row n → IsPart (text_of program_end row) place (512 * n) result.now }
+    ensures within { max place (sector_size * n) + length result.now ≤ program_end }
+    ensures part { (row : ℕ → List ℕ) → sector.now ≡ row n → IsPart (program_text program_end row) place (sector_size * n) result.now }
 {
     let start = BYTES * n;
     &sector[place.max(start) - start..BYTES.min(program_end - start)]
 }
 
 /// Takes the carriage return off the end.
-fn drop_return(text: &mut ArrayVec<u8, LINE>)
+fn drop_return(text: &mut ArrayVec<u8, KEPT_LINE>)
     ensures { text.new.items ≡ strip_carriage_return text.old.items }
 {
     if let Some(b'\r') = text.as_slice().last() {
@@ -84,25 +85,25 @@ fn drop_return(text: &mut ArrayVec<u8, LINE>)
     }
 }
 
-/// Reads the line at a place of the program in an area up to its newline, and keeps its bytes; behind how many of them the
+/// ReadSpec the line at a place of the program in an area up to its newline, and keeps its bytes; after how many of them the
 /// newline stands, where there is one.
 fn find_end<R: Rig>(
     rig: &mut R,
     area: u64,
     place: usize,
     program_end: usize,
-    text: &mut ArrayVec<u8, LINE>,
+    text: &mut ArrayVec<u8, KEPT_LINE>,
 ) -> Result<Option<usize>, Failed>
     requires sectors { least_size ≤ R.sectors rig.old }
     requires area { area ≤ greatest_area }
     requires place { place ≤ program_end }
     requires small { program_end ≤ longest_program }
     requires empty { text.old.items ≡ [] }
-    ensures read { Promises (R.honest rig.old) (R.honest rig.new) (Reads result (λ image end. IsEnd (drop place (text_of program_end (stretch (program_first area) (program_size area) image))) text.new.items end) (R.life rig.old) (R.life rig.new)) }
+    ensures read { IfHonest (R.honest rig.old) (R.honest rig.new) (ReadSpec result (λ image end. IsEnd (drop place (program_text program_end (stretch (program_first area) (program_size area) image))) text.new.items end) (R.trace rig.old) (R.trace rig.new)) }
     // without honesty too
     ensures within { IfOk result (λ end. IfSome end (λ n. place + n < program_end)) }
     ensures size { R.sectors rig.new ≡ R.sectors rig.old }
-    ensures failures { Counts result (R.failed rig.old) (R.failed rig.new) }
+    ensures failures { FailureCountSpec result (R.failed rig.old) (R.failed rig.new) }
 {
     let first = program_first(area);
     for n in place / BYTES..program_end.div_ceil(BYTES) {
@@ -126,11 +127,11 @@ pub(crate) fn read_line<R: Rig>(
     requires area { area ≤ greatest_area }
     requires place { place ≤ program_end }
     requires small { program_end ≤ longest_program }
-    ensures read { Promises (R.honest rig.old) (R.honest rig.new) (Reads result (λ image line. line ≡ line_at (text_of program_end (stretch (program_first area) (program_size area) image)) place) (R.life rig.old) (R.life rig.new)) }
+    ensures read { IfHonest (R.honest rig.old) (R.honest rig.new) (ReadSpec result (λ image line. line ≡ program_line_at (program_text program_end (stretch (program_first area) (program_size area) image)) place) (R.trace rig.old) (R.trace rig.new)) }
     // without honesty too
     ensures next { IfOk result (λ line. IfSome line (λ l. (place < l.next) × (l.next ≤ program_end))) }
     ensures size { R.sectors rig.new ≡ R.sectors rig.old }
-    ensures failures { Counts result (R.failed rig.old) (R.failed rig.new) }
+    ensures failures { FailureCountSpec result (R.failed rig.old) (R.failed rig.new) }
 {
     if place == program_end {
         return Ok(None);
@@ -138,7 +139,7 @@ pub(crate) fn read_line<R: Rig>(
     let mut text = ArrayVec::new();
     match find_end(rig, area, place, program_end, &mut text)? {
         Some(end) => {
-            if end <= LINE {
+            if end <= KEPT_LINE {
                 drop_return(&mut text);
             }
             Ok(Some(ProgramLine {

@@ -1,35 +1,39 @@
 //! The kind of the first line before a place of the program in force that isn't blank.
 ghost use Rattle.std.specs.Prelude.{◌≡◌, ◌≤◌, ◌+◌, ℕ};
-ghost use Rattle.ng_rig.specs.Calls.{Promises, Counts};
+ghost use Rattle.ng_rig.specs.Calls.{IfHonest, FailureCountSpec};
 ghost use Rattle.ng_layout.specs.Limits.{longest_program};
-ghost use Rattle.ng_layout.specs.Sectors.{text_of};
+ghost use Rattle.ng_layout.specs.Sectors.{program_text};
 ghost use Rattle.ng_layout.specs.Areas.{program_size, least_size, greatest_area, program_first};
 ghost use Rattle.ng_layout.specs.Stands.{stretch};
-ghost use Rattle.ng_journal.specs.Reading.{Reads};
-ghost use Rattle.ng_journal.specs.FirstLines.{kind_in};
+ghost use Rattle.ng_log.specs.Reading.{ReadSpec};
+ghost use Rattle.ng_text.specs.FirstLines.{kind_in};
 
-use crate::first_line::FirstLine;
 use crate::line::part_of;
 use ng_layout::{BYTES, program_first};
 use ng_log::read_sector;
 use ng_rig::{Failed, Rig};
-use ng_words::Kind;
+use ng_text::FirstLine;
+use ng_words::LineKind;
 
 /// The kind of the first line of the program in an area that isn't blank, of its bytes before a place; blank where all lines are. It reads no
 /// further than to that line's end.
-pub(crate) fn read_first_kind<R: Rig>(rig: &mut R, area: u64, place: usize) -> Result<Kind, Failed>
+pub(crate) fn read_first_kind<R: Rig>(
+    rig: &mut R,
+    area: u64,
+    place: usize,
+) -> Result<LineKind, Failed>
     requires sectors { least_size ≤ R.sectors rig.old }
     requires area { area ≤ greatest_area }
     requires small { place ≤ longest_program }
-    ensures read { Promises (R.honest rig.old) (R.honest rig.new) (Reads result (λ image kind. kind ≡ kind_in (text_of place (stretch (program_first area) (program_size area) image))) (R.life rig.old) (R.life rig.new)) }
+    ensures read { IfHonest (R.honest rig.old) (R.honest rig.new) (ReadSpec result (λ image kind. kind ≡ kind_in (program_text place (stretch (program_first area) (program_size area) image))) (R.trace rig.old) (R.trace rig.new)) }
     ensures size { R.sectors rig.new ≡ R.sectors rig.old }
-    ensures failures { Counts result (R.failed rig.old) (R.failed rig.new) }
+    ensures failures { FailureCountSpec result (R.failed rig.old) (R.failed rig.new) }
 {
     let first = program_first(area);
     let mut seen = FirstLine::Unseen;
     for n in 0..place.div_ceil(BYTES) {
         let sector = read_sector(rig, first + n)?;
-        seen = seen.behind_all(part_of(&sector, n, 0, place));
+        seen = seen.after_all(part_of(&sector, n, 0, place));
         match seen.known() {
             Some(kind) => return Ok(kind),
             None => (),

@@ -1,11 +1,12 @@
 //! A program written to the area that isn't in force, and what is stored with it.
 ghost use Rattle.std.specs.Prelude.{◌≡◌, ◌≤◌, ◌<◌, ◌+◌, length};
-ghost use Rattle.ng_rig.specs.Calls.{Promises, Counts};
+ghost use Rattle.ng_rig.specs.Calls.{IfHonest, FailureCountSpec};
 ghost use Rattle.ng_layout.specs.Limits.{greatest_count, longest_program};
 ghost use Rattle.ng_layout.specs.Areas.{program_first, least_size, greatest_area};
 ghost use Rattle.ng_layout.specs.Storable.{IsStorable};
-ghost use Rattle.ng_journal.specs.AtRest.{IsOwn};
-ghost use Rattle.ng_journal.specs.Loads.{WritesText, Loads, StoresLoad};
+ghost use Rattle.ng_journal.specs.Private.CheckpointSteps.{IsOwnImage};
+ghost use Rattle.ng_journal.specs.Private.LoadSteps.{WritesText, LoadSpec};
+ghost use Rattle.ng_journal.specs.Loads.{StoresLoad};
 
 use crate::checkpoint::{checkpoint, next_header};
 use ng_layout::{BYTES, Header, Stored, program_first, spare_area, text_sector};
@@ -17,9 +18,9 @@ fn write_program<R: Rig>(rig: &mut R, area: u64, text: &[u8]) -> Result<(), Fail
     requires sectors { least_size ≤ R.sectors rig.old }
     requires area { area ≤ greatest_area }
     requires short { length text.now ≤ longest_program }
-    ensures text { Promises (R.honest rig.old) (R.honest rig.new) (WritesText result area text.now (R.life rig.old) (R.life rig.new)) }
+    ensures text { IfHonest (R.honest rig.old) (R.honest rig.new) (WritesText result area text.now (R.trace rig.old) (R.trace rig.new)) }
     ensures size { R.sectors rig.new ≡ R.sectors rig.old }
-    ensures failures { Counts result (R.failed rig.old) (R.failed rig.new) }
+    ensures failures { FailureCountSpec result (R.failed rig.old) (R.failed rig.new) }
 {
     let first = program_first(area);
     for n in 0..text.len().div_ceil(BYTES) {
@@ -41,10 +42,10 @@ pub(crate) fn load<R: Rig, A: Allocator + Copy + Drop>(
     requires count { stored.now.entries ≤ greatest_count }
     requires storable { IsStorable stored.now }
     requires long { stored.now.length ≡ length text.now }
-    ensures stops { Promises (R.honest rig.old) (R.honest rig.new) (IsOwn (R.life rig.old) header → Loads result header (record { saved = stored.now; program = text.now }) (R.life rig.old) (R.life rig.new)) }
-    ensures stores { Promises (R.honest rig.old) (R.honest rig.new) (StoresLoad result header (record { saved = stored.now; program = text.now }) (R.life rig.old) (R.life rig.new)) }
+    ensures stops { IfHonest (R.honest rig.old) (R.honest rig.new) (IsOwnImage (R.trace rig.old) header → LoadSpec result header (record { saved = stored.now; program = text.now }) (R.trace rig.old) (R.trace rig.new)) }
+    ensures stores { IfHonest (R.honest rig.old) (R.honest rig.new) (StoresLoad result header (record { saved = stored.now; program = text.now }) (R.trace rig.old) (R.trace rig.new)) }
     ensures size { R.sectors rig.new ≡ R.sectors rig.old }
-    ensures failures { Counts result (R.failed rig.old) (R.failed rig.new) }
+    ensures failures { FailureCountSpec result (R.failed rig.old) (R.failed rig.new) }
 {
     let area = spare_area(header.area);
     write_program(rig, area, text)?;

@@ -1,18 +1,22 @@
 //! What a device holds: the header in force and its snapshot.
 ghost use Rattle.std.specs.Prelude.{◌≡◌, ◌≤◌, ◌<◌, ◌+◌, ◌*◌, ◌%◌, true, length, IfOk, IfSome};
 ghost use Rattle.std.specs.Bool.{OnTrue};
-ghost use Rattle.ng_rig.specs.Calls.{Promises, Counts};
-ghost use Rattle.ng_layout.specs.Limits.{greatest_count, parameter_count};
-ghost use Rattle.ng_layout.specs.Header.{header_in, IsLawful};
-ghost use Rattle.ng_layout.specs.Report.{report_of};
+ghost use Rattle.ng_rig.specs.Calls.{IfHonest, FailureCountSpec};
+ghost use Rattle.ng_layout.specs.Limits.{greatest_count};
+ghost use Rattle.ng_params.specs.Numbers.{parameter_count};
+ghost use Rattle.ng_layout.specs.Header.{header_in, IsValidHeader};
+ghost use Rattle.ng_layout.specs.Report.{decoded_state_of};
 ghost use Rattle.ng_layout.specs.StateField.{field_at};
 ghost use Rattle.ng_layout.specs.Sound.{IsSound};
 ghost use Rattle.ng_layout.specs.Areas.{snapshot_first, least_size, snapshot_size};
 ghost use Rattle.ng_layout.specs.Stands.{in_force, newer};
 ghost use Rattle.ng_layout.specs.Storable.{IsStorable};
-ghost use Rattle.ng_journal.specs.Reading.{Reads, IsTableOf, IsSnapshotOf};
+ghost use Rattle.ng_log.specs.Reading.{ReadSpec};
+ghost use Rattle.ng_journal.specs.Private.SnapshotRead.{IsTableOf, IsSnapshotOf};
 
-use ng_layout::{Header, Reported, SNAPSHOT_SIZE, StateField, Stored, snapshot_first, take_values};
+use ng_layout::{
+    DecodedState, Header, SNAPSHOT_SIZE, StateField, Stored, VALUES, snapshot_first, take_values,
+};
 use ng_log::read_sector;
 use ng_params::Params;
 use ng_rig::{Failed, Rig};
@@ -22,10 +26,10 @@ use std::alloc::Allocator;
 fn read_header<R: Rig>(rig: &mut R, k: u64) -> Result<Option<Header>, Failed>
     requires room { least_size ≤ R.sectors rig.old }
     requires header { k < 2 }
-    ensures read { Promises (R.honest rig.old) (R.honest rig.new) (Reads result (λ image header. header ≡ header_in k (image k)) (R.life rig.old) (R.life rig.new)) }
-    ensures lawful { IfOk result (λ header. IfSome header IsLawful) }
+    ensures read { IfHonest (R.honest rig.old) (R.honest rig.new) (ReadSpec result (λ image header. header ≡ header_in k (image k)) (R.trace rig.old) (R.trace rig.new)) }
+    ensures lawful { IfOk result (λ header. IfSome header IsValidHeader) }
     ensures size { R.sectors rig.new ≡ R.sectors rig.old }
-    ensures failures { Counts result (R.failed rig.old) (R.failed rig.new) }
+    ensures failures { FailureCountSpec result (R.failed rig.old) (R.failed rig.new) }
 {
     let bytes = read_sector(rig, k as usize)?;
     Ok(Header::read(k, &bytes))
@@ -33,10 +37,10 @@ fn read_header<R: Rig>(rig: &mut R, k: u64) -> Result<Option<Header>, Failed>
 
 /// Of two valid headers that of the greater epoch.
 fn newer(a: Option<Header>, b: Option<Header>) -> Option<Header>
-    requires a { IfSome a IsLawful }
-    requires b { IfSome b IsLawful }
+    requires a { IfSome a IsValidHeader }
+    requires b { IfSome b IsValidHeader }
     ensures value { result ≡ newer a b }
-    ensures lawful { IfSome result IsLawful }
+    ensures lawful { IfSome result IsValidHeader }
 {
     match (a, b) {
         (None, b) => b,
@@ -49,10 +53,10 @@ fn newer(a: Option<Header>, b: Option<Header>) -> Option<Header>
 #[tactic(auto, unfolding(ng_layout::specs::Stands::in_force))]
 pub(crate) fn header_in_force<R: Rig>(rig: &mut R) -> Result<Option<Header>, Failed>
     requires { least_size ≤ R.sectors rig.old }
-    ensures read { Promises (R.honest rig.old) (R.honest rig.new) (Reads result (λ image header. header ≡ in_force image) (R.life rig.old) (R.life rig.new)) }
-    ensures lawful { IfOk result (λ header. IfSome header IsLawful) }
+    ensures read { IfHonest (R.honest rig.old) (R.honest rig.new) (ReadSpec result (λ image header. header ≡ in_force image) (R.trace rig.old) (R.trace rig.new)) }
+    ensures lawful { IfOk result (λ header. IfSome header IsValidHeader) }
     ensures size { R.sectors rig.new ≡ R.sectors rig.old }
-    ensures failures { Counts result (R.failed rig.old) (R.failed rig.new) }
+    ensures failures { FailureCountSpec result (R.failed rig.old) (R.failed rig.new) }
 {
     let even = read_header(rig, 0)?;
     let odd = read_header(rig, 1)?;
@@ -61,12 +65,16 @@ pub(crate) fn header_in_force<R: Rig>(rig: &mut R) -> Result<Option<Header>, Fai
 
 /// What the state field of a sector says.
 #[tactic(auto)]
-fn read_report<R: Rig>(rig: &mut R, sector: usize, length: u64) -> Result<Option<Reported>, Failed>
+fn read_decoded_state<R: Rig>(
+    rig: &mut R,
+    sector: usize,
+    length: u64,
+) -> Result<Option<DecodedState>, Failed>
     requires { sector < R.sectors rig.old }
-    ensures read { Promises (R.honest rig.old) (R.honest rig.new) (Reads result (λ image report. report ≡ report_of length (field_at (image sector))) (R.life rig.old) (R.life rig.new)) }
+    ensures read { IfHonest (R.honest rig.old) (R.honest rig.new) (ReadSpec result (λ image report. report ≡ decoded_state_of length (field_at (image sector))) (R.trace rig.old) (R.trace rig.new)) }
     ensures sound { IfOk result (λ report. IfSome report (IsSound length)) }
     ensures size { R.sectors rig.new ≡ R.sectors rig.old }
-    ensures failures { Counts result (R.failed rig.old) (R.failed rig.new) }
+    ensures failures { FailureCountSpec result (R.failed rig.old) (R.failed rig.new) }
 {
     let bytes = read_sector(rig, sector)?;
     Ok(StateField::read(&bytes).report(length))
@@ -81,15 +89,15 @@ fn read_table<R: Rig, A: Allocator + Copy + Drop>(
     requires sectors { least_size ≤ R.sectors rig.old }
     requires within { first + snapshot_size ≤ least_size }
     requires long { length table.old ≡ parameter_count }
-    ensures read { Promises (R.honest rig.old) (R.honest rig.new) (Reads result (IsTableOf first table.new) (R.life rig.old) (R.life rig.new)) }
+    ensures read { IfHonest (R.honest rig.old) (R.honest rig.new) (ReadSpec result (IsTableOf first table.new) (R.trace rig.old) (R.trace rig.new)) }
     // without honesty too
     ensures long { IfOk result (λ is_whole. OnTrue is_whole (length table.new ≡ parameter_count)) }
     ensures size { R.sectors rig.new ≡ R.sectors rig.old }
-    ensures failures { Counts result (R.failed rig.old) (R.failed rig.new) }
+    ensures failures { FailureCountSpec result (R.failed rig.old) (R.failed rig.new) }
 {
     for n in 0..SNAPSHOT_SIZE - 1 {
         let sector = read_sector(rig, first + 1 + n)?;
-        if !take_values(table, 64 * n, &sector) {
+        if !take_values(table, VALUES * n, &sector) {
             return Ok(false);
         }
     }
@@ -103,23 +111,23 @@ pub(crate) fn read_snapshot<R: Rig, A: Allocator + Copy + Drop>(
     stored: &mut Stored<A>,
 ) -> Result<bool, Failed>
     requires room { least_size ≤ R.sectors rig.old }
-    requires lawful { IsLawful header }
+    requires lawful { IsValidHeader header }
     requires long { length stored.old.setup.params ≡ parameter_count }
-    ensures read { Promises (R.honest rig.old) (R.honest rig.new) (Reads result (IsSnapshotOf (snapshot_first header.epoch) header.length stored.new) (R.life rig.old) (R.life rig.new)) }
+    ensures read { IfHonest (R.honest rig.old) (R.honest rig.new) (ReadSpec result (IsSnapshotOf (snapshot_first header.epoch) header.length stored.new) (R.trace rig.old) (R.trace rig.new)) }
     // without honesty too
     ensures storable { IfOk result (λ is_whole. OnTrue is_whole (IsStorable stored.new)) }
     ensures count { IfOk result (λ is_whole. OnTrue is_whole (stored.new.entries ≤ greatest_count)) }
     ensures long { IfOk result (λ is_whole. OnTrue is_whole (stored.new.length ≡ header.length)) }
     ensures size { R.sectors rig.new ≡ R.sectors rig.old }
-    ensures failures { Counts result (R.failed rig.old) (R.failed rig.new) }
+    ensures failures { FailureCountSpec result (R.failed rig.old) (R.failed rig.new) }
 {
     let first = snapshot_first(header.epoch);
-    match read_report(rig, first, header.length)? {
+    match read_decoded_state(rig, first, header.length)? {
         None => Ok(false),
         Some(report) => {
             let is_whole = read_table(rig, first, &mut stored.state.params)?;
             if is_whole {
-                stored.take_report(report, header.length);
+                stored.take_decoded_state(report, header.length);
             }
             Ok(is_whole)
         }

@@ -1,12 +1,13 @@
 //! Power on: what the device holds, written again under the next epoch with nothing open.
 ghost use Rattle.std.specs.Prelude.{◌≡◌, ◌≤◌, ◌<◌, ◌+◌, length, IfOk, IfErr, OnOk};
-ghost use Rattle.ng_rig.specs.Calls.{Promises, Counts};
-ghost use Rattle.ng_layout.specs.Limits.{greatest_count, parameter_count};
+ghost use Rattle.ng_rig.specs.Calls.{IfHonest, FailureCountSpec};
+ghost use Rattle.ng_layout.specs.Limits.{greatest_count};
+ghost use Rattle.ng_params.specs.Numbers.{parameter_count};
 ghost use Rattle.ng_layout.specs.Areas.{least_size};
-ghost use Rattle.ng_layout.specs.Header.{IsLawful};
+ghost use Rattle.ng_layout.specs.Header.{IsValidHeader};
 ghost use Rattle.ng_layout.specs.Storable.{IsStorable};
-ghost use Rattle.ng_journal.specs.Reading.{Reads};
-ghost use Rattle.ng_journal.specs.Recovery.{IsRead, IsRefusal, Restores};
+ghost use Rattle.ng_log.specs.Reading.{ReadSpec};
+ghost use Rattle.ng_journal.specs.Private.RecoverySteps.{IsRead, IsRefusal, RestoreSpec};
 
 use crate::checkpoint::{checkpoint, next_header};
 use crate::reading::{header_in_force, read_snapshot};
@@ -23,15 +24,15 @@ fn found<R: Rig, A: Allocator + Copy + Drop>(
 ) -> Result<Result<Header, Fault>, Failed>
     requires room { least_size ≤ R.sectors rig.old }
     requires long { length stored.old.setup.params ≡ parameter_count }
-    ensures read { Promises (R.honest rig.old) (R.honest rig.new) (Reads result (IsRead stored.new) (R.life rig.old) (R.life rig.new)) }
+    ensures read { IfHonest (R.honest rig.old) (R.honest rig.new) (ReadSpec result (IsRead stored.new) (R.trace rig.old) (R.trace rig.new)) }
     // without honesty too
-    ensures lawful { IfOk result (λ answer. IfOk answer IsLawful) }
+    ensures lawful { IfOk result (λ answer. IfOk answer IsValidHeader) }
     ensures storable { IfOk result (λ answer. OnOk answer (IsStorable stored.new)) }
     ensures count { IfOk result (λ answer. OnOk answer (stored.new.entries ≤ greatest_count)) }
     ensures long { IfOk result (λ answer. IfOk answer (λ header. stored.new.length ≡ header.length)) }
     ensures faults { IfOk result (λ answer. IfErr answer IsRefusal) }
     ensures size { R.sectors rig.new ≡ R.sectors rig.old }
-    ensures failures { Counts result (R.failed rig.old) (R.failed rig.new) }
+    ensures failures { FailureCountSpec result (R.failed rig.old) (R.failed rig.new) }
 {
     match header_in_force(rig)? {
         None => Ok(Err(Fault::NotFormatted)),
@@ -56,15 +57,15 @@ pub(crate) fn restore<R: Rig, A: Allocator + Copy + Drop>(
 ) -> Result<Result<Header, Fault>, Failed>
     requires room { least_size ≤ R.sectors rig.old }
     requires long { length stored.old.setup.params ≡ parameter_count }
-    ensures restores { Promises (R.honest rig.old) (R.honest rig.new) (Restores result stored.new (R.life rig.old) (R.life rig.new)) }
+    ensures restores { IfHonest (R.honest rig.old) (R.honest rig.new) (RestoreSpec result stored.new (R.trace rig.old) (R.trace rig.new)) }
     // without honesty too
-    ensures lawful { IfOk result (λ answer. IfOk answer IsLawful) }
+    ensures lawful { IfOk result (λ answer. IfOk answer IsValidHeader) }
     ensures storable { IfOk result (λ answer. OnOk answer (IsStorable stored.new)) }
     ensures count { IfOk result (λ answer. OnOk answer (stored.new.entries ≤ greatest_count)) }
     ensures long { IfOk result (λ answer. IfOk answer (λ header. stored.new.length ≡ header.length)) }
     ensures faults { IfOk result (λ answer. IfErr answer IsRefusal) }
     ensures size { R.sectors rig.new ≡ R.sectors rig.old }
-    ensures failures { Counts result (R.failed rig.old) (R.failed rig.new) }
+    ensures failures { FailureCountSpec result (R.failed rig.old) (R.failed rig.new) }
 {
     rig.sync()?;
     match found(rig, stored)? {

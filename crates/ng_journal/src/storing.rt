@@ -1,20 +1,22 @@
 //! What is stored, as a record; where the log has no room for it, what stands is checkpointed first.
 ghost use Rattle.std.specs.Prelude.{◌≡◌, ◌≤◌, ◌<◌, ◌+◌, ◌⊎◌, ◌↔◌, true, Some, length, OnOk, IfOk};
-ghost use Rattle.ng_rig.specs.Calls.{Promises, Counts};
-ghost use Rattle.ng_layout.specs.Limits.{greatest_count, parameter_count};
+ghost use Rattle.ng_rig.specs.Calls.{IfHonest, FailureCountSpec};
+ghost use Rattle.ng_layout.specs.Limits.{greatest_count};
+ghost use Rattle.ng_params.specs.Numbers.{parameter_count};
 ghost use Rattle.ng_layout.specs.Areas.{log_size_of, least_size};
-ghost use Rattle.ng_layout.specs.Storable.{CanWait, IsStorable};
-ghost use Rattle.ng_layout.specs.Stored.{Standing};
+ghost use Rattle.ng_layout.specs.Storable.{IsStorableHalf, IsStorable};
+ghost use Rattle.ng_layout.specs.Stored.{DurableState};
 ghost use Rattle.ng_log.specs.Appends.{WritesRecord};
 ghost use Rattle.ng_log.specs.AtEnd.{IsAtEnd, no_records};
-ghost use Rattle.ng_log.specs.Differences.{differences};
+ghost use Rattle.ng_params.specs.Differences.{differences};
 ghost use Rattle.ng_journal.specs.Journal.{IsTip};
-ghost use Rattle.ng_journal.specs.Records.{IsRoom, MakesRoom, Stores, StoresRoom, ledger};
+ghost use Rattle.ng_journal.specs.Private.Records.{IsRoom, MakeRoomSpec, StoreRecordSpec, StoresRoom, ledger};
 ghost use Rattle.ng_journal.specs.Storing.{HasRoomFor, IsFullFor, StoresRecord, record_of};
 
 use crate::checkpoint::{checkpoint, next_header};
 use ng_layout::{Half, Header, Stored, parts_for};
-use ng_log::{LogEnd, append, difference_count};
+use ng_log::{LogEnd, append};
+use ng_params::difference_count;
 use ng_rig::{Failed, Rig};
 use std::alloc::Allocator;
 
@@ -89,14 +91,14 @@ fn make_room<R: Rig, A: Allocator + Copy + Drop>(
     requires epoch { IsFullFor tip.header tip.end count → tip.header.epoch < greatest_count }
     requires entries { stored.now.entries ≤ greatest_count }
     requires storable { IsStorable stored.now }
-    ensures makes { Promises (R.honest rig.old) (R.honest rig.new) ((before : Standing) → IsAtEnd (R.life rig.old) tip.header before tip.end
-        → before.saved ≡ stored.now → MakesRoom result before (R.life rig.old) (R.life rig.new)) }
-    ensures stores { Promises (R.honest rig.old) (R.honest rig.new) (StoresRoom result (ledger tip stored.now) count (R.life rig.old) (R.life rig.new)) }
+    ensures makes { IfHonest (R.honest rig.old) (R.honest rig.new) ((before : DurableState) → IsAtEnd (R.trace rig.old) tip.header before tip.end
+        → before.saved ≡ stored.now → MakeRoomSpec result before (R.trace rig.old) (R.trace rig.new)) }
+    ensures stores { IfHonest (R.honest rig.old) (R.honest rig.new) (StoresRoom result (ledger tip stored.now) count (R.trace rig.old) (R.trace rig.new)) }
     ensures room { IfOk result (IsRoom (ledger tip stored.now) count) }
     // without honesty too
     ensures tip { IfOk result (λ t. IsTip stored.now.length t.header t.end) }
     ensures size { R.sectors rig.new ≡ R.sectors rig.old }
-    ensures failures { Counts result (R.failed rig.old) (R.failed rig.new) }
+    ensures failures { FailureCountSpec result (R.failed rig.old) (R.failed rig.new) }
 {
     if !tip.is_full_for(count) {
         return Ok(tip);
@@ -122,13 +124,13 @@ fn append_to<R: Rig, A: Allocator + Copy + Drop>(
     requires room { HasRoomFor tip.header tip.end count }
     requires entries { stored.now.entries ≤ greatest_count }
     requires storable { IsStorable stored.now }
-    ensures appends { Promises (R.honest rig.old) (R.honest rig.new) ((before : Standing) → IsAtEnd (R.life rig.old) tip.header before tip.end
-        → before.saved.setup.params ≡ old.now.setup.params → Stores result before stored.now (R.life rig.old) (R.life rig.new)) }
-    ensures writes { Promises (R.honest rig.old) (R.honest rig.new) (WritesRecord result (record_of (ledger tip old.now) stored.now) (R.life rig.old) (R.life rig.new)) }
+    ensures appends { IfHonest (R.honest rig.old) (R.honest rig.new) ((before : DurableState) → IsAtEnd (R.trace rig.old) tip.header before tip.end
+        → before.saved.setup.params ≡ old.now.setup.params → StoreRecordSpec result before stored.now (R.trace rig.old) (R.trace rig.new)) }
+    ensures writes { IfHonest (R.honest rig.old) (R.honest rig.new) (WritesRecord result (record_of (ledger tip old.now) stored.now) (R.trace rig.old) (R.trace rig.new)) }
     // without honesty too
     ensures tip { IfOk result (λ t. IsTip stored.now.length t.header t.end) }
     ensures size { R.sectors rig.new ≡ R.sectors rig.old }
-    ensures failures { Counts result (R.failed rig.old) (R.failed rig.new) }
+    ensures failures { FailureCountSpec result (R.failed rig.old) (R.failed rig.new) }
 {
     let end = append(rig, tip.header, tip.end, &old.state.params, stored, count)?;
     Ok(Tip {
@@ -137,7 +139,7 @@ fn append_to<R: Rig, A: Allocator + Copy + Drop>(
     })
 }
 
-/// Writes what is stored as a record behind the end of the log, or of the next epoch's where this one has no room. The count is that
+/// Writes what is stored as a record after the end of the log, or of the next epoch's where this one has no room. The count is that
 /// of the changes that make it of the old. It takes no memory.
 pub(crate) fn store<R: Rig, A: Allocator + Copy + Drop>(
     rig: &mut R,
@@ -156,13 +158,13 @@ pub(crate) fn store<R: Rig, A: Allocator + Copy + Drop>(
     requires entries { stored.now.entries ≤ greatest_count }
     requires storable { IsStorable stored.now }
     requires long { stored.now.length ≡ old.now.length }
-    ensures stops { Promises (R.honest rig.old) (R.honest rig.new) ((before : Standing) → IsAtEnd (R.life rig.old) tip.header before tip.end
-        → before.saved ≡ old.now → Stores result before stored.now (R.life rig.old) (R.life rig.new)) }
-    ensures stores { Promises (R.honest rig.old) (R.honest rig.new) (StoresRecord result (ledger tip old.now) stored.now (R.life rig.old) (R.life rig.new)) }
+    ensures stops { IfHonest (R.honest rig.old) (R.honest rig.new) ((before : DurableState) → IsAtEnd (R.trace rig.old) tip.header before tip.end
+        → before.saved ≡ old.now → StoreRecordSpec result before stored.now (R.trace rig.old) (R.trace rig.new)) }
+    ensures stores { IfHonest (R.honest rig.old) (R.honest rig.new) (StoresRecord result (ledger tip old.now) stored.now (R.trace rig.old) (R.trace rig.new)) }
     // without honesty too
     ensures tip { IfOk result (λ t. IsTip stored.now.length t.header t.end) }
     ensures size { R.sectors rig.new ≡ R.sectors rig.old }
-    ensures failures { Counts result (R.failed rig.old) (R.failed rig.new) }
+    ensures failures { FailureCountSpec result (R.failed rig.old) (R.failed rig.new) }
 {
     let tip = make_room(rig, tip, old, count)?;
     append_to(rig, tip, old, stored, count)
@@ -180,10 +182,10 @@ pub(crate) fn store_half<R: Rig, A: Allocator + Copy + Drop>(
     requires epoch { IsFullFor tip.header tip.end 0 → tip.header.epoch < greatest_count }
     requires entries { stored.old.entries ≤ greatest_count }
     requires storable { IsStorable stored.old }
-    requires half { CanWait half.now }
-    ensures stops { Promises (R.honest rig.old) (R.honest rig.new) ((before : Standing) → IsAtEnd (R.life rig.old) tip.header before tip.end
-        → before.saved ≡ stored.old → Stores result before (record stored.old { half = Some half.now }) (R.life rig.old) (R.life rig.new)) }
-    ensures stores { Promises (R.honest rig.old) (R.honest rig.new) (StoresRecord result (ledger tip stored.old) (record stored.old { half = Some half.now }) (R.life rig.old) (R.life rig.new)) }
+    requires half { IsStorableHalf half.now }
+    ensures stops { IfHonest (R.honest rig.old) (R.honest rig.new) ((before : DurableState) → IsAtEnd (R.trace rig.old) tip.header before tip.end
+        → before.saved ≡ stored.old → StoreRecordSpec result before (record stored.old { half = Some half.now }) (R.trace rig.old) (R.trace rig.new)) }
+    ensures stores { IfHonest (R.honest rig.old) (R.honest rig.new) (StoresRecord result (ledger tip stored.old) (record stored.old { half = Some half.now }) (R.trace rig.old) (R.trace rig.new)) }
     ensures saved { OnOk result (stored.new ≡ record stored.old { half = Some half.now }) }
     // without honesty, and after an error, too
     ensures storable { IsStorable stored.new }
@@ -191,7 +193,7 @@ pub(crate) fn store_half<R: Rig, A: Allocator + Copy + Drop>(
     ensures length { stored.new.length ≡ stored.old.length }
     ensures tip { IfOk result (λ t. IsTip stored.old.length t.header t.end) }
     ensures size { R.sectors rig.new ≡ R.sectors rig.old }
-    ensures failures { Counts result (R.failed rig.old) (R.failed rig.new) }
+    ensures failures { FailureCountSpec result (R.failed rig.old) (R.failed rig.new) }
 {
     let tip = make_room(rig, tip, stored, 0)?;
     stored.take_half(half);

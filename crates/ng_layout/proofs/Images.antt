@@ -7,11 +7,11 @@ use Rattle.ng_layout.specs.Limits.{greatest_count, longest_program}
 use Rattle.ng_layout.specs.declared.header.Header.{Header}
 use Rattle.ng_layout.specs.Header.{header_at, is_marked, header_in}
 use Rattle.ng_layout.specs.Areas.{log_size, log_size_under, log_first, snapshot_first, snapshot_size, program_first, program_size, greatest_area}
-use Rattle.ng_layout.specs.Log.{Label, Place, is_part, parts_stand, parts_for, with_record, next, after_step, run}
-use Rattle.ng_layout.specs.Spare.{IsSpare, SameButSpare}
+use Rattle.ng_layout.specs.Log.{PartHeader, LogPosition, is_part, parts_stand, parts_for, with_record, next, after_step, run}
+use Rattle.ng_layout.proofs.Spares.{IsSpare, SameButSpare}
 use Rattle.ng_layout.specs.Report.{and_then}
-use Rattle.ng_layout.specs.Sectors.{text_of}
-use Rattle.ng_layout.specs.Stands.{stretch, newer, in_force, snapshot, standing, standing_of, by_header, stands, epoch_in_force, IsWritten}
+use Rattle.ng_layout.specs.Sectors.{program_text}
+use Rattle.ng_layout.specs.Stands.{stretch, newer, in_force, snapshot, standing, durable_state_under, by_header, stands, epoch_in_force, IsWritten}
 
 abbrev Image : Type 0
 Image = ℕ → List ℕ
@@ -167,9 +167,9 @@ stands-frame h image base is same =
     let area = stretch-same (snapshot_first h.epoch) snapshot_size image base (λ j lt. same-at h image base same (snapshot_first h.epoch + j) (snapshot_decides h j lt)) in
     let text = stretch-same (program_first h.area) (program_size h.area) image base (program-frame h image base within.area same) in
     let log = stretch-same log_first log_size image base (log-frame h image base same) in
-    (λ i. by_header (force i) (λ x. standing_of x (stretch (snapshot_first x.epoch) snapshot_size image) (stretch (program_first x.area) (program_size x.area) image) (stretch log_first log_size image)))
-    ∙ (λ i. standing_of h (area i) (text i) (log i))
-    ∙ sym (λ i. by_header (is i) (λ x. standing_of x (stretch (snapshot_first x.epoch) snapshot_size base) (stretch (program_first x.area) (program_size x.area) base) (stretch log_first log_size base)))
+    (λ i. by_header (force i) (λ x. durable_state_under x (stretch (snapshot_first x.epoch) snapshot_size image) (stretch (program_first x.area) (program_size x.area) image) (stretch log_first log_size image)))
+    ∙ (λ i. durable_state_under h (area i) (text i) (log i))
+    ∙ sym (λ i. by_header (is i) (λ x. durable_state_under x (stretch (snapshot_first x.epoch) snapshot_size base) (stretch (program_first x.area) (program_size x.area) base) (stretch log_first log_size base)))
 
 -- The log of the header in force is the longest one.
 log_under : (o : Option Header) → log_size_under o ≡ log_size
@@ -187,7 +187,7 @@ written-frame h image base same written =
     is-written image (λ m lt. subst (λ (e : ℕ). number_at 8 0 (image (log_first + m)) ≤ e) (sym (ap epoch_in_force (force-frame h image base same))) (subst (λ (s : List ℕ). number_at 8 0 s ≤ epoch_in_force (in_force base)) (sym (log-frame h image base same m lt)) (written-past base written m lt)))
 
 -- A log whose first part is of another epoch holds no record of this one.
-first_part : (row : Image) (at : ℕ) (l : Label) (n : ℕ) → number_at 8 0 (row (at + 0)) ≢ l.epoch → parts_stand row at l (suc n) ≡ false
+first_part : (row : Image) (at : ℕ) (l : PartHeader) (n : ℕ) → number_at 8 0 (row (at + 0)) ≢ l.epoch → parts_stand row at l (suc n) ≡ false
 unfolding parts_stand is_part
 first_part row at l zero other = let e : (number_at 8 0 (row (at + 0)) == l.epoch) ≡ false = grind (arith, nat_tests) in rw e refl
 first_part row at l (suc n) other = let e = first_part row at l n other in rw e (no _)
@@ -196,22 +196,22 @@ first_part row at l (suc n) other = let e = first_part row at l n other in rw e 
     no true = refl
     no false = refl
 
-no_record : (parts p : ℕ) (a b : Bool) (q : Place) → b ≡ false → (if (parts == p) && a && b then Some q else None) ≡ None
+no_record : (parts p : ℕ) (a b : Bool) (q : LogPosition) → b ≡ false → (if (parts == p) && a && b then Some q else None) ≡ None
 no_record parts p a b q is = grind (arith, nat_tests)
 
-pub no-next : (size length : ℕ) (row : Image) (epoch : ℕ) (p : Place) → p.at ≡ 0 → number_at 8 0 (row 0) ≢ epoch → next size length row epoch p ≡ None
+pub no-next : (size length : ℕ) (row : Image) (epoch : ℕ) (p : LogPosition) → p.at ≡ 0 → number_at 8 0 (row 0) ≢ epoch → next size length row epoch p ≡ None
 unfolding next
 no-next size length row epoch p start other =
     let parts = number_at 2 18 (row p.at) in
     let changes = number_at 2 20 (row p.at) in
-    let q : Place = record { at = p.at + parts; number = p.number + 1; found = and_then p.found (λ before. with_record length row p.at changes before) } in
+    let q : LogPosition = record { at = p.at + parts; number = p.number + 1; found = and_then p.found (λ before. with_record length row p.at changes before) } in
     let stand = parts_stand row p.at (record { epoch = epoch; number = p.number; part = 0; parts = parts; changes = changes }) parts in
     elim (cases_eq parts 0) [
       | inl none ↦ no_parts parts changes (nat_le (p.at + parts) size) stand q none
       | inr some ↦ no_record parts (parts_for changes) (nat_le (p.at + parts) size) stand q (absent parts some)
     ]
   where
-    no_parts : (parts changes : ℕ) (a b : Bool) (q : Place) → parts ≡ 0 → (if (parts == parts_for changes) && a && b then Some q else None) ≡ None
+    no_parts : (parts changes : ℕ) (a b : Bool) (q : LogPosition) → parts ≡ 0 → (if (parts == parts_for changes) && a && b then Some q else None) ≡ None
     no_parts parts changes a b q is = grind (arith, nat_tests)
 
     absent : (parts : ℕ) → parts ≢ 0 → parts_stand row p.at (record { epoch = epoch; number = p.number; part = 0; parts = number_at 2 18 (row p.at); changes = number_at 2 20 (row p.at) }) parts ≡ false
@@ -219,19 +219,19 @@ no-next size length row epoch p start other =
     absent (suc n) some = first_part row p.at _ n (subst (λ (k : ℕ). number_at 8 0 (row (k + 0)) ≢ epoch) (sym start) other)
 
 -- With no record in it, the snapshot and the program are what stands.
-pub standing-none : (h : Header) (area text log : Image) → number_at 8 0 (log 0) ≢ h.epoch → standing_of h area text log ≡ standing (snapshot h.length area) (text_of h.length text) h.length
-unfolding standing_of run
+pub standing-none : (h : Header) (area text log : Image) → number_at 8 0 (log 0) ≢ h.epoch → durable_state_under h area text log ≡ standing (snapshot h.length area) (program_text h.length text) h.length
+unfolding durable_state_under run
 standing-none h area text log other =
-    let start : Place = record { at = 0; number = 0; found = snapshot h.length area } in
+    let start : LogPosition = record { at = 0; number = 0; found = snapshot h.length area } in
     let none = no-next log_size h.length log h.epoch start refl other in
-    λ i. standing (after_step (none i) (λ q. run 1023 log_size h.length log h.epoch q) start).found (text_of h.length text) h.length
+    λ i. standing (after_step (none i) (λ q. run 1023 log_size h.length log h.epoch q) start).found (program_text h.length text) h.length
 
 -- An image under this header that has no record of its epoch.
-pub stands-snapshot : (image : Image) (h : Header) → in_force image ≡ Some h → number_at 8 0 (image log_first) ≢ h.epoch → stands image ≡ standing (snapshot h.length (stretch (snapshot_first h.epoch) snapshot_size image)) (text_of h.length (stretch (program_first h.area) (program_size h.area) image)) h.length
+pub stands-snapshot : (image : Image) (h : Header) → in_force image ≡ Some h → number_at 8 0 (image log_first) ≢ h.epoch → stands image ≡ standing (snapshot h.length (stretch (snapshot_first h.epoch) snapshot_size image)) (program_text h.length (stretch (program_first h.area) (program_size h.area) image)) h.length
 unfolding stands
 stands-snapshot image h is other =
     let first : stretch log_first log_size image 0 ≡ image (log_first + 0) = stretch-at log_first log_size image 0 (omega arith) in
-    (λ i. by_header (is i) (λ x. standing_of x (stretch (snapshot_first x.epoch) snapshot_size image) (stretch (program_first x.area) (program_size x.area) image) (stretch log_first log_size image)))
+    (λ i. by_header (is i) (λ x. durable_state_under x (stretch (snapshot_first x.epoch) snapshot_size image) (stretch (program_first x.area) (program_size x.area) image) (stretch log_first log_size image)))
     ∙ standing-none h (stretch (snapshot_first h.epoch) snapshot_size image) (stretch (program_first h.area) (program_size h.area) image) (stretch log_first log_size image) (λ e. other (ap (number_at 8 0) (sym first) ∙ e))
 
 -- Over an image that has no part of an epoch still to come, a newer header finds none of its own.

@@ -5,3 +5,5 @@ pub mod Rows
 pub mod SaysAgain
 pub mod Snapshots
 pub mod Soundness
+pub mod Spares
+pub mod Tables

@@ -8,7 +8,7 @@ use Rattle.ng_params.specs.Numbers.{index_of}
 use Rattle.ng_params.specs.Changes.{with_changes}
 use Rattle.ng_params.specs.declared.change.Change.{Change}
 use Rattle.ng_layout.specs.Fields.{number_at, signed_at, AreZero, SameBelow, SameFrom, Puts}
-use Rattle.ng_layout.specs.Log.{Label, is_part, change_at}
+use Rattle.ng_layout.specs.Log.{PartHeader, is_part, change_at}
 use Rattle.ng_layout.specs.Part.{changes_in, HoldsLabel, HoldsChanges, Makes}
 use Rattle.ng_layout.specs.Report.{and_then, count_of}
 use Rattle.ng_layout.proofs.Places.{number-below, signed-below, bytes-below, from-further}
@@ -18,11 +18,11 @@ use Rattle.ng_layout.proofs.SaysAgain.{count-back}
 five : (a b c d e p q r s t : ℕ) → a ≡ p → b ≡ q → c ≡ r → d ≡ s → e ≡ t → ((a == p) && (b == q) && (c == r) && (d == s) && (e == t)) ≡ true
 five a b c d e p q r s t v w x y z = grind (arith, nat_tests)
 
-pub labelled : (l : Label) (sector : List ℕ) → number_at 8 0 sector ≡ l.epoch → number_at 8 8 sector ≡ l.number → number_at 2 16 sector ≡ l.part → number_at 2 18 sector ≡ l.parts → number_at 2 20 sector ≡ l.changes → is_part l sector ≡ true
+pub labelled : (l : PartHeader) (sector : List ℕ) → number_at 8 0 sector ≡ l.epoch → number_at 8 8 sector ≡ l.number → number_at 2 16 sector ≡ l.part → number_at 2 18 sector ≡ l.parts → number_at 2 20 sector ≡ l.changes → is_part l sector ≡ true
 unfolding is_part
 labelled l sector a b c d e = five _ _ _ _ _ l.epoch l.number l.part l.parts l.changes a b c d e
 
-pub is_part-below : (l : Label) (at : ℕ) (old new : List ℕ) → SameBelow at old new → 22 ≤ at → is_part l new ≡ is_part l old
+pub is_part-below : (l : PartHeader) (at : ℕ) (old new : List ℕ) → SameBelow at old new → 22 ≤ at → is_part l new ≡ is_part l old
 unfolding is_part
 is_part-below l at old new s le =
     let a = number-below 8 0 at old new s (omega arith) in
@@ -32,14 +32,14 @@ is_part-below l at old new s le =
     let e = number-below 2 20 at old new s (omega arith) in
     λ i. (a i == l.epoch) && (b i == l.number) && (c i == l.part) && (d i == l.parts) && (e i == l.changes)
 
--- what is put behind a label leaves it
-pub label-below : (l : Label) (at : ℕ) (old new : List ℕ) → SameBelow at old new → 32 ≤ at → HoldsLabel l old → HoldsLabel l new
+-- what is put after a label leaves it
+pub label-below : (l : PartHeader) (at : ℕ) (old new : List ℕ) → SameBelow at old new → 32 ≤ at → HoldsLabel l old → HoldsLabel l new
 label-below l at old new s le h = record {
   is = is_part-below l at old new s (omega arith) ∙ h.is;
   gap = bytes-below 10 22 at old new s (omega arith) ∙ h.gap;
 }
 
--- the content of a sector that is zero behind its label
+-- the content of a sector that is zero after its label
 pub no_content : (sector : List ℕ) → SameFrom 22 (replicate 512 0) sector → drop 32 sector ≡ replicate 480 0
 no_content sector s = (from-further 22 32 (replicate 512 0) sector s (lit≤ tt)).same ∙ drop-replicate 32 512 0
 
@@ -117,7 +117,7 @@ whole_put P at k xs ys long holds =
 pub front_put : (at k : ℕ) (xs ys : List ℕ) → at ≤ length xs → SameBelow at xs (put_mid at k xs ys)
 front_put at k xs ys room = record { same = take_put at k xs ys room }
 
--- all changes of a part were put, and zeros are left behind them
+-- all changes of a part were put, and zeros are left after them
 pub holds_changes : (changes : List Change) (k : ℕ) (sector : List ℕ) → length changes ≤ k → k ≤ length changes → length changes ≤ 48 → changes_in sector k ≡ Some (take k changes) → SameFrom (32 + 10 * k) (replicate 512 0) sector → HoldsChanges changes sector
 holds_changes changes k sector most least few made rest =
     let all : k ≡ length changes = omega arith in

@@ -132,7 +132,7 @@ codes-below at old new s le =
       mist = b 153 (lit≤ tt) i;
       flood = b 154 (lit≤ tt) i;
       overrides = b 155 (lit≤ tt) i;
-      place_known = b 156 (lit≤ tt) i;
+      point_known = b 156 (lit≤ tt) i;
       kept = b 157 (lit≤ tt) i;
     }
 

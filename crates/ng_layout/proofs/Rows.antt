@@ -30,11 +30,11 @@ pub bytes-zeros : (n at size : ℕ) → at + n ≤ size → AreZero n at (replic
 unfolding bytes_at
 bytes-zeros n at size room = ap (λ (l : List ℕ). take n l) (drop-replicate at size 0) ∙ take-replicate n (size - at) 0 (omega arith)
 
--- what stands behind a place is as in a sector of zeros
+-- what stands after a place is as in a sector of zeros
 pub zeros-from : (m at : ℕ) (sector : List ℕ) → SameFrom m (replicate 512 0) sector → m ≤ at → at ≤ 512 → AreZero (512 - at) at sector
 zeros-from m at sector same le within = bytes-from (512 - at) m at (replicate 512 0) sector same le ∙ bytes-zeros (512 - at) at 512 (omega arith)
 
--- the first k values stand, and zeros behind them
+-- the first k values stand, and zeros after them
 pub record ValuesTo (table : List ℤ) (first k : ℕ) (sector : List ℕ) : Type 0 where
   pub each : (j : ℕ) → j < k → first + j < 5399 → signed_at (8 * j) sector ≡ get_or table (first + j) (pos 0)
   pub past : (j : ℕ) → j < k → j < 64 → 5399 ≤ first + j → AreZero (512 - 8 * j) (8 * j) sector

@@ -6,27 +6,27 @@ use Rattle.ng_num.specs.Range.{IsCount}
 use Rattle.ng_canon.specs.declared.outputs.Spindle.{Spindle}
 use Rattle.ng_canon.specs.declared.outputs.Spindle.TheVariants.{Stopped, Clockwise, Counterclockwise}
 use Rattle.ng_params.specs.Numbers.{system_of}
-use Rattle.ng_cycles.specs.declared.words.KeptWords.{KeptWords}
-use Rattle.ng_block.specs.declared.machine.Machine.{Machine}
+use Rattle.ng_state.specs.declared.kept_words.KeptWords.{KeptWords}
+use Rattle.ng_state.specs.declared.machine.Machine.{Machine}
 use Rattle.ng_num.specs.declared.unit.Unit.{Unit as LengthUnit}
 use Rattle.ng_num.specs.declared.unit.Unit.TheVariants.{Inches, Millimetres}
 use Rattle.ng_canon.specs.declared.plane.Plane.{Plane}
 use Rattle.ng_canon.specs.declared.plane.Plane.TheVariants.{Xy, Xz, Yz}
-use Rattle.ng_modal.specs.declared.modes.Motion.{Motion}
-use Rattle.ng_modal.specs.declared.modes.Motion.TheVariants.{Off, Traverse, Feed, ClockwiseArc, CounterclockwiseArc, Drilling, DrillingWithDwell, PeckDrilling, Boring, BoringWithStop, BoringWithDwell}
-use Rattle.ng_modal.specs.declared.modes.Distance.{Distance}
-use Rattle.ng_modal.specs.declared.modes.Distance.TheVariants.{Absolute, Incremental}
-use Rattle.ng_modal.specs.declared.modes.FeedMode.{FeedMode}
-use Rattle.ng_modal.specs.declared.modes.FeedMode.TheVariants.{PerMinute, InverseTime}
-use Rattle.ng_modal.specs.declared.modes.Retract.{Retract}
-use Rattle.ng_modal.specs.declared.modes.Retract.TheVariants.{OldZ, ToR}
-use Rattle.ng_modal.specs.declared.modes.PathMode.{PathMode}
-use Rattle.ng_modal.specs.declared.modes.PathMode.TheVariants.{Exact, ExactStop, Continuous}
+use Rattle.ng_state.specs.declared.modes.Motion.{Motion}
+use Rattle.ng_state.specs.declared.modes.Motion.TheVariants.{Off, Traverse, Feed, ClockwiseArc, CounterclockwiseArc, Drilling, DrillingWithDwell, PeckDrilling, Boring, BoringWithStop, BoringWithDwell}
+use Rattle.ng_state.specs.declared.modes.Distance.{Distance}
+use Rattle.ng_state.specs.declared.modes.Distance.TheVariants.{Absolute, Incremental}
+use Rattle.ng_state.specs.declared.modes.FeedMode.{FeedMode}
+use Rattle.ng_state.specs.declared.modes.FeedMode.TheVariants.{PerMinute, InverseTime}
+use Rattle.ng_state.specs.declared.modes.Retract.{Retract}
+use Rattle.ng_state.specs.declared.modes.Retract.TheVariants.{OldZ, ToR}
+use Rattle.ng_state.specs.declared.modes.PathMode.{PathMode}
+use Rattle.ng_state.specs.declared.modes.PathMode.TheVariants.{Exact, ExactStop, Continuous}
 use Rattle.ng_layout.specs.Codes.{motion_of, plane_of, distance_of, feed_mode_of, unit_of, retract_of, path_of, spindle_of, truth_of, code_of_motion, code_of_plane, code_of_distance, code_of_feed_mode, code_of_unit, code_of_retract, code_of_path, code_of_spindle, code_of_truth}
 use Rattle.ng_layout.specs.Limits.{greatest_count, greatest_slot}
-use Rattle.ng_layout.specs.Report.{and_then, up_to, count_of, point_of, modes_of, outputs_of, offsets_of, word_of, kept_of, machine_of, half_of, report_of}
-use Rattle.ng_layout.specs.Storable.{CanStand}
-use Rattle.ng_layout.specs.Stored.{Report}
+use Rattle.ng_layout.specs.Report.{and_then, up_to, count_of, point_of, modes_of, outputs_of, offsets_of, word_of, kept_of, machine_of, half_of, decoded_state_of}
+use Rattle.ng_layout.specs.Storable.{IsStorableMachine}
+use Rattle.ng_layout.specs.Stored.{DecodedStateModel}
 use Rattle.ng_layout.specs.Writing.{triple_of, kept_field, kept_bits, codes_of, half_field, field_of}
 
 pub up_to-back : (limit n : ℕ) → n ≤ limit → up_to limit n ≡ Some n
@@ -152,7 +152,7 @@ pub record IsCounted (m : Machine) : Type 0 where
   pub origin : point_of (triple_of m.offsets.origin) ≡ Some m.offsets.origin
   pub g92 : point_of (triple_of m.offsets.g92) ≡ Some m.offsets.g92
 
-machine-back : (r : Report) → CanStand r.machine → IsCounted r.machine → machine_of (field_of r) ≡ Some r.machine
+machine-back : (r : DecodedStateModel) → IsStorableMachine r.machine → IsCounted r.machine → machine_of (field_of r) ≡ Some r.machine
 unfolding field_of
 machine-back r can counted =
     let m = r.machine in
@@ -162,15 +162,15 @@ machine-back r can counted =
     let spindle = spindle-back m.outputs.spindle in
     let mist = truth-back m.outputs.mist in
     let flood = truth-back m.outputs.flood in
-    let known = truth-back m.place_known in
+    let known = truth-back m.point_known in
     let selected = up_to-back greatest_slot m.outputs.selected_slot can.selected in
     let held = up_to-back greatest_slot m.outputs.spindle_slot can.held in
     let outputs : outputs_of (field_of r) ≡ Some m.outputs = λ i. and_then (spindle i) (λ a. and_then (speed i) (λ b. and_then (mist i) (λ c. and_then (flood i) (λ d. and_then (selected i) (λ e. and_then (held i) (λ f. Some (record { spindle = a; speed = b; mist = c; flood = d; selected_slot = e; spindle_slot = f }))))))) in
     let offsets : offsets_of (field_of r) ≡ Some m.offsets = λ i. and_then (counted.origin i) (λ a. and_then (counted.g92 i) (λ b. and_then (tool i) (λ c. Some (record { origin = a; g92 = b; tool_length = c })))) in
-    λ i. and_then (counted.modes i) (λ a. and_then (feed i) (λ b. and_then (outputs i) (λ c. and_then (offsets i) (λ d. and_then (counted.kept i) (λ e. and_then (counted.point i) (λ f. and_then (known i) (λ g. Some (record { modes = a; feed_per_min = b; outputs = c; offsets = d; kept = e; point = f; place_known = g }))))))))
+    λ i. and_then (counted.modes i) (λ a. and_then (feed i) (λ b. and_then (outputs i) (λ c. and_then (offsets i) (λ d. and_then (counted.kept i) (λ e. and_then (counted.point i) (λ f. and_then (known i) (λ g. Some (record { modes = a; feed_per_min = b; outputs = c; offsets = d; kept = e; point = f; point_known = g }))))))))
 
-pub report-back : (length : ℕ) (r : Report) → r.entries ≤ greatest_count → r.place ≤ length → CanStand r.machine → IsCounted r.machine → half_of (half_field r.half) ≡ Some r.half → report_of length (field_of r) ≡ Some r
-unfolding report_of field_of
+pub report-back : (length : ℕ) (r : DecodedStateModel) → r.entries ≤ greatest_count → r.place ≤ length → IsStorableMachine r.machine → IsCounted r.machine → half_of (half_field r.half) ≡ Some r.half → decoded_state_of length (field_of r) ≡ Some r
+unfolding decoded_state_of field_of
 report-back length r few within can counted half =
     let entries = up_to-back greatest_count r.entries few in
     let place = up_to-back length r.place within in

@@ -6,10 +6,11 @@ use Rattle.std.proofs.lemmas.List.FromFn.{fill_by_all}
 use Rattle.ng_num.specs.Range.{IsCount, greatest}
 use Rattle.ng_layout.specs.Fields.{signed_at}
 use Rattle.ng_layout.specs.Report.{and_then}
-use Rattle.ng_layout.specs.Sectors.{values, text_of, HoldsValues, TakesValues, IsBeyond, HoldsText}
-use Rattle.ng_layout.specs.Snapshot.{report_in, HoldsPart, TableTo}
+use Rattle.ng_layout.specs.Sectors.{values, program_text, HoldsValues, TakesValues, IsBeyond, HoldsText}
+use Rattle.ng_layout.specs.Snapshot.{decoded_state_in, HoldsPart}
+use Rattle.ng_layout.proofs.Tables.{TableTo}
 use Rattle.ng_layout.specs.Stands.{all_counts, snapshot}
-use Rattle.ng_layout.specs.Stored.{Saved}
+use Rattle.ng_layout.specs.Stored.{StoredModel}
 
 abbrev Row : Type 0
 Row = ℕ → List ℕ
@@ -119,7 +120,7 @@ values-whole table row long each = table-whole table row (record {
     parts p = omega arith
 
 -- A row whose sectors hold a snapshot's parts is that snapshot.
-pub snapshot-new : (saved : Saved) (row : Row) → length saved.setup.params ≡ 5399 → ((part : ℕ) → part < 86 → HoldsPart saved part (row part)) → snapshot saved.length row ≡ Some (record { report = report_in saved; params = saved.setup.params })
+pub snapshot-new : (saved : StoredModel) (row : Row) → length saved.setup.params ≡ 5399 → ((part : ℕ) → part < 86 → HoldsPart saved part (row part)) → snapshot saved.length row ≡ Some (record { report = decoded_state_in saved; params = saved.setup.params })
 unfolding snapshot
 snapshot-new saved row long each =
     let report = (each 0 (omega arith)).report refl in
@@ -128,8 +129,8 @@ snapshot-new saved row long each =
     λ i. and_then (report i) (λ r. and_then (counted i) (λ xs. Some (record { report = r; params = xs })))
 
 -- A row whose sectors hold a text is that text.
-pub text-whole : (text : List ℕ) (row : Row) → ((j : ℕ) → 512 * j < length text → HoldsText text (512 * j) (row j)) → text_of (length text) row ≡ text
-unfolding text_of
+pub text-whole : (text : List ℕ) (row : Row) → ((j : ℕ) → 512 * j < length text → HoldsText text (512 * j) (row j)) → program_text (length text) row ≡ text
+unfolding program_text
 text-whole text row each = sym (fill_by_all (λ i. get_or (row (i / 512)) (i % 512) 0) text (length text) 0 refl (λ p lt.
     let e = (each (p / 512) (omega arith)).each (p % 512) (omega arith) in
     ap (λ (x : ℕ). get_or text x 0) (parts p) ∙ sym e))

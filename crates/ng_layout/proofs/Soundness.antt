@@ -6,18 +6,18 @@ use Rattle.std.proofs.Common.{length-take}
 use Rattle.ng_num.specs.Range.{greatest}
 use Rattle.ng_num.specs.declared.point.Point.{Point}
 use Rattle.ng_canon.specs.declared.outputs.Outputs.{Outputs}
-use Rattle.ng_block.specs.declared.machine.Machine.{Machine}
+use Rattle.ng_state.specs.declared.machine.Machine.{Machine}
 use Rattle.ng_layout.specs.declared.half.Source.{Source}
 use Rattle.ng_layout.specs.declared.half.Opened.{Opened}
 use Rattle.ng_layout.specs.declared.field.Triple.{Triple}
 use Rattle.ng_layout.specs.declared.field.HalfField.{HalfField}
 use Rattle.ng_layout.specs.declared.field.StateField.{StateField}
 use Rattle.ng_layout.specs.Limits.{greatest_count, greatest_slot, longest_text}
-use Rattle.ng_layout.specs.Report.{and_then, up_to, count_of, modes_of, outputs_of, offsets_of, kept_of, machine_of, point_of, known_point, half_by, half_of, report_of}
+use Rattle.ng_layout.specs.Report.{and_then, up_to, count_of, modes_of, outputs_of, offsets_of, kept_of, machine_of, point_of, known_point, half_by, half_of, decoded_state_of}
 use Rattle.ng_layout.specs.Codes.{truth_of, spindle_of, source_of, opened_of}
 use Rattle.ng_layout.specs.Sound.{IsSound}
-use Rattle.ng_layout.specs.Storable.{CanStand, CanWait}
-use Rattle.ng_layout.specs.Stored.{HalfDone, Report}
+use Rattle.ng_layout.specs.Storable.{IsStorableMachine, IsStorableHalf}
+use Rattle.ng_layout.specs.Stored.{HalfModel, DecodedStateModel}
 
 -- what comes of a value came of one
 pub record Came {A B : Type 0} (o : Option A) (f : A → Option B) (y : B) : Type 0 where
@@ -68,7 +68,7 @@ outputs-sound f o is =
     let whole = some-same g.gives in
     subst OutputsSound whole (record { speed = count-positive f.speed b.value b.was; selected = up_to-some greatest_slot f.selected_slot e.value e.was; held = up_to-some greatest_slot f.spindle_slot g.value g.was })
 
-machine-sound : (f : StateField) (m : Machine) → machine_of f ≡ Some m → CanStand m
+machine-sound : (f : StateField) (m : Machine) → machine_of f ≡ Some m → IsStorableMachine m
 machine-sound f m is =
     let a = came (modes_of f.codes) _ m is in
     let b = came (count_of (pos f.feed)) _ m a.gives in
@@ -76,29 +76,29 @@ machine-sound f m is =
     let d = came (offsets_of f) _ m c.gives in
     let e = came (kept_of f.codes.kept f.kept) _ m d.gives in
     let g = came (point_of f.point) _ m e.gives in
-    let h = came (truth_of f.codes.place_known) _ m g.gives in
+    let h = came (truth_of f.codes.point_known) _ m g.gives in
     let out = outputs-sound f c.value c.was in
-    subst CanStand (some-same h.gives) (record { feed = count-positive f.feed b.value b.was; speed = out.speed; selected = out.selected; held = out.held })
+    subst IsStorableMachine (some-same h.gives) (record { feed = count-positive f.feed b.value b.was; speed = out.speed; selected = out.selected; held = out.held })
 
 unknown-none : (t : Triple) (at : Option Point) → known_point false t ≡ Some at → IsNone at
 unknown-none t at is = let none : IsNone {T = Point} None = search rules in subst (λ (o : Option Point). IsNone o) (some-same is) none
 
-half-sound : (f : HalfField) (opened : Option Opened) (known : Bool) (source : Option Source) (half : Option HalfDone) → half_by f opened known source ≡ Some half → IfSome half CanWait
+half-sound : (f : HalfField) (opened : Option Opened) (known : Bool) (source : Option Source) (half : Option HalfModel) → half_by f opened known source ≡ Some half → IfSome half IsStorableHalf
 half-sound f opened known None half is = none (is_none opened && not known) is
   where
-    none : (b : Bool) → (if b then Some None else None) ≡ Some half → IfSome half CanWait
-    none true e = subst (λ (h : Option HalfDone). IfSome h CanWait) (some-same e) tt
+    none : (b : Bool) → (if b then Some None else None) ≡ Some half → IfSome half IsStorableHalf
+    none true e = subst (λ (h : Option HalfModel). IfSome h IsStorableHalf) (some-same e) tt
     none false e = absurd (cc)
 half-sound f opened known (Some source) half is = go (nat_le f.length longest_text) (is_none opened) known refl refl is
   where
     waits : (known : Bool) → nat_le f.length longest_text ≡ true → ((at : Option Point) → known_point known f.at ≡ Some at → IsSome opened → IsNone at)
-        → and_then (known_point known f.at) (λ at. Some (Some (record { text = take f.length f.text; source = source; index = f.index; at = at; opened = opened }))) ≡ Some half → IfSome half CanWait
+        → and_then (known_point known f.at) (λ at. Some (Some (record { text = take f.length f.text; source = source; index = f.index; at = at; opened = opened }))) ≡ Some half → IfSome half IsStorableHalf
     waits known small unknown e =
         let w = came (known_point known f.at) _ half e in
         let few : length (take f.length f.text) ≤ longest_text = simp length-take (grind (arith, nat_tests)) in
-        subst (λ (h : Option HalfDone). IfSome h CanWait) (some-same w.gives) (record { unknown = unknown w.value w.was; text = few })
+        subst (λ (h : Option HalfModel). IfSome h IsStorableHalf) (some-same w.gives) (record { unknown = unknown w.value w.was; text = few })
 
-    go : (small none known : Bool) → nat_le f.length longest_text ≡ small → is_none opened ≡ none → (if small && (none || not known) then and_then (known_point known f.at) (λ at. Some (Some (record { text = take f.length f.text; source = source; index = f.index; at = at; opened = opened }))) else None) ≡ Some half → IfSome half CanWait
+    go : (small none known : Bool) → nat_le f.length longest_text ≡ small → is_none opened ≡ none → (if small && (none || not known) then and_then (known_point known f.at) (λ at. Some (Some (record { text = take f.length f.text; source = source; index = f.index; at = at; opened = opened }))) else None) ≡ Some half → IfSome half IsStorableHalf
     go false none known a b e = absurd (cc)
     go true true known a b e = waits known a (λ at was some. absurd (both opened b some)) e
       where
@@ -108,8 +108,8 @@ half-sound f opened known (Some source) half is = go (nat_le f.length longest_te
     go true false true a b e = absurd (cc)
     go true false false a b e = waits false a (λ at was some. unknown-none f.at at was) e
 
-pub report-sound : (length : ℕ) (f : StateField) (r : Report) → report_of length f ≡ Some r → IsSound length r
-unfolding report_of
+pub report-sound : (length : ℕ) (f : StateField) (r : DecodedStateModel) → decoded_state_of length f ≡ Some r → IsSound length r
+unfolding decoded_state_of
 report-sound length f r is =
     let a = came (up_to greatest_count f.entries) _ r is in
     let b = came (up_to length f.place) _ r a.gives in
@@ -125,6 +125,6 @@ report-sound length f r is =
       half = half-sound f.half h.value k.value s.value d.value s.gives;
     })
 
-pub sound-of : (length : ℕ) (f : StateField) (o : Option Report) → o ≡ report_of length f → IfSome o (IsSound length)
+pub sound-of : (length : ℕ) (f : StateField) (o : Option DecodedStateModel) → o ≡ decoded_state_of length f → IfSome o (IsSound length)
 sound-of length f None is = tt
 sound-of length f (Some r) is = report-sound length f r (sym is)

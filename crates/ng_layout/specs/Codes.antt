@@ -6,16 +6,16 @@ use Rattle.ng_canon.specs.declared.plane.Plane.{Plane}
 use Rattle.ng_canon.specs.declared.plane.Plane.TheVariants.{Xy, Xz, Yz}
 use Rattle.ng_canon.specs.declared.outputs.Spindle.{Spindle}
 use Rattle.ng_canon.specs.declared.outputs.Spindle.TheVariants.{Stopped, Clockwise, Counterclockwise}
-use Rattle.ng_modal.specs.declared.modes.Motion.{Motion}
-use Rattle.ng_modal.specs.declared.modes.Motion.TheVariants.{Off, Traverse, Feed, ClockwiseArc, CounterclockwiseArc, Drilling, DrillingWithDwell, PeckDrilling, Boring, BoringWithStop, BoringWithDwell}
-use Rattle.ng_modal.specs.declared.modes.Distance.{Distance}
-use Rattle.ng_modal.specs.declared.modes.Distance.TheVariants.{Absolute, Incremental}
-use Rattle.ng_modal.specs.declared.modes.FeedMode.{FeedMode}
-use Rattle.ng_modal.specs.declared.modes.FeedMode.TheVariants.{PerMinute, InverseTime}
-use Rattle.ng_modal.specs.declared.modes.Retract.{Retract}
-use Rattle.ng_modal.specs.declared.modes.Retract.TheVariants.{OldZ, ToR}
-use Rattle.ng_modal.specs.declared.modes.PathMode.{PathMode}
-use Rattle.ng_modal.specs.declared.modes.PathMode.TheVariants.{Exact, ExactStop, Continuous}
+use Rattle.ng_state.specs.declared.modes.Motion.{Motion}
+use Rattle.ng_state.specs.declared.modes.Motion.TheVariants.{Off, Traverse, Feed, ClockwiseArc, CounterclockwiseArc, Drilling, DrillingWithDwell, PeckDrilling, Boring, BoringWithStop, BoringWithDwell}
+use Rattle.ng_state.specs.declared.modes.Distance.{Distance}
+use Rattle.ng_state.specs.declared.modes.Distance.TheVariants.{Absolute, Incremental}
+use Rattle.ng_state.specs.declared.modes.FeedMode.{FeedMode}
+use Rattle.ng_state.specs.declared.modes.FeedMode.TheVariants.{PerMinute, InverseTime}
+use Rattle.ng_state.specs.declared.modes.Retract.{Retract}
+use Rattle.ng_state.specs.declared.modes.Retract.TheVariants.{OldZ, ToR}
+use Rattle.ng_state.specs.declared.modes.PathMode.{PathMode}
+use Rattle.ng_state.specs.declared.modes.PathMode.TheVariants.{Exact, ExactStop, Continuous}
 use Rattle.ng_layout.specs.declared.half.Source.{Source}
 use Rattle.ng_layout.specs.declared.half.Source.TheVariants.{Program, Mdi}
 use Rattle.ng_layout.specs.declared.half.Opened.{Opened}

@@ -13,15 +13,15 @@ header_at sector = record { epoch = number_at 8 16 sector; area = number_at 8 24
 unfoldable pub is_marked : List ℕ → Bool
 is_marked sector = (number_at 8 0 sector == number_at 8 0 (codes "RS274NGC")) && (number_at 4 8 sector == 1)
 
-abbrev pub is_within : Header → Bool
-is_within h = nat_le 1 h.epoch && nat_le h.epoch greatest_count && nat_le h.area greatest_area && nat_le h.length longest_program
+abbrev pub is_valid_header : Header → Bool
+is_valid_header h = nat_le 1 h.epoch && nat_le h.epoch greatest_count && nat_le h.area greatest_area && nat_le h.length longest_program
 
 -- the valid header of sector k: it stands in the sector of its epoch
 unfoldable pub header_in : ℕ → List ℕ → Option Header
-header_in k sector = if is_marked sector && is_within (header_at sector) && (header_at sector).epoch % 2 == k then Some (header_at sector) else None
+header_in k sector = if is_marked sector && is_valid_header (header_at sector) && (header_at sector).epoch % 2 == k then Some (header_at sector) else None
 
 -- its numbers are within their limits
-pub record IsLawful (h : Header) : Type 0 where
+pub record IsValidHeader (h : Header) : Type 0 where
   pub counted : 1 ≤ h.epoch
   pub few : h.epoch ≤ greatest_count
   pub area : h.area ≤ greatest_area

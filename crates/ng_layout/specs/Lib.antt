@@ -15,4 +15,4 @@ pub mod StateField
 pub mod Storable
 pub mod Stored
 pub mod Writing
-pub mod Programs
+pub mod Private

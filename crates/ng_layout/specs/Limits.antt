@@ -1,4 +1,4 @@
--- The limits of what is stored, and how many parameters there are (own).
+-- The limits of what is stored, and the sizes of what stands in a sector (own).
 use Rattle.std.specs.Prelude.{ℕ}
 
 -- of epochs and of the entry count
@@ -17,6 +17,36 @@ greatest_slot = 64
 abbrev pub longest_text : ℕ
 longest_text = 256
 
--- how many parameters there are
-abbrev pub parameter_count : ℕ
-parameter_count = 5399
+-- how many bytes a sector has
+abbrev pub sector_size : ℕ
+sector_size = 512
+
+-- how many parameters a sector of a snapshot holds
+abbrev pub sector_values : ℕ
+sector_values = 64
+
+-- how many bytes of a part its label takes
+abbrev pub label_size : ℕ
+label_size = 22
+
+-- the byte of a part at which its content begins, and how many bytes that has
+abbrev pub content_first : ℕ
+content_first = 32
+
+abbrev pub content_size : ℕ
+content_size = 480
+
+-- how many bytes a change takes in a part
+abbrev pub change_size : ℕ
+change_size = 10
+
+-- of the changes of a part
+abbrev pub part_changes : ℕ
+part_changes = 48
+
+-- of the changes of a record, whose label has two bytes for them, and of its parts
+abbrev pub record_changes : ℕ
+record_changes = 65_535
+
+abbrev pub record_parts : ℕ
+record_parts = 1367

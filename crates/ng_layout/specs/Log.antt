@@ -1,26 +1,27 @@
--- The log: records of several parts behind a snapshot, and the longest run of complete ones (own).
-use Rattle.std.specs.Prelude.{ℕ, zero, suc, ◌+◌, ◌*◌, ◌/◌, ◌%◌, ◌==◌, ◌&&◌, ◌++◌, Bool, true, nat_le, List, [], ◌∷◌, drop, ℤ, pos, Option, Some, None, if◌then◌else◌}
+-- The log: records of several parts after a snapshot, and the longest run of complete ones (own).
+use Rattle.std.specs.Prelude.{ℕ, zero, suc, ◌+◌, ◌-◌, ◌*◌, ◌/◌, ◌%◌, ◌==◌, ◌&&◌, ◌++◌, Bool, true, nat_le, List, [], ◌∷◌, drop, ℤ, pos, Option, Some, None, if◌then◌else◌}
 use Rattle.ng_params.specs.Numbers.{index_of}
 use Rattle.ng_params.specs.Changes.{with_changes}
 use Rattle.ng_params.specs.declared.change.Change.{Change}
+use Rattle.ng_layout.specs.Limits.{content_first, change_size, part_changes}
 use Rattle.ng_layout.specs.Fields.{number_at, signed_at}
 use Rattle.ng_layout.specs.StateField.{field_at}
-use Rattle.ng_layout.specs.Report.{and_then, count_of, report_of}
-use Rattle.ng_layout.specs.Stored.{Report}
+use Rattle.ng_layout.specs.Report.{and_then, count_of, decoded_state_of}
+use Rattle.ng_layout.specs.Stored.{DecodedStateModel}
 
 -- what a part says of itself
-pub record Label : Type 0 where
+pub record PartHeader : Type 0 where
   pub epoch : ℕ
   pub number : ℕ
   pub part : ℕ
   pub parts : ℕ
   pub changes : ℕ
 
-unfoldable pub is_part : Label → List ℕ → Bool
+unfoldable pub is_part : PartHeader → List ℕ → Bool
 is_part l sector = (number_at 8 0 sector == l.epoch) && (number_at 8 8 sector == l.number) && (number_at 2 16 sector == l.part) && (number_at 2 18 sector == l.parts) && (number_at 2 20 sector == l.changes)
 
 -- the first n parts of a record stand from this sector on
-unfoldable pub parts_stand : (ℕ → List ℕ) → ℕ → Label → ℕ → Bool
+unfoldable pub parts_stand : (ℕ → List ℕ) → ℕ → PartHeader → ℕ → Bool
 parts_stand row at l zero = true
 parts_stand row at l (suc n) = is_part (record l { part = n }) (row (at + n)) && parts_stand row at l n
 
@@ -31,30 +32,30 @@ change_at sector at = and_then (index_of (pos (number_at 2 at sector))) (λ inde
 -- the first n changes of the record that begins at this sector, 48 in each part but its first
 unfoldable pub changes_of : (ℕ → List ℕ) → ℕ → ℕ → Option (List Change)
 changes_of row at zero = Some []
-changes_of row at (suc n) = and_then (changes_of row at n) (λ earlier. and_then (change_at (row (at + 1 + n / 48)) (32 + 10 * (n % 48))) (λ change. Some (earlier ++ change ∷ [])))
+changes_of row at (suc n) = and_then (changes_of row at n) (λ earlier. and_then (change_at (row (at + 1 + n / part_changes)) (content_first + change_size * (n % part_changes))) (λ change. Some (earlier ++ change ∷ [])))
 
 -- a report with the parameters beside it
-pub record Found : Type 0 where
-  pub report : Report
+pub record ReplayState : Type 0 where
+  pub report : DecodedStateModel
   pub params : List ℤ
 
 -- where a record begins, its number, and what was found before it; nothing where that is damaged
-pub record Place : Type 0 where
+pub record LogPosition : Type 0 where
   pub at : ℕ
   pub number : ℕ
-  pub found : Option Found
+  pub found : Option ReplayState
 
 -- what is found with a record: its state field, and the parameters with its changes
-abbrev pub with_record : ℕ → (ℕ → List ℕ) → ℕ → ℕ → Found → Option Found
+abbrev pub with_record : ℕ → (ℕ → List ℕ) → ℕ → ℕ → ReplayState → Option ReplayState
 with_record length row at changes before =
-    and_then (report_of length (field_at (drop 32 (row at)))) (λ report. and_then (changes_of row at changes) (λ made. Some (record { report = report; params = with_changes before.params made })))
+    and_then (decoded_state_of length (field_at (drop content_first (row at)))) (λ report. and_then (changes_of row at changes) (λ made. Some (record { report = report; params = with_changes before.params made })))
 
 -- how many parts a record of so many changes has
 abbrev pub parts_for : ℕ → ℕ
-parts_for changes = 1 + (changes + 47) / 48
+parts_for changes = 1 + (changes + (part_changes - 1)) / part_changes
 
--- the place behind the record that begins here, where it is complete and within a log of so many sectors
-unfoldable pub next : ℕ → ℕ → (ℕ → List ℕ) → ℕ → Place → Option Place
+-- the place after the record that begins here, where it is complete and within a log of so many sectors
+unfoldable pub next : ℕ → ℕ → (ℕ → List ℕ) → ℕ → LogPosition → Option LogPosition
 next size length row epoch p =
     let parts = number_at 2 18 (row p.at) in
     let changes = number_at 2 20 (row p.at) in
@@ -62,11 +63,11 @@ next size length row epoch p =
     then Some (record { at = p.at + parts; number = p.number + 1; found = and_then p.found (λ before. with_record length row p.at changes before) })
     else None
 
-abbrev pub after_step : Option Place → (Place → Place) → Place → Place
+abbrev pub after_step : Option LogPosition → (LogPosition → LogPosition) → LogPosition → LogPosition
 after_step None go p = p
 after_step (Some q) go p = go q
 
--- the place behind at most so many complete records
-unfoldable pub run : ℕ → ℕ → ℕ → (ℕ → List ℕ) → ℕ → Place → Place
+-- the place after at most so many complete records
+unfoldable pub run : ℕ → ℕ → ℕ → (ℕ → List ℕ) → ℕ → LogPosition → LogPosition
 run zero size length row epoch p = p
 run (suc n) size length row epoch p = after_step (next size length row epoch p) (λ q. run n size length row epoch q) p

@@ -2,16 +2,17 @@
 use Rattle.std.specs.Prelude.{◌≡◌, ◌+◌, ◌-◌, ◌*◌, ℕ, zero, suc, Bool, true, List, [], ◌∷◌, ◌++◌, length, take, drop, ℤ, Option, Some, None, MatchBool}
 use Rattle.ng_params.specs.Changes.{with_changes}
 use Rattle.ng_params.specs.declared.change.Change.{Change}
+use Rattle.ng_layout.specs.Limits.{label_size, content_first, content_size, change_size, part_changes}
 use Rattle.ng_layout.specs.Fields.{number_at, AreZero}
 use Rattle.ng_layout.specs.StateField.{field_at}
-use Rattle.ng_layout.specs.Report.{and_then, report_of}
-use Rattle.ng_layout.specs.Log.{Label, is_part, change_at}
-use Rattle.ng_layout.specs.Snapshot.{report_in, HoldsReport}
-use Rattle.ng_layout.specs.Stored.{Saved}
+use Rattle.ng_layout.specs.Report.{and_then, decoded_state_of}
+use Rattle.ng_layout.specs.Log.{PartHeader, is_part, change_at}
+use Rattle.ng_layout.specs.Snapshot.{decoded_state_in, HoldsDecodedState}
+use Rattle.ng_layout.specs.Stored.{StoredModel}
 use Rattle.ng_layout.specs.declared.part.PartLabel.{PartLabel}
 
 -- what a part says of itself
-abbrev pub label_of : PartLabel → Label
+abbrev pub label_of : PartLabel → PartHeader
 label_of l = record { epoch = l.epoch; number = l.number; part = l.part; parts = l.parts; changes = l.changes }
 
 -- the numbers that stand where a part says it, whether the sector is one or not
@@ -21,29 +22,29 @@ label_at sector = record { epoch = number_at 8 0 sector; number = number_at 8 8 
 -- the first n changes of a part; nothing where one of them is out of its range
 unfoldable pub changes_in : List ℕ → ℕ → Option (List Change)
 changes_in sector zero = Some []
-changes_in sector (suc n) = and_then (changes_in sector n) (λ earlier. and_then (change_at sector (32 + 10 * n)) (λ change. Some (earlier ++ change ∷ [])))
+changes_in sector (suc n) = and_then (changes_in sector n) (λ earlier. and_then (change_at sector (content_first + change_size * n)) (λ change. Some (earlier ++ change ∷ [])))
 
 -- the changes that part i + 1 of a record has: 48, or what is left of them
 abbrev pub piece : ℕ → List Change → List Change
-piece i changes = take 48 (drop (48 * i) changes)
+piece i changes = take part_changes (drop (part_changes * i) changes)
 
 -- The sector is written with this label, and 0 in each byte between that and the content.
-pub record HoldsLabel (l : Label) (sector : List ℕ) : Type 0 where
+pub record HoldsLabel (l : PartHeader) (sector : List ℕ) : Type 0 where
   pub is : is_part l sector ≡ true
-  pub gap : AreZero 10 22 sector
+  pub gap : AreZero (content_first - label_size) label_size sector
 
 -- Its content is the state field of what is stored, which says that again.
-pub record HoldsState (saved : Saved) (sector : List ℕ) : Type 0 where
-  pub field : HoldsReport (report_in saved) 480 (drop 32 sector)
-  pub report : report_of saved.length (field_at (drop 32 sector)) ≡ Some (report_in saved)
+pub record HoldsState (saved : StoredModel) (sector : List ℕ) : Type 0 where
+  pub field : HoldsDecodedState (decoded_state_in saved) content_size (drop content_first sector)
+  pub report : decoded_state_of saved.length (field_at (drop content_first sector)) ≡ Some (decoded_state_in saved)
 
--- Its content is these changes, which are read again, and 0 in each byte behind the last one.
+-- Its content is these changes, which are read again, and 0 in each byte after the last one.
 pub record HoldsChanges (changes : List Change) (sector : List ℕ) : Type 0 where
   pub made : changes_in sector (length changes) ≡ Some changes
-  pub rest : AreZero (480 - 10 * length changes) (32 + 10 * length changes) sector
+  pub rest : AreZero (content_size - change_size * length changes) (content_first + change_size * length changes) sector
 
 -- The sector is written with this part of a record: the state field in the first one, its piece of all changes in each other.
-pub record HoldsRecordPart (l : Label) (saved : Saved) (all : List Change) (sector : List ℕ) : Type 0 where
+pub record HoldsRecordPart (l : PartHeader) (saved : StoredModel) (all : List Change) (sector : List ℕ) : Type 0 where
   pub label : HoldsLabel l sector
   pub state : l.part ≡ 0 → HoldsState saved sector
   pub changes : (i : ℕ) → l.part ≡ 1 + i → HoldsChanges (piece i all) sector

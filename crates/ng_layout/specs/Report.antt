@@ -6,13 +6,13 @@ use Rattle.ng_num.specs.Range.{in_range}
 use Rattle.ng_num.specs.declared.point.Point.{Point}
 use Rattle.ng_canon.specs.declared.outputs.Outputs.{Outputs}
 use Rattle.ng_params.specs.Numbers.{system_of}
-use Rattle.ng_modal.specs.declared.modes.Modes.{Modes}
-use Rattle.ng_block.specs.declared.machine.Machine.{Machine}
+use Rattle.ng_state.specs.declared.modes.Modes.{Modes}
+use Rattle.ng_state.specs.declared.machine.Machine.{Machine}
 use Rattle.ng_offsets.specs.declared.offsets.Offsets.{Offsets}
-use Rattle.ng_cycles.specs.declared.words.KeptWords.{KeptWords}
+use Rattle.ng_state.specs.declared.kept_words.KeptWords.{KeptWords}
 use Rattle.ng_layout.specs.Codes.{motion_of, plane_of, distance_of, feed_mode_of, unit_of, retract_of, path_of, spindle_of, truth_of, source_of, opened_of}
 use Rattle.ng_layout.specs.Limits.{greatest_count, greatest_slot, longest_text}
-use Rattle.ng_layout.specs.Stored.{HalfDone, Report}
+use Rattle.ng_layout.specs.Stored.{HalfModel, DecodedStateModel}
 use Rattle.ng_layout.specs.declared.half.Source.{Source}
 use Rattle.ng_layout.specs.declared.half.Opened.{Opened}
 use Rattle.ng_layout.specs.declared.field.Triple.{Triple}
@@ -61,8 +61,8 @@ kept_of bits f =
 
 abbrev pub machine_of : StateField → Option Machine
 machine_of f =
-    and_then (modes_of f.codes) (λ modes. and_then (count_of (pos f.feed)) (λ feed. and_then (outputs_of f) (λ outputs. and_then (offsets_of f) (λ offsets. and_then (kept_of f.codes.kept f.kept) (λ kept. and_then (point_of f.point) (λ point. and_then (truth_of f.codes.place_known) (λ known.
-    Some (record { modes = modes; feed_per_min = feed; outputs = outputs; offsets = offsets; kept = kept; point = point; place_known = known }))))))))
+    and_then (modes_of f.codes) (λ modes. and_then (count_of (pos f.feed)) (λ feed. and_then (outputs_of f) (λ outputs. and_then (offsets_of f) (λ offsets. and_then (kept_of f.codes.kept f.kept) (λ kept. and_then (point_of f.point) (λ point. and_then (truth_of f.codes.point_known) (λ known.
+    Some (record { modes = modes; feed_per_min = feed; outputs = outputs; offsets = offsets; kept = kept; point = point; point_known = known }))))))))
 
 -- where the machine stands; its numbers count only where that is known
 abbrev pub known_point : Bool → Triple → Option (Option Point)
@@ -70,18 +70,18 @@ known_point false t = Some None
 known_point true t = option_map Some (point_of t)
 
 -- Nothing is open and no point known where there is no half-done block, nor a point known where something is open.
-abbrev pub half_by : HalfField → Option Opened → Bool → Option Source → Option (Option HalfDone)
+abbrev pub half_by : HalfField → Option Opened → Bool → Option Source → Option (Option HalfModel)
 half_by f opened known None = if is_none opened && not known then Some None else None
 half_by f opened known (Some source) =
     if nat_le f.length longest_text && (is_none opened || not known)
     then and_then (known_point known f.at) (λ at. Some (Some (record { text = take f.length f.text; source = source; index = f.index; at = at; opened = opened })))
     else None
 
-abbrev pub half_of : HalfField → Option (Option HalfDone)
+abbrev pub half_of : HalfField → Option (Option HalfModel)
 half_of f = and_then (opened_of f.opened) (λ opened. and_then (truth_of f.at_known) (λ known. and_then (source_of f.source) (λ source. half_by f opened known source)))
 
 -- all of it, beside a program of this length
-unfoldable pub report_of : ℕ → StateField → Option Report
-report_of length f =
+unfoldable pub decoded_state_of : ℕ → StateField → Option DecodedStateModel
+decoded_state_of length f =
     and_then (up_to greatest_count f.entries) (λ entries. and_then (up_to length f.place) (λ place. and_then (machine_of f) (λ machine. and_then (half_of f.half) (λ half.
     Some (record { entries = entries; place = place; machine = machine; half = half })))))

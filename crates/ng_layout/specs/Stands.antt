@@ -5,16 +5,16 @@ use Rattle.std.specs.List.{list_all}
 use Rattle.ng_num.specs.Range.{greatest}
 use Rattle.ng_num.specs.declared.fault.Fault.{Fault}
 use Rattle.ng_num.specs.declared.fault.Fault.TheVariants.{NotFormatted, Damaged}
-use Rattle.ng_layout.specs.Limits.{parameter_count}
+use Rattle.ng_params.specs.Numbers.{parameter_count}
 use Rattle.ng_layout.specs.Fields.{number_at}
 use Rattle.ng_layout.specs.StateField.{field_at}
 use Rattle.ng_layout.specs.declared.header.Header.{Header}
 use Rattle.ng_layout.specs.Header.{header_in}
-use Rattle.ng_layout.specs.Report.{and_then, report_of}
-use Rattle.ng_layout.specs.Sectors.{values, text_of}
+use Rattle.ng_layout.specs.Report.{and_then, decoded_state_of}
+use Rattle.ng_layout.specs.Sectors.{values, program_text}
 use Rattle.ng_layout.specs.Areas.{snapshot_size, snapshot_first, program_size, program_first, log_first, log_size_of, log_size_under}
-use Rattle.ng_layout.specs.Log.{Found, run}
-use Rattle.ng_layout.specs.Stored.{HalfDone, Standing}
+use Rattle.ng_layout.specs.Log.{ReplayState, run}
+use Rattle.ng_layout.specs.Stored.{HalfModel, DurableState}
 
 -- so many sectors of an image from the first on, and nothing past them
 unfoldable pub stretch : ℕ → ℕ → (ℕ → List ℕ) → ℕ → List ℕ
@@ -35,11 +35,11 @@ abbrev pub all_counts : List ℤ → Option (List ℤ)
 all_counts params = if list_all (λ n. nat_le (unsigned_abs n) greatest) params then Some params else None
 
 -- what a snapshot says
-unfoldable pub snapshot : ℕ → (ℕ → List ℕ) → Option Found
-snapshot length row = and_then (report_of length (field_at (row 0))) (λ report. and_then (all_counts (values parameter_count row)) (λ params. Some (record { report = report; params = params })))
+unfoldable pub snapshot : ℕ → (ℕ → List ℕ) → Option ReplayState
+snapshot length row = and_then (decoded_state_of length (field_at (row 0))) (λ report. and_then (all_counts (values parameter_count row)) (λ params. Some (record { report = report; params = params })))
 
 -- what was found, with the program
-abbrev pub standing : Option Found → List ℕ → ℕ → Result Standing Fault
+abbrev pub standing : Option ReplayState → List ℕ → ℕ → Result DurableState Fault
 standing None program length = Err Damaged
 standing (Some f) program length = Ok (record {
   saved = record { entries = f.report.entries; setup = record { params = f.params; machine = f.report.machine }; place = f.report.place; length = length; half = f.report.half };
@@ -47,15 +47,15 @@ standing (Some f) program length = Ok (record {
 })
 
 -- what a header, its snapshot, its program and the log stand for
-unfoldable pub standing_of : Header → (ℕ → List ℕ) → (ℕ → List ℕ) → (ℕ → List ℕ) → Result Standing Fault
-standing_of h area text log = standing (run (log_size_of h) (log_size_of h) h.length log h.epoch (record { at = 0; number = 0; found = snapshot h.length area })).found (text_of h.length text) h.length
+unfoldable pub durable_state_under : Header → (ℕ → List ℕ) → (ℕ → List ℕ) → (ℕ → List ℕ) → Result DurableState Fault
+durable_state_under h area text log = standing (run (log_size_of h) (log_size_of h) h.length log h.epoch (record { at = 0; number = 0; found = snapshot h.length area })).found (program_text h.length text) h.length
 
-abbrev pub by_header : Option Header → (Header → Result Standing Fault) → Result Standing Fault
+abbrev pub by_header : Option Header → (Header → Result DurableState Fault) → Result DurableState Fault
 by_header None f = Err NotFormatted
 by_header (Some h) f = f h
 
-unfoldable pub stands : (ℕ → List ℕ) → Result Standing Fault
-stands image = by_header (in_force image) (λ h. standing_of h (stretch (snapshot_first h.epoch) snapshot_size image) (stretch (program_first h.area) (program_size h.area) image) (stretch log_first (log_size_of h) image))
+unfoldable pub stands : (ℕ → List ℕ) → Result DurableState Fault
+stands image = by_header (in_force image) (λ h. durable_state_under h (stretch (snapshot_first h.epoch) snapshot_size image) (stretch (program_first h.area) (program_size h.area) image) (stretch log_first (log_size_of h) image))
 
 -- the epoch in force, 0 where none is
 abbrev pub epoch_in_force : Option Header → ℕ
@@ -67,9 +67,9 @@ pub record IsWritten (image : ℕ → List ℕ) : Type 0 where
   pub past : (m : ℕ) → m < log_size_under (in_force image) → number_at 8 0 (image (log_first + m)) ≤ epoch_in_force (in_force image)
 
 -- nothing open: where something was, it isn't known where the machine stands
-abbrev pub closed : HalfDone → HalfDone
+abbrev pub closed : HalfModel → HalfModel
 closed half = record half { at = if is_some half.opened then None else half.at; opened = None }
 
 -- what power on makes of what an image stands for
-abbrev pub recovered : Standing → Standing
+abbrev pub recovered : DurableState → DurableState
 recovered s = record s { saved = record s.saved { half = option_map closed s.saved.half } }

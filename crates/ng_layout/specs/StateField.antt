@@ -1,11 +1,20 @@
 -- The numbers of a state field, each at its place (own). What they mean is said elsewhere.
 use Rattle.std.specs.Prelude.{ℕ, ◌+◌, List}
 use Rattle.ng_layout.specs.Fields.{number_at, signed_at, bytes_at}
+use Rattle.ng_layout.specs.Limits.{longest_text}
 use Rattle.ng_layout.specs.declared.field.Triple.{Triple}
 use Rattle.ng_layout.specs.declared.field.KeptField.{KeptField}
 use Rattle.ng_layout.specs.declared.field.CodeField.{CodeField}
 use Rattle.ng_layout.specs.declared.field.HalfField.{HalfField}
 use Rattle.ng_layout.specs.declared.field.StateField.{StateField}
+
+-- the byte that it leaves free
+abbrev pub free_byte : ℕ
+free_byte = 165
+
+-- how many bytes it has
+abbrev pub field_size : ℕ
+field_size = 456
 
 unfoldable pub triple_at : ℕ → List ℕ → Triple
 triple_at at bytes = record { x = signed_at at bytes; y = signed_at (at + 8) bytes; z = signed_at (at + 16) bytes }
@@ -27,7 +36,7 @@ codes_at bytes = record {
   mist = number_at 1 153 bytes;
   flood = number_at 1 154 bytes;
   overrides = number_at 1 155 bytes;
-  place_known = number_at 1 156 bytes;
+  point_known = number_at 1 156 bytes;
   kept = number_at 1 157 bytes;
 }
 
@@ -39,7 +48,7 @@ half_at bytes = record {
   length = number_at 2 166 bytes;
   index = number_at 8 168 bytes;
   at = triple_at 176 bytes;
-  text = bytes_at 256 200 bytes;
+  text = bytes_at longest_text 200 bytes;
 }
 
 unfoldable pub field_at : List ℕ → StateField

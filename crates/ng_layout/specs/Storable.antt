@@ -1,24 +1,25 @@
 -- What can be stored: the states that an interpreter reaches (own).
 use Rattle.std.specs.Prelude.{◌≡◌, ◌≤◌, ◌≤ℤ◌, pos, length, IsSome, IsNone, IfSome}
-use Rattle.ng_block.specs.declared.machine.Machine.{Machine}
-use Rattle.ng_layout.specs.Limits.{greatest_slot, longest_text, longest_program, parameter_count}
-use Rattle.ng_layout.specs.Stored.{HalfDone, Saved}
+use Rattle.ng_state.specs.declared.machine.Machine.{Machine}
+use Rattle.ng_layout.specs.Limits.{greatest_slot, longest_text, longest_program}
+use Rattle.ng_params.specs.Numbers.{parameter_count}
+use Rattle.ng_layout.specs.Stored.{HalfModel, StoredModel}
 
 -- feed and speed aren't negative, and slots have their numbers
-pub record CanStand (machine : Machine) : Type 0 where
+pub record IsStorableMachine (machine : Machine) : Type 0 where
   pub feed : pos 0 ≤ℤ machine.feed_per_min
   pub speed : pos 0 ≤ℤ machine.outputs.speed
   pub selected : machine.outputs.selected_slot ≤ greatest_slot
   pub held : machine.outputs.spindle_slot ≤ greatest_slot
 
 -- while something is open, where the machine stands isn't known
-pub record CanWait (half : HalfDone) : Type 0 where
+pub record IsStorableHalf (half : HalfModel) : Type 0 where
   pub unknown : IsSome half.opened → IsNone half.at
   pub text : length half.text ≤ longest_text
 
-pub record IsStorable (saved : Saved) : Type 0 where
+pub record IsStorable (saved : StoredModel) : Type 0 where
   pub table : length saved.setup.params ≡ parameter_count
-  pub machine : CanStand saved.setup.machine
-  pub half : IfSome saved.half CanWait
+  pub machine : IsStorableMachine saved.setup.machine
+  pub half : IfSome saved.half IsStorableHalf
   pub place : saved.place ≤ saved.length
   pub program : saved.length ≤ longest_program

@@ -2,11 +2,11 @@
 use Rattle.std.specs.Prelude.{ℕ, ◌+◌, ◌-◌, ◌++◌, pos, unsigned_abs, length, replicate, Option, Some, None, is_some, unwrap_or, if◌then◌else◌}
 use Rattle.ng_num.specs.Points.{zero_point}
 use Rattle.ng_num.specs.declared.point.Point.{Point}
-use Rattle.ng_block.specs.declared.machine.Machine.{Machine}
-use Rattle.ng_cycles.specs.declared.words.KeptWords.{KeptWords}
+use Rattle.ng_state.specs.declared.machine.Machine.{Machine}
+use Rattle.ng_state.specs.declared.kept_words.KeptWords.{KeptWords}
 use Rattle.ng_layout.specs.Codes.{code_of_motion, code_of_plane, code_of_distance, code_of_feed_mode, code_of_unit, code_of_retract, code_of_path, code_of_spindle, code_of_truth, code_of_source, code_of_opened}
 use Rattle.ng_layout.specs.Limits.{longest_text}
-use Rattle.ng_layout.specs.Stored.{HalfDone, Report}
+use Rattle.ng_layout.specs.Stored.{HalfModel, DecodedStateModel}
 use Rattle.ng_layout.specs.declared.field.Triple.{Triple}
 use Rattle.ng_layout.specs.declared.field.KeptField.{KeptField}
 use Rattle.ng_layout.specs.declared.field.CodeField.{CodeField}
@@ -37,11 +37,11 @@ codes_of m = record {
   mist = code_of_truth m.outputs.mist;
   flood = code_of_truth m.outputs.flood;
   overrides = code_of_truth m.modes.overrides;
-  place_known = code_of_truth m.place_known;
+  point_known = code_of_truth m.point_known;
   kept = kept_bits m.kept;
 }
 
-abbrev pub half_field : Option HalfDone → HalfField
+abbrev pub half_field : Option HalfModel → HalfField
 half_field None = record { source = 0; opened = 0; at_known = 0; length = 0; index = 0; at = triple_of zero_point; text = replicate longest_text 0 }
 half_field (Some half) = record {
   source = code_of_source half.source;
@@ -53,7 +53,7 @@ half_field (Some half) = record {
   text = half.text ++ replicate (longest_text - length half.text) 0;
 }
 
-unfoldable pub field_of : Report → StateField
+unfoldable pub field_of : DecodedStateModel → StateField
 field_of r = record {
   entries = r.entries;
   place = r.place;

@@ -1,8 +1,9 @@
 //! Numbers at places of a row of bytes, the lowest byte first.
 ghost use Rattle.std.specs.Prelude.{◌≡◌, ◌+◌, ◌≤◌, length};
 ghost use Rattle.ng_layout.specs.Fields.{number_at, signed_at, bytes_at, Puts};
+ghost use Rattle.ng_layout.specs.Limits.{longest_text};
 
-use crate::half::TEXT;
+use crate::half::LONGEST_TEXT;
 use byteorder::{ByteOrder, LittleEndian};
 
 #[tactic(auto, unfolding(crate::specs::Fields::number_at))]
@@ -81,20 +82,20 @@ pub(crate) fn put_i64(bytes: &mut [u8], at: usize, x: i64)
     put_u64(bytes, at, x.cast_unsigned());
 }
 
-/// The 256 bytes from a place on.
+/// The bytes of a text from a place on.
 #[tactic(auto, unfolding(crate::specs::Fields::bytes_at))]
-pub(crate) fn get_text(bytes: &[u8], at: usize) -> [u8; TEXT]
-    requires { at + 256 ≤ length bytes.now }
-    ensures { result ≡ bytes_at 256 at bytes.now }
+pub(crate) fn get_text(bytes: &[u8], at: usize) -> [u8; LONGEST_TEXT]
+    requires { at + longest_text ≤ length bytes.now }
+    ensures { result ≡ bytes_at longest_text at bytes.now }
 {
-    let mut text = [0; TEXT];
-    text.copy_from_slice(&bytes[at..at + TEXT]);
+    let mut text = [0; LONGEST_TEXT];
+    text.copy_from_slice(&bytes[at..at + LONGEST_TEXT]);
     text
 }
 
-pub(crate) fn put_text(bytes: &mut [u8], at: usize, text: &[u8; TEXT])
-    requires { at + 256 ≤ length bytes.old }
-    ensures { Puts (bytes_at 256 at) at (at + 256) text.now bytes.old bytes.new }
+pub(crate) fn put_text(bytes: &mut [u8], at: usize, text: &[u8; LONGEST_TEXT])
+    requires { at + longest_text ≤ length bytes.old }
+    ensures { Puts (bytes_at longest_text at) at (at + longest_text) text.now bytes.old bytes.new }
 {
-    bytes[at..at + TEXT].copy_from_slice(text);
+    bytes[at..at + LONGEST_TEXT].copy_from_slice(text);
 }

@@ -7,9 +7,9 @@ ghost use Rattle.ng_layout.specs.Codes.{code_of_unit, code_of_retract, code_of_p
 ghost use Rattle.ng_layout.specs.Codes.{code_of_truth, code_of_source, code_of_opened};
 
 use crate::half::{Opened, Source};
-use ng_block::{Distance, FeedMode, Motion, PathMode, Retract};
 use ng_canon::{Plane, Spindle};
 use ng_num::Unit;
+use ng_state::{Distance, FeedMode, Motion, PathMode, Retract};
 
 pub(crate) fn motion_of(code: u8) -> Option<Motion>
     ensures { result ≡ motion_of code }

@@ -1,5 +1,6 @@
 //! A half-done block, as it is stored.
 ghost use Rattle.std.specs.Prelude.{◌≡◌, ◌≤◌, length};
+ghost use Rattle.ng_layout.specs.Limits.{longest_text};
 
 use arrayvec::ArrayVec;
 use ng_num::Point;
@@ -22,11 +23,11 @@ pub enum Opened {
 }
 
 /// The most bytes of a half-done block's text.
-pub const TEXT: usize = 256;
+pub const LONGEST_TEXT: usize = 256;
 
 /// The text of these bytes.
-pub fn text_of(bytes: &[u8]) -> ArrayVec<u8, TEXT>
-    requires { length bytes.now ≤ 256 }
+pub fn text_from(bytes: &[u8]) -> ArrayVec<u8, LONGEST_TEXT>
+    requires { length bytes.now ≤ longest_text }
     ensures { result.items ≡ bytes.now }
 {
     let mut text = ArrayVec::new();
@@ -36,11 +37,11 @@ pub fn text_of(bytes: &[u8]) -> ArrayVec<u8, TEXT>
     text
 }
 
-/// A block that was begun and isn't done (own). Contracts see a `HalfDone`.
+/// A block that was begun and isn't done (own). Contracts see a `HalfModel`.
 #[derive(Drop)]
 pub struct Half {
     /// Its line, without the line's end.
-    pub text: ArrayVec<u8, TEXT>,
+    pub text: ArrayVec<u8, LONGEST_TEXT>,
     pub source: Source,
     /// The segment that is open or comes next, counted from 0.
     pub index: u64,
@@ -50,9 +51,9 @@ pub struct Half {
 }
 
 impl Model for Half {
-    ghost use Rattle.ng_layout.specs.Stored.{HalfDone};
+    ghost use Rattle.ng_layout.specs.Stored.{HalfModel};
 
-    ghost Value = { HalfDone };
+    ghost Value = { HalfModel };
 
     ghost view = { λ h. record { text = h.text.items; source = h.source; index = h.index; at = h.at; opened = h.opened } };
 }
@@ -65,7 +66,7 @@ impl Half {
         ensures { result ≡ self.now }
     {
         Half {
-            text: text_of(self.text.as_slice()),
+            text: text_from(self.text.as_slice()),
             source: self.source,
             index: self.index,
             at: self.at,

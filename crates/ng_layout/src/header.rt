@@ -4,12 +4,22 @@ ghost use Rattle.std.specs.Prelude.{◌≡◌, ◌≤◌, IfSome};
 use crate::areas::{GREATEST_AREA, LONGEST_LOG};
 use crate::bytes::{get_u32, get_u64, put_u32, put_u64};
 use crate::report::GREATEST_COUNT;
+use crate::sectors::BYTES;
 
 /// The text that a header begins with.
-const MARK: &[u8; 8] = b"RS274NGC";
+const MAGIC: &[u8; 8] = b"RS274NGC";
 
 /// The format of the device.
 const FORMAT: u32 = 1;
+
+/// The bytes at which its numbers begin.
+const FORMAT_AT: usize = 8;
+
+const EPOCH_AT: usize = 16;
+
+const AREA_AT: usize = 24;
+
+const LENGTH_AT: usize = 32;
 
 /// The most bytes of a program.
 pub const LONGEST_PROGRAM: u64 = 131_072;
@@ -26,20 +36,21 @@ pub struct Header {
 }
 
 impl Header {
-    ghost use Rattle.ng_layout.specs.Header.{is_within, header_in, IsLawful, HoldsHeader};
+    ghost use Rattle.ng_layout.specs.Header.{is_valid_header, header_in, IsValidHeader, HoldsHeader};
     ghost use Rattle.ng_layout.specs.Areas.{log_size, log_size_of};
 
     /// The header that sector `k` holds; none where it isn't valid.
     #[tactic(auto, unfolding(crate::specs::Header::header_in, crate::specs::Header::header_at, crate::specs::Header::is_marked))]
-    pub fn read(k: u64, sector: &[u8; 512]) -> Option<Header>
+    pub fn read(k: u64, sector: &[u8; BYTES]) -> Option<Header>
         ensures value { result ≡ header_in k sector.now }
-        ensures lawful { IfSome result IsLawful }
+        ensures lawful { IfSome result IsValidHeader }
     {
-        let is_marked = get_u64(sector, 0) == get_u64(MARK, 0) && get_u32(sector, 8) == FORMAT;
+        let is_marked = get_u64(sector, 0) == get_u64(MAGIC, 0)
+            && get_u32(sector, FORMAT_AT) == FORMAT;
         let header = Header {
-            epoch: get_u64(sector, 16),
-            area: get_u64(sector, 24),
-            length: get_u64(sector, 32),
+            epoch: get_u64(sector, EPOCH_AT),
+            area: get_u64(sector, AREA_AT),
+            length: get_u64(sector, LENGTH_AT),
         };
         if is_marked && header.is_within() && header.epoch % 2 == k {
             Some(header)
@@ -49,7 +60,7 @@ impl Header {
     }
 
     fn is_within(self) -> bool
-        ensures { result ≡ is_within self }
+        ensures { result ≡ is_valid_header self }
     {
         1 <= self.epoch
             && self.epoch <= GREATEST_COUNT
@@ -66,15 +77,15 @@ impl Header {
     }
 
     /// The sector that holds it, in which what it doesn't name is 0.
-    pub fn write(self) -> [u8; 512]
+    pub fn write(self) -> [u8; BYTES]
         ensures { HoldsHeader self result }
     {
-        let mut sector = [0; 512];
-        put_u64(&mut sector, 0, get_u64(MARK, 0));
-        put_u32(&mut sector, 8, FORMAT);
-        put_u64(&mut sector, 16, self.epoch);
-        put_u64(&mut sector, 24, self.area);
-        put_u64(&mut sector, 32, self.length);
+        let mut sector = [0; BYTES];
+        put_u64(&mut sector, 0, get_u64(MAGIC, 0));
+        put_u32(&mut sector, FORMAT_AT, FORMAT);
+        put_u64(&mut sector, EPOCH_AT, self.epoch);
+        put_u64(&mut sector, AREA_AT, self.area);
+        put_u64(&mut sector, LENGTH_AT, self.length);
         sector
     }
 }

@@ -9,6 +9,7 @@ mod areas;
 mod bytes;
 mod codes;
 mod field;
+mod field_places;
 mod half;
 mod header;
 mod part;
@@ -18,14 +19,15 @@ mod stored;
 mod writing;
 
 pub use areas::{
-    LEAST_SIZE, LOG_FIRST, LONGEST_LOG, SNAPSHOT_SIZE, program_first, snapshot_first, spare_area,
+    HEADERS, LEAST_SIZE, LOG_FIRST, LONGEST_LOG, SNAPSHOT_SIZE, program_first, snapshot_first,
+    spare_area,
 };
 pub use field::{CodeField, HalfField, KeptField, StateField, Triple};
-pub use half::{Half, Opened, Source, TEXT, text_of};
+pub use half::{Half, LONGEST_TEXT, Opened, Source, text_from};
 pub use header::{Header, LONGEST_PROGRAM};
 pub use part::{
-    CHANGES, PartLabel, changes_part, first_part, parts_for, report_of_part, take_changes,
+    CHANGES, PartLabel, changes_part, decoded_state_of_part, first_part, parts_for, take_changes,
 };
-pub use report::{GREATEST_COUNT, Reported};
-pub use sectors::{BYTES, take_values, text_sector};
+pub use report::{DecodedState, GREATEST_COUNT};
+pub use sectors::{BYTES, VALUES, take_values, text_sector};
 pub use stored::{Stored, fresh_sector};

@@ -1,20 +1,20 @@
 //! The parts of a record in the log, one sector each (own; docs/DEVICE.md).
 //!
-//! A record holds the whole state field in its first part, and its changes of parameters in the others, 48 in each but the last. Each
-//! part begins with the same label but for its own number.
-ghost use Rattle.std.specs.Prelude.{◌≡◌, ◌≤◌, length, drop, replicate, IfSome};
-ghost use Rattle.ng_layout.specs.Limits.{greatest_count};
+//! A record holds the whole state field in its first part, and its changes of parameters in the others, as many
+//! in each but the last as it has room for. Each part begins with the same label but for its own number.
+ghost use Rattle.std.specs.Prelude.{◌≡◌, ◌≤◌, ◌+◌, length, drop, replicate, IfSome};
+ghost use Rattle.ng_layout.specs.Limits.{greatest_count, sector_size, label_size, content_first, change_size, part_changes, record_changes, record_parts};
 ghost use Rattle.ng_layout.specs.Fields.{bytes_at, SameBelow, SameFrom, Puts};
 ghost use Rattle.ng_layout.specs.Log.{is_part, change_at, parts_for};
 ghost use Rattle.ng_layout.specs.Part.{label_of, label_at, HoldsLabel, HoldsState, HoldsChanges, MakesOrDamaged};
-ghost use Rattle.ng_layout.specs.Report.{report_of};
+ghost use Rattle.ng_layout.specs.Report.{decoded_state_of};
 ghost use Rattle.ng_layout.specs.Sound.{IsSound};
-ghost use Rattle.ng_layout.specs.StateField.{field_at};
+ghost use Rattle.ng_layout.specs.StateField.{free_byte, field_size, field_at};
 ghost use Rattle.ng_layout.specs.Storable.{IsStorable};
 
 use crate::bytes::{get_i64, get_u16, get_u64, put_i64, put_u16, put_u64};
 use crate::field::StateField;
-use crate::report::Reported;
+use crate::report::DecodedState;
 use crate::sectors::BYTES;
 use crate::stored::Stored;
 use ng_num::Num;
@@ -29,6 +29,20 @@ const CONTENT: usize = 32;
 
 /// How many bytes a change takes.
 const CHANGE: usize = 10;
+
+/// The bytes of a part at which the numbers of its label begin.
+const EPOCH_AT: usize = 0;
+
+const NUMBER_AT: usize = 8;
+
+const PART_AT: usize = 16;
+
+const PARTS_AT: usize = 18;
+
+const CHANGES_AT: usize = 20;
+
+/// The byte of a change at which its value begins.
+const VALUE_AT: usize = 2;
 
 /// What a part says of itself (own).
 #[derive(Clone, Copy, Debug, PartialEq, Eq)]
@@ -51,11 +65,11 @@ impl PartLabel {
         ensures { result ≡ label_at sector.now }
     {
         PartLabel {
-            epoch: get_u64(sector, 0),
-            number: get_u64(sector, 8),
-            part: get_u16(sector, 16),
-            parts: get_u16(sector, 18),
-            changes: get_u16(sector, 20),
+            epoch: get_u64(sector, EPOCH_AT),
+            number: get_u64(sector, NUMBER_AT),
+            part: get_u16(sector, PART_AT),
+            parts: get_u16(sector, PARTS_AT),
+            changes: get_u16(sector, CHANGES_AT),
         }
     }
 
@@ -64,33 +78,33 @@ impl PartLabel {
     pub fn is_of(self, sector: &[u8; BYTES]) -> bool
         ensures { result ≡ is_part (label_of self) sector.now }
     {
-        get_u64(sector, 0) == self.epoch
-            && get_u64(sector, 8) == self.number
-            && get_u16(sector, 16) == self.part
-            && get_u16(sector, 18) == self.parts
-            && get_u16(sector, 20) == self.changes
+        get_u64(sector, EPOCH_AT) == self.epoch
+            && get_u64(sector, NUMBER_AT) == self.number
+            && get_u16(sector, PART_AT) == self.part
+            && get_u16(sector, PARTS_AT) == self.parts
+            && get_u16(sector, CHANGES_AT) == self.changes
     }
 
     /// A sector that says this, in which all else is 0.
     fn sector(self) -> [u8; BYTES]
         ensures label { HoldsLabel (label_of self) result }
-        ensures rest { SameFrom 22 (replicate 512 0) result }
+        ensures rest { SameFrom label_size (replicate sector_size 0) result }
     {
         let mut sector = [0; BYTES];
-        put_u64(&mut sector, 0, self.epoch);
-        put_u64(&mut sector, 8, self.number);
-        put_u16(&mut sector, 16, self.part);
-        put_u16(&mut sector, 18, self.parts);
-        put_u16(&mut sector, 20, self.changes);
+        put_u64(&mut sector, EPOCH_AT, self.epoch);
+        put_u64(&mut sector, NUMBER_AT, self.number);
+        put_u16(&mut sector, PART_AT, self.part);
+        put_u16(&mut sector, PARTS_AT, self.parts);
+        put_u16(&mut sector, CHANGES_AT, self.changes);
         sector
     }
 }
 
 /// How many parts a record of so many changes has.
 pub fn parts_for(changes: usize) -> usize
-    requires { changes ≤ 65_535 }
+    requires { changes ≤ record_changes }
     ensures value { result ≡ parts_for changes }
-    ensures few { result ≤ 1367 }
+    ensures few { result ≤ record_parts }
 {
     1 + (changes + CHANGES - 1) / CHANGES
 }
@@ -107,19 +121,19 @@ pub fn first_part<A: Allocator + Copy + Drop>(label: PartLabel, stored: &Stored<
     sector
 }
 
-/// Puts a state field behind a label. The byte of the content that it leaves free stays, and so do all behind it.
+/// Puts a state field after a label. The byte of the content that it leaves free stays, and so do all after it.
 fn put_content(sector: &mut [u8; BYTES], field: &StateField)
-    ensures label { SameBelow 32 sector.old sector.new }
-    ensures put { Puts field_at 0 456 field.now (drop 32 sector.old) (drop 32 sector.new) }
-    ensures gap { bytes_at 1 165 (drop 32 sector.new) ≡ bytes_at 1 165 (drop 32 sector.old) }
+    ensures label { SameBelow content_first sector.old sector.new }
+    ensures put { Puts field_at 0 field_size field.now (drop content_first sector.old) (drop content_first sector.new) }
+    ensures gap { bytes_at 1 free_byte (drop content_first sector.new) ≡ bytes_at 1 free_byte (drop content_first sector.old) }
 {
     field.write(&mut sector[CONTENT..]);
 }
 
 /// What the state field of a record's first part says beside a program of this length, in bytes; none where a number of it is out of
 /// its range.
-pub fn report_of_part(sector: &[u8; BYTES], length: u64) -> Option<Reported>
-    ensures value { result ≡ report_of length (field_at (drop 32 sector.now)) }
+pub fn decoded_state_of_part(sector: &[u8; BYTES], length: u64) -> Option<DecodedState>
+    ensures value { result ≡ decoded_state_of length (field_at (drop content_first sector.now)) }
     ensures sound { IfSome result (IsSound length) }
 {
     StateField::read(&sector[CONTENT..]).report(length)
@@ -127,7 +141,7 @@ pub fn report_of_part(sector: &[u8; BYTES], length: u64) -> Option<Reported>
 
 /// Another part of a record, with these changes, in which what none of them names is 0. It takes no memory.
 pub fn changes_part(label: PartLabel, changes: &[Change]) -> [u8; BYTES]
-    requires { length changes.now ≤ 48 }
+    requires { length changes.now ≤ part_changes }
     ensures label { HoldsLabel (label_of label) result }
     ensures changes { HoldsChanges changes.now result }
 {
@@ -135,19 +149,19 @@ pub fn changes_part(label: PartLabel, changes: &[Change]) -> [u8; BYTES]
     for (k, change) in changes.iter().enumerate() {
         let at = CONTENT + CHANGE * k;
         put_u16(&mut sector, at, change.index.number());
-        put_i64(&mut sector, at + 2, change.value.count());
+        put_i64(&mut sector, at + VALUE_AT, change.value.count());
     }
     sector
 }
 
 /// The change at a place of a part; none where its index or its value is out of range.
 fn change_at(sector: &[u8; BYTES], at: usize) -> Option<Change>
-    requires { at ≤ 502 }
+    requires { at + change_size ≤ sector_size }
     ensures { result ≡ change_at sector.now at }
 {
     Some(Change {
         index: Index::of(i64::from(get_u16(sector, at)))?,
-        value: Num::of(i128::from(get_i64(sector, at + 2))).ok()?,
+        value: Num::of(i128::from(get_i64(sector, at + VALUE_AT))).ok()?,
     })
 }
 
@@ -157,7 +171,7 @@ pub fn take_changes<A: Allocator + Copy + Drop>(
     sector: &[u8; BYTES],
     count: usize,
 ) -> bool
-    requires { count ≤ 48 }
+    requires { count ≤ part_changes }
     ensures { MakesOrDamaged result sector.now count table.old table.new }
 {
     for k in 0..count {

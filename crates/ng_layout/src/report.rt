@@ -1,19 +1,21 @@
 //! What the numbers of a state field say.
 ghost use Rattle.std.specs.Prelude.{◌≡◌, ℕ, pos, IfSome};
+ghost use Rattle.ng_layout.specs.Limits.{greatest_slot};
 ghost use Rattle.ng_layout.specs.Sound.{IsSound};
 ghost use Rattle.ng_layout.specs.Report.{count_of, point_of, modes_of, outputs_of, offsets_of, word_of, kept_of};
-ghost use Rattle.ng_layout.specs.Report.{machine_of, known_point, half_by, half_of, report_of, up_to};
+ghost use Rattle.ng_layout.specs.Report.{machine_of, known_point, half_by, half_of, decoded_state_of, up_to};
 
 use crate::codes::{
     distance_of, feed_mode_of, motion_of, opened_of, path_of, plane_of, retract_of, source_of,
     spindle_of, truth_of, unit_of,
 };
 use crate::field::{CodeField, HalfField, KeptField, StateField, Triple};
-use crate::half::{Half, Opened, Source, TEXT, text_of};
-use ng_block::{KeptWords, Machine, Modes, Offsets};
+use crate::half::{Half, LONGEST_TEXT, Opened, Source, text_from};
 use ng_canon::Outputs;
 use ng_num::{Len, Num, Point};
+use ng_offsets::Offsets;
 use ng_params::System;
+use ng_state::{KeptWords, Machine, Modes};
 use std::marker::Model;
 
 /// The greatest entry count, and the greatest epoch.
@@ -22,19 +24,22 @@ pub const GREATEST_COUNT: u64 = 1_000_000_000_000;
 /// The greatest number of a slot.
 const GREATEST_SLOT: u16 = 64;
 
-/// What a state field says. Contracts see a `Report`.
+/// The bits of all words that a cycle may keep.
+const ALL_KEPT: u8 = 15;
+
+/// What a state field says. Contracts see a `DecodedStateModel`.
 #[derive(Drop)]
-pub struct Reported {
+pub struct DecodedState {
     pub entries: u64,
     pub place: u64,
     pub machine: Machine,
     pub half: Option<Half>,
 }
 
-impl Model for Reported {
-    ghost use Rattle.ng_layout.specs.Stored.{Report};
+impl Model for DecodedState {
+    ghost use Rattle.ng_layout.specs.Stored.{DecodedStateModel};
 
-    ghost Value = { Report };
+    ghost Value = { DecodedStateModel };
 
     ghost view = { λ r. record { entries = r.entries; place = r.place; machine = r.machine; half = r.half } };
 }
@@ -90,7 +95,7 @@ fn modes_of(codes: CodeField) -> Option<Modes>
 }
 
 fn slot_of(number: u16) -> Option<u8>
-    ensures { result ≡ up_to 64 number }
+    ensures { result ≡ up_to greatest_slot number }
 {
     if number <= GREATEST_SLOT {
         Some(number as u8)
@@ -141,7 +146,7 @@ fn kept_num(is_kept: bool, millionths: i64) -> Option<Option<Num>>
 fn kept_of(bits: u8, field: KeptField) -> Option<KeptWords>
     ensures { result ≡ kept_of bits field }
 {
-    if bits > 15 {
+    if bits > ALL_KEPT {
         return None;
     }
     Some(KeptWords {
@@ -162,7 +167,7 @@ fn machine_of(field: &StateField) -> Option<Machine>
         offsets: offsets_of(field)?,
         kept: kept_of(field.codes.kept, field.kept)?,
         point: point_of(field.point)?,
-        place_known: truth_of(field.codes.place_known)?,
+        point_known: truth_of(field.codes.point_known)?,
     })
 }
 
@@ -185,12 +190,12 @@ fn half_by(
     ensures { result ≡ half_by field.now opened is_known (Some source) }
 {
     let length = field.length as usize;
-    if length > TEXT || (opened.is_some() && is_known) {
+    if length > LONGEST_TEXT || (opened.is_some() && is_known) {
         return None;
     }
     let at = known_point(is_known, field.at)?;
     Some(Some(Half {
-        text: text_of(&field.text[..length]),
+        text: text_from(&field.text[..length]),
         source,
         index: field.index,
         at,
@@ -210,14 +215,14 @@ fn half_of(field: &HalfField) -> Option<Option<Half>>
     }
 }
 
-#[tactic(auto, unfolding(crate::specs::Report::report_of))]
-fn report_of(field: &StateField, length: u64) -> Option<Reported>
-    ensures { result ≡ report_of length field.now }
+#[tactic(auto, unfolding(crate::specs::Report::decoded_state_of))]
+fn decoded_state_of(field: &StateField, length: u64) -> Option<DecodedState>
+    ensures { result ≡ decoded_state_of length field.now }
 {
     if field.entries > GREATEST_COUNT || field.place > length {
         return None;
     }
-    Some(Reported {
+    Some(DecodedState {
         entries: field.entries,
         place: field.place,
         machine: machine_of(field)?,
@@ -227,10 +232,10 @@ fn report_of(field: &StateField, length: u64) -> Option<Reported>
 
 impl StateField {
     /// What it says beside a program of this length; none where a number of it is out of its range.
-    pub fn report(&self, length: u64) -> Option<Reported>
-        ensures value { result ≡ report_of length self.now }
+    pub fn report(&self, length: u64) -> Option<DecodedState>
+        ensures value { result ≡ decoded_state_of length self.now }
         ensures sound { IfSome result (IsSound length) }
     {
-        report_of(self, length)
+        decoded_state_of(self, length)
     }
 }

@@ -2,24 +2,25 @@
 ghost use Rattle.std.specs.Prelude.{◌≡◌, ◌≤◌, ◌<◌, ◌+◌, ◌*◌, ◌-◌, ◌++◌, length, replicate};
 ghost use Rattle.std.specs.Bool.{OnTrue, OnFalse};
 ghost use Rattle.ng_params.specs.Table.{defaults};
-ghost use Rattle.ng_layout.specs.Limits.{longest_program, parameter_count};
+ghost use Rattle.ng_layout.specs.Limits.{longest_program, sector_size};
+ghost use Rattle.ng_params.specs.Numbers.{parameter_count};
 ghost use Rattle.ng_layout.specs.Sectors.{HoldsValues, TakesValues, IsBeyond, HoldsText};
 
 use crate::bytes::{get_i64, put_i64};
 use ng_num::Num;
-use ng_params::{Index, Params};
+use ng_params::{Index, PARAMETER_COUNT, Params};
 use std::alloc::Allocator;
 
 /// How many parameters a sector holds.
-pub(crate) const VALUES: usize = 64;
+pub const VALUES: usize = 64;
+
+/// How many bytes a value takes.
+const VALUE: usize = 8;
 
 /// How many bytes a sector has.
 pub const BYTES: usize = 512;
 
-/// How many parameters there are.
-pub(crate) const PARAMETERS: usize = 5399;
-
-/// The sector of 64 parameters, the first of them at this index of the table, counted from 0.
+/// The sector of parameters, the first of them at this index of the table, counted from 0.
 pub(crate) fn values_sector<A: Allocator + Copy + Drop>(
     table: &Params<A>,
     first: usize,
@@ -29,9 +30,9 @@ pub(crate) fn values_sector<A: Allocator + Copy + Drop>(
 {
     let mut sector = [0; BYTES];
     for k in 0..VALUES {
-        if first + k < PARAMETERS {
+        if first + k < PARAMETER_COUNT {
             let value = table.get(Index::known((first + k) as u16 + 1));
-            put_i64(&mut sector, 8 * k, value.count());
+            put_i64(&mut sector, VALUE * k, value.count());
         }
     }
     sector
@@ -40,6 +41,9 @@ pub(crate) fn values_sector<A: Allocator + Copy + Drop>(
 /// The index of parameter 5220 in a table, the one that isn't 0 in a fresh one.
 const SYSTEM_INDEX: usize = 5219;
 
+/// The number 1, in millionths.
+const ONE: i64 = 1_000_000;
+
 /// The same sector of the table of a fresh controller, in which the system in force is 1 and all else 0.
 pub(crate) fn fresh_values_sector(first: usize) -> [u8; BYTES]
     requires { first ≤ parameter_count }
@@ -47,7 +51,7 @@ pub(crate) fn fresh_values_sector(first: usize) -> [u8; BYTES]
 {
     let mut sector = [0; BYTES];
     if first <= SYSTEM_INDEX && SYSTEM_INDEX < first + VALUES {
-        put_i64(&mut sector, 8 * (SYSTEM_INDEX - first), 1_000_000);
+        put_i64(&mut sector, VALUE * (SYSTEM_INDEX - first), ONE);
     }
     sector
 }
@@ -64,8 +68,8 @@ pub fn take_values<A: Allocator + Copy + Drop>(
     ensures beyond { OnFalse result (IsBeyond first sector.now) }
 {
     for k in 0..VALUES {
-        if first + k < PARAMETERS {
-            match Num::of(i128::from(get_i64(sector, 8 * k))) {
+        if first + k < PARAMETER_COUNT {
+            match Num::of(i128::from(get_i64(sector, VALUE * k))) {
                 Ok(value) => table.set(Index::known((first + k) as u16 + 1), value),
                 Err(_) => return false,
             }
@@ -80,7 +84,7 @@ pub(crate) fn copy_table<A: Allocator + Copy + Drop>(into: &mut Params<A>, from:
     requires from { length from.now ≡ parameter_count }
     ensures { into.new ≡ from.now }
 {
-    for k in 0..PARAMETERS {
+    for k in 0..PARAMETER_COUNT {
         let index = Index::known(k as u16 + 1);
         into.set(index, from.get(index));
     }
@@ -88,15 +92,15 @@ pub(crate) fn copy_table<A: Allocator + Copy + Drop>(into: &mut Params<A>, from:
 
 /// The sector that begins with these bytes and goes on with zeros.
 fn padded(bytes: &[u8]) -> [u8; BYTES]
-    requires { length bytes.now ≤ 512 }
-    ensures { result ≡ bytes.now ++ replicate (512 - length bytes.now) 0 }
+    requires { length bytes.now ≤ sector_size }
+    ensures { result ≡ bytes.now ++ replicate (sector_size - length bytes.now) 0 }
 {
     let mut sector = [0; BYTES];
     sector[..bytes.len()].copy_from_slice(bytes);
     sector
 }
 
-/// The sector of 512 bytes of a text, the first of them at this index; zeros past the text's end.
+/// The sector of bytes of a text, the first of them at this index; zeros past the text's end.
 pub fn text_sector(text: &[u8], first: usize) -> [u8; BYTES]
     requires within { first ≤ length text.now }
     requires small { length text.now ≤ longest_program }

@@ -1,25 +1,26 @@
 //! What is stored of a controller.
-ghost use Rattle.std.specs.Prelude.{◌≡◌, ◌≤◌, ◌<◌, length, Some, IfOk};
+ghost use Rattle.std.specs.Prelude.{◌≡◌, ◌≤◌, ◌<◌, ◌-◌, length, Some, IfOk};
 ghost use Rattle.std.specs.Option.{option_map};
-ghost use Rattle.ng_layout.specs.Limits.{greatest_count, parameter_count};
+ghost use Rattle.ng_layout.specs.Limits.{greatest_count, sector_size};
+ghost use Rattle.ng_params.specs.Numbers.{parameter_count};
 ghost use Rattle.ng_layout.specs.Areas.{snapshot_size};
 ghost use Rattle.ng_layout.specs.Fields.{AreZero};
-ghost use Rattle.ng_layout.specs.StateField.{field_at};
+ghost use Rattle.ng_layout.specs.StateField.{free_byte, field_size, field_at};
 ghost use Rattle.ng_layout.specs.Storable.{IsStorable};
-ghost use Rattle.ng_layout.specs.Report.{report_of};
-ghost use Rattle.ng_layout.specs.Snapshot.{report_in, HoldsPart};
-ghost use Rattle.ng_layout.specs.Stored.{fresh};
+ghost use Rattle.ng_layout.specs.Report.{decoded_state_of};
+ghost use Rattle.ng_layout.specs.Snapshot.{decoded_state_in, HoldsPart};
+ghost use Rattle.ng_layout.specs.Stored.{fresh_stored};
 ghost use Rattle.ng_layout.specs.Writing.{field_of};
 
 use crate::field::StateField;
 use crate::half::Half;
-use crate::report::Reported;
+use crate::report::DecodedState;
 use crate::sectors::{BYTES, VALUES, copy_table, fresh_values_sector, values_sector};
-use ng_block::{Machine, State};
+use ng_state::{Machine, State};
 use std::alloc::{AllocError, Allocator};
 use std::marker::Model;
 
-/// What is stored beside the program's text (own). Contracts see a `Saved`.
+/// What is stored beside the program's text (own). Contracts see a `StoredModel`.
 #[derive(Drop)]
 pub struct Stored<A: Allocator> {
     /// The number of entries that were committed.
@@ -33,20 +34,20 @@ pub struct Stored<A: Allocator> {
 }
 
 impl<A: Allocator> Model for Stored<A> {
-    ghost use Rattle.ng_layout.specs.Stored.{Saved};
+    ghost use Rattle.ng_layout.specs.Stored.{StoredModel};
 
-    ghost Value = { Saved };
+    ghost Value = { StoredModel };
 
     ghost view = { λ s. record { entries = s.entries; setup = s.state; place = s.place; length = s.length; half = s.half } };
 }
 
 impl<A: Allocator + Copy + Drop> Stored<A> {
-    ghost use Rattle.ng_layout.specs.Stored.{fresh, with_report};
+    ghost use Rattle.ng_layout.specs.Stored.{fresh_stored, with_decoded_state};
     ghost use Rattle.ng_layout.specs.Stands.{closed};
 
     /// Of a fresh controller, with no program. `AllocError` where the table found no memory.
     pub fn fresh(alloc: A) -> Result<Stored<A>, AllocError>
-        ensures value { IfOk result (λ s. s ≡ fresh) }
+        ensures value { IfOk result (λ s. s ≡ fresh_stored) }
         ensures table { IfOk result (λ s. length s.setup.params ≡ parameter_count) }
     {
         Ok(Stored {
@@ -59,8 +60,8 @@ impl<A: Allocator + Copy + Drop> Stored<A> {
     }
 
     /// Takes over what a state field says beside a program of this length; the parameters stay.
-    pub fn take_report(&mut self, report: Reported, length: u64)
-        ensures { self.new ≡ with_report self.old report length }
+    pub fn take_decoded_state(&mut self, report: DecodedState, length: u64)
+        ensures { self.new ≡ with_decoded_state self.old report length }
     {
         self.entries = report.entries;
         self.state.machine = report.machine;
@@ -118,8 +119,8 @@ impl<A: Allocator + Copy + Drop> Stored<A> {
     pub(crate) fn field(&self) -> StateField
         requires count { self.now.entries ≤ greatest_count }
         requires storable { IsStorable self.now }
-        ensures is { result ≡ field_of (report_in self.now) }
-        ensures means { report_of self.now.length result ≡ Some (report_in self.now) }
+        ensures is { result ≡ field_of (decoded_state_in self.now) }
+        ensures means { decoded_state_of self.now.length result ≡ Some (decoded_state_in self.now) }
     {
         StateField::of(
             self.entries,
@@ -147,7 +148,7 @@ impl<A: Allocator + Copy + Drop> Stored<A> {
 /// The sector of a fresh controller's snapshot that holds this part of it. It takes no memory.
 pub fn fresh_sector(part: usize) -> [u8; BYTES]
     requires { part < snapshot_size }
-    ensures { HoldsPart fresh part result }
+    ensures { HoldsPart fresh_stored part result }
 {
     if part == 0 {
         state_sector(&StateField::of(0, 0, &Machine::fresh(), None))
@@ -159,8 +160,8 @@ pub fn fresh_sector(part: usize) -> [u8; BYTES]
 /// The sector that holds a state field, in which all else is 0.
 fn state_sector(field: &StateField) -> [u8; BYTES]
     ensures field { field_at result ≡ field.now }
-    ensures gap { AreZero 1 165 result }
-    ensures rest { AreZero 56 456 result }
+    ensures gap { AreZero 1 free_byte result }
+    ensures rest { AreZero (sector_size - field_size) field_size result }
 {
     let mut sector = [0; BYTES];
     field.write(&mut sector);

@@ -2,19 +2,19 @@
 ghost use Rattle.std.specs.Prelude.{◌≡◌, ◌≤◌, ◌≤ℤ◌, ◌++◌, ◌-◌, ℕ, pos, length, replicate, unsigned_abs, unwrap_or, IfSome, Some, None};
 ghost use Rattle.std.specs.Option.{option_copied};
 ghost use Rattle.ng_num.specs.Range.{IsCount};
-ghost use Rattle.ng_layout.specs.Limits.{greatest_count};
-ghost use Rattle.ng_layout.specs.Report.{point_of, modes_of, kept_of, half_of, report_of};
+ghost use Rattle.ng_layout.specs.Limits.{greatest_count, longest_text};
+ghost use Rattle.ng_layout.specs.Report.{point_of, modes_of, kept_of, half_of, decoded_state_of};
 ghost use Rattle.ng_layout.specs.Writing.{triple_of, kept_field, kept_bits, codes_of, half_field, field_of};
-ghost use Rattle.ng_layout.specs.Storable.{CanStand, CanWait};
+ghost use Rattle.ng_layout.specs.Storable.{IsStorableMachine, IsStorableHalf};
 
 use crate::codes::{
     code_of_distance, code_of_feed_mode, code_of_motion, code_of_opened, code_of_path,
     code_of_plane, code_of_retract, code_of_source, code_of_spindle, code_of_truth, code_of_unit,
 };
 use crate::field::{CodeField, HalfField, KeptField, StateField, Triple};
-use crate::half::{Half, TEXT};
-use ng_block::{KeptWords, Machine};
+use crate::half::{Half, LONGEST_TEXT};
 use ng_num::{Len, Num, Point};
+use ng_state::{KeptWords, Machine};
 
 fn triple_of(point: Point) -> Triple
     ensures is { result ≡ triple_of point }
@@ -88,22 +88,22 @@ fn codes_of(machine: &Machine) -> CodeField
         mist: code_of_truth(outputs.mist),
         flood: code_of_truth(outputs.flood),
         overrides: code_of_truth(modes.overrides),
-        place_known: code_of_truth(machine.place_known),
+        point_known: code_of_truth(machine.point_known),
         kept: kept_bits(machine.kept),
     }
 }
 
-fn text_field(text: &[u8]) -> [u8; TEXT]
-    requires { length text.now ≤ 256 }
-    ensures { result ≡ text.now ++ replicate (256 - length text.now) 0 }
+fn text_field(text: &[u8]) -> [u8; LONGEST_TEXT]
+    requires { length text.now ≤ longest_text }
+    ensures { result ≡ text.now ++ replicate (longest_text - length text.now) 0 }
 {
-    let mut field = [0; TEXT];
+    let mut field = [0; LONGEST_TEXT];
     field[..text.len()].copy_from_slice(text);
     field
 }
 
 fn half_field(half: &Half) -> HalfField
-    requires { CanWait half.now }
+    requires { IsStorableHalf half.now }
     ensures is { result ≡ half_field (Some half.now) }
     ensures means { half_of result ≡ Some (Some half.now) }
 {
@@ -130,12 +130,12 @@ fn no_half_field() -> HalfField
         length: 0,
         index: 0,
         at: triple_of(Point::zero()),
-        text: [0; TEXT],
+        text: [0; LONGEST_TEXT],
     }
 }
 
 fn half_field_of(half: Option<&Half>) -> HalfField
-    requires { IfSome half (λ h. CanWait h.now) }
+    requires { IfSome half (λ h. IsStorableHalf h.now) }
     ensures is { result ≡ half_field (option_copied half.entry) }
     ensures means { half_of result ≡ Some (option_copied half.entry) }
 {
@@ -149,10 +149,10 @@ impl StateField {
     /// The state field of what is stored: it says that, beside any program that the place lies in.
     pub fn of(entries: u64, place: u64, machine: &Machine, half: Option<&Half>) -> StateField
         requires count { entries ≤ greatest_count }
-        requires machine { CanStand machine.now }
-        requires half { IfSome half (λ h. CanWait h.now) }
+        requires machine { IsStorableMachine machine.now }
+        requires half { IfSome half (λ h. IsStorableHalf h.now) }
         ensures is { result ≡ field_of (record { entries = entries; place = place; machine = machine.now; half = option_copied half.entry }) }
-        ensures means { (length : ℕ) → place ≤ length → report_of length result
+        ensures means { (length : ℕ) → place ≤ length → decoded_state_of length result
             ≡ Some (record { entries = entries; place = place; machine = machine.now; half = option_copied half.entry }) }
     {
         let offsets = machine.offsets;

@@ -4,7 +4,7 @@ use Rattle.std.proofs.Math.Seq.{take-add}
 use Rattle.std.proofs.lemmas.Bool.{cases_eq}
 use Rattle.std.proofs.lemmas.List.{take_all}
 use Rattle.ng_params.specs.declared.change.Change.{Change}
-use Rattle.ng_rig.specs.Life.{Image}
+use Rattle.ng_rig.specs.Trace.{Image}
 use Rattle.ng_layout.specs.Log.{change_at, changes_of}
 use Rattle.ng_layout.specs.Part.{changes_in, piece}
 use Rattle.ng_layout.specs.Report.{and_then}

@@ -2,57 +2,57 @@
 use Rattle.std.proofs.Common.{◌≡◌, ◌⊎◌, inl, inr, ⊎_elim, ℕ, ◌+◌, ◌-◌, ◌<◌, ◌≤◌, List, length, Some, Ok, sym, ◌∙◌, ap, subst, arith}
 use Rattle.ng_params.specs.Changes.{with_changes}
 use Rattle.ng_params.specs.declared.change.Change.{Change}
-use Rattle.ng_rig.specs.Life.{Image, Life, reads}
-use Rattle.ng_rig.specs.Onward.{IsSynced}
+use Rattle.ng_rig.specs.Trace.{Image, Trace, reads}
+use Rattle.ng_rig.specs.Continuation.{IsSynced}
 use Rattle.ng_layout.specs.declared.header.Header.{Header}
 use Rattle.ng_layout.specs.Fields.{number_at}
 use Rattle.ng_layout.specs.Areas.{log_size_of, log_first, program_first, program_size, snapshot_first, snapshot_size}
-use Rattle.ng_layout.specs.Log.{Place}
-use Rattle.ng_layout.specs.Sectors.{text_of}
-use Rattle.ng_layout.specs.Stands.{by_header, epoch_in_force, in_force, IsWritten, snapshot, standing, standing_of, stands, stretch}
-use Rattle.ng_layout.specs.Stored.{Saved, Standing}
+use Rattle.ng_layout.specs.Log.{LogPosition}
+use Rattle.ng_layout.specs.Sectors.{program_text}
+use Rattle.ng_layout.specs.Stands.{by_header, epoch_in_force, in_force, IsWritten, snapshot, standing, durable_state_under, stands, stretch}
+use Rattle.ng_layout.specs.Stored.{StoredModel, DurableState}
 use Rattle.ng_layout.proofs.Images.{force-same, force-within, stretch-at, stretch-same, is-written, written-past}
 use Rattle.ng_log.specs.declared.log_end.LogEnd.{LogEnd}
-use Rattle.ng_log.specs.AtEnd.{found_in, place_of, end_behind, EndsIn, IsAtEnd}
+use Rattle.ng_log.specs.AtEnd.{replay_state_in, position_of, end_after, EndsIn, IsAtEnd}
 use Rattle.ng_log.specs.Records.{LogRecord, size_of, IsPartOf, BelongsToRecord, record_at}
 use Rattle.ng_log.specs.Runs.{log_of, beginning, IsLongest, EndsAt}
-use Rattle.ng_log.proofs.Mixture.{Mixture, place_before, place_behind, mixture-ends, mixture-longest}
+use Rattle.ng_log.proofs.Mixture.{Mixture, place_before, position_after_record, mixture-ends, mixture-longest}
 use Rattle.ng_log.proofs.Runs.{ends-longest, part-says, run-longest}
 
 -- the longest run decides
-pub stands-longest : (image : Image) (header : Header) (last : Place) → in_force image ≡ Some header → IsLongest (log_size_of header) header.length (log_of header image) header.epoch (beginning image header) last → last.at ≤ log_size_of header
-    → stands image ≡ standing last.found (text_of header.length (stretch (program_first header.area) (program_size header.area) image)) header.length
-unfolding stands standing_of
+pub stands-longest : (image : Image) (header : Header) (last : LogPosition) → in_force image ≡ Some header → IsLongest (log_size_of header) header.length (log_of header image) header.epoch (beginning image header) last → last.at ≤ log_size_of header
+    → stands image ≡ standing last.found (program_text header.length (stretch (program_first header.area) (program_size header.area) image)) header.length
+unfolding stands durable_state_under
 stands-longest image header last force l room =
-    (λ i. by_header (force i) (λ x. standing_of x (stretch (snapshot_first x.epoch) snapshot_size image) (stretch (program_first x.area) (program_size x.area) image) (stretch log_first (log_size_of x) image)))
-    ∙ ap (λ (p : Place). standing p.found (text_of header.length (stretch (program_first header.area) (program_size header.area) image)) header.length) (run-longest (log_size_of header) header.length (log_of header image) header.epoch (beginning image header) last l room)
+    (λ i. by_header (force i) (λ x. durable_state_under x (stretch (snapshot_first x.epoch) snapshot_size image) (stretch (program_first x.area) (program_size x.area) image) (stretch log_first (log_size_of x) image)))
+    ∙ ap (λ (p : LogPosition). standing p.found (program_text header.length (stretch (program_first header.area) (program_size header.area) image)) header.length) (run-longest (log_size_of header) header.length (log_of header image) header.epoch (beginning image header) last l room)
 
 -- a run that leads to what is stored
-pub stands-saved : (image : Image) (header : Header) (saved : Saved) (program : List ℕ) (end : LogEnd) → in_force image ≡ Some header → IsLongest (log_size_of header) header.length (log_of header image) header.epoch (beginning image header) (place_of end saved) → end.sector ≤ log_size_of header → text_of header.length (stretch (program_first header.area) (program_size header.area) image) ≡ program → saved.length ≡ header.length
+pub stands-saved : (image : Image) (header : Header) (saved : StoredModel) (program : List ℕ) (end : LogEnd) → in_force image ≡ Some header → IsLongest (log_size_of header) header.length (log_of header image) header.epoch (beginning image header) (position_of end saved) → end.sector ≤ log_size_of header → program_text header.length (stretch (program_first header.area) (program_size header.area) image) ≡ program → saved.length ≡ header.length
     → stands image ≡ Ok (record { saved = saved; program = program })
 stands-saved image header saved program end force l room text long =
-    stands-longest image header (place_of end saved) force l room
+    stands-longest image header (position_of end saved) force l room
     ∙ (λ i. Ok (record { saved = record saved { length = sym long i }; program = text i }))
 
-pub ends-stand : (image : Image) (header : Header) (standing : Standing) (end : LogEnd) → EndsIn image header standing end → stands image ≡ Ok standing
-ends-stand image header standing end e = stands-saved image header standing.saved standing.program end e.force (ends-longest (log_size_of header) header.length (log_of header image) header.epoch (beginning image header) (place_of end standing.saved) e.ends) e.ends.room e.program e.long
+pub ends-stand : (image : Image) (header : Header) (standing : DurableState) (end : LogEnd) → EndsIn image header standing end → stands image ≡ Ok standing
+ends-stand image header standing end e = stands-saved image header standing.saved standing.program end e.force (ends-longest (log_size_of header) header.length (log_of header image) header.epoch (beginning image header) (position_of end standing.saved) e.ends) e.ends.room e.program e.long
 
 -- a device whose log ends somewhere is at rest, and stands for that alone
-pub at-end : (life : Life) (header : Header) (standing : Standing) (end : LogEnd) → IsAtEnd life header standing end → IsSynced life × (in_force (reads life) ≡ Some header) × (stands (reads life) ≡ Ok standing) × IsWritten (reads life)
-at-end life header standing end at = (at.synced, at.image.force, ends-stand (reads life) header standing end at.image, at.image.written)
+pub at-end : (trace : Trace) (header : Header) (standing : DurableState) (end : LogEnd) → IsAtEnd trace header standing end → IsSynced trace × (in_force (reads trace) ≡ Some header) × (stands (reads trace) ≡ Ok standing) × IsWritten (reads trace)
+at-end trace header standing end at = (at.synced, at.image.force, ends-stand (reads trace) header standing end at.image, at.image.written)
 
--- Each sector is as in another image, or holds its part of a record behind the end of that one's log.
+-- Each sector is as in another image, or holds its part of a record after the end of that one's log.
 pub record IsBlend (base image : Image) (e : LogRecord) : Type 0 where
   pub each : (n : ℕ) → (image n ≡ base n) ⊎ BelongsToRecord e n (image n)
 
--- a record to be written behind the end of a log
-pub record IsNext (base : Image) (header : Header) (before : Standing) (end : LogEnd) (saved : Saved) (changes : List Change) : Type 0 where
+-- a record to be written after the end of a log
+pub record IsNext (base : Image) (header : Header) (before : DurableState) (end : LogEnd) (saved : StoredModel) (changes : List Change) : Type 0 where
   pub was : EndsIn base header before end
   pub room : end.sector + size_of (record_at header.epoch end saved changes) ≤ log_size_of header
   pub long : saved.length ≡ header.length
   pub restored : with_changes before.saved.setup.params changes ≡ saved.setup.params
 
-module _ (base image : Image) (header : Header) (before : Standing) (end : LogEnd) (saved : Saved) (changes : List Change) (n : IsNext base header before end saved changes) (b : IsBlend base image (record_at header.epoch end saved changes)) where
+module _ (base image : Image) (header : Header) (before : DurableState) (end : LogEnd) (saved : StoredModel) (changes : List Change) (n : IsNext base header before end saved changes) (b : IsBlend base image (record_at header.epoch end saved changes)) where
   abbrev e : LogRecord
   e = record_at header.epoch end saved changes
 
@@ -67,10 +67,10 @@ module _ (base image : Image) (header : Header) (before : Standing) (end : LogEn
       let area = stretch-same (snapshot_first header.epoch) snapshot_size image base (λ j lt. outside (snapshot_first header.epoch + j) (omega arith)) in
       λ i. record { at = 0; number = 0; found = snapshot header.length (area i) }
 
-  text : text_of header.length (stretch (program_first header.area) (program_size header.area) image) ≡ before.program
+  text : program_text header.length (stretch (program_first header.area) (program_size header.area) image) ≡ before.program
   text =
       let within = (force-within base header n.was.force).area in
-      ap (text_of header.length) (stretch-same (program_first header.area) (program_size header.area) image base (λ j lt. outside (program_first header.area + j) (omega arith))) ∙ n.was.program
+      ap (program_text header.length) (stretch-same (program_first header.area) (program_size header.area) image base (λ j lt. outside (program_first header.area + j) (omega arith))) ∙ n.was.program
 
   in_log : (m : ℕ) → m < log_size_of header → (log_of header image m ≡ log_of header base m) ⊎ IsPartOf e m (log_of header image m)
   in_log m lt =
@@ -81,25 +81,25 @@ module _ (base image : Image) (header : Header) (before : Standing) (end : LogEn
       (λ p. inr (subst (IsPartOf e m) (sym there) (subst (λ (k : ℕ). IsPartOf e k (image (log_first + m))) back p.part)))
       (b.each (log_first + m))
 
-  was_at : EndsAt (log_size_of header) saved.length (log_of header base) header.epoch (beginning base header) (place_before e (found_in before.saved))
-  was_at = subst (λ (k : ℕ). EndsAt (log_size_of header) k (log_of header base) header.epoch (beginning base header) (place_before e (found_in before.saved))) (sym n.long) n.was.ends
+  was_at : EndsAt (log_size_of header) saved.length (log_of header base) header.epoch (beginning base header) (place_before e (replay_state_in before.saved))
+  was_at = subst (λ (k : ℕ). EndsAt (log_size_of header) k (log_of header base) header.epoch (beginning base header) (place_before e (replay_state_in before.saved))) (sym n.long) n.was.ends
 
-  mixture : Mixture (log_size_of header) (log_of header base) (log_of header image) (beginning base header) e (found_in before.saved)
+  mixture : Mixture (log_size_of header) (log_of header base) (log_of header image) (beginning base header) e (replay_state_in before.saved)
   mixture = record { ends = was_at; room = n.room; each = in_log }
 
-  behind_is : place_behind e (found_in before.saved) ≡ place_of (end_behind end (length changes)) saved
-  behind_is = let restored = n.restored in λ i. record { at = end.sector + size_of e; number = end.number + 1; found = Some (record { report = (found_in saved).report; params = restored i }) }
+  after_is : position_after_record e (replay_state_in before.saved) ≡ position_of (end_after end (length changes)) saved
+  after_is = let restored = n.restored in λ i. record { at = end.sector + size_of e; number = end.number + 1; found = Some (record { report = (replay_state_in saved).report; params = restored i }) }
 
   -- an image with some of the record's parts and not others stands for the old or for the new
   pub blend-stands : (stands image ≡ Ok before) ⊎ (stands image ≡ Ok (record before { saved = saved }))
   blend-stands = ⊎_elim
       (λ old. inl (stands-saved image header before.saved before.program end force
-      (subst (λ (k : ℕ). IsLongest (log_size_of header) k (log_of header image) header.epoch (beginning image header) (place_of end before.saved)) n.long (subst (λ (p : Place). IsLongest (log_size_of header) saved.length (log_of header image) header.epoch p (place_of end before.saved)) (sym start) old))
+      (subst (λ (k : ℕ). IsLongest (log_size_of header) k (log_of header image) header.epoch (beginning image header) (position_of end before.saved)) n.long (subst (λ (p : LogPosition). IsLongest (log_size_of header) saved.length (log_of header image) header.epoch p (position_of end before.saved)) (sym start) old))
       n.was.ends.room text n.was.long))
-      (λ new. inr (stands-saved image header saved before.program (end_behind end (length changes)) force
-      (subst (λ (k : ℕ). IsLongest (log_size_of header) k (log_of header image) header.epoch (beginning image header) (place_of (end_behind end (length changes)) saved)) n.long (subst (λ (p : Place). IsLongest (log_size_of header) saved.length (log_of header image) header.epoch p (place_of (end_behind end (length changes)) saved)) (sym start) (subst (IsLongest (log_size_of header) saved.length (log_of header image) header.epoch (beginning base header)) behind_is new)))
+      (λ new. inr (stands-saved image header saved before.program (end_after end (length changes)) force
+      (subst (λ (k : ℕ). IsLongest (log_size_of header) k (log_of header image) header.epoch (beginning image header) (position_of (end_after end (length changes)) saved)) n.long (subst (λ (p : LogPosition). IsLongest (log_size_of header) saved.length (log_of header image) header.epoch p (position_of (end_after end (length changes)) saved)) (sym start) (subst (IsLongest (log_size_of header) saved.length (log_of header image) header.epoch (beginning base header)) after_is new)))
       n.room text n.long))
-      (mixture-longest (log_size_of header) (log_of header base) (log_of header image) (beginning base header) e (found_in before.saved) mixture)
+      (mixture-longest (log_size_of header) (log_of header base) (log_of header image) (beginning base header) e (replay_state_in before.saved) mixture)
 
   -- and has no part of an epoch to come
   pub blend-written : IsWritten image
@@ -110,14 +110,14 @@ module _ (base image : Image) (header : Header) (before : Standing) (end : LogEn
       (λ p. omega (arith, (part-says _ (image (log_first + m)) p.part.holds.label.is).epoch))
       (b.each (log_first + m))))
 
-  -- with all of them its log ends behind the record
-  pub blend-ends : ((j : ℕ) → j < size_of e → IsPartOf e (end.sector + j) (image (log_first + (end.sector + j)))) → EndsIn image header (record before { saved = saved }) (end_behind end (length changes))
+  -- with all of them its log ends after the record
+  pub blend-ends : ((j : ℕ) → j < size_of e → IsPartOf e (end.sector + j) (image (log_first + (end.sector + j)))) → EndsIn image header (record before { saved = saved }) (end_after end (length changes))
   blend-ends all = record {
     force = force;
     written = blend-written;
     ends =
-        let ends = mixture-ends (log_size_of header) (log_of header base) (log_of header image) (beginning base header) e (found_in before.saved) mixture (λ j lt. let room = n.room in subst (IsPartOf e (end.sector + j)) (sym (stretch-at log_first (log_size_of header) image (end.sector + j) (omega arith))) (all j lt)) in
-        subst (λ (k : ℕ). EndsAt (log_size_of header) k (log_of header image) header.epoch (beginning image header) (place_of (end_behind end (length changes)) saved)) n.long (subst (λ (p : Place). EndsAt (log_size_of header) saved.length (log_of header image) header.epoch p (place_of (end_behind end (length changes)) saved)) (sym start) (subst (EndsAt (log_size_of header) saved.length (log_of header image) header.epoch (beginning base header)) behind_is ends));
+        let ends = mixture-ends (log_size_of header) (log_of header base) (log_of header image) (beginning base header) e (replay_state_in before.saved) mixture (λ j lt. let room = n.room in subst (IsPartOf e (end.sector + j)) (sym (stretch-at log_first (log_size_of header) image (end.sector + j) (omega arith))) (all j lt)) in
+        subst (λ (k : ℕ). EndsAt (log_size_of header) k (log_of header image) header.epoch (beginning image header) (position_of (end_after end (length changes)) saved)) n.long (subst (λ (p : LogPosition). EndsAt (log_size_of header) saved.length (log_of header image) header.epoch p (position_of (end_after end (length changes)) saved)) (sym start) (subst (EndsAt (log_size_of header) saved.length (log_of header image) header.epoch (beginning base header)) after_is ends));
     program = text;
     long = n.long;
   }

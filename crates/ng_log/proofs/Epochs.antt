@@ -2,25 +2,25 @@
 use Rattle.std.proofs.Common.{◌≡◌, inl, inr, ⊎_elim, ℕ, ◌+◌, ◌%◌, ◌<◌, ◌≤◌, List, Option, Some, None, Ok, Err, sym, ◌∙◌, ap, subst, arith}
 use Rattle.std.proofs.lemmas.Bool.{cases_eq}
 use Rattle.ng_num.specs.declared.fault.Fault.TheVariants.{Damaged}
-use Rattle.ng_rig.specs.Life.{Image}
+use Rattle.ng_rig.specs.Trace.{Image}
 use Rattle.ng_layout.specs.declared.header.Header.{Header}
 use Rattle.ng_layout.specs.Fields.{number_at}
 use Rattle.ng_layout.specs.Areas.{log_size, log_size_of, log_first, program_first, program_size, snapshot_first, snapshot_size}
-use Rattle.ng_layout.specs.Log.{Found, run}
-use Rattle.ng_layout.specs.Sectors.{text_of}
-use Rattle.ng_layout.specs.Spare.{IsSpare, SameButSpare}
-use Rattle.ng_layout.specs.Stands.{by_header, in_force, IsWritten, snapshot, standing, standing_of, stands, stretch}
-use Rattle.ng_layout.specs.Stored.{Saved, Standing}
+use Rattle.ng_layout.specs.Log.{ReplayState, run}
+use Rattle.ng_layout.specs.Sectors.{program_text}
+use Rattle.ng_layout.proofs.Spares.{IsSpare, SameButSpare}
+use Rattle.ng_layout.specs.Stands.{by_header, in_force, IsWritten, snapshot, standing, durable_state_under, stands, stretch}
+use Rattle.ng_layout.specs.Stored.{StoredModel, DurableState}
 use Rattle.ng_layout.proofs.Images.{force-frame, force-within, log-frame, none-of-new, program-frame, same-at, stretch-at, stretch-same, written-frame, written-new}
 use Rattle.ng_log.specs.declared.log_end.LogEnd.{LogEnd}
-use Rattle.ng_log.specs.AtEnd.{found_in, place_of, no_records, EndsIn}
+use Rattle.ng_log.specs.AtEnd.{replay_state_in, position_of, no_records, EndsIn}
 use Rattle.ng_log.specs.Runs.{log_of, beginning, IsLongest, EndsAt}
 use Rattle.ng_log.specs.Reading.{IsRunOf}
 use Rattle.ng_log.proofs.Ending.{stands-longest}
 
 -- under a newer header, over an image with no part of an epoch to come, the log is empty
-pub ends-new : (image base : Image) (old new : Header) (saved : Saved) (program : List ℕ) → in_force base ≡ Some old → IsWritten base → in_force image ≡ Some new → old.epoch < new.epoch → ((m : ℕ) → m < log_size → image (log_first + m) ≡ base (log_first + m))
-    → snapshot new.length (stretch (snapshot_first new.epoch) snapshot_size image) ≡ Some (found_in saved) → text_of new.length (stretch (program_first new.area) (program_size new.area) image) ≡ program → saved.length ≡ new.length
+pub ends-new : (image base : Image) (old new : Header) (saved : StoredModel) (program : List ℕ) → in_force base ≡ Some old → IsWritten base → in_force image ≡ Some new → old.epoch < new.epoch → ((m : ℕ) → m < log_size → image (log_first + m) ≡ base (log_first + m))
+    → snapshot new.length (stretch (snapshot_first new.epoch) snapshot_size image) ≡ Some (replay_state_in saved) → program_text new.length (stretch (program_first new.area) (program_size new.area) image) ≡ program → saved.length ≡ new.length
     → EndsIn image new (record { saved = saved; program = program }) no_records
 ends-new image base old new saved program was written now later same snap text long = record {
   force = now;
@@ -39,19 +39,19 @@ ends-new image base old new saved program was written now later same snap text l
 }
 
 -- what a run of complete records finds is what the image stands for
-pub run-stands : (image : Image) (header : Header) (old new : Saved) (end : LogEnd) → in_force image ≡ Some header → snapshot header.length (stretch (snapshot_first header.epoch) snapshot_size image) ≡ Some (found_in old) → end.sector ≤ log_size_of header → IsRunOf header old new image (Some end)
-    → stands image ≡ Ok (record { saved = new; program = text_of header.length (stretch (program_first header.area) (program_size header.area) image) })
+pub run-stands : (image : Image) (header : Header) (old new : StoredModel) (end : LogEnd) → in_force image ≡ Some header → snapshot header.length (stretch (snapshot_first header.epoch) snapshot_size image) ≡ Some (replay_state_in old) → end.sector ≤ log_size_of header → IsRunOf header old new image (Some end)
+    → stands image ≡ Ok (record { saved = new; program = program_text header.length (stretch (program_first header.area) (program_size header.area) image) })
 run-stands image header old new end force snap room r =
-    let l : IsLongest (log_size_of header) header.length (log_of header image) header.epoch (beginning image header) (place_of end new) = subst (λ (f : Option Found). IsLongest (log_size_of header) header.length (log_of header image) header.epoch (record { at = 0; number = 0; found = f }) (place_of end new)) (sym snap) r.0 in
-    stands-longest image header (place_of end new) force l room ∙ (λ i. Ok (record { saved = record new { length = sym r.1 i }; program = text_of header.length (stretch (program_first header.area) (program_size header.area) image) }))
+    let l : IsLongest (log_size_of header) header.length (log_of header image) header.epoch (beginning image header) (position_of end new) = subst (λ (f : Option ReplayState). IsLongest (log_size_of header) header.length (log_of header image) header.epoch (record { at = 0; number = 0; found = f }) (position_of end new)) (sym snap) r.0 in
+    stands-longest image header (position_of end new) force l room ∙ (λ i. Ok (record { saved = record new { length = sym r.1 i }; program = program_text header.length (stretch (program_first header.area) (program_size header.area) image) }))
 
 -- or it is damaged
-pub run-damaged : (image : Image) (header : Header) (old new : Saved) → in_force image ≡ Some header → snapshot header.length (stretch (snapshot_first header.epoch) snapshot_size image) ≡ Some (found_in old) → IsRunOf header old new image None → stands image ≡ Err Damaged
-unfolding stands standing_of
+pub run-damaged : (image : Image) (header : Header) (old new : StoredModel) → in_force image ≡ Some header → snapshot header.length (stretch (snapshot_first header.epoch) snapshot_size image) ≡ Some (replay_state_in old) → IsRunOf header old new image None → stands image ≡ Err Damaged
+unfolding stands durable_state_under
 run-damaged image header old new force snap r =
-    (λ i. by_header (force i) (λ x. standing_of x (stretch (snapshot_first x.epoch) snapshot_size image) (stretch (program_first x.area) (program_size x.area) image) (stretch log_first (log_size_of x) image)))
-    ∙ (λ i. standing (run (log_size_of header) (log_size_of header) header.length (log_of header image) header.epoch (record { at = 0; number = 0; found = snap i })).found (text_of header.length (stretch (program_first header.area) (program_size header.area) image)) header.length)
-    ∙ ap (λ (f : Option Found). standing f (text_of header.length (stretch (program_first header.area) (program_size header.area) image)) header.length) r
+    (λ i. by_header (force i) (λ x. durable_state_under x (stretch (snapshot_first x.epoch) snapshot_size image) (stretch (program_first x.area) (program_size x.area) image) (stretch log_first (log_size_of x) image)))
+    ∙ (λ i. standing (run (log_size_of header) (log_size_of header) header.length (log_of header image) header.epoch (record { at = 0; number = 0; found = snap i })).found (program_text header.length (stretch (program_first header.area) (program_size header.area) image)) header.length)
+    ∙ ap (λ (f : Option ReplayState). standing f (program_text header.length (stretch (program_first header.area) (program_size header.area) image)) header.length) r
 
 decides : (h : Header) (j : ℕ) → j < 86 → IsSpare h (snapshot_first h.epoch + j) → ⊥
 decides h j lt spare = ⊎_elim
@@ -59,7 +59,7 @@ decides h j lt spare = ⊎_elim
     (λ s. omega (arith, s.from)) spare
 
 -- Where images agree on all sectors but the spare ones, their logs end alike.
-pub ends-frame : (image base : Image) (header : Header) (standing : Standing) (end : LogEnd) → SameButSpare header image base → EndsIn base header standing end → EndsIn image header standing end
+pub ends-frame : (image base : Image) (header : Header) (standing : DurableState) (end : LogEnd) → SameButSpare header image base → EndsIn base header standing end → EndsIn image header standing end
 ends-frame image base header standing end same e =
     let within = force-within base header e.force in
     let area = stretch-same (snapshot_first header.epoch) snapshot_size image base (λ j lt. same-at header image base same (snapshot_first header.epoch + j) (decides header j lt)) in
@@ -68,7 +68,7 @@ ends-frame image base header standing end same e =
     record {
       force = force-frame header image base same ∙ e.force;
       written = written-frame header image base same e.written;
-      ends = subst (λ (row : Image). EndsAt (log_size_of header) header.length row header.epoch (beginning image header) (place_of end standing.saved)) (sym log) (subst (λ (row : Image). EndsAt (log_size_of header) header.length (log_of header base) header.epoch (record { at = 0; number = 0; found = snapshot header.length row }) (place_of end standing.saved)) (sym area) e.ends);
-      program = ap (text_of header.length) text ∙ e.program;
+      ends = subst (λ (row : Image). EndsAt (log_size_of header) header.length row header.epoch (beginning image header) (position_of end standing.saved)) (sym log) (subst (λ (row : Image). EndsAt (log_size_of header) header.length (log_of header base) header.epoch (record { at = 0; number = 0; found = snapshot header.length row }) (position_of end standing.saved)) (sym area) e.ends);
+      program = ap (program_text header.length) text ∙ e.program;
       long = e.long;
     }

@@ -2,28 +2,28 @@
 use Rattle.std.proofs.Common.{◌≡◌, ◌≢◌, ◌⊎◌, inl, inr, ⊎_elim, ℕ, zero, suc, ◌+◌, ◌-◌, ◌<◌, ◌≤◌, length, Some, None, refl, sym, ◌∙◌, ap, subst, arith, add-zero}
 use Rattle.std.proofs.lemmas.Bool.{cases_eq}
 use Rattle.ng_params.specs.Changes.{with_changes}
-use Rattle.ng_rig.specs.Life.{Image}
+use Rattle.ng_rig.specs.Trace.{Image}
 use Rattle.ng_layout.specs.Fields.{number_at}
-use Rattle.ng_layout.specs.Log.{changes_of, Found, Place, next}
+use Rattle.ng_layout.specs.Log.{changes_of, ReplayState, LogPosition, next}
 use Rattle.ng_layout.specs.Part.{piece, changes_in, HoldsRecordPart}
 use Rattle.ng_layout.specs.Report.{and_then}
-use Rattle.ng_layout.specs.Snapshot.{report_in}
+use Rattle.ng_layout.specs.Snapshot.{decoded_state_in}
 use Rattle.ng_log.specs.Runs.{Reaches, IsLongest, EndsAt}
 use Rattle.ng_log.specs.Records.{LogRecord, size_of, label, IsPartOf}
 use Rattle.ng_log.proofs.Changing.{changes-whole}
 use Rattle.ng_log.proofs.Runs.{step-to, reaches-frame, reaches-step, parts-all, part-says, torn-first, torn-next, clean-next}
 
 -- what is found with it, where this was found before
-abbrev pub found_with : LogRecord → Found → Found
-found_with e before = record { report = report_in e.saved; params = with_changes before.params e.changes }
+abbrev pub found_with : LogRecord → ReplayState → ReplayState
+found_with e before = record { report = decoded_state_in e.saved; params = with_changes before.params e.changes }
 
 -- where it begins, with what was found before
-abbrev pub place_before : LogRecord → Found → Place
+abbrev pub place_before : LogRecord → ReplayState → LogPosition
 place_before e before = record { at = e.at; number = e.number; found = Some before }
 
--- the place behind it
-abbrev pub place_behind : LogRecord → Found → Place
-place_behind e before = record { at = e.at + size_of e; number = e.number + 1; found = Some (found_with e before) }
+-- the place after it
+abbrev pub position_after_record : LogRecord → ReplayState → LogPosition
+position_after_record e before = record { at = e.at + size_of e; number = e.number + 1; found = Some (found_with e before) }
 
 -- all of them, or one of the others
 all_or_one : (k : ℕ) (A B : ℕ → Type 0) → ((j : ℕ) → j < k → A j ⊎ B j) → ((j : ℕ) → j < k → B j) ⊎ ((j : ℕ) × (j < k) × A j)
@@ -37,12 +37,12 @@ all_or_one (suc k) A B each = elim (all_or_one k A B (λ j lt. each j (omega ari
 ]
 
 -- Each sector of a log is as in another one that ends where a record begins, or holds its part of that record.
-pub record Mixture (size : ℕ) (base log : Image) (first : Place) (e : LogRecord) (before : Found) : Type 0 where
+pub record Mixture (size : ℕ) (base log : Image) (first : LogPosition) (e : LogRecord) (before : ReplayState) : Type 0 where
   pub ends : EndsAt size e.saved.length base e.epoch first (place_before e before)
   pub room : e.at + size_of e ≤ size
   pub each : (m : ℕ) → m < size → (log m ≡ base m) ⊎ IsPartOf e m (log m)
 
-module _ (size : ℕ) (base log : Image) (first : Place) (e : LogRecord) (before : Found) (m : Mixture size base log first e before) where
+module _ (size : ℕ) (base log : Image) (first : LogPosition) (e : LogRecord) (before : ReplayState) (m : Mixture size base log first e before) where
   long : ℕ
   long = e.saved.length
 
@@ -78,10 +78,10 @@ module _ (size : ℕ) (base log : Image) (first : Place) (e : LogRecord) (before
         let place : e.at + (1 + i) ≡ e.at + 1 + i = omega arith in
         subst (λ (n : ℕ). changes_in (log n) (length (piece i e.changes)) ≡ Some (piece i e.changes)) place ((holds (1 + i) (omega arith)).changes i refl).made)
 
-    whole : next size e.saved.length log e.epoch (place_before e before) ≡ Some (place_behind e before)
+    whole : next size e.saved.length log e.epoch (place_before e before) ≡ Some (position_after_record e before)
     whole =
         let report = (head.state refl).report in
-        step-to size e.saved.length log e.epoch (place_before e before) (place_behind e before) (record {
+        step-to size e.saved.length log e.epoch (place_before e before) (position_after_record e before) (record {
           parts = size_of e;
           changes = length e.changes;
           parts_are = (part-says (label e 0) (log e.at) head.label.is).parts;
@@ -92,18 +92,18 @@ module _ (size : ℕ) (base log : Image) (first : Place) (e : LogRecord) (before
           is = sym (λ i. record { at = e.at + size_of e; number = e.number + 1; found = and_then (report i) (λ r. and_then (made i) (λ made_are. Some (record { report = r; params = with_changes before.params made_are }))) });
         })
 
-    -- the log ends behind it
-    pub mixture-ends : EndsAt size e.saved.length log e.epoch first (place_behind e before)
+    -- the log ends after it
+    pub mixture-ends : EndsAt size e.saved.length log e.epoch first (position_after_record e before)
     mixture-ends = record {
       records = suc m.ends.records;
-      reached = reaches-step size e.saved.length m.ends.records log e.epoch first (place_before e before) (place_behind e before) reached whole;
+      reached = reaches-step size e.saved.length m.ends.records log e.epoch first (place_before e before) (position_after_record e before) reached whole;
       room = m.room;
       clean = record { none = λ n ge lt is. m.ends.clean.none n (omega arith) lt (sym (ap (number_at 8 0) (beyond n ge lt)) ∙ is) };
     }
 
-  -- The longest run ends where it did, or behind the record.
-  pub mixture-longest : IsLongest size e.saved.length log e.epoch first (place_before e before) ⊎ IsLongest size e.saved.length log e.epoch first (place_behind e before)
+  -- The longest run ends where it did, or after the record.
+  pub mixture-longest : IsLongest size e.saved.length log e.epoch first (place_before e before) ⊎ IsLongest size e.saved.length log e.epoch first (position_after_record e before)
   mixture-longest = ⊎_elim
-      (λ all. let ends = mixture-ends all in inr (record { records = ends.records; reached = ends.reached; none = clean-next size e.saved.length log e.epoch (place_behind e before) ends.clean }))
+      (λ all. let ends = mixture-ends all in inr (record { records = ends.records; reached = ends.reached; none = clean-next size e.saved.length log e.epoch (position_after_record e before) ends.clean }))
       (λ one. inl (record { records = m.ends.records; reached = reached; none = torn one.0 one.1 one.2 }))
       (all_or_one (size_of e) (λ j. log (e.at + j) ≡ base (e.at + j)) (λ j. IsPartOf e (e.at + j) (log (e.at + j))) (λ j lt. let room = m.room in m.each (e.at + j) (omega arith)))

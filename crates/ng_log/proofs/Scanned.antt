@@ -3,32 +3,32 @@ use Rattle.std.proofs.Common.{◌≡◌, inl, inr, ℕ, ◌+◌, ◌-◌, ◌*�
 use Rattle.ng_params.specs.Changes.{with_changes}
 use Rattle.ng_params.specs.Table.{with_value}
 use Rattle.ng_params.specs.declared.change.Change.{Change}
-use Rattle.ng_rig.specs.Life.{Life, Image, reads}
-use Rattle.ng_layout.specs.Log.{Label, is_part, parts_stand, changes_of, Found}
+use Rattle.ng_rig.specs.Trace.{Trace, Image, reads}
+use Rattle.ng_layout.specs.Log.{PartHeader, is_part, parts_stand, changes_of, ReplayState}
 use Rattle.ng_layout.specs.Part.{changes_in, Makes}
-use Rattle.ng_layout.specs.Report.{and_then, report_of}
+use Rattle.ng_layout.specs.Report.{and_then, decoded_state_of}
 use Rattle.ng_layout.specs.StateField.{field_at}
 use Rattle.ng_layout.specs.Areas.{log_first}
-use Rattle.ng_layout.specs.Stored.{Report, Saved}
+use Rattle.ng_layout.specs.Stored.{DecodedStateModel, StoredModel}
 use Rattle.std.proofs.lemmas.Bool.{cases_eq}
 use Rattle.std.proofs.lemmas.List.{length-set}
-use Rattle.ng_log.specs.AtEnd.{found_in}
-use Rattle.ng_log.specs.Scanning.{from_log, MakesAll, MakesAllOrDamaged, FindsRecord}
+use Rattle.ng_log.specs.AtEnd.{replay_state_in}
+use Rattle.ng_log.specs.Private.ReadSteps.{from_log, MakesAll, MakesAllOrDamaged, FindsRecord}
 use Rattle.ng_log.proofs.Changing.{changes-join, no-changes, none-later, then_more}
 use Rattle.ng_log.proofs.Runs.{parts-part}
 
 -- a sector read of a device that has not changed
-pub sector_here : (old mid : Life) (n m : ℕ) (sector : List ℕ) → n ≡ log_first + m → mid ≡ old → sector ≡ reads mid n → sector ≡ from_log (reads old) m
-sector_here old mid n m sector place same is = is ∙ ap (λ (l : Life). reads l n) same ∙ ap (reads old) place
+pub sector_here : (old mid : Trace) (n m : ℕ) (sector : List ℕ) → n ≡ log_first + m → mid ≡ old → sector ≡ reads mid n → sector ≡ from_log (reads old) m
+sector_here old mid n m sector place same is = is ∙ ap (λ (l : Trace). reads l n) same ∙ ap (reads old) place
 
--- the parts of a record behind its first one stand, up to the n-th
-abbrev pub StandTo : ℕ → ℕ → Label → Image → Type 0
+-- the parts of a record after its first one stand, up to the n-th
+abbrev pub StandTo : ℕ → ℕ → PartHeader → Image → Type 0
 StandTo n at first image = (j : ℕ) → 0 < j → j < n → is_part (record first { part = j }) (from_log image (at + j)) ≡ true
 
-pub stand_none : (at : ℕ) (first : Label) (image : Image) → StandTo 1 at first image
+pub stand_none : (at : ℕ) (first : PartHeader) (image : Image) → StandTo 1 at first image
 stand_none at first image = λ j some below. absurd (omega arith)
 
-pub stand_more : (n at : ℕ) (first : Label) (image : Image) (sector : List ℕ) (b : Bool) → sector ≡ from_log image (at + n) → b ≡ is_part (record first { part = n }) sector → b ≡ true → StandTo n at first image → StandTo (n + 1) at first image
+pub stand_more : (n at : ℕ) (first : PartHeader) (image : Image) (sector : List ℕ) (b : Bool) → sector ≡ from_log image (at + n) → b ≡ is_part (record first { part = n }) sector → b ≡ true → StandTo n at first image → StandTo (n + 1) at first image
 stand_more n at first image sector b there is on before = λ j some below. elim (cases_eq j n) [
   | inl same ↦ subst (λ (k : ℕ). is_part (record first { part = k }) (from_log image (at + k)) ≡ true) (sym same) (ap (is_part (record first { part = n })) (sym there) ∙ sym is ∙ on)
   | inr other ↦ before j some (omega arith)
@@ -38,7 +38,7 @@ not_both : (a b : Bool) → (a ≡ true → b ≡ true) → b ≡ false → a �
 not_both true b imply off = let on = imply refl in cc
 not_both false b imply off = refl
 
-pub part_missing : (log : Image) (at : ℕ) (l : Label) (n j : ℕ) (sector : List ℕ) (b : Bool) → j < n → sector ≡ log (at + j) → b ≡ is_part (record l { part = j }) sector → b ≡ false → parts_stand log at l n ≡ false
+pub part_missing : (log : Image) (at : ℕ) (l : PartHeader) (n j : ℕ) (sector : List ℕ) (b : Bool) → j < n → sector ≡ log (at + j) → b ≡ is_part (record l { part = j }) sector → b ≡ false → parts_stand log at l n ≡ false
 part_missing log at l n j sector b lt there is off = not_both (parts_stand log at l n) (is_part (record l { part = j }) (log (at + j))) (λ stand. parts-part log at l n j stand lt) (ap (is_part (record l { part = j })) (sym there) ∙ sym is ∙ off)
 
 -- The changes of a record, part by part.
@@ -79,20 +79,20 @@ damaged_part log at i count changes sector old mid before lt count_is there none
 -- All that a record says.
 
 -- the parameters read, with what the state field says
-abbrev pub taken : List ℤ → Report → ℕ → Saved
+abbrev pub taken : List ℤ → DecodedStateModel → ℕ → StoredModel
 taken table r length = record { entries = r.entries; setup = record { params = table; machine = r.machine }; place = r.place; length = length; half = r.half }
 
 -- what the state field of a record's first part says, where that was read
-module _ (length at changes : ℕ) (old new : Saved) (image : Image) (sector : List ℕ) (o : Option Report) (there : sector ≡ from_log image at) (is : o ≡ report_of length (field_at (drop 32 sector))) where
-  reported : (v : Option Report) → o ≡ v → report_of length (field_at (drop 32 (from_log image at))) ≡ v
-  reported v o_is = ap (λ (s : List ℕ). report_of length (field_at (drop 32 s))) (sym there) ∙ sym is ∙ o_is
+module _ (length at changes : ℕ) (old new : StoredModel) (image : Image) (sector : List ℕ) (o : Option DecodedStateModel) (there : sector ≡ from_log image at) (is : o ≡ decoded_state_of length (field_at (drop 32 sector))) where
+  reported : (v : Option DecodedStateModel) → o ≡ v → decoded_state_of length (field_at (drop 32 (from_log image at))) ≡ v
+  reported v o_is = ap (λ (s : List ℕ). decoded_state_of length (field_at (drop 32 s))) (sym there) ∙ sym is ∙ o_is
 
   pub no_report : o ≡ None → FindsRecord length at changes old new image false
   no_report none =
       let e = reported None none in
       λ i. and_then (e i) (λ report. and_then (changes_of (from_log image) at changes) (λ made. Some (record { report = report; params = with_changes old.setup.params made })))
 
-  module _ (r : Report) (some : o ≡ Some r) where
+  module _ (r : DecodedStateModel) (some : o ≡ Some r) where
     no_changes_made : changes_of (from_log image) at changes ≡ None → FindsRecord length at changes old new image false
     no_changes_made none =
         let e = reported (Some r) some in
@@ -101,9 +101,9 @@ module _ (length at changes : ℕ) (old new : Saved) (image : Image) (sector : L
     all_taken : (table : List ℤ) → MakesAll (from_log image) at changes old.setup.params table → new ≡ taken table r length → FindsRecord length at changes old new image true
     all_taken table m after =
         let e = reported (Some r) some in
-        let same : ◌≡◌ {A = Found} (record { report = r; params = with_changes old.setup.params m.changes }) (found_in new) = (λ i. record { report = r; params = (sym m.is) i }) ∙ ap found_in (sym after) in (
-          (λ i. and_then (e i) (λ report. and_then (m.there i) (λ made. Some (record { report = report; params = with_changes old.setup.params made })))) ∙ ap (λ (f : Found). Some f) same,
-          ap (λ (s : Saved). s.length) after,
+        let same : ◌≡◌ {A = ReplayState} (record { report = r; params = with_changes old.setup.params m.changes }) (replay_state_in new) = (λ i. record { report = r; params = (sym m.is) i }) ∙ ap replay_state_in (sym after) in (
+          (λ i. and_then (e i) (λ report. and_then (m.there i) (λ made. Some (record { report = report; params = with_changes old.setup.params made })))) ∙ ap (λ (f : ReplayState). Some f) same,
+          ap (λ (s : StoredModel). s.length) after,
         )
 
     pub exit_all : (was table : List ℤ) (b : Bool) → b ≡ true → was ≡ old.setup.params → MakesAllOrDamaged at changes was table image b → new ≡ taken table r length → FindsRecord length at changes old new image b

@@ -2,48 +2,48 @@
 use Rattle.std.specs.Prelude.{◌≡◌, ◌⊎◌, ◌+◌, ℕ, List, Some, Result}
 use Rattle.ng_num.specs.declared.fault.Fault.{Fault}
 use Rattle.ng_canon.specs.declared.item.Item.{Item}
-use Rattle.ng_rig.specs.Life.{Image, Life, reads}
-use Rattle.ng_rig.specs.Onward.{IsSynced}
+use Rattle.ng_rig.specs.Trace.{Image, Trace, reads}
+use Rattle.ng_rig.specs.Continuation.{IsSynced}
 use Rattle.ng_layout.specs.declared.header.Header.{Header}
 use Rattle.ng_layout.specs.Areas.{log_size_of, program_first, program_size}
-use Rattle.ng_layout.specs.Log.{Found, Place, parts_for}
-use Rattle.ng_layout.specs.Sectors.{text_of}
-use Rattle.ng_layout.specs.Snapshot.{report_in}
+use Rattle.ng_layout.specs.Log.{ReplayState, LogPosition, parts_for}
+use Rattle.ng_layout.specs.Sectors.{program_text}
+use Rattle.ng_layout.specs.Snapshot.{decoded_state_in}
 use Rattle.ng_layout.specs.Stands.{stretch, in_force, stands, IsWritten}
-use Rattle.ng_layout.specs.Stored.{Saved, Standing}
+use Rattle.ng_layout.specs.Stored.{StoredModel, DurableState}
 use Rattle.ng_log.specs.declared.log_end.LogEnd.{LogEnd}
 use Rattle.ng_log.specs.Runs.{log_of, beginning, EndsAt}
 
 -- what a run of records finds where it leads to this
-abbrev pub found_in : Saved → Found
-found_in s = record { report = report_in s; params = s.setup.params }
+abbrev pub replay_state_in : StoredModel → ReplayState
+replay_state_in s = record { report = decoded_state_in s; params = s.setup.params }
 
-abbrev pub place_of : LogEnd → Saved → Place
-place_of end saved = record { at = end.sector; number = end.number; found = Some (found_in saved) }
+abbrev pub position_of : LogEnd → StoredModel → LogPosition
+position_of end saved = record { at = end.sector; number = end.number; found = Some (replay_state_in saved) }
 
 -- the end of a log without a record
 abbrev pub no_records : LogEnd
 no_records = record { sector = 0; number = 0 }
 
--- the end of a log behind one more record of so many changes
-abbrev pub end_behind : LogEnd → ℕ → LogEnd
-end_behind end changes = record { sector = end.sector + parts_for changes; number = end.number + 1 }
+-- the end of a log after one more record of so many changes
+abbrev pub end_after : LogEnd → ℕ → LogEnd
+end_after end changes = record { sector = end.sector + parts_for changes; number = end.number + 1 }
 
--- The image stands under this header for this; its log ends here and has no part of the epoch behind, nor any of an epoch to come.
-pub record EndsIn (image : Image) (header : Header) (standing : Standing) (end : LogEnd) : Type 0 where
+-- The image stands under this header for this; its log ends here and has no part of the epoch after, nor any of an epoch to come.
+pub record EndsIn (image : Image) (header : Header) (standing : DurableState) (end : LogEnd) : Type 0 where
   pub force : in_force image ≡ Some header
   pub written : IsWritten image
-  pub ends : EndsAt (log_size_of header) header.length (log_of header image) header.epoch (beginning image header) (place_of end standing.saved)
-  pub program : text_of header.length (stretch (program_first header.area) (program_size header.area) image) ≡ standing.program
+  pub ends : EndsAt (log_size_of header) header.length (log_of header image) header.epoch (beginning image header) (position_of end standing.saved)
+  pub program : program_text header.length (stretch (program_first header.area) (program_size header.area) image) ≡ standing.program
   pub long : standing.saved.length ≡ header.length
 
 -- The device has one image, and that is such.
-pub record IsAtEnd (life : Life) (header : Header) (standing : Standing) (end : LogEnd) : Type 0 where
-  pub synced : IsSynced life
-  pub image : EndsIn (reads life) header standing end
+pub record IsAtEnd (trace : Trace) (header : Header) (standing : DurableState) (end : LogEnd) : Type 0 where
+  pub synced : IsSynced trace
+  pub image : EndsIn (reads trace) header standing end
 
 -- An image stands for one of the two and has no record of an epoch to come; nothing was handed out.
-pub record IsEither (before after : Result Standing Fault) (given : List Item) (image : Image) (handed : List Item) : Type 0 where
+pub record IsEither (before after : Result DurableState Fault) (given : List Item) (image : Image) (handed : List Item) : Type 0 where
   pub state : (stands image ≡ before) ⊎ (stands image ≡ after)
   pub written : IsWritten image
   pub handed_is : handed ≡ given

@@ -1,7 +1,6 @@
 pub mod Appends
 pub mod AtEnd
-pub mod Differences
 pub mod Reading
 pub mod Records
 pub mod Runs
-pub mod Scanning
+pub mod Private

@@ -1,19 +1,19 @@
 -- A record, and the sectors that hold it (own).
 use Rattle.std.specs.Prelude.{◌<◌, ◌≤◌, ◌+◌, ◌-◌, ℕ, List, ℤ, length}
 use Rattle.ng_params.specs.declared.change.Change.{Change}
-use Rattle.ng_layout.specs.Log.{Label, parts_for}
+use Rattle.ng_layout.specs.Log.{PartHeader, parts_for}
 use Rattle.ng_layout.specs.Part.{HoldsRecordPart}
 use Rattle.ng_layout.specs.Areas.{log_first}
-use Rattle.ng_layout.specs.Stored.{Saved}
+use Rattle.ng_layout.specs.Stored.{StoredModel}
 use Rattle.ng_log.specs.declared.log_end.LogEnd.{LogEnd}
-use Rattle.ng_log.specs.Differences.{differences}
+use Rattle.ng_params.specs.Differences.{differences}
 
 -- what a record says, its first sector in the log, and its number in its epoch
 pub record LogRecord : Type 0 where
   pub epoch : ℕ
   pub number : ℕ
   pub at : ℕ
-  pub saved : Saved
+  pub saved : StoredModel
   pub changes : List Change
 
 -- how many sectors it takes
@@ -21,7 +21,7 @@ abbrev pub size_of : LogRecord → ℕ
 size_of r = parts_for (length r.changes)
 
 -- what its n-th part says of itself
-abbrev pub label : LogRecord → ℕ → Label
+abbrev pub label : LogRecord → ℕ → PartHeader
 label r n = record { epoch = r.epoch; number = r.number; part = n; parts = size_of r; changes = length r.changes }
 
 -- sector m of a log is one of the record's, and these bytes are the part that belongs there
@@ -36,9 +36,9 @@ pub record BelongsToRecord (r : LogRecord) (n : ℕ) (bytes : List ℕ) : Type 0
   pub part : IsPartOf r (n - log_first) bytes
 
 -- the record that says this, at the end of a log
-abbrev pub record_at : ℕ → LogEnd → Saved → List Change → LogRecord
+abbrev pub record_at : ℕ → LogEnd → StoredModel → List Change → LogRecord
 record_at epoch end saved changes = record { epoch = epoch; number = end.number; at = end.sector; saved = saved; changes = changes }
 
 -- the record that makes this of an older table
-abbrev pub record_from : ℕ → LogEnd → List ℤ → Saved → LogRecord
+abbrev pub record_from : ℕ → LogEnd → List ℤ → StoredModel → LogRecord
 record_from epoch end old saved = record_at epoch end saved (differences old saved.setup.params)

@@ -1,6 +1,6 @@
-//! The log of a journal: records behind the snapshot of an epoch, one of them for each state stored since (own; docs/DEVICE.md).
+//! The log of a journal: records after the snapshot of an epoch, one of them for each state stored since (own; docs/DEVICE.md).
 //!
-//! `append` writes a record behind the last one and syncs it. A record is written in parts, in sectors that follow one another, and says
+//! `append` writes a record after the last one and syncs it. A record is written in parts, in sectors that follow one another, and says
 //! which parameters changed. `read_log` reads the longest run of complete records back; a record of which a part is missing counts for
 //! nothing. Both work in the memory of the state that they are given. specs/AtEnd.antt says where the log of an image ends and
 //! what every stop of a device leaves, whichever parts of the record that was being written have lasted; specs/Runs.antt says which
@@ -10,13 +10,11 @@
 //! what comes where it has none, are left out here.
 #![tactic(auto)]
 
-mod differences;
 mod log_end;
 mod reading;
 mod scanning;
 mod writing;
 
-pub use differences::difference_count;
 pub use log_end::LogEnd;
 pub use reading::read_sector;
 pub use scanning::read_log;

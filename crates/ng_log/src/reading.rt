@@ -1,7 +1,7 @@
 //! Sectors read.
 ghost use Rattle.std.specs.Prelude.{◌≡◌, ◌<◌};
-ghost use Rattle.ng_rig.specs.Calls.{Promises, Counts};
-ghost use Rattle.ng_log.specs.Reading.{Reads};
+ghost use Rattle.ng_rig.specs.Calls.{IfHonest, FailureCountSpec};
+ghost use Rattle.ng_log.specs.Reading.{ReadSpec};
 
 use ng_layout::BYTES;
 use ng_rig::{Failed, Rig};
@@ -9,10 +9,10 @@ use ng_rig::{Failed, Rig};
 /// The bytes of a sector (own). Fails where the read fails.
 pub fn read_sector<R: Rig>(rig: &mut R, sector: usize) -> Result<[u8; BYTES], Failed>
     requires { sector < R.sectors rig.old }
-    ensures read { Promises (R.honest rig.old) (R.honest rig.new)
-        (Reads result (λ image bytes. bytes ≡ image sector) (R.life rig.old) (R.life rig.new)) }
+    ensures read { IfHonest (R.honest rig.old) (R.honest rig.new)
+        (ReadSpec result (λ image bytes. bytes ≡ image sector) (R.trace rig.old) (R.trace rig.new)) }
     ensures size { R.sectors rig.new ≡ R.sectors rig.old }
-    ensures failures { Counts result (R.failed rig.old) (R.failed rig.new) }
+    ensures failures { FailureCountSpec result (R.failed rig.old) (R.failed rig.new) }
 {
     let mut bytes = [0; BYTES];
     rig.read(sector, &mut bytes)?;

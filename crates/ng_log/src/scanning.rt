@@ -3,20 +3,22 @@
 //! Of a record the labels of all its parts are read first, and then what they hold: one that isn't complete leaves what is stored alone.
 ghost use Rattle.std.specs.Prelude.{◌≡◌, ◌≤◌, ◌<◌, ◌+◌, length, IfOk, IfSome};
 ghost use Rattle.std.specs.Bool.{OnTrue};
-ghost use Rattle.ng_rig.specs.Calls.{Promises, Counts};
-ghost use Rattle.ng_layout.specs.Limits.{greatest_count, longest_program, parameter_count};
-ghost use Rattle.ng_layout.specs.Header.{IsLawful};
+ghost use Rattle.ng_rig.specs.Calls.{IfHonest, FailureCountSpec};
+ghost use Rattle.ng_layout.specs.Limits.{greatest_count, longest_program, record_changes};
+ghost use Rattle.ng_params.specs.Numbers.{parameter_count};
+ghost use Rattle.ng_layout.specs.Header.{IsValidHeader};
 ghost use Rattle.ng_layout.specs.Areas.{log_size_of, least_size, log_size};
 ghost use Rattle.ng_layout.specs.Log.{parts_for};
 ghost use Rattle.ng_layout.specs.Part.{label_of};
 ghost use Rattle.ng_layout.specs.Storable.{IsStorable};
-ghost use Rattle.ng_log.specs.Reading.{Reads, IsRunOf};
-ghost use Rattle.ng_log.specs.Scanning.{begins, LaterPartsStand, MakesAllOrDamaged, TakesRecord, IsNextOf, IsOn, Goes};
+ghost use Rattle.ng_log.specs.Reading.{ReadSpec, IsRunOf};
+ghost use Rattle.ng_log.specs.Private.ReadSteps.{begins, LaterPartsStand, MakesAllOrDamaged, TakesRecord, IsNextOf, IsOn, Goes};
 
 use crate::log_end::LogEnd;
 use crate::reading::read_sector;
 use ng_layout::{
-    BYTES, CHANGES, Header, LOG_FIRST, PartLabel, Stored, parts_for, report_of_part, take_changes,
+    BYTES, CHANGES, Header, LOG_FIRST, PartLabel, Stored, decoded_state_of_part, parts_for,
+    take_changes,
 };
 use ng_params::Params;
 use ng_rig::{Failed, Rig};
@@ -29,8 +31,8 @@ pub(crate) enum Next {
     Last,
     /// A complete record with a field that is out of its range.
     Damaged,
-    /// A record, and behind it the log goes on here.
-    Behind(LogEnd),
+    /// A record, and after it the log goes on here.
+    After(LogEnd),
 }
 
 /// Whether a part with this label begins a record at the end of a log: the next of its epoch, with as many parts as its changes need, and
@@ -46,14 +48,14 @@ fn begins_record(first: PartLabel, header: Header, end: LogEnd) -> bool
         && end.sector + first.parts as usize <= header.log_size()
 }
 
-/// Whether the parts of a record stand behind its first one, which is in this sector of the log.
+/// Whether the parts of a record stand after its first one, which is in this sector of the log.
 fn later_parts_stand<R: Rig>(rig: &mut R, at: usize, first: PartLabel) -> Result<bool, Failed>
     requires sectors { least_size ≤ R.sectors rig.old }
     requires room { at + first.parts ≤ log_size }
-    ensures read { Promises (R.honest rig.old) (R.honest rig.new)
-        (Reads result (LaterPartsStand at (label_of first)) (R.life rig.old) (R.life rig.new)) }
+    ensures read { IfHonest (R.honest rig.old) (R.honest rig.new)
+        (ReadSpec result (LaterPartsStand at (label_of first)) (R.trace rig.old) (R.trace rig.new)) }
     ensures size { R.sectors rig.new ≡ R.sectors rig.old }
-    ensures failures { Counts result (R.failed rig.old) (R.failed rig.new) }
+    ensures failures { FailureCountSpec result (R.failed rig.old) (R.failed rig.new) }
 {
     for part in 1..first.parts {
         let sector = read_sector(rig, LOG_FIRST + at + part as usize)?;
@@ -73,15 +75,15 @@ fn take_all_changes<R: Rig, A: Allocator + Copy + Drop>(
     table: &mut Params<A>,
 ) -> Result<bool, Failed>
     requires sectors { least_size ≤ R.sectors rig.old }
-    requires few { changes ≤ 65_535 }
+    requires few { changes ≤ record_changes }
     requires room { at + parts_for changes ≤ log_size }
     requires long { length table.old ≡ parameter_count }
-    ensures read { Promises (R.honest rig.old) (R.honest rig.new)
-        (Reads result (MakesAllOrDamaged at changes table.old table.new) (R.life rig.old) (R.life rig.new)) }
+    ensures read { IfHonest (R.honest rig.old) (R.honest rig.new)
+        (ReadSpec result (MakesAllOrDamaged at changes table.old table.new) (R.trace rig.old) (R.trace rig.new)) }
     // without honesty too
     ensures long { IfOk result (λ whole. OnTrue whole (length table.new ≡ parameter_count)) }
     ensures size { R.sectors rig.new ≡ R.sectors rig.old }
-    ensures failures { Counts result (R.failed rig.old) (R.failed rig.new) }
+    ensures failures { FailureCountSpec result (R.failed rig.old) (R.failed rig.new) }
 {
     for i in 0..parts_for(changes) - 1 {
         let sector = read_sector(rig, LOG_FIRST + at + 1 + i)?;
@@ -103,25 +105,25 @@ fn take_record<R: Rig, A: Allocator + Copy + Drop>(
     stored: &mut Stored<A>,
 ) -> Result<bool, Failed>
     requires sectors { least_size ≤ R.sectors rig.old }
-    requires few { changes ≤ 65_535 }
+    requires few { changes ≤ record_changes }
     requires room { at + parts_for changes ≤ log_size }
     requires program { program ≤ longest_program }
     requires long { length stored.old.setup.params ≡ parameter_count }
-    ensures read { Promises (R.honest rig.old) (R.honest rig.new)
-        (Reads result (TakesRecord program first.now at changes stored.old stored.new) (R.life rig.old) (R.life rig.new)) }
+    ensures read { IfHonest (R.honest rig.old) (R.honest rig.new)
+        (ReadSpec result (TakesRecord program first.now at changes stored.old stored.new) (R.trace rig.old) (R.trace rig.new)) }
     // without honesty too
     ensures storable { IfOk result (λ whole. OnTrue whole (IsStorable stored.new)) }
     ensures count { IfOk result (λ whole. OnTrue whole (stored.new.entries ≤ greatest_count)) }
     ensures long { IfOk result (λ whole. OnTrue whole (stored.new.length ≡ program)) }
     ensures size { R.sectors rig.new ≡ R.sectors rig.old }
-    ensures failures { Counts result (R.failed rig.old) (R.failed rig.new) }
+    ensures failures { FailureCountSpec result (R.failed rig.old) (R.failed rig.new) }
 {
-    match report_of_part(first, program) {
+    match decoded_state_of_part(first, program) {
         None => Ok(false),
         Some(report) => {
             let is_whole = take_all_changes(rig, at, changes, &mut stored.state.params)?;
             if is_whole {
-                stored.take_report(report, program);
+                stored.take_decoded_state(report, program);
             }
             Ok(is_whole)
         }
@@ -136,21 +138,21 @@ fn next_record<R: Rig, A: Allocator + Copy + Drop>(
     stored: &mut Stored<A>,
 ) -> Result<Next, Failed>
     requires sectors { least_size ≤ R.sectors rig.old }
-    requires lawful { IsLawful header }
+    requires lawful { IsValidHeader header }
     requires room { end.sector ≤ log_size_of header }
     requires number { end.number ≤ end.sector }
     requires storable { IsStorable stored.old }
     requires count { stored.old.entries ≤ greatest_count }
     requires long { stored.old.length ≡ header.length }
-    ensures read { Promises (R.honest rig.old) (R.honest rig.new)
-        (Reads result (IsNextOf header end stored.old stored.new) (R.life rig.old) (R.life rig.new)) }
+    ensures read { IfHonest (R.honest rig.old) (R.honest rig.new)
+        (ReadSpec result (IsNextOf header end stored.old stored.new) (R.trace rig.old) (R.trace rig.new)) }
     // without honesty too
     ensures on { IfOk result (IsOn header end) }
     ensures storable { IfOk result (λ next. Goes next (IsStorable stored.new)) }
     ensures count { IfOk result (λ next. Goes next (stored.new.entries ≤ greatest_count)) }
     ensures long { IfOk result (λ next. Goes next (stored.new.length ≡ header.length)) }
     ensures size { R.sectors rig.new ≡ R.sectors rig.old }
-    ensures failures { Counts result (R.failed rig.old) (R.failed rig.new) }
+    ensures failures { FailureCountSpec result (R.failed rig.old) (R.failed rig.new) }
 {
     if end.sector == header.log_size() {
         return Ok(Next::Last);
@@ -175,7 +177,7 @@ fn next_record<R: Rig, A: Allocator + Copy + Drop>(
     if !is_whole {
         return Ok(Next::Damaged);
     }
-    Ok(Next::Behind(LogEnd {
+    Ok(Next::After(LogEnd {
         sector: end.sector + first.parts as usize,
         number: end.number + 1,
     }))
@@ -192,12 +194,12 @@ pub fn read_log<R: Rig, A: Allocator + Copy + Drop>(
     stored: &mut Stored<A>,
 ) -> Result<Option<LogEnd>, Failed>
     requires sectors { least_size ≤ R.sectors rig.old }
-    requires lawful { IsLawful header }
+    requires lawful { IsValidHeader header }
     requires storable { IsStorable stored.old }
     requires count { stored.old.entries ≤ greatest_count }
     requires long { stored.old.length ≡ header.length }
-    ensures read { Promises (R.honest rig.old) (R.honest rig.new)
-        (Reads result (IsRunOf header stored.old stored.new) (R.life rig.old) (R.life rig.new)) }
+    ensures read { IfHonest (R.honest rig.old) (R.honest rig.new)
+        (ReadSpec result (IsRunOf header stored.old stored.new) (R.trace rig.old) (R.trace rig.new)) }
     // without honesty too
     ensures room { IfOk result (λ end. IfSome end (λ e. e.sector ≤ log_size_of header)) }
     ensures number { IfOk result (λ end. IfSome end (λ e. e.number ≤ e.sector)) }
@@ -205,14 +207,14 @@ pub fn read_log<R: Rig, A: Allocator + Copy + Drop>(
     ensures count { IfOk result (λ end. IfSome end (λ e. stored.new.entries ≤ greatest_count)) }
     ensures long { IfOk result (λ end. IfSome end (λ e. stored.new.length ≡ header.length)) }
     ensures size { R.sectors rig.new ≡ R.sectors rig.old }
-    ensures failures { Counts result (R.failed rig.old) (R.failed rig.new) }
+    ensures failures { FailureCountSpec result (R.failed rig.old) (R.failed rig.new) }
 {
     let mut reached = LogEnd::START;
     'records: for _ in 0..header.log_size() {
         match next_record(rig, header, reached, stored)? {
             Next::Last => return Ok(Some(reached)),
             Next::Damaged => return Ok(None),
-            Next::Behind(end) => reached = end,
+            Next::After(end) => reached = end,
         }
     }
     Ok(Some(reached))

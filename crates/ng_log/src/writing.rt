@@ -1,23 +1,23 @@
-//! A record written behind the last one.
+//! A record written after the last one.
 ghost use Rattle.std.specs.Prelude.{◌≡◌, ◌≤◌, ◌+◌, length, IfOk};
-ghost use Rattle.ng_rig.specs.Calls.{Promises, Counts};
-ghost use Rattle.ng_layout.specs.Limits.{greatest_count, parameter_count};
+ghost use Rattle.ng_rig.specs.Calls.{IfHonest, FailureCountSpec};
+ghost use Rattle.ng_layout.specs.Limits.{greatest_count, part_changes};
+ghost use Rattle.ng_params.specs.Numbers.{parameter_count};
 ghost use Rattle.ng_layout.specs.Areas.{log_size_of, least_size, log_size};
 ghost use Rattle.ng_layout.specs.Log.{parts_for};
 ghost use Rattle.ng_layout.specs.Storable.{IsStorable};
-ghost use Rattle.ng_layout.specs.Stored.{Standing};
-ghost use Rattle.ng_log.specs.Appends.{WritesRecord, Appends};
-ghost use Rattle.ng_log.specs.AtEnd.{end_behind, IsAtEnd};
-ghost use Rattle.ng_log.specs.Differences.{differences, TakesDifferences};
+ghost use Rattle.ng_layout.specs.Stored.{DurableState};
+ghost use Rattle.ng_log.specs.Appends.{WritesRecord, AppendSpec};
+ghost use Rattle.ng_log.specs.AtEnd.{end_after, IsAtEnd};
+ghost use Rattle.ng_params.specs.Differences.{differences, TakesDifferences};
 ghost use Rattle.ng_log.specs.Records.{record_from};
 
-use crate::differences::next_differences;
 use crate::log_end::LogEnd;
 use arrayvec::ArrayVec;
 use ng_layout::{
     CHANGES, Header, LOG_FIRST, PartLabel, Stored, changes_part, first_part, parts_for,
 };
-use ng_params::{Change, Params};
+use ng_params::{Change, Params, next_differences};
 use ng_rig::{Failed, Rig};
 use std::alloc::Allocator;
 
@@ -28,7 +28,7 @@ fn next_changes<A: Allocator + Copy + Drop>(
     from: usize,
 ) -> (ArrayVec<Change, CHANGES>, usize)
     requires { from ≤ parameter_count }
-    ensures { TakesDifferences old.now stored.now.setup.params from result.1 result.0.items }
+    ensures { TakesDifferences part_changes old.now stored.now.setup.params from result.1 result.0.items }
 {
     next_differences(old, &stored.state.params, from)
 }
@@ -48,10 +48,10 @@ fn write_parts<R: Rig, A: Allocator + Copy + Drop>(
     requires room { end.sector + parts_for count ≤ log_size }
     requires entries { stored.now.entries ≤ greatest_count }
     requires storable { IsStorable stored.now }
-    ensures writes { Promises (R.honest rig.old) (R.honest rig.new)
-        (WritesRecord result (record_from epoch end old.now stored.now) (R.life rig.old) (R.life rig.new)) }
+    ensures writes { IfHonest (R.honest rig.old) (R.honest rig.new)
+        (WritesRecord result (record_from epoch end old.now stored.now) (R.trace rig.old) (R.trace rig.new)) }
     ensures size { R.sectors rig.new ≡ R.sectors rig.old }
-    ensures failures { Counts result (R.failed rig.old) (R.failed rig.new) }
+    ensures failures { FailureCountSpec result (R.failed rig.old) (R.failed rig.new) }
 {
     let parts = parts_for(count);
     let first = PartLabel {
@@ -78,7 +78,7 @@ fn write_parts<R: Rig, A: Allocator + Copy + Drop>(
     Ok(())
 }
 
-/// Writes what is stored as a record behind the end of a log, syncs it, and gives the log's end behind it. It takes no memory (own).
+/// Writes what is stored as a record after the end of a log, syncs it, and gives the log's end after it. It takes no memory (own).
 ///
 /// `old` is the table that stands, and `count` says in how many parameters that of `stored` differs from it (`difference_count`).
 /// Fails where a write or the sync fails. Then some of the record's parts may have been written, and a stop leaves what stood or the whole
@@ -100,14 +100,14 @@ pub fn append<R: Rig, A: Allocator + Copy + Drop>(
     requires entries { stored.now.entries ≤ greatest_count }
     requires storable { IsStorable stored.now }
     requires long { stored.now.length ≡ header.length }
-    ensures appends { Promises (R.honest rig.old) (R.honest rig.new) ((before : Standing) → IsAtEnd (R.life rig.old) header before end
-        → before.saved.setup.params ≡ old.now → Appends result header before stored.now (R.life rig.old) (R.life rig.new)) }
+    ensures appends { IfHonest (R.honest rig.old) (R.honest rig.new) ((before : DurableState) → IsAtEnd (R.trace rig.old) header before end
+        → before.saved.setup.params ≡ old.now → AppendSpec result header before stored.now (R.trace rig.old) (R.trace rig.new)) }
     // whatever stands on the device
-    ensures writes { Promises (R.honest rig.old) (R.honest rig.new)
-        (WritesRecord result (record_from header.epoch end old.now stored.now) (R.life rig.old) (R.life rig.new)) }
-    ensures end { IfOk result (λ behind. behind ≡ end_behind end count) }
+    ensures writes { IfHonest (R.honest rig.old) (R.honest rig.new)
+        (WritesRecord result (record_from header.epoch end old.now stored.now) (R.trace rig.old) (R.trace rig.new)) }
+    ensures end { IfOk result (λ after. after ≡ end_after end count) }
     ensures size { R.sectors rig.new ≡ R.sectors rig.old }
-    ensures failures { Counts result (R.failed rig.old) (R.failed rig.new) }
+    ensures failures { FailureCountSpec result (R.failed rig.old) (R.failed rig.new) }
 {
     write_parts(rig, header.epoch, end, old, stored, count)?;
     rig.sync()?;

@@ -2,7 +2,7 @@ ghost use Rattle.std.specs.Prelude.{◌≡◌, ◌<◌, ◌+◌};
 ghost use Rattle.ng_rig.specs.MemoryRig.{sector_count};
 
 use linked_list_allocator::LocalHeap;
-use ng_canon::{Item, Outputs, Pulse, Step};
+use ng_canon::{AxisStep, Item, Outputs, Pulse};
 use ng_rig::{FailRig, Failed, FuseRig, MemoryRig, Rig};
 use std::alloc::{AllocError, Allocator};
 use std::test::Fail;
@@ -14,9 +14,9 @@ use worn::Worn;
 /// An item of each kind.
 fn three_items() -> [Item; 3] {
     let pulse = Pulse {
-        x: Step::Forward,
-        y: Step::Still,
-        z: Step::Backward,
+        x: AxisStep::Forward,
+        y: AxisStep::Still,
+        z: AxisStep::Backward,
         period_us: 50,
     };
     [
@@ -184,7 +184,7 @@ fn the_three_devices_are_called_as_one(rt: HostRuntime) -> Result<(), Fail> {
     Ok(())
 }
 
-/// Which of four calls succeed and which of the next four, and how many failures are counted behind each four.
+/// Which of four calls succeed and which of the next four, and how many failures are counted after each four.
 fn eight_calls<R: Rig>(rig: &mut R) -> ([[bool; 4]; 2], [u64; 2])
     requires { 0 < R.sectors rig.old }
 {
@@ -217,7 +217,7 @@ fn a_fuse_passes_so_many_calls(rt: HostRuntime) -> Result<(), Fail> {
     Ok(())
 }
 
-/// Behind how many calls one fails, which of four calls then succeed, which of the next four, how many of the first four
+/// After how many calls one fails, which of four calls then succeed, which of the next four, how many of the first four
 /// fail, and how many writes, syncs and hand-outs are made of all.
 const ONE_FAILS: &[(u64, [[bool; 4]; 2], u64, usize)] = &[
     (
@@ -283,7 +283,7 @@ fn failures_have_no_effect_and_are_counted(rt: HostRuntime) -> Result<(), Fail> 
     Ok(())
 }
 
-/// Syncs twice: whether that succeeds, and how many failures are counted behind it.
+/// Syncs twice: whether that succeeds, and how many failures are counted after it.
 fn two_syncs<R: Rig>(rig: &mut R) -> [(bool, u64); 2] {
     let first = rig.sync().is_ok();
     let failures = rig.failures();

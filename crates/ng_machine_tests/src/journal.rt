@@ -1,12 +1,12 @@
 ghost use Rattle.std.specs.Prelude.{◌≡◌, false, length, IsSome};
-ghost use Rattle.ng_layout.specs.Storable.{CanWait, IsStorable};
+ghost use Rattle.ng_layout.specs.Storable.{IsStorableHalf, IsStorable};
 
 use crate::images::{FRESH, MARK, powered, put, sector_of, sector_with, store};
 use crate::parts::part_with;
 use linked_list_allocator::LocalHeap;
 use ng_canon::Item;
 use ng_journal::{Journal, format, recover};
-use ng_layout::{Half, Header, Opened, Source, Stored, text_of};
+use ng_layout::{Half, Header, Opened, Source, Stored, text_from};
 use ng_num::{Fault, Num, Point};
 use ng_params::Index;
 use ng_rig::{FailRig, MemoryRig, Rig};
@@ -194,11 +194,11 @@ const PROGRAM: &[u8; 13] = b"G0 X0.002\nM2\n";
 
 /// The Mdi block `G0X5` with its first segment open.
 pub fn open_half() -> Half
-    ensures waits { CanWait result }
+    ensures waits { IsStorableHalf result }
     ensures is_open { IsSome result.opened }
 {
     Half {
-        text: text_of(b"G0X5"),
+        text: text_from(b"G0X5"),
         source: Source::Mdi,
         index: 0,
         at: None,
@@ -432,7 +432,7 @@ fn a_header_is_written_and_read(rt: HostRuntime) {
 /// What a deed answers, whether the journal is broken then, and the failures.
 type Done = (Result<(), Fault>, bool, u64);
 
-/// Does it on a formatted device of which one call behind so many fails with no effect.
+/// Does it on a formatted device of which one call after so many fails with no effect.
 fn done_failing<A: Allocator + Copy + Drop>(
     alloc: A,
     deed: Deed,
@@ -453,7 +453,7 @@ fn failing<A: Allocator + Copy + Drop>(
     Ok((done, standing(alloc, rig)))
 }
 
-/// The deeds that call the device, how many calls each makes, and what stands behind it. Only the last sync can fail with the
+/// The deeds that call the device, how many calls each makes, and what stands after it. Only the last sync can fail with the
 /// new state in place.
 const FAILED: &[(Deed, u64, Standing)] = &[
     (Deed::Commit, 3, COMMITTED),
@@ -479,7 +479,7 @@ fn each_call_of_power_on_fails_once(rt: HostRuntime) -> Result<(), Fail> {
 /// The calls of a deed that fail, by how many of its own there are before.
 const CALLS_OF_DEEDS: &[u64] = &[0, 1, 2, 43, 86, 87, 88, 89, 90];
 
-/// The first of those calls of a deed, which makes so many and leaves what stands behind them, whose failure isn't answered
+/// The first of those calls of a deed, which makes so many and leaves what stands after them, whose failure isn't answered
 /// and counted once, doesn't break the journal or leaves something else; and what is found there.
 fn first_unlike_failure<A: Allocator + Copy + Drop>(
     alloc: A,
@@ -515,7 +515,7 @@ fn a_deed_makes_so_many_calls(rt: HostRuntime) -> Result<(), Fail> {
     Ok(())
 }
 
-/// What stands after a stop behind so many calls, with none of the unsynced writes kept and with all of them.
+/// What stands after a stop after so many calls, with none of the unsynced writes kept and with all of them.
 fn cut<A: Allocator + Copy + Drop>(
     alloc: A,
     rig: &MemoryRig<A>,
@@ -526,7 +526,7 @@ fn cut<A: Allocator + Copy + Drop>(
     Ok([standing(alloc, none), standing(alloc, all)])
 }
 
-/// What stands after a cut behind each call of an entry that changes a parameter: two writes and a sync.
+/// What stands after a cut after each call of an entry that changes a parameter: two writes and a sync.
 #[test]
 fn a_cut_leaves_the_old_or_the_new(rt: HostRuntime) -> Result<(), Fail> {
     let (_, rig) = powered(rt.alloc(), formatted(rt.alloc())?);

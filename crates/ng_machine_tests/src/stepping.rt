@@ -1,9 +1,10 @@
-use ng_block::{Effect, State, Tools, execute};
+use ng_block::{Effect, Tools, execute};
 use ng_canon::{
-    Arc, Axis, Geometry, InverseTime, Item, Outputs, Pace, Plane, Pulse, Rate, Segment, Step,
-    StraightMove, Turn,
+    Arc, ArcDirection, Axis, AxisStep, Geometry, InverseTime, Item, Outputs, Pace, Plane, Pulse,
+    Rate, Segment, StraightMove,
 };
 use ng_num::{Len, Num, Point};
+use ng_state::State;
 use ng_step::Stepper;
 use std::alloc::Global;
 use std::test::Fail;
@@ -56,7 +57,7 @@ fn line(start: Point, end: Point, pace: Pace) -> Segment {
     Segment::Line(StraightMove { start, end, pace })
 }
 
-fn arc(plane: Plane, turn: Turn, start: Point, end: Point, centre: (i64, i64)) -> Segment {
+fn arc(plane: Plane, turn: ArcDirection, start: Point, end: Point, centre: (i64, i64)) -> Segment {
     Segment::Arc(Arc {
         plane,
         turn,
@@ -68,14 +69,14 @@ fn arc(plane: Plane, turn: Turn, start: Point, end: Point, centre: (i64, i64)) -
     })
 }
 
-fn push_step(text: &mut String<Global>, step: Step, letter: &str) -> Result<(), Fail> {
+fn push_step(text: &mut String<Global>, step: AxisStep, letter: &str) -> Result<(), Fail> {
     match step {
-        Step::Still => {}
-        Step::Forward => {
+        AxisStep::Still => {}
+        AxisStep::Forward => {
             text.push_str("+")?;
             text.push_str(letter)?;
         }
-        Step::Backward => {
+        AxisStep::Backward => {
             text.push_str("-")?;
             text.push_str(letter)?;
         }
@@ -89,7 +90,7 @@ fn push_pulse(text: &mut String<Global>, pulse: Pulse) -> Result<(), Fail> {
     push_step(text, pulse.z, "Z")
 }
 
-/// A pulse as its steps, behind its period where that isn't the one before.
+/// A pulse as its steps, after its period where that isn't the one before.
 fn push_paced(
     alloc: Global,
     text: &mut String<Global>,
@@ -102,7 +103,7 @@ fn push_paced(
     push_pulse(text, pulse)
 }
 
-/// An item, and the period behind it.
+/// An item, and the period after it.
 fn push_item(
     alloc: Global,
     text: &mut String<Global>,
@@ -197,14 +198,14 @@ fn dwells_and_switches_give_their_items(rt: HostRuntime) -> Result<(), Fail> {
 }
 
 /// An arc's plane, way round, start, end and centre, the step of Y, and the items.
-type ArcRow = (Plane, Turn, At, At, (i64, i64), u32, &'static str);
+type ArcRow = (Plane, ArcDirection, At, At, (i64, i64), u32, &'static str);
 
 /// Arcs on axes whose other steps are 1,000 nm.
 const ARCS: &[ArcRow] = &[
     // full circles of two steps' radius: each plane and way round
     (
         Plane::Xy,
-        Turn::Counterclockwise,
+        ArcDirection::Counterclockwise,
         (0, 0, 0),
         (0, 0, 0),
         (-2_000, 0),
@@ -213,7 +214,7 @@ const ARCS: &[ArcRow] = &[
     ),
     (
         Plane::Xy,
-        Turn::Clockwise,
+        ArcDirection::Clockwise,
         (0, 0, 0),
         (0, 0, 0),
         (-2_000, 0),
@@ -222,7 +223,7 @@ const ARCS: &[ArcRow] = &[
     ),
     (
         Plane::Xz,
-        Turn::Counterclockwise,
+        ArcDirection::Counterclockwise,
         (0, 0, 0),
         (0, 0, 0),
         (-2_000, 0),
@@ -231,7 +232,7 @@ const ARCS: &[ArcRow] = &[
     ),
     (
         Plane::Xz,
-        Turn::Clockwise,
+        ArcDirection::Clockwise,
         (0, 0, 0),
         (0, 0, 0),
         (-2_000, 0),
@@ -240,7 +241,7 @@ const ARCS: &[ArcRow] = &[
     ),
     (
         Plane::Yz,
-        Turn::Counterclockwise,
+        ArcDirection::Counterclockwise,
         (0, 0, 0),
         (0, 0, 0),
         (-2_000, 0),
@@ -249,7 +250,7 @@ const ARCS: &[ArcRow] = &[
     ),
     (
         Plane::Yz,
-        Turn::Clockwise,
+        ArcDirection::Clockwise,
         (0, 0, 0),
         (0, 0, 0),
         (-2_000, 0),
@@ -259,7 +260,7 @@ const ARCS: &[ArcRow] = &[
     // rounded starts, a helix, arcs of one quadrant, small ones
     (
         Plane::Xy,
-        Turn::Counterclockwise,
+        ArcDirection::Counterclockwise,
         (0, 400, 0),
         (0, 400, 0),
         (-2_000, 300),
@@ -268,7 +269,7 @@ const ARCS: &[ArcRow] = &[
     ),
     (
         Plane::Xy,
-        Turn::Counterclockwise,
+        ArcDirection::Counterclockwise,
         (0, 0, 0),
         (0, 0, 4_000),
         (-2_000, 0),
@@ -277,7 +278,7 @@ const ARCS: &[ArcRow] = &[
     ),
     (
         Plane::Xy,
-        Turn::Counterclockwise,
+        ArcDirection::Counterclockwise,
         (0, 0, 0),
         (-8_000, 4_000, 0),
         (-5_000, 0),
@@ -286,7 +287,7 @@ const ARCS: &[ArcRow] = &[
     ),
     (
         Plane::Xy,
-        Turn::Counterclockwise,
+        ArcDirection::Counterclockwise,
         (5_000, 300, 0),
         (0, 5_000, 0),
         (0, 400),
@@ -295,7 +296,7 @@ const ARCS: &[ArcRow] = &[
     ),
     (
         Plane::Xy,
-        Turn::Counterclockwise,
+        ArcDirection::Counterclockwise,
         (5_000, -400, 0),
         (5_000, -300, 0),
         (0, 0),
@@ -304,7 +305,7 @@ const ARCS: &[ArcRow] = &[
     ),
     (
         Plane::Xy,
-        Turn::Counterclockwise,
+        ArcDirection::Counterclockwise,
         (0, 0, 0),
         (0, 0, 0),
         (-1_000, 0),
@@ -313,7 +314,7 @@ const ARCS: &[ArcRow] = &[
     ),
     (
         Plane::Xy,
-        Turn::Counterclockwise,
+        ArcDirection::Counterclockwise,
         (0, 0, 0),
         (-3_998, 0, 0),
         (-1_999, 0),
@@ -323,7 +324,7 @@ const ARCS: &[ArcRow] = &[
     // unequal steps, flat and of a helix
     (
         Plane::Xy,
-        Turn::Counterclockwise,
+        ArcDirection::Counterclockwise,
         (4_000, 0, 0),
         (0, 4_000, 0),
         (0, 0),
@@ -332,7 +333,7 @@ const ARCS: &[ArcRow] = &[
     ),
     (
         Plane::Yz,
-        Turn::Clockwise,
+        ArcDirection::Clockwise,
         (0, 4_000, 0),
         (3_000, 0, -4_000),
         (0, 0),
@@ -376,10 +377,10 @@ fn first_items(alloc: Global, effect: &Effect) -> Text {
     }
 }
 
-/// All items of a line's first segment; the state becomes that behind the line.
+/// All items of a line's first segment; the state becomes that after the line.
 fn line_items(alloc: Global, state: &mut State<Global>, line: &str) -> Text {
     let effect = execute(state, line.as_bytes(), &Tools::new(), &Geometry::standard())?;
-    state.apply(&effect);
+    state.take_over(effect.machine, effect.changes.as_slice());
     first_items(alloc, &effect)
 }
 

@@ -12,20 +12,22 @@ use Rattle.ng_expr.specs.declared.word.Word.{Word}
 use Rattle.ng_modal.specs.ByLetter.{has_axis}
 use Rattle.ng_modal.specs.Lines.{takes_axes, motion_by, plane_after, is_cycle, moving}
 use Rattle.ng_modal.specs.Blocks.{block_of}
-use Rattle.ng_modal.specs.Causes.{is_idle, is_dwell, is_set_origin, is_of_slot, is_whole_within, is_within, is_negative, is_positive, is_along_z}
-use Rattle.ng_modal.specs.Check.{faults, checked, first_fault, unless, NoneHolds}
+use Rattle.ng_modal.specs.Causes.{is_unused_word, is_dwell, is_set_origin, is_of_slot, is_whole_within, is_between, is_negative, is_positive, is_along_z}
+use Rattle.ng_num.specs.Causes.{first_fault, NoneHolds}
+use Rattle.ng_num.proofs.FirstFault.{unless_ok}
+use Rattle.ng_modal.specs.Check.{faults, checked}
 use Rattle.ng_modal.specs.Accepted.{slot_of, repeats_by, repeats_on, IsSlot, IsFromZero, IsAccepted}
 use Rattle.ng_modal.specs.declared.asks.NonModal.{NonModal}
 use Rattle.ng_modal.specs.declared.asks.ToolLength.{ToolLength}
 use Rattle.ng_modal.specs.declared.block.Block.{Block}
-use Rattle.ng_modal.specs.declared.modes.Modes.{Modes}
-use Rattle.ng_modal.specs.declared.modes.Motion.{Motion}
-use Rattle.ng_modal.specs.declared.modes.Motion.TheVariants.{Off}
+use Rattle.ng_state.specs.declared.modes.Modes.{Modes}
+use Rattle.ng_state.specs.declared.modes.Motion.{Motion}
+use Rattle.ng_state.specs.declared.modes.Motion.TheVariants.{Off}
 use Rattle.ng_modal.proofs.LeastLemmas.{least}
 use Rattle.ng_modal.proofs.TestLemmas.{and_left, and_right, or_left, or_right, not_true, not_false}
 
 -- a number within limits
-slot_within : (slots : ℕ) → slots ≤ 255 → (n : Option ℤ) → is_within (pos 0) (pos slots) n ≡ true → (k : ℕ) × (option_and_then slot_of n ≡ Some k) × (k ≤ slots)
+slot_within : (slots : ℕ) → slots ≤ 255 → (n : Option ℤ) → is_between (pos 0) (pos slots) n ≡ true → (k : ℕ) × (option_and_then slot_of n ≡ Some k) × (k ≤ slots)
 slot_within slots few None e = absurd (cc e)
 slot_within slots few (Some (negsuc n)) e = absurd (cc e)
 slot_within slots few (Some (pos n)) e =
@@ -34,7 +36,7 @@ slot_within slots few (Some (pos n)) e =
     let fits : nat_le n 255 ≡ true = grind arith in
     (n, rw fits refl, at_most)
 
-system_within : (n : Option ℤ) → is_within (pos 1) (pos 9) n ≡ true → (k : ℕ) × (option_and_then system_of n ≡ Some k)
+system_within : (n : Option ℤ) → is_between (pos 1) (pos 9) n ≡ true → (k : ℕ) × (option_and_then system_of n ≡ Some k)
 system_within None e = absurd (cc e)
 system_within (Some (negsuc n)) e = absurd (cc e)
 system_within (Some (pos n)) e =
@@ -53,9 +55,9 @@ positive_by (Some (pos n)) e =
     rw same refl
 
 -- words
-a_slot : (slots : ℕ) → slots ≤ 255 → (word : Option ℤ) → is_idle word (is_whole_within (pos 0) (pos slots) word) ≡ false → IsSlot word slots
+a_slot : (slots : ℕ) → slots ≤ 255 → (word : Option ℤ) → is_unused_word word (is_whole_within (pos 0) (pos slots) word) ≡ false → IsSlot word slots
 a_slot slots few None e = tt
-a_slot slots few (Some v) e = slot_within slots few (whole_of v) (not_false (is_within (pos 0) (pos slots) (whole_of v)) e)
+a_slot slots few (Some v) e = slot_within slots few (whole_of v) (not_false (is_between (pos 0) (pos slots) (whole_of v)) e)
 
 from_zero : (word : Option ℤ) → is_negative word ≡ false → IsFromZero word
 from_zero None e = tt
@@ -70,7 +72,7 @@ is_given : (word : Option ℤ) → is_none word ≡ false → IsSome word
 is_given None e = absurd (cc e)
 is_given (Some v) e = search rules
 
-a_count : (word : Option ℤ) → is_idle word (is_positive (option_and_then whole_of word)) ≡ false → IfSome word (λ v. whole_of v ≡ Some (pos (repeats_on word)))
+a_count : (word : Option ℤ) → is_unused_word word (is_positive (option_and_then whole_of word)) ≡ false → IfSome word (λ v. whole_of v ≡ Some (pos (repeats_on word)))
 a_count None e = tt
 a_count (Some v) e = positive_by (whole_of v) (not_false (is_positive (whole_of v)) e)
 
@@ -94,12 +96,12 @@ accepted ws m slots few h =
     let v = b.values in
     let from13 = h.1.1.1.1.1.1.1.1.1.1.1.1 in
     let from15 = from13.1.1 in
-    let slot_t : Bool = is_idle v.t (is_whole_within (pos 0) (pos slots) v.t) in
-    let slot_h : Bool = is_idle v.h (is_whole_within (pos 0) (pos slots) v.h) in
+    let slot_t : Bool = is_unused_word v.t (is_whole_within (pos 0) (pos slots) v.t) in
+    let slot_h : Bool = is_unused_word v.h (is_whole_within (pos 0) (pos slots) v.h) in
     let is_still : Bool = is_dwell b.g.non_modal && is_negative v.p in
     let later : (is_negative v.s || is_still) ≡ false = or_right (is_negative v.f) (is_negative v.s || is_still) from13.0 in
-    let counts : (is_cycle b.motion && is_idle v.l (is_positive (option_and_then whole_of v.l))) ≡ false =
-    or_right (is_set_origin b.g.non_modal && not (is_whole_within (pos 2) (pos 2) v.l)) (is_cycle b.motion && is_idle v.l (is_positive (option_and_then whole_of v.l))) from15.0 in
+    let counts : (is_cycle b.motion && is_unused_word v.l (is_positive (option_and_then whole_of v.l))) ≡ false =
+    or_right (is_set_origin b.g.non_modal && not (is_whole_within (pos 2) (pos 2) v.l)) (is_cycle b.motion && is_unused_word v.l (is_positive (option_and_then whole_of v.l))) from15.0 in
     record {
       selected = a_slot slots few v.t (or_left slot_t slot_h from13.1.0);
       of_length = a_slot slots few v.h (or_right slot_t slot_h from13.1.0);
@@ -114,14 +116,10 @@ accepted ws m slots few h =
           system_within (option_and_then whole_of v.p)
           (not_false (is_whole_within (pos 1) (pos 9) v.p)
           (let P : Option NonModal → Type 0 = λ x. (is_set_origin x && not (is_whole_within (pos 1) (pos 9) v.p)) ≡ false in subst P is from15.1.0));
-      repeats = λ is. a_count v.l (let P : Bool → Type 0 = λ x. (x && is_idle v.l (is_positive (option_and_then whole_of v.l))) ≡ false in subst P is counts);
+      repeats = λ is. a_count v.l (let P : Bool → Type 0 = λ x. (x && is_unused_word v.l (is_positive (option_and_then whole_of v.l))) ≡ false in subst P is counts);
       plane = λ is. is_xy (plane_after b m) (let P : Bool → Type 0 = λ x. (x && is_along_z (plane_after b m)) ≡ false in subst P is from15.1.1.1.1.0);
       moves = moves_on b.g.motion (has_axis v && not (takes_axes b.g.non_modal)) m.motion;
     }
-
-unless_ok : (found : Option Fault) (x b : Block) → unless found x ≡ Ok b → x ≡ b
-unless_ok (Some fault) x b e = absurd (cc e)
-unless_ok None x b e = cc e
 
 -- of an answer whose block stands elsewhere
 pub accepted_by : (ws : List Word) (m : Modes) (slots : ℕ) → slots ≤ 255 → (b : Block) (r : Result (Unit {0}) Fault) →
@@ -129,5 +127,5 @@ pub accepted_by : (ws : List Word) (m : Modes) (slots : ℕ) → slots ≤ 255 �
     OnOk r (IsAccepted b m slots)
 accepted_by ws m slots few b (Ok _) e =
     let Known : Block → Type 0 = λ x. IsAccepted x m slots in
-    subst Known (unless_ok (first_fault (faults ws m slots)) (block_of ws m) b e) (accepted ws m slots few (least ws m slots (Ok b) e))
+    subst Known (unless_ok (first_fault (faults ws m slots)) (block_of ws m) b e).1 (accepted ws m slots few (least ws m slots (Ok b) e))
 accepted_by ws m slots few b (Err fault) e = tt

@@ -1,9 +1,8 @@
 -- A straight move that asks for nothing that may be refused is lawful.
-use Rattle.std.proofs.Common.{◌≡◌, ◌≤◌, arith, ℕ, ℤ, Bool, true, false, List, [], ◌∷◌, Option, Some, None, refl, length}
+use Rattle.std.proofs.Common.{◌≡◌, ◌≤◌, arith, ℕ, ℤ, Bool, true, false, List, ◌∷◌, Option, Some, None, refl, length}
 use Rattle.std.specs.Prelude.{not, ◌||◌, ◌&&◌, nat_lt, min, unwrap_or}
 use Rattle.std.specs.Option.{is_some, option_and_then}
 use Rattle.std.proofs.lemmas.Bool.{ltb-false, le-ltb}
-use Rattle.ng_num.specs.declared.fault.Fault.{Fault}
 use Rattle.ng_words.specs.declared.letter.Letter.TheVariants.{M}
 use Rattle.ng_expr.specs.declared.word.Word.{Word}
 use Rattle.ng_modal.specs.Words.{of_letter}
@@ -12,19 +11,16 @@ use Rattle.ng_modal.specs.Lines.{takes_axes, moving, motion_by, motion_after, is
 use Rattle.ng_modal.specs.Blocks.{block_of}
 use Rattle.ng_modal.specs.WordCauses.{is_repeated, has_unknown, has_left_out, has_group_twice, has_many_m}
 use Rattle.ng_modal.specs.Causes.{is_off, is_negative, takes_axes_twice, leaves_axis_unused, moves_no_axis, sets_nothing, has_bad_g53, has_radius_arc, leaves_word_unused, has_negative, has_bad_slot, has_bad_l, has_bad_system, has_no_dwell, has_no_h, has_cycle_plane}
-use Rattle.ng_modal.specs.Check.{first_fault, faults, faults_of, NoneHolds}
+use Rattle.ng_num.specs.Causes.{first_fault, NoneHolds}
+use Rattle.ng_num.proofs.FirstFault.{none_first}
+use Rattle.ng_modal.specs.Check.{faults, faults_of}
 use Rattle.ng_modal.specs.Sorted.{sorted_in, is_marked, has_others, is_plain}
 use Rattle.ng_modal.specs.declared.block.Block.{Block}
-use Rattle.ng_modal.specs.declared.modes.Modes.{Modes}
-use Rattle.ng_modal.specs.declared.modes.Motion.{Motion}
-use Rattle.ng_modal.specs.declared.modes.Motion.TheVariants.{Traverse, Feed, Off}
+use Rattle.ng_state.specs.declared.modes.Modes.{Modes}
+use Rattle.ng_state.specs.declared.modes.Motion.{Motion}
+use Rattle.ng_state.specs.declared.modes.Motion.TheVariants.{Traverse, Feed, Off}
 use Rattle.ng_modal.specs.declared.sorted.Sorted.{Sorted}
 use Rattle.ng_modal.proofs.TestLemmas.{and_left, and_right, or_left, or_right, not_true, and_false, nothing_there}
-
-none_first : (fs : List (Bool × Fault)) → NoneHolds fs → first_fault fs ≡ None
-none_first [] h = refl
-none_first ((true, fault) ∷ fs) h = absurd (cc h.0)
-none_first ((false, fault) ∷ fs) h = none_first fs h.1
 
 -- where a line moves straight, so does the mode after it
 straight_after : (word : Option Motion) (calls : Bool) (mode : Motion) → is_straight (motion_by word calls mode) ≡ true → is_off (unwrap_or word mode) ≡ false

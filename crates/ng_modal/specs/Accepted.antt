@@ -8,8 +8,8 @@ use Rattle.ng_modal.specs.Lines.{plane_after, is_cycle}
 use Rattle.ng_modal.specs.declared.asks.NonModal.TheVariants.{Dwell, SetOrigin}
 use Rattle.ng_modal.specs.declared.asks.ToolLength.TheVariants.{OfSlot}
 use Rattle.ng_modal.specs.declared.block.Block.{Block}
-use Rattle.ng_modal.specs.declared.modes.Modes.{Modes}
-use Rattle.ng_modal.specs.declared.modes.Motion.TheVariants.{Off}
+use Rattle.ng_state.specs.declared.modes.Modes.{Modes}
+use Rattle.ng_state.specs.declared.modes.Motion.TheVariants.{Off}
 
 -- the slot of a number, one of 0 to 255
 abbrev pub slot_of : ℤ → Option ℕ

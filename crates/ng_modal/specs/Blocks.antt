@@ -6,7 +6,7 @@ use Rattle.ng_modal.specs.ByLetter.{by_letter}
 use Rattle.ng_modal.specs.ByGroup.{g_words, m_words}
 use Rattle.ng_modal.specs.Lines.{motion_for}
 use Rattle.ng_modal.specs.declared.block.Block.{Block}
-use Rattle.ng_modal.specs.declared.modes.Modes.{Modes}
+use Rattle.ng_state.specs.declared.modes.Modes.{Modes}
 
 abbrev pub block_of : List Word → Modes → Block
 block_of ws m = record {

@@ -12,9 +12,9 @@ use Rattle.ng_modal.specs.declared.asks.NonModal.TheVariants.{Dwell, SetOrigin, 
 use Rattle.ng_modal.specs.declared.asks.ToolLength.{ToolLength}
 use Rattle.ng_modal.specs.declared.asks.ToolLength.TheVariants.{OfSlot}
 use Rattle.ng_modal.specs.declared.block.Block.{Block}
-use Rattle.ng_modal.specs.declared.modes.Modes.{Modes}
-use Rattle.ng_modal.specs.declared.modes.Motion.{Motion}
-use Rattle.ng_modal.specs.declared.modes.Motion.TheVariants.{Off, DrillingWithDwell, PeckDrilling, BoringWithStop, BoringWithDwell}
+use Rattle.ng_state.specs.declared.modes.Modes.{Modes}
+use Rattle.ng_state.specs.declared.modes.Motion.{Motion}
+use Rattle.ng_state.specs.declared.modes.Motion.TheVariants.{Off, DrillingWithDwell, PeckDrilling, BoringWithStop, BoringWithDwell}
 
 -- B6: a group 1 word other than G80 beside G10, G28, G30 or G92
 abbrev pub takes_axes_twice : Block → Bool
@@ -90,26 +90,26 @@ is_along_z Xy = false
 is_along_z _ = true
 
 -- a word is there that nothing takes
-abbrev pub is_idle : Option ℤ → Bool → Bool
-is_idle word taken = is_some word && not taken
+abbrev pub is_unused_word : Option ℤ → Bool → Bool
+is_unused_word word taken = is_some word && not taken
 
 -- I, J, K: offsets of an arc in its plane
-abbrev pub has_idle_offset : Block → Plane → Bool
-has_idle_offset b plane =
-    is_idle b.values.i (is_arc b.motion && is_along_x plane)
-    || (is_idle b.values.j (is_arc b.motion && is_along_y plane)
-    || is_idle b.values.k (is_arc b.motion && is_along_z plane))
+abbrev pub has_unused_offset : Block → Plane → Bool
+has_unused_offset b plane =
+    is_unused_word b.values.i (is_arc b.motion && is_along_x plane)
+    || (is_unused_word b.values.j (is_arc b.motion && is_along_y plane)
+    || is_unused_word b.values.k (is_arc b.motion && is_along_z plane))
 
 -- B12: a word that nothing takes: H but with G43, I, J, K but as offsets of an arc in its plane, L but with G10 or a cycle, P but
 -- with G4, G10, G82, G86 or G89, Q but with G83, R but with a cycle or an arc
 abbrev pub leaves_word_unused : Block → Modes → Bool
 leaves_word_unused b m =
-    is_idle b.values.h (is_of_slot b.g.tool_length)
-    || (has_idle_offset b (plane_after b m)
-    || (is_idle b.values.l (is_set_origin b.g.non_modal || is_cycle b.motion)
-    || (is_idle b.values.p (is_dwell b.g.non_modal || (is_set_origin b.g.non_modal || dwells b.motion))
-    || (is_idle b.values.q (pecks b.motion)
-    || is_idle b.values.r (is_cycle b.motion || is_arc b.motion)))))
+    is_unused_word b.values.h (is_of_slot b.g.tool_length)
+    || (has_unused_offset b (plane_after b m)
+    || (is_unused_word b.values.l (is_set_origin b.g.non_modal || is_cycle b.motion)
+    || (is_unused_word b.values.p (is_dwell b.g.non_modal || (is_set_origin b.g.non_modal || dwells b.motion))
+    || (is_unused_word b.values.q (pecks b.motion)
+    || is_unused_word b.values.r (is_cycle b.motion || is_arc b.motion)))))
 
 abbrev pub is_negative : Option ℤ → Bool
 is_negative None = false
@@ -120,19 +120,19 @@ abbrev pub has_negative : Block → Bool
 has_negative b = is_negative b.values.f || (is_negative b.values.s || (is_dwell b.g.non_modal && is_negative b.values.p))
 
 -- a number from low to high
-abbrev pub is_within : ℤ → ℤ → Option ℤ → Bool
-is_within low high None = false
-is_within low high (Some n) = not (int_lt n low) && not (int_lt high n)
+abbrev pub is_between : ℤ → ℤ → Option ℤ → Bool
+is_between low high None = false
+is_between low high (Some n) = not (int_lt n low) && not (int_lt high n)
 
 -- a word is there whose value counts as a whole number from low to high
 abbrev pub is_whole_within : ℤ → ℤ → Option ℤ → Bool
-is_whole_within low high value = is_within low high (option_and_then whole_of value)
+is_whole_within low high value = is_between low high (option_and_then whole_of value)
 
 -- B14: T or H is there and isn't whole from 0 to the number of slots
 abbrev pub has_bad_slot : Block → ℕ → Bool
 has_bad_slot b slots =
-    is_idle b.values.t (is_whole_within (pos 0) (pos slots) b.values.t)
-    || is_idle b.values.h (is_whole_within (pos 0) (pos slots) b.values.h)
+    is_unused_word b.values.t (is_whole_within (pos 0) (pos slots) b.values.t)
+    || is_unused_word b.values.h (is_whole_within (pos 0) (pos slots) b.values.h)
 
 -- a number that isn't below 1
 abbrev pub is_positive : Option ℤ → Bool
@@ -143,7 +143,7 @@ is_positive (Some n) = not (int_lt n (pos 1))
 abbrev pub has_bad_l : Block → Bool
 has_bad_l b =
     (is_set_origin b.g.non_modal && not (is_whole_within (pos 2) (pos 2) b.values.l))
-    || (is_cycle b.motion && is_idle b.values.l (is_positive (option_and_then whole_of b.values.l)))
+    || (is_cycle b.motion && is_unused_word b.values.l (is_positive (option_and_then whole_of b.values.l)))
 
 -- B16: G10 whose P is missing or isn't whole from 1 to 9
 abbrev pub has_bad_system : Block → Bool

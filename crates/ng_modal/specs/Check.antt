@@ -1,5 +1,6 @@
 -- Whether a line may ask for what it asks for: the causes of its faults, in the order in which they are looked for.
-use Rattle.std.specs.Prelude.{◌≡◌, ℕ, Bool, true, false, if◌then◌else◌, Option, Some, None, List, [], ◌∷◌, ◌++◌, Result, Ok, Err}
+use Rattle.std.specs.Prelude.{ℕ, Bool, List, [], ◌∷◌, Result}
+use Rattle.ng_num.specs.Causes.{first_fault, unless}
 use Rattle.ng_num.specs.declared.fault.Fault.{Fault}
 use Rattle.ng_num.specs.declared.fault.Fault.TheVariants.{RepeatedLetter, UnknownCode, LeftOutCode, GroupTwice, TooManyM, AxisTakenTwice, AxisUnused, NoAxis, NothingToSet, BadG53, RadiusArc, UnusedWord, Negative, BadSlot, BadL, BadSystem, NoDwell, NoH, CyclePlane}
 use Rattle.ng_expr.specs.declared.word.Word.{Word}
@@ -7,9 +8,9 @@ use Rattle.ng_modal.specs.WordCauses.{is_repeated, has_unknown, has_left_out, ha
 use Rattle.ng_modal.specs.Blocks.{block_of}
 use Rattle.ng_modal.specs.Causes.{takes_axes_twice, leaves_axis_unused, moves_no_axis, sets_nothing, has_bad_g53, has_radius_arc, leaves_word_unused, has_negative, has_bad_slot, has_bad_l, has_bad_system, has_no_dwell, has_no_h, has_cycle_plane}
 use Rattle.ng_modal.specs.declared.block.Block.{Block}
-use Rattle.ng_modal.specs.declared.modes.Modes.{Modes}
+use Rattle.ng_state.specs.declared.modes.Modes.{Modes}
 
--- B1 to B19 of words that ask for a block, each behind its cause
+-- B1 to B19 of words that ask for a block, each with its cause before it
 abbrev pub faults_of : List Word → Block → Modes → ℕ → List (Bool × Fault)
 faults_of ws b m slots =
     (is_repeated ws, RepeatedLetter)
@@ -36,24 +37,5 @@ faults_of ws b m slots =
 abbrev pub faults : List Word → Modes → ℕ → List (Bool × Fault)
 faults ws m slots = faults_of ws (block_of ws m) m slots
 
--- the first fault whose cause holds
-abbrev pub first_fault : List (Bool × Fault) → Option Fault
-first_fault [] = None
-first_fault (f ∷ fs) = if f.0 then Some f.1 else first_fault fs
-
--- what is asked for, unless there is a fault
-abbrev pub unless : {X : Type 0} → Option Fault → X → Result X Fault
-unless (Some fault) x = Err fault
-unless None x = Ok x
-
 abbrev pub checked : List Word → Modes → ℕ → Result Block Fault
 checked ws m slots = unless (first_fault (faults ws m slots)) (block_of ws m)
-
--- no cause holds
-abbrev pub NoneHolds : List (Bool × Fault) → Type 0
-NoneHolds [] = Unit {0}
-NoneHolds (f ∷ fs) = (f.0 ≡ false) × NoneHolds fs
-
--- the cause of a fault holds, and none before it
-abbrev pub IsLeast : List (Bool × Fault) → Fault → Type 0
-IsLeast fs fault = (before : List (Bool × Fault)) × (behind : List (Bool × Fault)) × (fs ≡ before ++ ((true, fault) ∷ behind)) × NoneHolds before

@@ -1,4 +1,3 @@
-pub mod Fresh
 pub mod Codes
 pub mod Groups
 pub mod Meanings

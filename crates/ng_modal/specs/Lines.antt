@@ -7,9 +7,9 @@ use Rattle.ng_modal.specs.declared.asks.NonModal.TheVariants.{SetOrigin, Home, S
 use Rattle.ng_modal.specs.declared.by_group.GWords.{GWords}
 use Rattle.ng_modal.specs.declared.by_letter.ByLetter.{ByLetter}
 use Rattle.ng_modal.specs.declared.block.Block.{Block}
-use Rattle.ng_modal.specs.declared.modes.Modes.{Modes}
-use Rattle.ng_modal.specs.declared.modes.Motion.{Motion}
-use Rattle.ng_modal.specs.declared.modes.Motion.TheVariants.{Off, Traverse, Feed, ClockwiseArc, CounterclockwiseArc}
+use Rattle.ng_state.specs.declared.modes.Modes.{Modes}
+use Rattle.ng_state.specs.declared.modes.Motion.{Motion}
+use Rattle.ng_state.specs.declared.modes.Motion.TheVariants.{Off, Traverse, Feed, ClockwiseArc, CounterclockwiseArc}
 
 -- G10, G28, G30 and G92 take the axis words of their line
 abbrev pub takes_axes : Option NonModal → Bool

@@ -8,20 +8,20 @@ use Rattle.ng_canon.specs.declared.outputs.Spindle.{Spindle}
 use Rattle.ng_canon.specs.declared.outputs.Spindle.TheVariants.{Clockwise, Counterclockwise, Stopped}
 use Rattle.ng_modal.specs.declared.asks.NonModal.{NonModal}
 use Rattle.ng_modal.specs.declared.asks.NonModal.TheVariants.{Dwell, SetOrigin, Home, SecondHome, MachineCoordinates, SetOffset, ClearOffset, DropOffset, RestoreOffset}
-use Rattle.ng_modal.specs.declared.modes.Motion.{Motion}
-use Rattle.ng_modal.specs.declared.modes.Motion.TheVariants.{Off, Traverse, Feed, ClockwiseArc, CounterclockwiseArc, Drilling, DrillingWithDwell, PeckDrilling, Boring, BoringWithStop, BoringWithDwell}
-use Rattle.ng_modal.specs.declared.modes.Distance.{Distance}
-use Rattle.ng_modal.specs.declared.modes.Distance.TheVariants.{Absolute, Incremental}
-use Rattle.ng_modal.specs.declared.modes.FeedMode.{FeedMode}
-use Rattle.ng_modal.specs.declared.modes.FeedMode.TheVariants.{PerMinute, InverseTime}
+use Rattle.ng_state.specs.declared.modes.Motion.{Motion}
+use Rattle.ng_state.specs.declared.modes.Motion.TheVariants.{Off, Traverse, Feed, ClockwiseArc, CounterclockwiseArc, Drilling, DrillingWithDwell, PeckDrilling, Boring, BoringWithStop, BoringWithDwell}
+use Rattle.ng_state.specs.declared.modes.Distance.{Distance}
+use Rattle.ng_state.specs.declared.modes.Distance.TheVariants.{Absolute, Incremental}
+use Rattle.ng_state.specs.declared.modes.FeedMode.{FeedMode}
+use Rattle.ng_state.specs.declared.modes.FeedMode.TheVariants.{PerMinute, InverseTime}
 use Rattle.ng_modal.specs.declared.asks.ToolLength.{ToolLength}
 use Rattle.ng_modal.specs.declared.asks.ToolLength.TheVariants.{OfSlot, Zero}
-use Rattle.ng_modal.specs.declared.modes.Retract.{Retract}
-use Rattle.ng_modal.specs.declared.modes.Retract.TheVariants.{OldZ, ToR}
-use Rattle.ng_modal.specs.declared.modes.PathMode.{PathMode}
-use Rattle.ng_modal.specs.declared.modes.PathMode.TheVariants.{Exact, ExactStop, Continuous}
-use Rattle.ng_modal.specs.declared.asks.Stop.{Stop}
-use Rattle.ng_modal.specs.declared.asks.Stop.TheVariants.{Program, Optional, End, EndWithShuttle, Shuttle}
+use Rattle.ng_state.specs.declared.modes.Retract.{Retract}
+use Rattle.ng_state.specs.declared.modes.Retract.TheVariants.{OldZ, ToR}
+use Rattle.ng_state.specs.declared.modes.PathMode.{PathMode}
+use Rattle.ng_state.specs.declared.modes.PathMode.TheVariants.{Exact, ExactStop, Continuous}
+use Rattle.ng_modal.specs.declared.asks.StopWord.{StopWord}
+use Rattle.ng_modal.specs.declared.asks.StopWord.TheVariants.{Program, Optional, End, EndWithShuttle, Shuttle}
 use Rattle.ng_modal.specs.declared.asks.Coolant.{Coolant}
 use Rattle.ng_modal.specs.declared.asks.Coolant.TheVariants.{Mist, Flood, Off as CoolantOff}
 use Rattle.ng_modal.specs.declared.codes.GCode.{GCode}
@@ -115,7 +115,7 @@ path_of G64 = Some Continuous
 path_of _ = None
 
 -- M words, group 4
-abbrev pub stop_of : MCode → Option Stop
+abbrev pub stop_of : MCode → Option StopWord
 stop_of M0 = Some Program
 stop_of M1 = Some Optional
 stop_of M2 = Some End

@@ -10,10 +10,10 @@ use Rattle.ng_modal.specs.Lines.{is_straight}
 use Rattle.ng_modal.specs.Blocks.{block_of}
 use Rattle.ng_modal.specs.Causes.{is_negative}
 use Rattle.ng_modal.specs.declared.by_letter.ByLetter.{ByLetter}
-use Rattle.ng_modal.specs.declared.modes.Modes.{Modes}
+use Rattle.ng_state.specs.declared.modes.Modes.{Modes}
 use Rattle.ng_modal.specs.declared.sorted.Sorted.{Sorted}
 
--- the motion is found behind all words
+-- the motion is found after all words
 abbrev pub sorted : List Word → Sorted
 sorted ws = record {
   block = record {

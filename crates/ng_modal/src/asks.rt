@@ -34,7 +34,7 @@ pub enum ToolLength {
 
 /// What an M word of group 4 asks for (NISTIR 6556, 3.6.1).
 #[derive(Clone, Copy)]
-pub enum Stop {
+pub enum StopWord {
     /// M0.
     Program,
     /// M1.

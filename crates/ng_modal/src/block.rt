@@ -5,8 +5,8 @@ ghost use Rattle.ng_modal.specs.Lines.{takes_axes, moving, motion_by, motion_for
 use crate::asks::NonModal;
 use crate::by_group::{GWords, MWords};
 use crate::by_letter::ByLetter;
-use crate::modes::{Modes, Motion};
 use ng_canon::Plane;
+use ng_state::{Modes, Motion};
 
 /// What a line asks for.
 #[derive(Clone, Copy)]

@@ -5,18 +5,18 @@ ghost use Rattle.ng_modal.specs.declared.codes.MCode.{MCode as TheMCode};
 ghost use Rattle.ng_modal.specs.Groups.{group_of, m_group_of};
 ghost use Rattle.ng_modal.specs.ByGroup.{g_words, m_words, has_word, has_m_word};
 
-use crate::asks::{Coolant, NonModal, Stop, ToolLength};
+use crate::asks::{Coolant, NonModal, StopWord, ToolLength};
 use crate::codes::{GCode, MCode};
 use crate::groups::{Group, MGroup};
 use crate::meanings::{
     coolant, distance, feed_mode, motion, non_modal, overrides, path, plane, retract, spindle,
     stop, system, tool_length, unit,
 };
-use crate::modes::{Distance, FeedMode, Motion, PathMode, Retract};
 use crate::place::{mark, replace};
 use ng_canon::{Plane, Spindle};
 use ng_num::Unit;
 use ng_params::System;
+use ng_state::{Distance, FeedMode, Motion, PathMode, Retract};
 
 /// What the G words of a line ask for, by modal group; none where no word asks.
 #[derive(Clone, Copy)]
@@ -51,7 +51,7 @@ pub struct GWords {
 #[derive(Clone, Copy)]
 pub struct MWords {
     /// Group 4.
-    pub stop: Option<Stop>,
+    pub stop: Option<StopWord>,
     /// Group 6: M6.
     pub tool_change: bool,
     /// Group 7.

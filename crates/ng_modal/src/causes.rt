@@ -1,14 +1,14 @@
 //! The causes of B6 to B19, each by itself.
 ghost use Rattle.std.specs.Prelude.{◌≡◌};
-ghost use Rattle.ng_modal.specs.Causes.{takes_axes_twice, leaves_axis_unused, moves_no_axis, sets_nothing, has_bad_g53, has_radius_arc, has_idle_offset, leaves_word_unused, has_negative, has_bad_slot, has_bad_l, has_bad_system, has_no_dwell, has_no_h, has_cycle_plane};
+ghost use Rattle.ng_modal.specs.Causes.{takes_axes_twice, leaves_axis_unused, moves_no_axis, sets_nothing, has_bad_g53, has_radius_arc, has_unused_offset, leaves_word_unused, has_negative, has_bad_slot, has_bad_l, has_bad_system, has_no_dwell, has_no_h, has_cycle_plane};
 
 use crate::block::{Block, is_arc, is_cycle, is_straight, moving, takes_axes};
 use crate::looks::{
-    dwells, is_along_x, is_along_y, is_along_z, is_dwell, is_idle, is_machine, is_negative,
-    is_of_slot, is_off, is_positive, is_set_offset, is_set_origin, is_whole_within, pecks,
+    dwells, is_along_x, is_along_y, is_along_z, is_dwell, is_machine, is_negative, is_of_slot,
+    is_off, is_positive, is_set_offset, is_set_origin, is_unused_word, is_whole_within, pecks,
 };
-use crate::modes::Modes;
 use ng_canon::Plane;
+use ng_state::Modes;
 
 impl Block {
     /// B6: a motion word other than G80 beside G10, G28, G30 or G92.
@@ -64,12 +64,12 @@ impl Block {
 
     /// Whether an offset is there that no arc of the plane takes.
     #[inline]
-    fn has_idle_offset(&self, plane: Plane) -> bool
-        ensures { result ≡ has_idle_offset self.now plane }
+    fn has_unused_offset(&self, plane: Plane) -> bool
+        ensures { result ≡ has_unused_offset self.now plane }
     {
-        is_idle(self.values.i, is_arc(self.motion) && is_along_x(plane))
-            || is_idle(self.values.j, is_arc(self.motion) && is_along_y(plane))
-            || is_idle(self.values.k, is_arc(self.motion) && is_along_z(plane))
+        is_unused_word(self.values.i, is_arc(self.motion) && is_along_x(plane))
+            || is_unused_word(self.values.j, is_arc(self.motion) && is_along_y(plane))
+            || is_unused_word(self.values.k, is_arc(self.motion) && is_along_z(plane))
     }
 
     /// B12: a word that nothing on the line takes.
@@ -77,20 +77,20 @@ impl Block {
     pub(crate) fn leaves_word_unused(&self, modes: &Modes) -> bool
         ensures { result ≡ leaves_word_unused self.now modes.now }
     {
-        is_idle(self.values.h, is_of_slot(self.g.tool_length))
-            || self.has_idle_offset(self.plane_after(modes))
-            || is_idle(
+        is_unused_word(self.values.h, is_of_slot(self.g.tool_length))
+            || self.has_unused_offset(self.plane_after(modes))
+            || is_unused_word(
                 self.values.l,
                 is_set_origin(self.g.non_modal) || is_cycle(self.motion),
             )
-            || is_idle(
+            || is_unused_word(
                 self.values.p,
                 is_dwell(self.g.non_modal)
                     || is_set_origin(self.g.non_modal)
                     || dwells(self.motion),
             )
-            || is_idle(self.values.q, pecks(self.motion))
-            || is_idle(self.values.r, is_cycle(self.motion) || is_arc(self.motion))
+            || is_unused_word(self.values.q, pecks(self.motion))
+            || is_unused_word(self.values.r, is_cycle(self.motion) || is_arc(self.motion))
     }
 
     /// B13: F, S, or P of G4 below 0.
@@ -108,10 +108,10 @@ impl Block {
     pub(crate) fn has_bad_slot(&self, slots: u8) -> bool
         ensures { result ≡ has_bad_slot self.now slots }
     {
-        is_idle(
+        is_unused_word(
             self.values.t,
             is_whole_within(0, slots as i64, self.values.t),
-        ) || is_idle(
+        ) || is_unused_word(
             self.values.h,
             is_whole_within(0, slots as i64, self.values.h),
         )
@@ -123,7 +123,7 @@ impl Block {
         ensures { result ≡ has_bad_l self.now }
     {
         is_set_origin(self.g.non_modal) && !is_whole_within(2, 2, self.values.l)
-            || is_cycle(self.motion) && is_idle(self.values.l, is_positive(self.values.l))
+            || is_cycle(self.motion) && is_unused_word(self.values.l, is_positive(self.values.l))
     }
 
     /// B16: P of G10 missing, or not whole from 1 to 9.

@@ -1,27 +1,15 @@
 //! Whether a line may ask for what it asks for.
 ghost use Rattle.std.specs.Prelude.{◌≡◌, Ok, Err, MatchResult, OnOk, IfOk};
-ghost use Rattle.ng_modal.specs.Check.{first_fault, faults, checked, NoneHolds, IsLeast};
+ghost use Rattle.ng_num.specs.Causes.{first_fault, NoneHolds, IsFirstFault};
+ghost use Rattle.ng_modal.specs.Check.{faults, checked};
 ghost use Rattle.ng_modal.specs.Accepted.{IsAccepted};
 
 use crate::block::{Block, is_straight};
 use crate::looks::is_negative;
-use crate::modes::Modes;
 use crate::sorted::Sorted;
 use ng_expr::{Values, Word};
-use ng_num::Fault;
-
-/// The first fault whose cause holds.
-#[inline]
-fn first_fault(faults: &[(bool, Fault)]) -> Option<Fault>
-    ensures { result ≡ first_fault faults.now }
-{
-    for fault in faults {
-        if fault.0 {
-            return Some(fault.1);
-        }
-    }
-    None
-}
+use ng_num::{Fault, first_fault};
+use ng_state::Modes;
 
 impl Sorted {
     ghost use Rattle.ng_modal.specs.Sorted.{sorted_in, is_plain};
@@ -107,7 +95,7 @@ impl Sorted {
     /// use.
     pub fn check(&mut self, values: &Values, modes: &Modes, slots: u8) -> Result<(), Fault>
         ensures value { MatchResult result (λ _. checked values.now.words.items modes.now slots ≡ Ok self.new.block) (λ fault. checked values.now.words.items modes.now slots ≡ Err fault) }
-        ensures least { MatchResult result (λ _. NoneHolds (faults values.now.words.items modes.now slots)) (λ fault. IsLeast (faults values.now.words.items modes.now slots) fault) }
+        ensures least { MatchResult result (λ _. NoneHolds (faults values.now.words.items modes.now slots)) (λ fault. IsFirstFault (faults values.now.words.items modes.now slots) fault) }
         ensures accepted { OnOk result (IsAccepted self.new.block modes.now slots) }
     {
         self.check_words(values.words.as_slice(), modes, slots)
@@ -118,7 +106,7 @@ impl Sorted {
 /// holds (NISTIR 6556, 3.3 to 3.7; numbers own).
 pub fn check(values: &Values, modes: &Modes, slots: u8) -> Result<Block, Fault>
     ensures value { result ≡ checked values.now.words.items modes.now slots }
-    ensures least { MatchResult result (λ _. NoneHolds (faults values.now.words.items modes.now slots)) (λ fault. IsLeast (faults values.now.words.items modes.now slots) fault) }
+    ensures least { MatchResult result (λ _. NoneHolds (faults values.now.words.items modes.now slots)) (λ fault. IsFirstFault (faults values.now.words.items modes.now slots) fault) }
     ensures accepted { IfOk result (λ block. IsAccepted block modes.now slots) }
 {
     let mut sorted = Sorted::nothing();

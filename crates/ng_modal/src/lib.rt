@@ -9,8 +9,9 @@
 //! is a sentence in `WordCauses.antt` (B1 to B5, of the words alone) or `Causes.antt` (B6 to B19, of what they ask for), and
 //! their order is the list in `Check.antt`. All codes of the language are known here.
 //!
-//! The crate stands on `ng_expr` for the values of words, on `ng_params` for the numbers of coordinate systems and on
-//! `ng_canon` for planes and the spindle. It knows nothing of parameters, offsets, arcs and cycles beyond their words.
+//! The crate stands on `ng_expr` for the values of words, on `ng_state` for the modes, on `ng_params` for the numbers of
+//! coordinate systems and on `ng_canon` for planes and the spindle. It knows nothing of parameters, offsets, arcs and cycles
+//! beyond their words.
 #![tactic(auto)]
 
 mod asks;
@@ -24,15 +25,13 @@ mod groups;
 mod looks;
 mod lookup;
 mod meanings;
-mod modes;
 mod place;
 mod sorted;
 mod wholes;
 
-pub use asks::{Coolant, NonModal, Stop, ToolLength};
+pub use asks::{Coolant, NonModal, StopWord, ToolLength};
 pub use block::Block;
 pub use by_group::{GWords, MWords};
 pub use by_letter::ByLetter;
 pub use checking::check;
-pub use modes::{Distance, FeedMode, Modes, Motion, PathMode, Retract};
 pub use sorted::Sorted;

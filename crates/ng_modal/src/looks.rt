@@ -2,12 +2,12 @@
 ghost use Rattle.std.specs.Prelude.{◌≡◌};
 ghost use Rattle.std.specs.Option.{option_and_then};
 ghost use Rattle.ng_num.specs.Whole.{whole_of};
-ghost use Rattle.ng_modal.specs.Causes.{is_off, is_set_offset, is_machine, is_dwell, is_set_origin, is_of_slot, dwells, pecks, is_along_x, is_along_y, is_along_z, is_idle, is_negative, is_within, is_whole_within, is_positive};
+ghost use Rattle.ng_modal.specs.Causes.{is_off, is_set_offset, is_machine, is_dwell, is_set_origin, is_of_slot, dwells, pecks, is_along_x, is_along_y, is_along_z, is_unused_word, is_negative, is_between, is_whole_within, is_positive};
 
 use crate::asks::{NonModal, ToolLength};
-use crate::modes::Motion;
 use ng_canon::Plane;
 use ng_num::Num;
+use ng_state::Motion;
 
 /// Whether a motion mode is G80.
 #[inline]
@@ -134,8 +134,8 @@ pub(crate) fn is_along_z(plane: Plane) -> bool
 
 /// Whether a word is there that nothing takes.
 #[inline]
-pub(crate) fn is_idle(word: Option<Num>, taken: bool) -> bool
-    ensures { result ≡ is_idle word taken }
+pub(crate) fn is_unused_word(word: Option<Num>, taken: bool) -> bool
+    ensures { result ≡ is_unused_word word taken }
 {
     word.is_some() && !taken
 }
@@ -152,8 +152,8 @@ pub(crate) fn is_negative(value: Option<Num>) -> bool
 }
 
 #[inline]
-fn is_within(low: i64, high: i64, number: Option<i64>) -> bool
-    ensures { result ≡ is_within low high number }
+fn is_between(low: i64, high: i64, number: Option<i64>) -> bool
+    ensures { result ≡ is_between low high number }
 {
     match number {
         None => false,
@@ -168,7 +168,7 @@ pub(crate) fn is_whole_within(low: i64, high: i64, value: Option<Num>) -> bool
 {
     match value {
         None => false,
-        Some(number) => is_within(low, high, number.whole()),
+        Some(number) => is_between(low, high, number.whole()),
     }
 }
 

@@ -2,12 +2,12 @@
 ghost use Rattle.std.specs.Prelude.{◌≡◌};
 ghost use Rattle.ng_modal.specs.Meanings.{non_modal_of, motion_of, plane_of, distance_of, feed_mode_of, unit_of, tool_length_of, retract_of, path_of, system_of_code, stop_of, spindle_of, coolant_of, overrides_of};
 
-use crate::asks::{Coolant, NonModal, Stop, ToolLength};
+use crate::asks::{Coolant, NonModal, StopWord, ToolLength};
 use crate::codes::{GCode, MCode};
-use crate::modes::{Distance, FeedMode, Motion, PathMode, Retract};
 use ng_canon::{Plane, Spindle};
 use ng_num::Unit;
 use ng_params::System;
+use ng_state::{Distance, FeedMode, Motion, PathMode, Retract};
 
 /// What a word of group 0 asks for.
 #[inline]
@@ -156,15 +156,15 @@ pub(crate) fn path(code: GCode) -> Option<PathMode>
 
 /// What a word of group 4 asks for.
 #[inline]
-pub(crate) fn stop(code: MCode) -> Option<Stop>
+pub(crate) fn stop(code: MCode) -> Option<StopWord>
     ensures { result ≡ stop_of code }
 {
     match code {
-        MCode::M0 => Some(Stop::Program),
-        MCode::M1 => Some(Stop::Optional),
-        MCode::M2 => Some(Stop::End),
-        MCode::M30 => Some(Stop::EndWithShuttle),
-        MCode::M60 => Some(Stop::Shuttle),
+        MCode::M0 => Some(StopWord::Program),
+        MCode::M1 => Some(StopWord::Optional),
+        MCode::M2 => Some(StopWord::End),
+        MCode::M30 => Some(StopWord::EndWithShuttle),
+        MCode::M60 => Some(StopWord::Shuttle),
         _ => None,
     }
 }

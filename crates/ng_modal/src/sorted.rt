@@ -146,12 +146,12 @@ impl Sorted {
         }
     }
 
-    /// Takes the word at a place, in front of those behind it.
+    /// Takes the word at a place, in front of those after it.
     #[inline]
     fn take_at(&mut self, words: &[Word], i: usize)
         ghost ws: { List TheWord }
         requires inside { i < length words.now }
-        requires behind { ws ≡ drop (i + 1) words.now }
+        requires rest { ws ≡ drop (i + 1) words.now }
         requires sorted { self.old ≡ sorted ws }
         ensures { self.new ≡ sorted (drop i words.now) }
     {

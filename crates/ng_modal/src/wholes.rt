@@ -28,6 +28,7 @@ fn whole_on(word: Option<Num>) -> Option<i64>
 {
     match word {
         Some(value) => {
+            // called for its contract: the value is in range
             let _count = value.count();
             value.whole()
         }

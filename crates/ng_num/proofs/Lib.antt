@@ -1,3 +1,4 @@
+pub mod FirstFault
 pub mod Nearest
 pub mod Products
 pub mod Remainders

@@ -5,7 +5,7 @@ use Rattle.std.proofs.lemmas.Bool.{cases_lt}
 use Rattle.std.proofs.Math.Nat.{div-eq_of_lt-le, div-add-mod, zero-mul}
 use Rattle.std.proofs.lemmas.Int.{ints}
 use Rattle.std.proofs.lemmas.Nat.{mod_below}
-use Rattle.ng_num.specs.Range.{Answers, in_range}
+use Rattle.ng_num.specs.Range.{IsOnlyAnswer, in_range}
 use Rattle.ng_num.specs.declared.fault.Fault.{Fault}
 use Rattle.ng_num.specs.Rounding.{IsNearest, nearest, near, near_by, signed, is_unlike}
 
@@ -189,7 +189,7 @@ pub near_by_from_IsNearest : (p q n : ℤ) → 0 < unsigned_abs q → IsNearest 
 near_by_from_IsNearest p (pos d) n h is = near_from_IsNearest_above p d n h is
 near_by_from_IsNearest p (negsuc d) n h is = near_from_IsNearest_above (neg_ℤ p) (suc d) n h (flip_back p n d is)
 
-pub Answers_nearest : (p q : ℤ) (answer : Result ℤ Fault) → 0 < unsigned_abs q → answer ≡ in_range (near_by p q) → Answers (IsNearest p q) answer
+pub Answers_nearest : (p q : ℤ) (answer : Result ℤ Fault) → 0 < unsigned_abs q → answer ≡ in_range (near_by p q) → IsOnlyAnswer (IsNearest p q) answer
 Answers_nearest p q answer h e = record {
   value = near_by p q;
   said = near_by-IsNearest p q h;

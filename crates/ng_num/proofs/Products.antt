@@ -1,7 +1,7 @@
 -- Products and quotients: what is computed from sizes and signs is the definition.
 use Rattle.std.proofs.Common.{◌≡◌, ℕ, zero, suc, ◌*◌, ◌^◌, ◌<◌, ◌≤◌, Bool, true, false, ℤ, ◌*ℤ◌, unsigned_abs, Result, Err, refl, sym, ap, ◌∙◌, arith}
 use Rattle.std.proofs.lemmas.Bool.Decides.{nat_tests}
-use Rattle.ng_num.specs.Range.{Answers, greatest, in_range}
+use Rattle.ng_num.specs.Range.{IsOnlyAnswer, greatest, in_range}
 use Rattle.ng_num.specs.Rounding.{IsNearest, nearest, near_by, signed, is_unlike}
 use Rattle.ng_num.specs.Arithmetic.{million, product, quotient_of}
 use Rattle.ng_num.specs.declared.fault.Fault.{Fault}
@@ -9,7 +9,7 @@ use Rattle.ng_num.specs.declared.fault.Fault.TheVariants.{OutOfRange, BadArithme
 use Rattle.ng_num.proofs.Nearest.{near-product, near_by-product, Answers_nearest}
 
 -- a product is the nearest count to the product of the numbers
-pub product_answers : (a b : ℤ) (answer : Result ℤ Fault) → answer ≡ in_range (product a b) → Answers (IsNearest (a *ℤ b) million) answer
+pub product_answers : (a b : ℤ) (answer : Result ℤ Fault) → answer ≡ in_range (product a b) → IsOnlyAnswer (IsNearest (a *ℤ b) million) answer
 product_answers a b answer e = Answers_nearest (a *ℤ b) million answer (omega arith) e
 
 pub product_by_size : (a b : ℤ) (m n k : ℕ) → m ≡ unsigned_abs a → n ≡ unsigned_abs b → k ≡ nearest (m * n) 1_000_000 → in_range (signed (is_unlike a b) k) ≡ in_range (product a b)

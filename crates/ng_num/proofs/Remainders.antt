@@ -5,7 +5,7 @@ use Rattle.std.proofs.lemmas.Int.{ints, int_rem_euclid_is}
 use Rattle.std.proofs.lemmas.Nat.{mod_below, mod-mul-add}
 use Rattle.std.proofs.lemmas.Bool.Decides.{nat_tests}
 use Rattle.std.specs.Int.{int_rem_euclid}
-use Rattle.ng_num.specs.Range.{Answers, IsCount, in_range}
+use Rattle.ng_num.specs.Range.{IsOnlyAnswer, IsCount, in_range}
 use Rattle.ng_num.specs.Arithmetic.{IsRemainder, remainder_of}
 use Rattle.ng_num.specs.declared.fault.Fault.{Fault}
 use Rattle.ng_num.specs.declared.fault.Fault.TheVariants.{BadArithmetic}
@@ -79,7 +79,7 @@ remainder_by_other a b some = grind (arith, nat_tests)
 pub remainder_in_range : (a b : ℤ) → 0 < unsigned_abs b → IsCount b → in_range (int_rem_euclid a b) ≡ Ok (int_rem_euclid a b)
 remainder_in_range a b some range = let below = (int_rem_euclid-IsRemainder a b some).below in grind (arith, nat_tests)
 
-pub remainder_answers : (a b : ℤ) (answer : Result ℤ Fault) → 0 < unsigned_abs b → answer ≡ in_range (int_rem_euclid a b) → Answers (IsRemainder a b) answer
+pub remainder_answers : (a b : ℤ) (answer : Result ℤ Fault) → 0 < unsigned_abs b → answer ≡ in_range (int_rem_euclid a b) → IsOnlyAnswer (IsRemainder a b) answer
 remainder_answers a b answer some e = record {
   value = int_rem_euclid a b;
   said = int_rem_euclid-IsRemainder a b some;

@@ -5,7 +5,7 @@ use Rattle.std.proofs.lemmas.Nat.{mul-le}
 use Rattle.std.proofs.lemmas.Bool.{cases_lt}
 use Rattle.std.proofs.lemmas.Bool.Decides.{nat_tests}
 use Rattle.ng_num.specs.Arithmetic.{million}
-use Rattle.ng_num.specs.Range.{Answers, greatest, in_range}
+use Rattle.ng_num.specs.Range.{IsOnlyAnswer, greatest, in_range}
 use Rattle.ng_num.specs.Root.{IsRoot, root_of, root_up_to}
 use Rattle.ng_num.specs.declared.fault.Fault.{Fault}
 use Rattle.ng_num.specs.declared.fault.Fault.TheVariants.{BadArithmetic}
@@ -58,7 +58,7 @@ root-IsRoot n s is = record {
   bound = λ v p. root_bound n s v is p.0 p.1;
 }
 
-pub root_answers : (n s : ℕ) (answer : Result ℤ Fault) → IsRootSize (n * 1_000_000) s → answer ≡ in_range (pos s) → Answers (IsRoot (pos n)) answer
+pub root_answers : (n s : ℕ) (answer : Result ℤ Fault) → IsRootSize (n * 1_000_000) s → answer ≡ in_range (pos s) → IsOnlyAnswer (IsRoot (pos n)) answer
 root_answers n s answer is e = record {
   value = pos s;
   said = root-IsRoot n s is;
@@ -79,6 +79,6 @@ root_of_above (negsuc n) s h is = absurd (omega (arith, ints))
 root_in_range : (s : ℕ) → s ≤ greatest → Ok (pos s) ≡ in_range (pos s)
 root_in_range s h = grind (arith, nat_tests)
 
-pub root_answers_above : (z : ℤ) (s : ℕ) (answer : Result ℤ Fault) → pos 0 ≤ℤ z → IsRootSize (unsigned_abs z * 1_000_000) s → s ≤ greatest → answer ≡ Ok (pos s) → Answers (IsRoot z) answer
+pub root_answers_above : (z : ℤ) (s : ℕ) (answer : Result ℤ Fault) → pos 0 ≤ℤ z → IsRootSize (unsigned_abs z * 1_000_000) s → s ≤ greatest → answer ≡ Ok (pos s) → IsOnlyAnswer (IsRoot z) answer
 root_answers_above (pos n) s answer h is small e = root_answers n s answer is (e ∙ root_in_range s small)
 root_answers_above (negsuc n) s answer h is small e = absurd (omega (arith, ints))

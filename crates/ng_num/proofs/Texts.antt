@@ -5,7 +5,7 @@ use Rattle.std.specs.Fmt.{decimal}
 use Rattle.ng_num.specs.declared.point.Point.{Point}
 use Rattle.ng_num.specs.Text.{minus, number_text, point_text, six_digits}
 
--- what stands right behind a number's text stands right behind its decimals
+-- what stands right after a number's text stands right after its decimals
 number_then : (z : ℤ) (after : List ℕ)
     → number_text z ++ after ≡ minus z ++ (decimal (unsigned_abs z / 1_000_000) ++ (46 ∷ (six_digits (unsigned_abs z) ++ after)))
 unfolding number_text
@@ -14,14 +14,14 @@ number_then z after =
     let decimals = 46 ∷ six_digits (unsigned_abs z) in
     append_assoc (minus z) (whole ++ decimals) after ∙ ap (λ l. minus z ++ l) (append_assoc whole decimals after)
 
--- the decimals before what stands behind them, the whole part before them, and the minus before that
-pub written_then : (z : ℤ) (size point whole start end : ℕ) (after behind decimals digits text : List ℕ) → size ≡ unsigned_abs z
-    → drop end behind ≡ after
-    → drop point decimals ≡ 46 ∷ (six_digits size ++ drop end behind)
+-- the decimals before what stands after them, the whole part before them, and the minus before that
+pub written_then : (z : ℤ) (size point whole start end : ℕ) (after filled decimals digits text : List ℕ) → size ≡ unsigned_abs z
+    → drop end filled ≡ after
+    → drop point decimals ≡ 46 ∷ (six_digits size ++ drop end filled)
     → drop whole digits ≡ decimal (size / 1_000_000) ++ drop point decimals
     → drop start text ≡ minus z ++ drop whole digits
     → drop start text ≡ number_text z ++ after
-written_then z size point whole start end after behind decimals digits text same b d w m =
+written_then z size point whole start end after filled decimals digits text same b d w m =
     m ∙ ap (λ l. minus z ++ l) (w ∙ ap (λ l. decimal (size / 1_000_000) ++ l) (d ∙ ap (λ l. 46 ∷ (six_digits size ++ l)) b))
     ∙ ap (λ n. minus z ++ (decimal (n / 1_000_000) ++ (46 ∷ (six_digits n ++ after)))) same
     ∙ sym (number_then z after)

@@ -5,7 +5,7 @@ use Rattle.std.proofs.lemmas.Bool.Decides.{nat_tests}
 use Rattle.std.specs.Int.{int_rem_euclid}
 use Rattle.ng_num.specs.Arithmetic.{million}
 use Rattle.ng_num.specs.Extremes.{IsGreatest, IsLeast}
-use Rattle.ng_num.specs.Range.{Answers, in_range}
+use Rattle.ng_num.specs.Range.{IsOnlyAnswer, in_range}
 use Rattle.ng_num.specs.Rounding.{IsNearest, near}
 use Rattle.ng_num.specs.Whole.{IsClose, IsFix, IsFup, IsRound, IsWhole, fix, fup, round, whole_of}
 use Rattle.ng_num.specs.declared.fault.Fault.{Fault}
@@ -43,7 +43,7 @@ IsGreatest_only P v w p q = same v w (q.bound v p.holds) (p.bound w q.holds)
 pub IsLeast_only : (P : ℤ → Type 0) (v w : ℤ) → IsLeast P v → IsLeast P w → v ≡ w
 IsLeast_only P v w p q = same v w (p.bound w q.holds) (q.bound v p.holds)
 
-pub fix_answers : (z : ℤ) (answer : Result ℤ Fault) → answer ≡ in_range (fix z) → Answers (IsFix z) answer
+pub fix_answers : (z : ℤ) (answer : Result ℤ Fault) → answer ≡ in_range (fix z) → IsOnlyAnswer (IsFix z) answer
 fix_answers z answer e = record { value = fix z; said = fix-IsFix z; only = λ v is. IsGreatest_only _ v (fix z) is (fix-IsFix z); answered = e }
 
 neg-whole : (w : ℤ) → IsWhole w → IsWhole (neg_ℤ w)
@@ -63,14 +63,14 @@ fup-IsFup z =
       bound = λ v p. neg-neg-≤ v (fix (neg_ℤ z)) (below.bound (neg_ℤ v) (neg-whole v p.0, neg-≤ z v p.1));
     }
 
-pub fup_answers : (z : ℤ) (answer : Result ℤ Fault) → answer ≡ in_range (fup z) → Answers (IsFup z) answer
+pub fup_answers : (z : ℤ) (answer : Result ℤ Fault) → answer ≡ in_range (fup z) → IsOnlyAnswer (IsFup z) answer
 fup_answers z answer e = record { value = fup z; said = fup-IsFup z; only = λ v is. IsLeast_only _ v (fup z) is (fup-IsFup z); answered = e }
 
 -- ---- ROUND
 round_only : (z v : ℤ) → IsRound z v → v ≡ round z
 round_only z v is = is.1 ∙ ap (λ k. k *ℤ million) (near_by_from_IsNearest z million is.0 (omega arith) is.2)
 
-pub round_answers : (z : ℤ) (answer : Result ℤ Fault) → answer ≡ in_range (round z) → Answers (IsRound z) answer
+pub round_answers : (z : ℤ) (answer : Result ℤ Fault) → answer ≡ in_range (round z) → IsOnlyAnswer (IsRound z) answer
 round_answers z answer e = record { value = round z; said = (near z 1_000_000, refl, near_by-IsNearest z million (omega arith)); only = round_only z; answered = e }
 
 -- ---- closeness

@@ -4,6 +4,7 @@ pub mod Lengths
 pub mod Points
 pub mod FaultText
 pub mod Results
+pub mod Causes
 pub mod Text
 pub mod Arithmetic
 pub mod Extremes

@@ -15,7 +15,7 @@ abbrev pub in_range : ℤ → Result ℤ Fault
 in_range n = if nat_le (unsigned_abs n) greatest then Ok n else Err OutOfRange
 
 -- the answer is the one value that a sentence says, where that is a count, else OutOfRange
-pub record Answers (Said : ℤ → Type 0) (answer : Result ℤ Fault) : Type 0 where
+pub record IsOnlyAnswer (Said : ℤ → Type 0) (answer : Result ℤ Fault) : Type 0 where
   pub value : ℤ
   pub said : Said value
   pub only : (other : ℤ) → Said other → other ≡ value

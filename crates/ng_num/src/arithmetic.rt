@@ -1,6 +1,6 @@
 //! Sums, products, quotients, remainders and sizes of numbers.
 ghost use Rattle.std.specs.Prelude.{◌≡◌, ◌+ℤ◌, ◌-ℤ◌, ◌*ℤ◌, pos, unsigned_abs, Err};
-ghost use Rattle.ng_num.specs.Range.{Answers, in_range};
+ghost use Rattle.ng_num.specs.Range.{IsOnlyAnswer, in_range};
 ghost use Rattle.ng_num.specs.Rounding.{IsNearest};
 ghost use Rattle.ng_num.specs.Arithmetic.{IsRemainder, million, product, quotient_of, remainder_of};
 
@@ -26,7 +26,7 @@ impl Num {
     /// The product, rounded half away from zero; E3 beyond the range (NISTIR 6556, 3.3.2.3; rounding own).
     pub fn mul(self, other: Num) -> Result<Num, Fault>
         ensures value { result ≡ in_range (product self other) }
-        ensures nearest { Answers (IsNearest (self *ℤ other) million) result }
+        ensures nearest { IsOnlyAnswer (IsNearest (self *ℤ other) million) result }
     {
         match self.size().checked_mul(other.size()) {
             Some(size) => Num::of_size(self.is_unlike(other), nearest_size(size, MILLION)),
@@ -40,7 +40,7 @@ impl Num {
     pub fn div(self, divisor: Num) -> Result<Num, Fault>
         ensures value { result ≡ quotient_of self divisor }
         ensures by_zero { divisor ≡ pos 0 → result ≡ Err Fault.BadArithmetic }
-        ensures nearest { (divisor ≡ pos 0 → ⊥) → Answers (IsNearest (self *ℤ million) divisor) result }
+        ensures nearest { (divisor ≡ pos 0 → ⊥) → IsOnlyAnswer (IsNearest (self *ℤ million) divisor) result }
     {
         if divisor.size() == 0 {
             return Err(Fault::BadArithmetic);
@@ -56,7 +56,7 @@ impl Num {
     pub fn modulo(self, divisor: Num) -> Result<Num, Fault>
         ensures value { result ≡ remainder_of self divisor }
         ensures by_zero { divisor ≡ pos 0 → result ≡ Err Fault.BadArithmetic }
-        ensures rest { (divisor ≡ pos 0 → ⊥) → Answers (IsRemainder self divisor) result }
+        ensures rest { (divisor ≡ pos 0 → ⊥) → IsOnlyAnswer (IsRemainder self divisor) result }
     {
         if divisor.count() == 0 {
             return Err(Fault::BadArithmetic);

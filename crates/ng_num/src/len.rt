@@ -1,5 +1,5 @@
 ghost use Rattle.std.specs.Prelude.{◌≡◌, ◌+ℤ◌, ◌-ℤ◌, neg_ℤ, pos};
-ghost use Rattle.ng_num.specs.Range.{Answers, IsCount, in_range};
+ghost use Rattle.ng_num.specs.Range.{IsOnlyAnswer, IsCount, in_range};
 ghost use Rattle.ng_num.specs.Lengths.{IsLength, nm_of};
 
 use crate::fault::Fault;
@@ -103,7 +103,7 @@ impl Default for Len {
 /// beyond the range.
 pub fn nm_of(number: Num, unit: Unit) -> Result<Len, Fault>
     ensures value { result ≡ in_range (nm_of number unit) }
-    ensures length { Answers (IsLength number unit) result }
+    ensures length { IsOnlyAnswer (IsLength number unit) result }
 {
     match unit {
         Unit::Inches => Len::of_i64(inches_to_nm(number.count())),

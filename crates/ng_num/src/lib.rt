@@ -7,6 +7,7 @@
 #![tactic(auto)]
 
 mod arithmetic;
+mod causes;
 mod fault;
 mod len;
 mod num;
@@ -18,6 +19,7 @@ mod rounding;
 mod unit;
 mod whole;
 
+pub use causes::first_fault;
 pub use fault::Fault;
 pub use len::{Len, nm_of};
 pub use num::Num;

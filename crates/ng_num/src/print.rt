@@ -1,4 +1,4 @@
-//! The canonical text of numbers. Each is made on the stack, with what stands right behind it, and appended at once,
+//! The canonical text of numbers. Each is made on the stack, with what stands right after it, and appended at once,
 //! so a refused growth leaves the text as it was.
 ghost use Rattle.std.specs.Prelude.{◌≡◌, ◌+◌, ◌++◌, ◌∷◌, ◌<◌, ◌≤◌, ◌^◌, ◌/◌, ◌%◌, drop, length, OnOk, OnErr, unsigned_abs};
 ghost use Rattle.std.specs.Fmt.{decimal};
@@ -11,7 +11,7 @@ use crate::point::Point;
 use itoa::write_digits;
 use std::alloc::{AllocError, Allocator};
 
-/// The room for a number and the two bytes behind it.
+/// The room for a number and the two bytes after it.
 const NUMBER: usize = 17;
 
 /// The room for three of them.
@@ -26,7 +26,7 @@ fn put(byte: u8, buffer: &mut [u8], at: usize)
     buffer[at] = byte;
 }
 
-/// Puts what stands behind a number into its places.
+/// Puts what stands after a number into its places.
 #[inline(always)]
 fn put_after(after: [u8; 2], buffer: &mut [u8], at: usize)
     requires { at + 2 ≤ length buffer.old }
@@ -85,7 +85,7 @@ fn write_minus(count: i64, buffer: &mut [u8], start: usize) -> usize
     if count < 0 { start - 1 } else { start }
 }
 
-/// Writes the text of a count of millionths and the two bytes behind it, which end at `end`; answers where it begins.
+/// Writes the text of a count of millionths and the two bytes after it, which end at `end`; answers where it begins.
 #[inline(always)]
 fn write_count(count: i64, after: [u8; 2], buffer: &mut [u8], end: usize) -> usize
     requires range { IsCount count }
@@ -100,7 +100,7 @@ fn write_count(count: i64, after: [u8; 2], buffer: &mut [u8], end: usize) -> usi
     write_minus(count, buffer, whole)
 }
 
-/// Appends the text of a count of millionths and the two bytes behind it.
+/// Appends the text of a count of millionths and the two bytes after it.
 fn print_count<A: Allocator + Copy + Drop>(
     text: &mut Vec<u8, A>,
     count: i64,
@@ -115,7 +115,7 @@ fn print_count<A: Allocator + Copy + Drop>(
     text.extend_from_slice(&buffer[start..])
 }
 
-/// Appends a number and the two bytes behind it: a minus where it is below 0, its whole part without leading zeros, a
+/// Appends a number and the two bytes after it: a minus where it is below 0, its whole part without leading zeros, a
 /// point and six decimals (own). A refused growth leaves the text as it was.
 pub fn print_number<A: Allocator + Copy + Drop>(
     text: &mut Vec<u8, A>,
@@ -128,7 +128,7 @@ pub fn print_number<A: Allocator + Copy + Drop>(
     print_count(text, number.count(), after)
 }
 
-/// Appends a length in millimetres and the two bytes behind it, as `print_number` does a number (own). A refused
+/// Appends a length in millimetres and the two bytes after it, as `print_number` does a number (own). A refused
 /// growth leaves the text as it was.
 pub fn print_length<A: Allocator + Copy + Drop>(
     text: &mut Vec<u8, A>,
@@ -142,7 +142,7 @@ pub fn print_length<A: Allocator + Copy + Drop>(
 }
 
 /// Writes the three coordinates of a point in millimetres, with a comma and a blank between them, and the two bytes
-/// behind them at a buffer's end; answers where they begin.
+/// after them at a buffer's end; answers where they begin.
 #[inline(always)]
 fn write_point(point: Point, after: [u8; 2], buffer: &mut [u8; POINT]) -> usize
     ensures within { result ≤ 51 }
@@ -154,7 +154,7 @@ fn write_point(point: Point, after: [u8; 2], buffer: &mut [u8; POINT]) -> usize
 }
 
 /// Appends the three coordinates of a point in millimetres, each as `print_length` does a length, with a comma and a
-/// blank between them, and the two bytes behind them (own). A refused growth leaves the text as it was.
+/// blank between them, and the two bytes after them (own). A refused growth leaves the text as it was.
 pub fn print_point<A: Allocator + Copy + Drop>(
     text: &mut Vec<u8, A>,
     point: Point,

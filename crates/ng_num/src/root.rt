@@ -1,6 +1,6 @@
 //! Square roots of numbers.
 ghost use Rattle.std.specs.Prelude.{◌≡◌, ◌<ℤ◌, ◌≤ℤ◌, pos, Err};
-ghost use Rattle.ng_num.specs.Range.{Answers};
+ghost use Rattle.ng_num.specs.Range.{IsOnlyAnswer};
 ghost use Rattle.ng_num.specs.Root.{IsRoot, root_of};
 
 use crate::fault::Fault;
@@ -13,7 +13,7 @@ impl Num {
     pub fn sqrt(self) -> Result<Num, Fault>
         ensures value { result ≡ root_of self }
         ensures negative { self <ℤ pos 0 → result ≡ Err Fault.BadArithmetic }
-        ensures root { pos 0 ≤ℤ self → Answers (IsRoot self) result }
+        ensures root { pos 0 ≤ℤ self → IsOnlyAnswer (IsRoot self) result }
     {
         if self.count() < 0 {
             return Err(Fault::BadArithmetic);

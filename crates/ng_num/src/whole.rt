@@ -1,6 +1,6 @@
 //! Whole numbers beside a number.
 ghost use Rattle.std.specs.Prelude.{◌≡◌, ◌≤◌, ◌*◌, ℤ, pos, neg_ℤ, ◌*ℤ◌, unsigned_abs, IfSome, IfNone};
-ghost use Rattle.ng_num.specs.Range.{Answers, greatest, in_range};
+ghost use Rattle.ng_num.specs.Range.{IsOnlyAnswer, greatest, in_range};
 ghost use Rattle.ng_num.specs.Rounding.{near};
 ghost use Rattle.ng_num.specs.Whole.{IsClose, IsFix, IsFup, IsRound, fix, fup, round, whole_of};
 
@@ -18,7 +18,7 @@ impl Num {
     /// The greatest whole number not above the number; E3 beyond the range (NISTIR 6556, 3.3.2.4).
     pub fn fix(self) -> Result<Num, Fault>
         ensures value { result ≡ in_range (fix self) }
-        ensures greatest { Answers (IsFix self) result }
+        ensures greatest { IsOnlyAnswer (IsFix self) result }
     {
         Num::of_i64(self.whole_below())
     }
@@ -26,7 +26,7 @@ impl Num {
     /// The least whole number not below the number; E3 beyond the range (NISTIR 6556, 3.3.2.4).
     pub fn fup(self) -> Result<Num, Fault>
         ensures value { result ≡ in_range (fup self) }
-        ensures least { Answers (IsFup self) result }
+        ensures least { IsOnlyAnswer (IsFup self) result }
     {
         Num::of_i64(-self.minus().whole_below())
     }
@@ -35,7 +35,7 @@ impl Num {
     /// halves own).
     pub fn round(self) -> Result<Num, Fault>
         ensures value { result ≡ in_range (round self) }
-        ensures nearest { Answers (IsRound self) result }
+        ensures nearest { IsOnlyAnswer (IsRound self) result }
     {
         Num::of_i64(nearest_whole(self.count()) * ONE)
     }

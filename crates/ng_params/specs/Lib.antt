@@ -3,4 +3,5 @@ pub mod Table
 pub mod Points
 pub mod Lasting
 pub mod Changes
+pub mod Differences
 pub mod Settings

@@ -6,9 +6,13 @@ abbrev pub from_one_to : ℕ → ℤ → Option ℕ
 from_one_to greatest (pos n) = if nat_le 1 n && nat_le n greatest then Some n else None
 from_one_to greatest (negsuc _) = None
 
+-- how many parameters there are (NISTIR 6556, 3.3.2.2)
+abbrev pub parameter_count : ℕ
+parameter_count = 5399
+
 -- the parameter of a number (NISTIR 6556, 3.3.2.2)
 abbrev pub index_of : ℤ → Option ℕ
-index_of n = from_one_to 5399 n
+index_of n = from_one_to parameter_count n
 
 -- the coordinate system of a number (NISTIR 6556, 3.5.13)
 abbrev pub system_of : ℤ → Option ℕ

@@ -1,5 +1,6 @@
 -- A table of parameters: the list of the values of 1, 2, 3 and so on (NISTIR 6556, 3.2.1).
 use Rattle.std.specs.Prelude.{ℕ, ◌-◌, List, ℤ, pos, replicate, set, get_or}
+use Rattle.ng_params.specs.Numbers.{parameter_count, system_in_force}
 
 -- the value of parameter p
 abbrev pub at : List ℤ → ℕ → ℤ
@@ -11,4 +12,4 @@ with_value table p value = set table (p - 1) value
 
 -- a fresh table: system 1 is in force, all else is 0 (NISTIR 6556, 3.2.1, table 2)
 abbrev pub defaults : List ℤ
-defaults = with_value (replicate 5399 (pos 0)) 5220 (pos 1_000_000)
+defaults = with_value (replicate parameter_count (pos 0)) system_in_force (pos 1_000_000)

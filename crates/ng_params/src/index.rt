@@ -1,10 +1,10 @@
 ghost use Rattle.std.specs.Prelude.{◌≡◌, ◌≤◌};
-ghost use Rattle.ng_params.specs.Numbers.{index_of};
+ghost use Rattle.ng_params.specs.Numbers.{index_of, parameter_count};
 
 use std::marker::Model;
 
 /// How many parameters there are.
-pub(crate) const COUNT: usize = 5399;
+pub const PARAMETER_COUNT: usize = 5399;
 
 /// The number of a parameter: 1 to 5399 (NISTIR 6556, 3.3.2.2).
 #[derive(Clone, Copy, Debug, PartialEq, Eq)]
@@ -14,12 +14,13 @@ pub struct Index {
 
 impl Model for Index {
     ghost use Rattle.std.specs.Prelude.{ℕ, ◌≤◌};
+    ghost use Rattle.ng_params.specs.Numbers.{parameter_count};
 
     ghost Value = { ℕ };
 
     ghost view = { λ i. i.number };
 
-    ghost invariant = { λ i. (1 ≤ i.number) × (i.number ≤ 5399) };
+    ghost invariant = { λ i. (1 ≤ i.number) × (i.number ≤ parameter_count) };
 
     ghost inverse = { λ n. record { number = n } };
 }
@@ -29,7 +30,7 @@ impl Index {
     pub fn of(number: i64) -> Option<Index>
         ensures { result ≡ index_of number }
     {
-        if 1 <= number && number <= 5399 {
+        if 1 <= number && number <= PARAMETER_COUNT as i64 {
             Some(Index {
                 number: number as u16,
             })
@@ -41,7 +42,7 @@ impl Index {
     /// The parameter of a number that is in range.
     pub fn known(number: u16) -> Index
         requires low { 1 ≤ number }
-        requires high { number ≤ 5399 }
+        requires high { number ≤ parameter_count }
         ensures { result ≡ number }
     {
         Index { number }
@@ -51,7 +52,7 @@ impl Index {
     pub fn number(self) -> u16
         ensures value { result ≡ self }
         ensures low { 1 ≤ self }
-        ensures high { self ≤ 5399 }
+        ensures high { self ≤ parameter_count }
     {
         self.number
     }

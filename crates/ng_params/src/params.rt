@@ -5,7 +5,7 @@ ghost use Rattle.ng_params.specs.Lasting.{cleared};
 ghost use Rattle.ng_params.specs.Changes.{with_changes, AreDifferences};
 
 use crate::change::Change;
-use crate::index::{COUNT, Index};
+use crate::index::{Index, PARAMETER_COUNT};
 use crate::lasting::lasts;
 use ng_num::Num;
 use std::alloc::{AllocError, Allocator};
@@ -26,12 +26,13 @@ pub struct Params<A: Allocator> {
 
 impl<A: Allocator> Model for Params<A> {
     ghost use Rattle.std.specs.Prelude.{List, ℤ, length, ◌≡◌};
+    ghost use Rattle.ng_params.specs.Numbers.{parameter_count};
 
     ghost Value = { List ℤ };
 
     ghost view = { λ p. p.values.items };
 
-    ghost invariant = { λ p. length p.values.items ≡ 5399 };
+    ghost invariant = { λ p. length p.values.items ≡ parameter_count };
 }
 
 impl<A: Allocator + Copy + Drop> Params<A> {
@@ -40,7 +41,7 @@ impl<A: Allocator + Copy + Drop> Params<A> {
     pub fn new(alloc: A) -> Result<Self, AllocError>
         ensures { IfOk result (λ p. p ≡ defaults) }
     {
-        let mut values = vec![in alloc; Num::zero(); COUNT]?;
+        let mut values = vec![in alloc; Num::zero(); PARAMETER_COUNT]?;
         values[5219] = one();
         Ok(Params { values })
     }
@@ -88,7 +89,7 @@ impl<A: Allocator + Copy + Drop> Params<A> {
     pub fn clear_passing(&mut self)
         ensures { self.new ≡ cleared self.old }
     {
-        for k in 0..COUNT {
+        for k in 0..PARAMETER_COUNT {
             if !lasts(k as u16 + 1) {
                 self.values[k] = Num::zero();
             }
@@ -103,7 +104,7 @@ impl<A: Allocator + Copy + Drop> Params<A> {
         ensures rising { IfOk result (λ changes. IsStrictlyIncreasing (map (λ c. c.index) changes.items)) }
     {
         let mut changes = Vec::new(*self.values.allocator());
-        for k in 0..COUNT {
+        for k in 0..PARAMETER_COUNT {
             let value = self.values[k];
             if value != old.values[k] {
                 changes.push(Change {

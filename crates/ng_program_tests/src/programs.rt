@@ -9,8 +9,9 @@ mod offsets;
 mod resuming;
 mod streams;
 
-use ng_block::{DryFault, Ended, Tools, dry};
+use ng_block::Tools;
 use ng_canon::Geometry;
+use ng_dry::{DryFault, Ended, dry};
 use ng_num::Len;
 use std::alloc::{Allocator, Global};
 use std::io::{Read, Write};

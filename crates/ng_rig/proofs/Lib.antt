@@ -1,4 +1,4 @@
-pub mod Lived
+pub mod Traces
 pub mod Running
 pub mod Since
 pub mod Promise

@@ -1,6 +1,6 @@
 -- A device that fails one call, once (own).
 use Rattle.std.specs.Prelude.{◌≡◌, ◌+◌, ◌-◌, ◌==◌, if◌then◌else◌, ℕ, Option, Some, None, Result, IsErr}
-use Rattle.ng_rig.specs.Calls.{Counts}
+use Rattle.ng_rig.specs.Calls.{FailureCountSpec}
 use Rattle.ng_rig.specs.declared.fail.FailRig.{FailRig}
 
 -- the device that calls are passed on to
@@ -21,7 +21,7 @@ after_one None = None
 after_one (Some n) = if n == 0 then None else Some (n - 1)
 
 -- One call fails with no effect; each other one is passed on, and fails exactly where the inner device fails.
-pub record FailsOnce {R T E : Type 0} (result : Result T E) (failed : R → ℕ) (old new : FailRig R) : Type 0 where
-  pub sooner : (n : ℕ) → calls_before old ≡ Some (n + 1) → (calls_before new ≡ Some n) × Counts result (failed (inner old)) (failed (inner new))
+pub record FailRigSpec {R T E : Type 0} (result : Result T E) (failed : R → ℕ) (old new : FailRig R) : Type 0 where
+  pub sooner : (n : ℕ) → calls_before old ≡ Some (n + 1) → (calls_before new ≡ Some n) × FailureCountSpec result (failed (inner old)) (failed (inner new))
   pub failing : calls_before old ≡ Some 0 → (calls_before new ≡ None) × IsErr result × (inner new ≡ inner old)
-  pub later : calls_before old ≡ None → (calls_before new ≡ None) × Counts result (failed (inner old)) (failed (inner new))
+  pub later : calls_before old ≡ None → (calls_before new ≡ None) × FailureCountSpec result (failed (inner old)) (failed (inner new))

@@ -1,6 +1,6 @@
 -- A device that passes some calls on, and then fails each one (own).
 use Rattle.std.specs.Prelude.{◌≡◌, ◌<◌, ◌+◌, ℕ, Result, IsErr}
-use Rattle.ng_rig.specs.Calls.{Counts}
+use Rattle.ng_rig.specs.Calls.{FailureCountSpec}
 use Rattle.ng_rig.specs.declared.fuse.FuseRig.{FuseRig}
 
 -- the device that calls are passed on to
@@ -16,6 +16,6 @@ abbrev pub calls_left : {R : Type 0} → FuseRig R → ℕ
 calls_left fuse = fuse.left
 
 -- A call that is passed on fails exactly where the inner device fails; each one after those fails with no effect.
-pub record Fuses {R T E : Type 0} (result : Result T E) (failed : R → ℕ) (old new : FuseRig R) : Type 0 where
-  pub passed : 0 < calls_left old → (calls_left new + 1 ≡ calls_left old) × Counts result (failed (inner old)) (failed (inner new))
+pub record FuseRigSpec {R T E : Type 0} (result : Result T E) (failed : R → ℕ) (old new : FuseRig R) : Type 0 where
+  pub passed : 0 < calls_left old → (calls_left new + 1 ≡ calls_left old) × FailureCountSpec result (failed (inner old)) (failed (inner new))
   pub blown : calls_left old ≡ 0 → (calls_left new ≡ 0) × IsErr result × (inner new ≡ inner old)

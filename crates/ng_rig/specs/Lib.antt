@@ -2,9 +2,9 @@ pub mod Calls
 pub mod FailOnce
 pub mod Fuse
 pub mod Kept
-pub mod Life
+pub mod Trace
 pub mod MemoryRig
 pub mod Moments
-pub mod Onward
+pub mod Continuation
 pub mod Only
 pub mod Stops

@@ -15,7 +15,7 @@ pub struct FailRig<R> {
 
 impl<R: Rig> FailRig<R> {
     ghost use Rattle.std.specs.Prelude.{◌≡◌, ◌≢◌, ◌↔◌, ◌+◌, ◌<◌, IsTrue, true, false};
-    ghost use Rattle.ng_rig.specs.Calls.{Counts};
+    ghost use Rattle.ng_rig.specs.Calls.{FailureCountSpec};
     ghost use Rattle.ng_rig.specs.FailOnce.{inner, failure_count, calls_before, after_one};
 
     /// Fails the call after this many, and counts failures on from those of the device.
@@ -57,7 +57,7 @@ impl<R: Rig> FailRig<R> {
         ensures same { result ≡ outcome }
         ensures inner { inner self.new ≡ inner self.old }
         ensures calls { calls_before self.new ≡ calls_before self.old }
-        ensures failures { Counts result (failure_count self.old) (failure_count self.new) }
+        ensures failures { FailureCountSpec result (failure_count self.old) (failure_count self.new) }
     {
         if outcome.is_err() {
             self.failures = self.failures.wrapping_add(1);
@@ -85,11 +85,11 @@ impl<R> FailRig<R> {
 
 impl<R: Rig> Rig for FailRig<R> {
     ghost use Rattle.std.specs.Prelude.{◌≡◌, ◌<◌, OnOk};
-    ghost use Rattle.ng_rig.specs.Life.{reads};
-    ghost use Rattle.ng_rig.specs.Calls.{Promises, Writes, Syncs, Hands, Counts};
-    ghost use Rattle.ng_rig.specs.FailOnce.{inner, failure_count, calls_before, FailsOnce};
+    ghost use Rattle.ng_rig.specs.Trace.{reads};
+    ghost use Rattle.ng_rig.specs.Calls.{IfHonest, WriteSpec, SyncSpec, HandOutSpec, FailureCountSpec};
+    ghost use Rattle.ng_rig.specs.FailOnce.{inner, failure_count, calls_before, FailRigSpec};
 
-    ghost life = { λ rig. R.life (inner rig) };
+    ghost trace = { λ rig. R.trace (inner rig) };
 
     ghost honest = { λ rig. R.honest (inner rig) };
 
@@ -107,13 +107,13 @@ impl<R: Rig> Rig for FailRig<R> {
 
     fn read(&mut self, sector: usize, into: &mut [u8; 512]) -> Result<(), Failed>
         requires { sector < R.sectors (inner self.old) }
-        ensures bytes { R.honest (inner self.old) → OnOk result (into.new ≡ reads (R.life (inner self.old)) sector) }
+        ensures bytes { R.honest (inner self.old) → OnOk result (into.new ≡ reads (R.trace (inner self.old)) sector) }
         ensures untouched { calls_before self.old ≡ Some 0 → into.new ≡ into.old }
-        ensures life { Promises (R.honest (inner self.old)) (R.honest (inner self.new))
-            (R.life (inner self.new) ≡ R.life (inner self.old)) }
+        ensures trace { IfHonest (R.honest (inner self.old)) (R.honest (inner self.new))
+            (R.trace (inner self.new) ≡ R.trace (inner self.old)) }
         ensures size { R.sectors (inner self.new) ≡ R.sectors (inner self.old) }
-        ensures failures { Counts result (failure_count self.old) (failure_count self.new) }
-        ensures once { FailsOnce result R.failed self.old self.new }
+        ensures failures { FailureCountSpec result (failure_count self.old) (failure_count self.new) }
+        ensures once { FailRigSpec result R.failed self.old self.new }
     {
         let read = if self.passes() {
             self.rig.read(sector, into)
@@ -125,11 +125,11 @@ impl<R: Rig> Rig for FailRig<R> {
 
     fn write(&mut self, sector: usize, bytes: &[u8; 512]) -> Result<(), Failed>
         requires { sector < R.sectors (inner self.old) }
-        ensures life { Promises (R.honest (inner self.old)) (R.honest (inner self.new))
-            (Writes result sector bytes.now (R.life (inner self.old)) (R.life (inner self.new))) }
+        ensures trace { IfHonest (R.honest (inner self.old)) (R.honest (inner self.new))
+            (WriteSpec result sector bytes.now (R.trace (inner self.old)) (R.trace (inner self.new))) }
         ensures size { R.sectors (inner self.new) ≡ R.sectors (inner self.old) }
-        ensures failures { Counts result (failure_count self.old) (failure_count self.new) }
-        ensures once { FailsOnce result R.failed self.old self.new }
+        ensures failures { FailureCountSpec result (failure_count self.old) (failure_count self.new) }
+        ensures once { FailRigSpec result R.failed self.old self.new }
     {
         let written = if self.passes() {
             self.rig.write(sector, bytes)
@@ -140,11 +140,11 @@ impl<R: Rig> Rig for FailRig<R> {
     }
 
     fn sync(&mut self) -> Result<(), Failed>
-        ensures life { Promises (R.honest (inner self.old)) (R.honest (inner self.new))
-            (Syncs result (R.life (inner self.old)) (R.life (inner self.new))) }
+        ensures trace { IfHonest (R.honest (inner self.old)) (R.honest (inner self.new))
+            (SyncSpec result (R.trace (inner self.old)) (R.trace (inner self.new))) }
         ensures size { R.sectors (inner self.new) ≡ R.sectors (inner self.old) }
-        ensures failures { Counts result (failure_count self.old) (failure_count self.new) }
-        ensures once { FailsOnce result R.failed self.old self.new }
+        ensures failures { FailureCountSpec result (failure_count self.old) (failure_count self.new) }
+        ensures once { FailRigSpec result R.failed self.old self.new }
     {
         let synced = if self.passes() {
             self.rig.sync()
@@ -155,11 +155,11 @@ impl<R: Rig> Rig for FailRig<R> {
     }
 
     fn hand_out(&mut self, item: Item) -> Result<(), Failed>
-        ensures life { Promises (R.honest (inner self.old)) (R.honest (inner self.new))
-            (Hands result item (R.life (inner self.old)) (R.life (inner self.new))) }
+        ensures trace { IfHonest (R.honest (inner self.old)) (R.honest (inner self.new))
+            (HandOutSpec result item (R.trace (inner self.old)) (R.trace (inner self.new))) }
         ensures size { R.sectors (inner self.new) ≡ R.sectors (inner self.old) }
-        ensures failures { Counts result (failure_count self.old) (failure_count self.new) }
-        ensures once { FailsOnce result R.failed self.old self.new }
+        ensures failures { FailureCountSpec result (failure_count self.old) (failure_count self.new) }
+        ensures once { FailRigSpec result R.failed self.old self.new }
     {
         let handed = if self.passes() {
             self.rig.hand_out(item)

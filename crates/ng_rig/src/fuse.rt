@@ -1,4 +1,4 @@
-//! A device whose power is cut behind some calls.
+//! A device whose power is cut after some calls.
 ghost use Rattle.std.specs.Prelude.{◌≡◌};
 
 use crate::rig::{Failed, Rig};
@@ -15,7 +15,7 @@ pub struct FuseRig<R> {
 
 impl<R: Rig> FuseRig<R> {
     ghost use Rattle.std.specs.Prelude.{◌≡◌, ◌≢◌, ◌↔◌, ◌+◌, ◌<◌, IsTrue, true, false};
-    ghost use Rattle.ng_rig.specs.Calls.{Counts};
+    ghost use Rattle.ng_rig.specs.Calls.{FailureCountSpec};
     ghost use Rattle.ng_rig.specs.Fuse.{inner, failure_count, calls_left};
 
     /// Passes this many calls on, and counts failures on from those of the device.
@@ -52,7 +52,7 @@ impl<R: Rig> FuseRig<R> {
         ensures same { result ≡ outcome }
         ensures inner { inner self.new ≡ inner self.old }
         ensures calls { calls_left self.new ≡ calls_left self.old }
-        ensures failures { Counts result (failure_count self.old) (failure_count self.new) }
+        ensures failures { FailureCountSpec result (failure_count self.old) (failure_count self.new) }
     {
         if outcome.is_err() {
             self.failures = self.failures.wrapping_add(1);
@@ -80,11 +80,11 @@ impl<R> FuseRig<R> {
 
 impl<R: Rig> Rig for FuseRig<R> {
     ghost use Rattle.std.specs.Prelude.{◌≡◌, ◌<◌, OnOk};
-    ghost use Rattle.ng_rig.specs.Life.{reads};
-    ghost use Rattle.ng_rig.specs.Calls.{Promises, Writes, Syncs, Hands, Counts};
-    ghost use Rattle.ng_rig.specs.Fuse.{inner, failure_count, calls_left, Fuses};
+    ghost use Rattle.ng_rig.specs.Trace.{reads};
+    ghost use Rattle.ng_rig.specs.Calls.{IfHonest, WriteSpec, SyncSpec, HandOutSpec, FailureCountSpec};
+    ghost use Rattle.ng_rig.specs.Fuse.{inner, failure_count, calls_left, FuseRigSpec};
 
-    ghost life = { λ rig. R.life (inner rig) };
+    ghost trace = { λ rig. R.trace (inner rig) };
 
     ghost honest = { λ rig. R.honest (inner rig) };
 
@@ -102,13 +102,13 @@ impl<R: Rig> Rig for FuseRig<R> {
 
     fn read(&mut self, sector: usize, into: &mut [u8; 512]) -> Result<(), Failed>
         requires { sector < R.sectors (inner self.old) }
-        ensures bytes { R.honest (inner self.old) → OnOk result (into.new ≡ reads (R.life (inner self.old)) sector) }
+        ensures bytes { R.honest (inner self.old) → OnOk result (into.new ≡ reads (R.trace (inner self.old)) sector) }
         ensures untouched { calls_left self.old ≡ 0 → into.new ≡ into.old }
-        ensures life { Promises (R.honest (inner self.old)) (R.honest (inner self.new))
-            (R.life (inner self.new) ≡ R.life (inner self.old)) }
+        ensures trace { IfHonest (R.honest (inner self.old)) (R.honest (inner self.new))
+            (R.trace (inner self.new) ≡ R.trace (inner self.old)) }
         ensures size { R.sectors (inner self.new) ≡ R.sectors (inner self.old) }
-        ensures failures { Counts result (failure_count self.old) (failure_count self.new) }
-        ensures fuse { Fuses result R.failed self.old self.new }
+        ensures failures { FailureCountSpec result (failure_count self.old) (failure_count self.new) }
+        ensures fuse { FuseRigSpec result R.failed self.old self.new }
     {
         let read = if self.passes() {
             self.rig.read(sector, into)
@@ -120,11 +120,11 @@ impl<R: Rig> Rig for FuseRig<R> {
 
     fn write(&mut self, sector: usize, bytes: &[u8; 512]) -> Result<(), Failed>
         requires { sector < R.sectors (inner self.old) }
-        ensures life { Promises (R.honest (inner self.old)) (R.honest (inner self.new))
-            (Writes result sector bytes.now (R.life (inner self.old)) (R.life (inner self.new))) }
+        ensures trace { IfHonest (R.honest (inner self.old)) (R.honest (inner self.new))
+            (WriteSpec result sector bytes.now (R.trace (inner self.old)) (R.trace (inner self.new))) }
         ensures size { R.sectors (inner self.new) ≡ R.sectors (inner self.old) }
-        ensures failures { Counts result (failure_count self.old) (failure_count self.new) }
-        ensures fuse { Fuses result R.failed self.old self.new }
+        ensures failures { FailureCountSpec result (failure_count self.old) (failure_count self.new) }
+        ensures fuse { FuseRigSpec result R.failed self.old self.new }
     {
         let written = if self.passes() {
             self.rig.write(sector, bytes)
@@ -135,11 +135,11 @@ impl<R: Rig> Rig for FuseRig<R> {
     }
 
     fn sync(&mut self) -> Result<(), Failed>
-        ensures life { Promises (R.honest (inner self.old)) (R.honest (inner self.new))
-            (Syncs result (R.life (inner self.old)) (R.life (inner self.new))) }
+        ensures trace { IfHonest (R.honest (inner self.old)) (R.honest (inner self.new))
+            (SyncSpec result (R.trace (inner self.old)) (R.trace (inner self.new))) }
         ensures size { R.sectors (inner self.new) ≡ R.sectors (inner self.old) }
-        ensures failures { Counts result (failure_count self.old) (failure_count self.new) }
-        ensures fuse { Fuses result R.failed self.old self.new }
+        ensures failures { FailureCountSpec result (failure_count self.old) (failure_count self.new) }
+        ensures fuse { FuseRigSpec result R.failed self.old self.new }
     {
         let synced = if self.passes() {
             self.rig.sync()
@@ -150,11 +150,11 @@ impl<R: Rig> Rig for FuseRig<R> {
     }
 
     fn hand_out(&mut self, item: Item) -> Result<(), Failed>
-        ensures life { Promises (R.honest (inner self.old)) (R.honest (inner self.new))
-            (Hands result item (R.life (inner self.old)) (R.life (inner self.new))) }
+        ensures trace { IfHonest (R.honest (inner self.old)) (R.honest (inner self.new))
+            (HandOutSpec result item (R.trace (inner self.old)) (R.trace (inner self.new))) }
         ensures size { R.sectors (inner self.new) ≡ R.sectors (inner self.old) }
-        ensures failures { Counts result (failure_count self.old) (failure_count self.new) }
-        ensures fuse { Fuses result R.failed self.old self.new }
+        ensures failures { FailureCountSpec result (failure_count self.old) (failure_count self.new) }
+        ensures fuse { FuseRigSpec result R.failed self.old self.new }
     {
         let handed = if self.passes() {
             self.rig.hand_out(item)

@@ -1,7 +1,7 @@
 //! A device in memory, with all that was done to it.
 ghost use Rattle.std.specs.Prelude.{◌≡◌, ◌<◌, ◌≤◌, ℕ, length};
-ghost use Rattle.ng_rig.specs.Life.{reads};
-ghost use Rattle.ng_rig.specs.Kept.{contents, life_of, AllWithin};
+ghost use Rattle.ng_rig.specs.Trace.{reads};
+ghost use Rattle.ng_rig.specs.Kept.{contents, trace_of_calls, AllWithin};
 
 use crate::call::Call;
 use crate::replay::{items_of, stop_image};
@@ -20,21 +20,21 @@ pub struct MemoryRig<A: Allocator + Copy + Drop> {
     failures: u64,
     ghost same_size: { length present.items ≡ length first.items },
     ghost within: { AllWithin (length first.items) calls.items },
-    ghost present_is: { contents present.items ≡ reads (life_of first.items calls.items) },
+    ghost present_is: { contents present.items ≡ reads (trace_of_calls first.items calls.items) },
 }
 
 impl<A: Allocator + Copy + Drop> MemoryRig<A> {
     ghost use Rattle.std.specs.Prelude.{◌≡◌, ◌+◌, ◌%◌, ◌^◌, ℕ, List, IfOk, length, take, replicate};
     ghost use Rattle.ng_canon.specs.declared.item.Item.{Item};
-    ghost use Rattle.ng_rig.specs.Life.{Image, Began, reads, items, moment, life_at, IsStop};
+    ghost use Rattle.ng_rig.specs.Trace.{Image, Began, reads, items, moment, trace_at, IsStop};
     ghost use Rattle.ng_rig.specs.Kept.{contents};
     ghost use Rattle.ng_rig.specs.Stops.{kept_image, IsReached};
-    ghost use Rattle.ng_rig.specs.MemoryRig.{life_kept, sector_count, failure_count};
+    ghost use Rattle.ng_rig.specs.MemoryRig.{trace_of, sector_count, failure_count};
 
     /// A device of this many sectors, all zeros.
     pub fn new(alloc: A, sectors: usize) -> Result<Self, AllocError>
         ensures size { IfOk result (λ rig. sector_count rig ≡ sectors) }
-        ensures zeros { IfOk result (λ rig. life_kept rig ≡ Began (contents (replicate sectors (replicate 512 0)))) }
+        ensures zeros { IfOk result (λ rig. trace_of rig ≡ Began (contents (replicate sectors (replicate 512 0)))) }
         ensures failures { IfOk result (λ rig. failure_count rig ≡ 0) }
     {
         let mut first = Vec::new(alloc);
@@ -45,7 +45,7 @@ impl<A: Allocator + Copy + Drop> MemoryRig<A> {
     /// A device that holds these sectors.
     fn holding(alloc: A, first: Vec<[u8; 512], A>) -> Result<Self, AllocError>
         ensures size { IfOk result (λ rig. sector_count rig ≡ length first.items) }
-        ensures life { IfOk result (λ rig. life_kept rig ≡ Began (contents first.items)) }
+        ensures trace { IfOk result (λ rig. trace_of rig ≡ Began (contents first.items)) }
         ensures failures { IfOk result (λ rig. failure_count rig ≡ 0) }
     {
         let mut present = Vec::new(alloc);
@@ -61,14 +61,14 @@ impl<A: Allocator + Copy + Drop> MemoryRig<A> {
 
     /// How many writes, syncs and hand-outs were made that didn't fail.
     pub fn calls(&self) -> usize
-        ensures { result ≡ moment (life_kept self.now) }
+        ensures { result ≡ moment (trace_of self.now) }
     {
         self.calls.len()
     }
 
     /// The items handed out by the first n of its calls, or by all where there are fewer.
     pub fn handed(&self, n: usize) -> Result<Vec<Item, A>, AllocError>
-        ensures { IfOk result (λ handed. handed.items ≡ items (life_at n (life_kept self.now))) }
+        ensures { IfOk result (λ handed. handed.items ≡ items (trace_at n (trace_of self.now))) }
     {
         items_of(self.alloc, self.before(n))
     }
@@ -85,17 +85,17 @@ impl<A: Allocator + Copy + Drop> MemoryRig<A> {
     /// end of `keep`, it keeps none of them, and beyond their number the last. It has no calls and no failures.
     pub fn stopped(&self, n: usize, keep: &[usize]) -> Result<Self, AllocError>
         ensures size { IfOk result (λ rig. sector_count rig ≡ sector_count self.now) }
-        ensures exact { IfOk result (λ rig. life_kept rig ≡ Began (kept_image (life_at n (life_kept self.now)) keep.now)) }
+        ensures exact { IfOk result (λ rig. trace_of rig ≡ Began (kept_image (trace_at n (trace_of self.now)) keep.now)) }
         ensures failures { IfOk result (λ rig. failure_count rig ≡ 0) }
 
         // in no way that a stop there doesn't allow
         ensures only { IfOk result (λ rig.
-            IsStop (life_at n (life_kept self.now)) (reads (life_kept rig)) (items (life_at n (life_kept self.now)))) }
+            IsStop (trace_at n (trace_of self.now)) (reads (trace_of rig)) (items (trace_at n (trace_of self.now)))) }
 
         // and in every way that it allows
         ensures every { (image : Image) (handed : List Item) →
-            IsStop (life_at n (life_kept self.now)) image handed →
-            IsReached (sector_count self.now) (life_at n (life_kept self.now)) image }
+            IsStop (trace_at n (trace_of self.now)) image handed →
+            IsReached (sector_count self.now) (trace_at n (trace_of self.now)) image }
     {
         let image = stop_image(self.alloc, &self.first, self.before(n), keep)?;
         MemoryRig::holding(self.alloc, image)
@@ -104,7 +104,7 @@ impl<A: Allocator + Copy + Drop> MemoryRig<A> {
     /// Counts a failure.
     fn fail(&mut self) -> Failed
         ensures size { sector_count self.new ≡ sector_count self.old }
-        ensures life { life_kept self.new ≡ life_kept self.old }
+        ensures trace { trace_of self.new ≡ trace_of self.old }
         ensures failures { failure_count self.new ≡ (failure_count self.old + 1) % 2 ^ 64 }
     {
         self.failures = self.failures.wrapping_add(1);
@@ -114,11 +114,11 @@ impl<A: Allocator + Copy + Drop> MemoryRig<A> {
 
 impl<A: Allocator + Copy + Drop> Rig for MemoryRig<A> {
     ghost use Rattle.std.specs.Prelude.{◌≡◌, ◌<◌, IsOk};
-    ghost use Rattle.ng_rig.specs.Life.{Wrote, Synced, Handed, reads};
-    ghost use Rattle.ng_rig.specs.Calls.{Counts, KeepsOrNot};
-    ghost use Rattle.ng_rig.specs.MemoryRig.{life_kept, sector_count, failure_count};
+    ghost use Rattle.ng_rig.specs.Trace.{Wrote, Synced, Handed, reads};
+    ghost use Rattle.ng_rig.specs.Calls.{FailureCountSpec, KeepsOrNot};
+    ghost use Rattle.ng_rig.specs.MemoryRig.{trace_of, sector_count, failure_count};
 
-    ghost life = { life_kept };
+    ghost trace = { trace_of };
 
     ghost honest = { λ _. Unit {0} };
 
@@ -138,8 +138,8 @@ impl<A: Allocator + Copy + Drop> Rig for MemoryRig<A> {
     fn read(&mut self, sector: usize, into: &mut [u8; 512]) -> Result<(), Failed>
         requires { sector < sector_count self.old }
         ensures never { IsOk result }
-        ensures bytes { into.new ≡ reads (life_kept self.old) sector }
-        ensures life { life_kept self.new ≡ life_kept self.old }
+        ensures bytes { into.new ≡ reads (trace_of self.old) sector }
+        ensures trace { trace_of self.new ≡ trace_of self.old }
         ensures size { sector_count self.new ≡ sector_count self.old }
         ensures failures { failure_count self.new ≡ failure_count self.old }
     {
@@ -149,9 +149,9 @@ impl<A: Allocator + Copy + Drop> Rig for MemoryRig<A> {
 
     fn write(&mut self, sector: usize, bytes: &[u8; 512]) -> Result<(), Failed>
         requires { sector < sector_count self.old }
-        ensures life { KeepsOrNot result (Wrote sector bytes.now (life_kept self.old)) (life_kept self.old) (life_kept self.new) }
+        ensures trace { KeepsOrNot result (Wrote sector bytes.now (trace_of self.old)) (trace_of self.old) (trace_of self.new) }
         ensures size { sector_count self.new ≡ sector_count self.old }
-        ensures failures { Counts result (failure_count self.old) (failure_count self.new) }
+        ensures failures { FailureCountSpec result (failure_count self.old) (failure_count self.new) }
     {
         match self.calls.push(Call::Write(sector, *bytes)) {
             Ok(()) => {
@@ -163,9 +163,9 @@ impl<A: Allocator + Copy + Drop> Rig for MemoryRig<A> {
     }
 
     fn sync(&mut self) -> Result<(), Failed>
-        ensures life { KeepsOrNot result (Synced (life_kept self.old)) (life_kept self.old) (life_kept self.new) }
+        ensures trace { KeepsOrNot result (Synced (trace_of self.old)) (trace_of self.old) (trace_of self.new) }
         ensures size { sector_count self.new ≡ sector_count self.old }
-        ensures failures { Counts result (failure_count self.old) (failure_count self.new) }
+        ensures failures { FailureCountSpec result (failure_count self.old) (failure_count self.new) }
     {
         match self.calls.push(Call::Sync) {
             Ok(()) => Ok(()),
@@ -174,9 +174,9 @@ impl<A: Allocator + Copy + Drop> Rig for MemoryRig<A> {
     }
 
     fn hand_out(&mut self, item: Item) -> Result<(), Failed>
-        ensures life { KeepsOrNot result (Handed item (life_kept self.old)) (life_kept self.old) (life_kept self.new) }
+        ensures trace { KeepsOrNot result (Handed item (trace_of self.old)) (trace_of self.old) (trace_of self.new) }
         ensures size { sector_count self.new ≡ sector_count self.old }
-        ensures failures { Counts result (failure_count self.old) (failure_count self.new) }
+        ensures failures { FailureCountSpec result (failure_count self.old) (failure_count self.new) }
     {
         match self.calls.push(Call::Hand(item)) {
             Ok(()) => Ok(()),

@@ -1,7 +1,7 @@
 //! What a device is to a journal: the trait `Rig`.
 ghost use Rattle.std.specs.Prelude.{◌≡◌, ◌<◌, ℕ, OnOk};
-ghost use Rattle.ng_rig.specs.Life.{Life, reads};
-ghost use Rattle.ng_rig.specs.Calls.{Promises, Writes, Syncs, Hands, Counts};
+ghost use Rattle.ng_rig.specs.Trace.{Trace, reads};
+ghost use Rattle.ng_rig.specs.Calls.{IfHonest, WriteSpec, SyncSpec, HandOutSpec, FailureCountSpec};
 
 use ng_canon::Item;
 
@@ -15,7 +15,7 @@ pub struct Failed;
 /// failures and the size are kept whatever the device does.
 pub trait Rig {
     /// The writes, syncs and hand-outs so far.
-    ghost life: { Self → Life };
+    ghost trace: { Self → Trace };
 
     /// Where the device does what it promises of reads and stops.
     ghost honest: { Self → Type 0 };
@@ -36,31 +36,31 @@ pub trait Rig {
     /// Reads a sector. Where it fails, `into` may hold any bytes.
     fn read(&mut self, sector: usize, into: &mut [u8; 512]) -> Result<(), Failed>
         requires { sector < sectors self.old }
-        ensures bytes { honest self.old → OnOk result (into.new ≡ reads (life self.old) sector) }
-        ensures life { Promises (honest self.old) (honest self.new) (life self.new ≡ life self.old) }
+        ensures bytes { honest self.old → OnOk result (into.new ≡ reads (trace self.old) sector) }
+        ensures trace { IfHonest (honest self.old) (honest self.new) (trace self.new ≡ trace self.old) }
         ensures size { sectors self.new ≡ sectors self.old }
-        ensures failures { Counts result (failed self.old) (failed self.new) };
+        ensures failures { FailureCountSpec result (failed self.old) (failed self.new) };
 
     /// Writes a sector. Where it fails, a read gives the content before or this one, the same at each read, and a
     /// stop may leave either.
     fn write(&mut self, sector: usize, bytes: &[u8; 512]) -> Result<(), Failed>
         requires { sector < sectors self.old }
-        ensures life { Promises (honest self.old) (honest self.new)
-            (Writes result sector bytes.now (life self.old) (life self.new)) }
+        ensures trace { IfHonest (honest self.old) (honest self.new)
+            (WriteSpec result sector bytes.now (trace self.old) (trace self.new)) }
         ensures size { sectors self.new ≡ sectors self.old }
-        ensures failures { Counts result (failed self.old) (failed self.new) };
+        ensures failures { FailureCountSpec result (failed self.old) (failed self.new) };
 
     /// Makes lasting what was written: from then on a stop leaves what a read gives. Where it fails, it promises
     /// nothing.
     fn sync(&mut self) -> Result<(), Failed>
-        ensures life { Promises (honest self.old) (honest self.new) (Syncs result (life self.old) (life self.new)) }
+        ensures trace { IfHonest (honest self.old) (honest self.new) (SyncSpec result (trace self.old) (trace self.new)) }
         ensures size { sectors self.new ≡ sectors self.old }
-        ensures failures { Counts result (failed self.old) (failed self.new) };
+        ensures failures { FailureCountSpec result (failed self.old) (failed self.new) };
 
     /// Hands an item out. Where it fails, the item or nothing was handed out.
     fn hand_out(&mut self, item: Item) -> Result<(), Failed>
-        ensures life { Promises (honest self.old) (honest self.new)
-            (Hands result item (life self.old) (life self.new)) }
+        ensures trace { IfHonest (honest self.old) (honest self.new)
+            (HandOutSpec result item (trace self.old) (trace self.new)) }
         ensures size { sectors self.new ≡ sectors self.old }
-        ensures failures { Counts result (failed self.old) (failed self.new) };
+        ensures failures { FailureCountSpec result (failed self.old) (failed self.new) };
 }

@@ -3,34 +3,34 @@ use Rattle.std.proofs.Common.{◌≡◌, ℕ, List, [], ◌∷◌, ◌++◌, Opt
 use Rattle.std.specs.Io.KnownBytes.{Appends}
 use Rattle.std.proofs.lemmas.List.Elements.{All-nil, All-push}
 use Rattle.ng_block.proofs.Streams.{Appends-nil, Appends-trans}
-use Rattle.ng_rig.specs.Life.{Life}
+use Rattle.ng_rig.specs.Trace.{Trace}
 use Rattle.ng_session.specs.declared.event.Event.{Event}
 use Rattle.ng_session.specs.declared.reply.Reply.{Reply}
-use Rattle.ng_dialogue.specs.Orders.{Ends, TakesOrder}
+use Rattle.ng_dialogue.specs.Orders.{EndsText, TakesOrder}
 use Rattle.ng_dialogue.specs.declared.order.Order.{Order}
-use Rattle.ng_dialogue.specs.declared.telling.Unsent.{Unsent}
+use Rattle.ng_dialogue.specs.declared.telling.OutputError.{OutputError}
 use Rattle.ng_core.specs.Model.{ControllerModel}
-use Rattle.ng_run.specs.Consoles.{Answers, Closes, Conversation}
+use Rattle.ng_run.specs.Consoles.{AnswerSpec, EndsConversation, Conversation}
 use Rattle.ng_run.specs.Endings.{ended_by}
 use Rattle.ng_run.specs.Talks.{Exchange, Hears, IsAnswered, events_in, events_of, replies_in, words_in, words_of}
-use Rattle.ng_core.specs.Turns.{AreTurns}
-use Rattle.ng_run.specs.declared.ending.Ended.{Ended}
-use Rattle.ng_run.specs.declared.ending.Stop.{Stop}
-use Rattle.ng_run.specs.declared.ending.Stop.TheVariants.{Deaf, Mute}
+use Rattle.ng_core.specs.AnsweredEvents.{AreAnsweredEvents}
+use Rattle.ng_run.specs.declared.ending.ConsoleEnd.{ConsoleEnd}
+use Rattle.ng_run.specs.declared.ending.ConsoleAbort.{ConsoleAbort}
+use Rattle.ng_run.specs.declared.ending.ConsoleAbort.TheVariants.{Input, Output}
 use Rattle.ng_run.proofs.Asking.{hears_more, hears_none, one_more}
 use Rattle.ng_core.proofs.InTurn.{turns_joined, turns_pass}
 
 -- so much of the text was heard, and is answered whole
-pub record Talked {R : Type 0} (A : Type 0) (honest : R → Type 0) (life : R → Life) (failed sectors : R → ℕ) (text rest old new : Option (List ℕ)) (before after : ControllerModel R) : Type 0 where
+pub record Talked {R : Type 0} (A : Type 0) (honest : R → Type 0) (trace : R → Trace) (failed sectors : R → ℕ) (text rest old new : Option (List ℕ)) (before after : ControllerModel R) : Type 0 where
   pub talk : List (Exchange A)
   pub each : All IsAnswered talk
   pub hears : Hears text talk rest
-  pub given : AreTurns honest life failed sectors (events_in talk) (replies_in talk) before after
+  pub given : AreAnsweredEvents honest trace failed sectors (events_in talk) (replies_in talk) before after
   pub tells : Appends old new (words_in talk)
 
-pub talked_none : {R : Type 0} (A : Type 0) (honest : R → Type 0) (life : R → Life) (failed sectors : R → ℕ) (text old : Option (List ℕ)) (c : ControllerModel R)
-    → Talked A honest life failed sectors text text old old c c
-talked_none A honest life failed sectors text old c = record {
+pub talked_none : {R : Type 0} (A : Type 0) (honest : R → Type 0) (trace : R → Trace) (failed sectors : R → ℕ) (text old : Option (List ℕ)) (c : ControllerModel R)
+    → Talked A honest trace failed sectors text text old old c c
+talked_none A honest trace failed sectors text old c = record {
   talk = [];
   each = All-nil (IsAnswered {A = A});
   hears = hears_none A text;
@@ -39,35 +39,35 @@ talked_none A honest life failed sectors text old c = record {
 }
 
 -- the events of an exchange more
-given_more : {R : Type 0} (A : Type 0) (honest : R → Type 0) (life : R → Life) (failed sectors : R → ℕ) (talk : List (Exchange A)) (x : Exchange A) (before mid after : ControllerModel R)
-    → AreTurns honest life failed sectors (events_in talk) (replies_in talk) before mid → AreTurns honest life failed sectors (events_of x.order x.replies) x.replies mid after
-    → AreTurns honest life failed sectors (events_in (talk ++ x ∷ [])) (replies_in (talk ++ x ∷ [])) before after
-given_more A honest life failed sectors talk x before mid after p q =
-    let joined = turns_joined honest life failed sectors (events_in talk) (events_of x.order x.replies) (replies_in talk) x.replies before mid after p q in
-    subst (λ (l : List Reply). AreTurns honest life failed sectors (events_in (talk ++ x ∷ [])) l before after) (one_more (λ (y : Exchange A). y.replies) talk x)
-    (subst (λ (l : List (Event A)). AreTurns honest life failed sectors l (replies_in talk ++ x.replies) before after) (one_more (λ (y : Exchange A). events_of y.order y.replies) talk x) joined)
+given_more : {R : Type 0} (A : Type 0) (honest : R → Type 0) (trace : R → Trace) (failed sectors : R → ℕ) (talk : List (Exchange A)) (x : Exchange A) (before mid after : ControllerModel R)
+    → AreAnsweredEvents honest trace failed sectors (events_in talk) (replies_in talk) before mid → AreAnsweredEvents honest trace failed sectors (events_of x.order x.replies) x.replies mid after
+    → AreAnsweredEvents honest trace failed sectors (events_in (talk ++ x ∷ [])) (replies_in (talk ++ x ∷ [])) before after
+given_more A honest trace failed sectors talk x before mid after p q =
+    let joined = turns_joined honest trace failed sectors (events_in talk) (events_of x.order x.replies) (replies_in talk) x.replies before mid after p q in
+    subst (λ (l : List Reply). AreAnsweredEvents honest trace failed sectors (events_in (talk ++ x ∷ [])) l before after) (one_more (λ (y : Exchange A). y.replies) talk x)
+    (subst (λ (l : List (Event A)). AreAnsweredEvents honest trace failed sectors l (replies_in talk ++ x.replies) before after) (one_more (λ (y : Exchange A). events_of y.order y.replies) talk x) joined)
 
-pub talked_more : {R T : Type 0} (A : Type 0) (honest : R → Type 0) (life : R → Life) (failed sectors : R → ℕ) (order : Order A) (done : T) (text rest next old mid new : Option (List ℕ)) (before now after : ControllerModel R)
-    → Talked A honest life failed sectors text rest old mid before now → TakesOrder rest next (Some order) → Answers honest life failed sectors order (Ok done) mid new now after
-    → Talked A honest life failed sectors text next old new before after
-talked_more A honest life failed sectors order done text rest next old mid new before now after p asked a =
+pub talked_more : {R T : Type 0} (A : Type 0) (honest : R → Type 0) (trace : R → Trace) (failed sectors : R → ℕ) (order : Order A) (done : T) (text rest next old mid new : Option (List ℕ)) (before now after : ControllerModel R)
+    → Talked A honest trace failed sectors text rest old mid before now → TakesOrder rest next (Some order) → AnswerSpec honest trace failed sectors order (Ok done) mid new now after
+    → Talked A honest trace failed sectors text next old new before after
+talked_more A honest trace failed sectors order done text rest next old mid new before now after p asked a =
     let x : Exchange A = record { order = order; replies = a.replies } in
     record {
       talk = p.talk ++ x ∷ [];
       each = All-push (IsAnswered {A = A}) p.talk x p.each a.tells.0;
       hears = hears_more text rest next p.talk x p.hears asked;
-      given = given_more A honest life failed sectors p.talk x before now after p.given a.given;
+      given = given_more A honest trace failed sectors p.talk x before now after p.given a.given;
       tells = subst (λ (l : List ℕ). Appends old new l) (one_more (λ (y : Exchange A). words_of y.order y.replies) p.talk x)
           (Appends-trans old mid new (words_in p.talk) (words_of order a.replies) p.tells a.tells.1);
     }
 
 -- a conversation by what was answered whole and what was begun
-conversed : {R : Type 0} (A : Type 0) (honest : R → Type 0) (life : R → Life) (failed sectors : R → ℕ) (ended : Result Ended Stop) (text rest old new : Option (List ℕ)) (before after : ControllerModel R)
+conversed : {R : Type 0} (A : Type 0) (honest : R → Type 0) (trace : R → Trace) (failed sectors : R → ℕ) (ended : Result ConsoleEnd ConsoleAbort) (text rest old new : Option (List ℕ)) (before after : ControllerModel R)
     (answered begun talk : List (Exchange A)) (written : List ℕ) → answered ++ begun ≡ talk → All IsAnswered answered → Hears text talk rest
-    → AreTurns honest life failed sectors (events_in talk) (replies_in talk) before after → Appends old new (words_in answered ++ written)
-    → Closes ended after.journal.broken rest begun written → Conversation A honest life failed sectors ended text old new before after
-conversed A honest life failed sectors ended text rest old new before after answered begun talk written parts each hears given tells closes =
-    let given_all = subst (λ (l : List (Exchange A)). AreTurns honest life failed sectors (events_in l) (replies_in l) before after) (sym parts) given in
+    → AreAnsweredEvents honest trace failed sectors (events_in talk) (replies_in talk) before after → Appends old new (words_in answered ++ written)
+    → EndsConversation ended after.journal.broken rest begun written → Conversation A honest trace failed sectors ended text old new before after
+conversed A honest trace failed sectors ended text rest old new before after answered begun talk written parts each hears given tells closes =
+    let given_all = subst (λ (l : List (Exchange A)). AreAnsweredEvents honest trace failed sectors (events_in l) (replies_in l) before after) (sym parts) given in
     record {
       answered = answered;
       begun = begun;
@@ -78,34 +78,34 @@ conversed A honest life failed sectors ended text rest old new before after answ
       given = given_all;
       tells = tells;
       closes = closes;
-      passes = turns_pass honest life failed sectors (events_in (answered ++ begun)) (replies_in (answered ++ begun)) before after given_all;
+      passes = turns_pass honest trace failed sectors (events_in (answered ++ begun)) (replies_in (answered ++ begun)) before after given_all;
     }
 
 -- nothing is begun
-conversed_whole : {R : Type 0} (A : Type 0) (honest : R → Type 0) (life : R → Life) (failed sectors : R → ℕ) (ended : Result Ended Stop) (text rest old new : Option (List ℕ)) (before after : ControllerModel R)
-    → (p : Talked A honest life failed sectors text rest old new before after) → Closes {A = A} ended after.journal.broken rest [] []
-    → Conversation A honest life failed sectors ended text old new before after
-conversed_whole A honest life failed sectors ended text rest old new before after p closes =
-    conversed A honest life failed sectors ended text rest old new before after p.talk [] p.talk [] (append-nil p.talk) p.each p.hears p.given
+conversed_whole : {R : Type 0} (A : Type 0) (honest : R → Type 0) (trace : R → Trace) (failed sectors : R → ℕ) (ended : Result ConsoleEnd ConsoleAbort) (text rest old new : Option (List ℕ)) (before after : ControllerModel R)
+    → (p : Talked A honest trace failed sectors text rest old new before after) → EndsConversation {A = A} ended after.journal.broken rest [] []
+    → Conversation A honest trace failed sectors ended text old new before after
+conversed_whole A honest trace failed sectors ended text rest old new before after p closes =
+    conversed A honest trace failed sectors ended text rest old new before after p.talk [] p.talk [] (append-nil p.talk) p.each p.hears p.given
     (subst (λ (l : List ℕ). Appends old new l) (sym (append-nil (words_in p.talk))) p.tells) closes
 
-pub ends_whole : {R : Type 0} (A : Type 0) (honest : R → Type 0) (life : R → Life) (failed sectors : R → ℕ) (ended : Ended) (text rest old new : Option (List ℕ)) (before after : ControllerModel R)
-    → Talked A honest life failed sectors text rest old new before after → IfSome rest Ends → ended ≡ ended_by after.journal.broken
-    → Conversation A honest life failed sectors (Ok ended) text old new before after
-ends_whole A honest life failed sectors ended text rest old new before after p end is =
-    conversed_whole A honest life failed sectors (Ok ended) text rest old new before after p (is, end, refl, refl)
+pub ends_whole : {R : Type 0} (A : Type 0) (honest : R → Type 0) (trace : R → Trace) (failed sectors : R → ℕ) (ended : ConsoleEnd) (text rest old new : Option (List ℕ)) (before after : ControllerModel R)
+    → Talked A honest trace failed sectors text rest old new before after → IfSome rest EndsText → ended ≡ ended_by after.journal.broken
+    → Conversation A honest trace failed sectors (Ok ended) text old new before after
+ends_whole A honest trace failed sectors ended text rest old new before after p end is =
+    conversed_whole A honest trace failed sectors (Ok ended) text rest old new before after p (is, end, refl, refl)
 
-pub ends_deaf : {R : Type 0} (A : Type 0) (honest : R → Type 0) (life : R → Life) (failed sectors : R → ℕ) (text rest old new : Option (List ℕ)) (before after : ControllerModel R)
-    → Talked A honest life failed sectors text rest old new before after → Conversation A honest life failed sectors (Err Deaf) text old new before after
-ends_deaf A honest life failed sectors text rest old new before after p =
-    conversed_whole A honest life failed sectors (Err Deaf) text rest old new before after p (refl, refl)
+pub ends_deaf : {R : Type 0} (A : Type 0) (honest : R → Type 0) (trace : R → Trace) (failed sectors : R → ℕ) (text rest old new : Option (List ℕ)) (before after : ControllerModel R)
+    → Talked A honest trace failed sectors text rest old new before after → Conversation A honest trace failed sectors (Err Input) text old new before after
+ends_deaf A honest trace failed sectors text rest old new before after p =
+    conversed_whole A honest trace failed sectors (Err Input) text rest old new before after p (refl, refl)
 
-pub ends_mute : {R T : Type 0} (A : Type 0) (honest : R → Type 0) (life : R → Life) (failed sectors : R → ℕ) (order : Order A) (fault : Unsent) (text rest next old mid new : Option (List ℕ)) (before now after : ControllerModel R)
-    → Talked A honest life failed sectors text rest old mid before now → TakesOrder rest next (Some order) → Answers {T = T} honest life failed sectors order (Err fault) mid new now after
-    → Conversation A honest life failed sectors (Err Mute) text old new before after
-ends_mute A honest life failed sectors order fault text rest next old mid new before now after p asked a =
+pub ends_mute : {R T : Type 0} (A : Type 0) (honest : R → Type 0) (trace : R → Trace) (failed sectors : R → ℕ) (order : Order A) (fault : OutputError) (text rest next old mid new : Option (List ℕ)) (before now after : ControllerModel R)
+    → Talked A honest trace failed sectors text rest old mid before now → TakesOrder rest next (Some order) → AnswerSpec {T = T} honest trace failed sectors order (Err fault) mid new now after
+    → Conversation A honest trace failed sectors (Err Output) text old new before after
+ends_mute A honest trace failed sectors order fault text rest next old mid new before now after p asked a =
     let x : Exchange A = record { order = order; replies = a.replies } in
-    conversed A honest life failed sectors (Err Mute) text next old new before after p.talk (x ∷ []) (p.talk ++ x ∷ []) a.tells.0 refl p.each
-    (hears_more text rest next p.talk x p.hears asked) (given_more A honest life failed sectors p.talk x before now after p.given a.given)
+    conversed A honest trace failed sectors (Err Output) text next old new before after p.talk (x ∷ []) (p.talk ++ x ∷ []) a.tells.0 refl p.each
+    (hears_more text rest next p.talk x p.hears asked) (given_more A honest trace failed sectors p.talk x before now after p.given a.given)
     (Appends-trans old mid new (words_in p.talk) a.tells.0 p.tells a.tells.2)
     (x, refl, a.tells.1)

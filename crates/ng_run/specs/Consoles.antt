@@ -3,96 +3,96 @@ use Rattle.std.specs.Prelude.{◌≡◌, ◌≤◌, ◌<◌, ℕ, Bool, false, L
 use Rattle.std.specs.Io.KnownBytes.{Appends}
 use Rattle.ng_num.specs.declared.fault.Fault.{Fault}
 use Rattle.ng_num.specs.declared.fault.Fault.TheVariants.{NotFormatted, OutOfMemory}
-use Rattle.ng_rig.specs.Calls.{Promises}
-use Rattle.ng_rig.specs.Life.{Life}
+use Rattle.ng_rig.specs.Calls.{IfHonest}
+use Rattle.ng_rig.specs.Trace.{Trace}
 use Rattle.ng_settings.specs.declared.standard.Settings.{Settings}
 use Rattle.ng_layout.specs.Storable.{IsStorable}
-use Rattle.ng_journal.specs.Journal.{Tells}
+use Rattle.ng_journal.specs.Journal.{CountsFailure}
 use Rattle.ng_commands.specs.Replies.{refused_line, tick_line}
 use Rattle.ng_session.specs.Session.{resting}
 use Rattle.ng_session.specs.declared.reply.Reply.{Reply}
-use Rattle.ng_dialogue.specs.Orders.{Ends}
+use Rattle.ng_dialogue.specs.Orders.{EndsText}
 use Rattle.ng_dialogue.specs.declared.order.Order.{Order}
 use Rattle.ng_dialogue.specs.declared.order.Order.TheVariants.{Ticks}
-use Rattle.ng_dialogue.specs.declared.telling.Unsent.{Unsent}
-use Rattle.ng_core.specs.Events.{scene_of}
-use Rattle.ng_core.specs.Powers.{PowerOnResult, PowersOn}
+use Rattle.ng_dialogue.specs.declared.telling.OutputError.{OutputError}
+use Rattle.ng_core.specs.Events.{program_session_of}
+use Rattle.ng_core.specs.Powers.{PowerOnResult, PowerOnSpec}
 use Rattle.ng_core.specs.Runs.{PassesAsSession}
 use Rattle.ng_core.specs.Model.{ControllerModel, IsAtRestWith}
 use Rattle.ng_run.specs.Endings.{ended_by, status_of}
 use Rattle.ng_run.specs.Talks.{AreBrokenOff, AreTicks, Exchange, Hears, IsAnswered, IsBegun, events_in, events_of, replies_in, words_in, words_of}
-use Rattle.ng_core.specs.Turns.{AreTurns}
-use Rattle.ng_run.specs.declared.ending.Ended.{Ended}
-use Rattle.ng_run.specs.declared.ending.Ended.TheVariants.{Unpowered}
-use Rattle.ng_run.specs.declared.ending.Stop.{Stop}
-use Rattle.ng_run.specs.declared.ending.Stop.TheVariants.{Deaf, Mute}
+use Rattle.ng_core.specs.AnsweredEvents.{AreAnsweredEvents}
+use Rattle.ng_run.specs.declared.ending.ConsoleEnd.{ConsoleEnd}
+use Rattle.ng_run.specs.declared.ending.ConsoleEnd.TheVariants.{NotPowered}
+use Rattle.ng_run.specs.declared.ending.ConsoleAbort.{ConsoleAbort}
+use Rattle.ng_run.specs.declared.ending.ConsoleAbort.TheVariants.{Input, Output}
 
 -- ---- one order
 
 -- the replies to the ticks of one command are so many, and their lines are written; or the ticks are broken off
-abbrev pub Makes : {E : Type 0} → ℕ → Result ℕ E → List Reply → Option (List ℕ) → Option (List ℕ) → Type 0
-Makes most (Ok made) replies old new = AreTicks most replies × (made ≡ length replies) × Appends old new (flat_map tick_line replies)
-Makes most (Err fault) replies old new = (written : List ℕ) × AreBrokenOff most replies written × Appends old new written
+abbrev pub MakesTicks : {E : Type 0} → ℕ → Result ℕ E → List Reply → Option (List ℕ) → Option (List ℕ) → Type 0
+MakesTicks most (Ok made) replies old new = AreTicks most replies × (made ≡ length replies) × Appends old new (flat_map tick_line replies)
+MakesTicks most (Err fault) replies old new = (written : List ℕ) × AreBrokenOff most replies written × Appends old new written
 
 -- The controller is given ticks, and the lines of their replies are written, or they are broken off in the last.
-pub record TicksOn {R : Type 0} (A : Type 0) (honest : R → Type 0) (life : R → Life) (failed sectors : R → ℕ) (most : ℕ) (made : Result ℕ Unsent) (old new : Option (List ℕ)) (before after : ControllerModel R) : Type 0 where
+pub record TickOnSpec {R : Type 0} (A : Type 0) (honest : R → Type 0) (trace : R → Trace) (failed sectors : R → ℕ) (most : ℕ) (made : Result ℕ OutputError) (old new : Option (List ℕ)) (before after : ControllerModel R) : Type 0 where
   pub replies : List Reply
-  pub given : AreTurns honest life failed sectors (events_of {A = A} (Ticks most) replies) replies before after
-  pub makes : Makes most made replies old new
+  pub given : AreAnsweredEvents honest trace failed sectors (events_of {A = A} (Ticks most) replies) replies before after
+  pub makes : MakesTicks most made replies old new
 
 -- an answer is written, or a beginning of it
-abbrev pub Told : {A T : Type 0} → Exchange A → Result T Unsent → Option (List ℕ) → Option (List ℕ) → Type 0
+abbrev pub Told : {A T : Type 0} → Exchange A → Result T OutputError → Option (List ℕ) → Option (List ℕ) → Type 0
 Told x (Ok done) old new = IsAnswered x × Appends old new (words_of x.order x.replies)
 Told x (Err fault) old new = (written : List ℕ) × IsBegun x written × Appends old new written
 
 -- The controller is given what an order asks, and the answer is written.
-pub record Answers {A R T : Type 0} (honest : R → Type 0) (life : R → Life) (failed sectors : R → ℕ) (order : Order A) (result : Result T Unsent) (old new : Option (List ℕ)) (before after : ControllerModel R) : Type 0 where
+pub record AnswerSpec {A R T : Type 0} (honest : R → Type 0) (trace : R → Trace) (failed sectors : R → ℕ) (order : Order A) (result : Result T OutputError) (old new : Option (List ℕ)) (before after : ControllerModel R) : Type 0 where
   pub replies : List Reply
-  pub given : AreTurns honest life failed sectors (events_of order replies) replies before after
+  pub given : AreAnsweredEvents honest trace failed sectors (events_of order replies) replies before after
   pub tells : Told (record { order = order; replies = replies }) result old new
 
 -- ---- the text
 
 -- How a conversation ends, with this rest of its text, and with an answer of which this is written, if one is broken off.
-abbrev pub Closes : {A : Type 0} → Result Ended Stop → Bool → Option (List ℕ) → List (Exchange A) → List ℕ → Type 0
-Closes (Ok ended) broken rest begun written = (ended ≡ ended_by broken) × IfSome rest Ends × (begun ≡ []) × (written ≡ [])
-Closes (Err Deaf) broken rest begun written = (begun ≡ []) × (written ≡ [])
-Closes {A} (Err Mute) broken rest begun written = (last : Exchange A) × (begun ≡ last ∷ []) × IsBegun last written
+abbrev pub EndsConversation : {A : Type 0} → Result ConsoleEnd ConsoleAbort → Bool → Option (List ℕ) → List (Exchange A) → List ℕ → Type 0
+EndsConversation (Ok ended) broken rest begun written = (ended ≡ ended_by broken) × IfSome rest EndsText × (begun ≡ []) × (written ≡ [])
+EndsConversation (Err Input) broken rest begun written = (begun ≡ []) × (written ≡ [])
+EndsConversation {A} (Err Output) broken rest begun written = (last : Exchange A) × (begun ≡ last ∷ []) × IsBegun last written
 
 -- A text is heard and answered in turn: the events that it asks are given, and the words of the answers are written. Over an honest
--- device each stop leaves what stands behind some of these events, and the items handed out are the session's.
-pub record Conversation {R : Type 0} (A : Type 0) (honest : R → Type 0) (life : R → Life) (failed sectors : R → ℕ) (ended : Result Ended Stop) (text old new : Option (List ℕ)) (before after : ControllerModel R) : Type 0 where
+-- device each stop leaves what stands after some of these events, and the items handed out are the session's.
+pub record Conversation {R : Type 0} (A : Type 0) (honest : R → Type 0) (trace : R → Trace) (failed sectors : R → ℕ) (ended : Result ConsoleEnd ConsoleAbort) (text old new : Option (List ℕ)) (before after : ControllerModel R) : Type 0 where
   pub answered : List (Exchange A)
   pub begun : List (Exchange A)
   pub rest : Option (List ℕ)
   pub written : List ℕ
   pub each : All IsAnswered answered
   pub hears : Hears text (answered ++ begun) rest
-  pub given : AreTurns honest life failed sectors (events_in (answered ++ begun)) (replies_in (answered ++ begun)) before after
+  pub given : AreAnsweredEvents honest trace failed sectors (events_in (answered ++ begun)) (replies_in (answered ++ begun)) before after
   pub tells : Appends old new (words_in answered ++ written)
-  pub closes : Closes ended after.journal.broken rest begun written
-  pub passes : before.journal.broken ≡ false → Promises (honest before.journal.rig) (honest after.journal.rig) ((program : List ℕ) → IsAtRestWith (life before.journal.rig) before program
-      → PassesAsSession life (events_in (answered ++ begun)) (replies_in (answered ++ begun)) before.equipment (scene_of program before) (life before.journal.rig) after)
+  pub closes : EndsConversation ended after.journal.broken rest begun written
+  pub passes : before.journal.broken ≡ false → IfHonest (honest before.journal.rig) (honest after.journal.rig) ((program : List ℕ) → IsAtRestWith (trace before.journal.rig) before program
+      → PassesAsSession trace (events_in (answered ++ begun)) (replies_in (answered ++ begun)) before.equipment (program_session_of program before) (trace before.journal.rig) after)
 
 -- ---- the console
 
 -- a fault of power on is told, or a beginning of it
-abbrev pub Refuses : Fault → Result Ended Stop → Option (List ℕ) → Option (List ℕ) → Type 0
-Refuses fault (Ok ended) old new = (ended ≡ Unpowered) × Appends old new (refused_line fault)
-Refuses fault (Err stop) old new = (stop ≡ Mute) × ((n : ℕ) × Appends old new (take n (refused_line fault)))
+abbrev pub RefuseSpec : Fault → Result ConsoleEnd ConsoleAbort → Option (List ℕ) → Option (List ℕ) → Type 0
+RefuseSpec fault (Ok ended) old new = (ended ≡ NotPowered) × Appends old new (refused_line fault)
+RefuseSpec fault (Err stop) old new = (stop ≡ Output) × ((n : ℕ) × Appends old new (take n (refused_line fault)))
 
 -- what comes of power on, and the device that is left
-abbrev pub GoesOn : {R : Type 0} → Type 0 → (R → Type 0) → (R → Life) → (failed sectors : R → ℕ) → PowerOnResult R → Result Ended Stop → R → Option (List ℕ) → Option (List ℕ) → Option (List ℕ) → Type 0
-GoesOn {R} A honest life failed sectors (Ok c) ended left text old new = (after : ControllerModel R) × Conversation A honest life failed sectors ended text old new c after × (left ≡ after.journal.rig)
-GoesOn {R} A honest life failed sectors (Err e) ended left text old new = (left ≡ e.1) × Refuses e.0 ended old new
+abbrev pub ConsoleAfterPowerOn : {R : Type 0} → Type 0 → (R → Type 0) → (R → Trace) → (failed sectors : R → ℕ) → PowerOnResult R → Result ConsoleEnd ConsoleAbort → R → Option (List ℕ) → Option (List ℕ) → Option (List ℕ) → Type 0
+ConsoleAfterPowerOn {R} A honest trace failed sectors (Ok c) ended left text old new = (after : ControllerModel R) × Conversation A honest trace failed sectors ended text old new c after × (left ≡ after.journal.rig)
+ConsoleAfterPowerOn {R} A honest trace failed sectors (Err e) ended left text old new = (left ≡ e.1) × RefuseSpec e.0 ended old new
 
 -- A console over a device: power on, and what comes of it.
-pub record Runs {R : Type 0} (A : Type 0) (sectors failed : R → ℕ) (honest : R → Type 0) (life : R → Life) (settings : Settings) (rig : R) (text old new : Option (List ℕ)) (result : Result Ended Stop × R) : Type 0 where
+pub record ConsoleRunSpec {R : Type 0} (A : Type 0) (sectors failed : R → ℕ) (honest : R → Type 0) (trace : R → Trace) (settings : Settings) (rig : R) (text old new : Option (List ℕ)) (result : Result ConsoleEnd ConsoleAbort × R) : Type 0 where
   pub powered : PowerOnResult R
-  pub starts : PowersOn honest life failed sectors settings rig powered
-  pub goes_on : GoesOn A honest life failed sectors powered result.0 result.1 text old new
+  pub starts : PowerOnSpec honest trace failed sectors settings rig powered
+  pub continues_ticks : ConsoleAfterPowerOn A honest trace failed sectors powered result.0 result.1 text old new
 
 -- the same, with the exit status
-abbrev pub Consoles : {R : Type 0} → Type 0 → (R → ℕ) → (R → ℕ) → (R → Type 0) → (R → Life) → Settings → R → Option (List ℕ) → Option (List ℕ) → Option (List ℕ) → ℕ × R → Type 0
-Consoles A sectors failed honest life settings rig text old new result =
-    (ended : Result Ended Stop) × (result.0 ≡ status_of ended) × Runs A sectors failed honest life settings rig text old new (ended, result.1)
+abbrev pub ConsoleSpec : {R : Type 0} → Type 0 → (R → ℕ) → (R → ℕ) → (R → Type 0) → (R → Trace) → Settings → R → Option (List ℕ) → Option (List ℕ) → Option (List ℕ) → ℕ × R → Type 0
+ConsoleSpec A sectors failed honest trace settings rig text old new result =
+    (ended : Result ConsoleEnd ConsoleAbort) × (result.0 ≡ status_of ended) × ConsoleRunSpec A sectors failed honest trace settings rig text old new (ended, result.1)

@@ -1,11 +1,11 @@
 -- What a text asks, and how it is answered, one order after the other (own).
 use Rattle.std.specs.Prelude.{◌≡◌, ◌≤◌, ◌⊎◌, ℕ, false, List, [], ◌∷◌, ◌++◌, Option, None, Some, length, map, take, flat_map}
 use Rattle.std.specs.List.{AllPass}
-use Rattle.ng_commands.specs.Replies.{goes_on, refused_line, reply_line, tick_line, ticks_line}
+use Rattle.ng_commands.specs.Replies.{continues_ticks, refused_line, reply_line, tick_line, ticks_line}
 use Rattle.ng_session.specs.declared.event.Event.{Event}
 use Rattle.ng_session.specs.declared.event.Event.TheVariants as event
 use Rattle.ng_session.specs.declared.reply.Reply.{Reply}
-use Rattle.ng_dialogue.specs.Orders.{Asks}
+use Rattle.ng_dialogue.specs.Orders.{BeginsWithOrder}
 use Rattle.ng_dialogue.specs.declared.order.Order.{Order}
 use Rattle.ng_dialogue.specs.declared.order.Order.TheVariants.{Give, Ticks, Refuse}
 
@@ -15,7 +15,7 @@ events_of (Give event) replies = event ∷ []
 events_of (Ticks n) replies = map (λ r. event.Tick) replies
 events_of (Refuse fault) replies = []
 
--- the last line of an answer: that of its reply; behind ticks, how many were made; or why there is none
+-- the last line of an answer: that of its reply; after ticks, how many were made; or why there is none
 abbrev pub last_line : {A : Type 0} → Order A → List Reply → List ℕ
 last_line (Give event) replies = flat_map reply_line replies
 last_line (Ticks n) replies = ticks_line (length replies)
@@ -33,13 +33,13 @@ words_of order replies = earlier_lines order replies ++ last_line order replies
 
 -- the replies to at most n ticks: those before the last go on
 abbrev pub GoOnTo : ℕ → List Reply → List Reply → Reply → Type 0
-GoOnTo n replies before last = (replies ≡ before ++ last ∷ []) × AllPass goes_on before × (length replies ≤ n)
+GoOnTo n replies before last = (replies ≡ before ++ last ∷ []) × AllPass continues_ticks before × (length replies ≤ n)
 
 -- the replies to n ticks, which all go on, or to at most n, of which the last ends them
 abbrev pub AreTicks : ℕ → List Reply → Type 0
 AreTicks n replies =
-    (AllPass goes_on replies × (length replies ≡ n))
-    ⊎ ((before : List Reply) × (last : Reply) × GoOnTo n replies before last × (goes_on last ≡ false))
+    (AllPass continues_ticks replies × (length replies ≡ n))
+    ⊎ ((before : List Reply) × (last : Reply) × GoOnTo n replies before last × (continues_ticks last ≡ false))
 
 -- the replies to an order
 abbrev pub AreReplies : {A : Type 0} → Order A → List Reply → Type 0
@@ -55,7 +55,7 @@ pub record Exchange (A : Type 0) : Type 0 where
 abbrev pub IsAnswered : {A : Type 0} → Exchange A → Type 0
 IsAnswered x = AreReplies x.order x.replies
 
--- these lines are written, and a beginning of the line behind them
+-- these lines are written, and a beginning of the line after them
 abbrev pub EndsIn : List ℕ → List ℕ → List ℕ → Type 0
 EndsIn lines line written = (n : ℕ) × (written ≡ lines ++ take n line)
 
@@ -82,7 +82,7 @@ words_in talk = flat_map (λ x. words_of x.order x.replies) talk
 -- a text asks these orders in turn, and the rest follows
 abbrev pub AsksAll : {A : Type 0} → List ℕ → List (Exchange A) → List ℕ → Type 0
 AsksAll text [] rest = rest ≡ text
-AsksAll text (x ∷ talk) rest = (more : List ℕ) × Asks text x.order more × AsksAll more talk rest
+AsksAll text (x ∷ talk) rest = (more : List ℕ) × BeginsWithOrder text x.order more × AsksAll more talk rest
 
 -- the same, where the text is known
 abbrev pub Hears : {A : Type 0} → Option (List ℕ) → List (Exchange A) → Option (List ℕ) → Type 0

@@ -1,9 +1,9 @@
 //! One thing that the console is asked: what it gives the controller, and what it writes of that.
-ghost use Rattle.ng_run.specs.Consoles.{Answers, TicksOn};
+ghost use Rattle.ng_run.specs.Consoles.{AnswerSpec, TickOnSpec};
 
-use ng_commands::goes_on;
+use ng_commands::continues_ticks;
 use ng_core::{Controller, Event};
-use ng_dialogue::{Order, Unsent, tell_refusal, tell_reply, tell_tick, tell_ticks};
+use ng_dialogue::{Order, OutputError, tell_refusal, tell_reply, tell_tick, tell_ticks};
 use ng_rig::Rig;
 use std::alloc::Allocator;
 use std::io::Write;
@@ -14,8 +14,8 @@ pub(crate) fn answer<W: Write, R: Rig, A: Allocator + Copy + Drop>(
     writer: &mut W,
     controller: &mut Controller<R, A>,
     order: Order<A>,
-) -> Result<(), Unsent>
-    ensures { Answers R.honest R.life R.failed R.sectors order result (W.contents writer.old) (W.contents writer.new) controller.old controller.new }
+) -> Result<(), OutputError>
+    ensures { AnswerSpec R.honest R.trace R.failed R.sectors order result (W.contents writer.old) (W.contents writer.new) controller.old controller.new }
 {
     match order {
         Order::Give(event) => {
@@ -36,13 +36,13 @@ fn tick_on<W: Write, R: Rig, A: Allocator + Copy + Drop>(
     writer: &mut W,
     controller: &mut Controller<R, A>,
     most: u32,
-) -> Result<u32, Unsent>
-    ensures { TicksOn A R.honest R.life R.failed R.sectors most result (W.contents writer.old) (W.contents writer.new) controller.old controller.new }
+) -> Result<u32, OutputError>
+    ensures { TickOnSpec A R.honest R.trace R.failed R.sectors most result (W.contents writer.old) (W.contents writer.new) controller.old controller.new }
 {
     for made in 0..most {
         let reply = controller.on(Event::Tick);
         tell_tick(alloc, writer, &reply)?;
-        if !goes_on(&reply) {
+        if !continues_ticks(&reply) {
             return Ok(made + 1);
         }
     }

@@ -1,8 +1,8 @@
 //! A console from power on to its exit status.
 ghost use Rattle.std.specs.Prelude.{◌≤◌};
-ghost use Rattle.ng_run.specs.Consoles.{Consoles, Refuses, Runs};
+ghost use Rattle.ng_run.specs.Consoles.{ConsoleSpec, RefuseSpec, ConsoleRunSpec};
 
-use crate::ending::{Ended, Stop, status};
+use crate::ending::{ConsoleAbort, ConsoleEnd, status};
 use crate::talking::talk;
 use ng_core::power_on;
 use ng_dialogue::tell_refusal;
@@ -18,7 +18,7 @@ use std::io::{Read, Write};
 /// A line that is no command is refused, and so is what the controller refuses: the console goes on. 0: all is answered. 2: all is
 /// answered, and a call of the device failed meanwhile; or power on is refused, and that is told; or the reader or the writer failed,
 /// or memory was wanting for a line of the operator or of an answer, and a beginning of the answers is written. Each line is flushed.
-/// No tick is made behind one whose line can't be written. A tick reads nothing. It takes memory for its line, and where it begins a line
+/// No tick is made after one whose line can't be written. A tick reads nothing. It takes memory for its line, and where it begins a line
 /// of the program: it is refused by M1 where that finds none.
 pub fn console<I: Read, W: Write, R: Rig, A: Allocator + Copy + Drop>(
     alloc: A,
@@ -28,7 +28,7 @@ pub fn console<I: Read, W: Write, R: Rig, A: Allocator + Copy + Drop>(
     settings: Settings,
 ) -> (u8, R)
     ensures range { result.0 ≤ 2 }
-    ensures console { Consoles A R.sectors R.failed R.honest R.life settings rig (I.remaining reader.old) (W.contents writer.old) (W.contents writer.new) result }
+    ensures console { ConsoleSpec A R.sectors R.failed R.honest R.trace settings rig (I.remaining reader.old) (W.contents writer.old) (W.contents writer.new) result }
 {
     let (ended, rig) = run(alloc, reader, writer, rig, settings);
     (status(&ended), rig)
@@ -41,8 +41,8 @@ fn run<I: Read, W: Write, R: Rig, A: Allocator + Copy + Drop>(
     writer: &mut W,
     rig: R,
     settings: Settings,
-) -> (Result<Ended, Stop>, R)
-    ensures { Runs A R.sectors R.failed R.honest R.life settings rig (I.remaining reader.old) (W.contents writer.old) (W.contents writer.new) result }
+) -> (Result<ConsoleEnd, ConsoleAbort>, R)
+    ensures { ConsoleRunSpec A R.sectors R.failed R.honest R.trace settings rig (I.remaining reader.old) (W.contents writer.old) (W.contents writer.new) result }
 {
     match power_on(alloc, rig, settings) {
         Ok(controller) => {
@@ -59,11 +59,11 @@ fn refuse<W: Write, A: Allocator + Copy + Drop>(
     alloc: A,
     writer: &mut W,
     fault: Fault,
-) -> Result<Ended, Stop>
-    ensures { Refuses fault result (W.contents writer.old) (W.contents writer.new) }
+) -> Result<ConsoleEnd, ConsoleAbort>
+    ensures { RefuseSpec fault result (W.contents writer.old) (W.contents writer.new) }
 {
     match tell_refusal(alloc, writer, fault) {
-        Ok(()) => Ok(Ended::Unpowered),
-        Err(_) => Err(Stop::Mute),
+        Ok(()) => Ok(ConsoleEnd::NotPowered),
+        Err(_) => Err(ConsoleAbort::Output),
     }
 }

@@ -5,7 +5,7 @@ ghost use Rattle.ng_run.specs.Consoles.{Conversation};
 ghost use Rattle.ng_run.specs.Endings.{ended_by};
 
 use crate::answering::answer;
-use crate::ending::{Ended, Stop, ended_by};
+use crate::ending::{ConsoleAbort, ConsoleEnd, ended_by};
 use ng_core::Controller;
 use ng_dialogue::{Input, next_order};
 use ng_rig::Rig;
@@ -18,14 +18,14 @@ pub(crate) fn talk<I: Read, W: Write, R: Rig, A: Allocator + Copy + Drop>(
     reader: &mut I,
     writer: &mut W,
     controller: &mut Controller<R, A>,
-) -> Result<Ended, Stop>
-    ensures { Conversation A R.honest R.life R.failed R.sectors result (I.remaining reader.old) (W.contents writer.old) (W.contents writer.new) controller.old controller.new }
+) -> Result<ConsoleEnd, ConsoleAbort>
+    ensures { Conversation A R.honest R.trace R.failed R.sectors result (I.remaining reader.old) (W.contents writer.old) (W.contents writer.new) controller.old controller.new }
 {
     let mut input = Input::new();
     talk_on(alloc, &mut input, reader, writer, controller)
 }
 
-/// The same behind what was read before. The end of the text is final: where it was found before, nothing is read, nothing is written
+/// The same after what was read before. The end of the text is final: where it was found before, nothing is read, nothing is written
 /// and the controller is given nothing.
 fn talk_on<I: Read, W: Write, R: Rig, A: Allocator + Copy + Drop>(
     alloc: A,
@@ -33,8 +33,8 @@ fn talk_on<I: Read, W: Write, R: Rig, A: Allocator + Copy + Drop>(
     reader: &mut I,
     writer: &mut W,
     controller: &mut Controller<R, A>,
-) -> Result<Ended, Stop>
-    ensures talk { Conversation A R.honest R.life R.failed R.sectors result (text_left input.old (I.remaining reader.old)) (W.contents writer.old) (W.contents writer.new) controller.old controller.new }
+) -> Result<ConsoleEnd, ConsoleAbort>
+    ensures talk { Conversation A R.honest R.trace R.failed R.sectors result (text_left input.old (I.remaining reader.old)) (W.contents writer.old) (W.contents writer.new) controller.old controller.new }
     ensures holds { EndHolds input.old (I.remaining reader.old) → EndHolds input.new (I.remaining reader.new) }
     ensures last { input.old.ended ≡ true → (result ≡ Ok (ended_by controller.old.journal.broken)) × (reader.new ≡ reader.old) × (writer.new ≡ writer.old) × (controller.new ≡ controller.old) }
 {
@@ -42,11 +42,11 @@ fn talk_on<I: Read, W: Write, R: Rig, A: Allocator + Copy + Drop>(
         match next_order(alloc, input, reader) {
             Ok(Some(order)) => match answer(alloc, writer, controller, order) {
                 Ok(()) => {}
-                Err(_) => return Err(Stop::Mute),
+                Err(_) => return Err(ConsoleAbort::Output),
             },
             Ok(None) => return Ok(ended_by(controller.broken())),
-            Err(_) => return Err(Stop::Deaf),
+            Err(_) => return Err(ConsoleAbort::Input),
         }
     }
-    Err(Stop::Deaf)
+    Err(ConsoleAbort::Input)
 }

@@ -69,7 +69,7 @@ fn place_of(wanted: &[&str], text: &[u8]) -> usize {
     wanted.len()
 }
 
-/// That move over a device that fails behind so many calls: the place of what is written, the status, and the failures.
+/// That move over a device that fails after so many calls: the place of what is written, the status, and the failures.
 fn moved_over_failing(alloc: Global, calls: u64) -> Result<(usize, u8, u64), AllocError> {
     let rig = FailRig::new(formatted(alloc)?, calls);
     let (status, text, rig) = answered(alloc, MOVE, rig);
@@ -149,7 +149,7 @@ impl Write for Full {
 const DRIPPING: &str = "status\nmdi G0 X0.001\ntick 9\nquit";
 
 /// What is written of them where so many reads succeed.
-fn text_behind(reads: usize) -> &'static str {
+fn text_after(reads: usize) -> &'static str {
     if reads < 7 {
         ""
     } else if reads < 21 {
@@ -161,7 +161,7 @@ fn text_behind(reads: usize) -> &'static str {
     }
 }
 
-/// A console whose reader fails behind so many reads: its status, and whether what was asked before is answered.
+/// A console whose reader fails after so many reads: its status, and whether what was asked before is answered.
 fn dripped(alloc: Global, reads: usize) -> Result<(u8, bool), AllocError> {
     let mut reader = Drip {
         bytes: DRIPPING.as_bytes(),
@@ -170,7 +170,7 @@ fn dripped(alloc: Global, reads: usize) -> Result<(u8, bool), AllocError> {
     let mut text = Vec::new(alloc);
     let rig = formatted(alloc)?;
     let (status, _) = console(alloc, &mut reader, &mut text, rig, Settings::standard());
-    Ok((status, text.as_slice() == text_behind(reads).as_bytes()))
+    Ok((status, text.as_slice() == text_after(reads).as_bytes()))
 }
 
 /// The reader fails in mid-stream: what was asked before is answered whole, and the status is 2.
@@ -178,7 +178,7 @@ fn dripped(alloc: Global, reads: usize) -> Result<(u8, bool), AllocError> {
 fn ends_where_the_reader_fails(rt: HostRuntime) -> Result<(), Fail> {
     for reads in 0..60 {
         let (status, is_told) = dripped(rt.alloc(), reads)?;
-        // the end behind the last line, which lacks its newline, is read too
+        // the end after the last line, which lacks its newline, is read too
         assert_eq!(rt; (status == 2, is_told), (reads < 33, true), "{reads}");
     }
     Ok(())
@@ -239,10 +239,10 @@ fn ends_where_the_writer_fails(rt: HostRuntime) -> Result<(), Fail> {
 /// A program of two moves, of one pulse and of two, is stored and run.
 const TWO_MOVES: &str = "load 23\nG0 X0.001\nG0 X0.003\nM2\nstart\ntick 100\n";
 
-/// What is written of that up to the line of the second move: 13 bytes of `load` and `start`, and 7 behind each move.
+/// What is written of that up to the line of the second move: 13 bytes of `load` and `start`, and 7 after each move.
 const BOTH_DONE: &str = "done 1\ngoing\ndone 2\ndone 3\n";
 
-/// What the status tells once power is on again, behind the first move and behind the second.
+/// What the status tells once power is on again, after the first move and after the second.
 const BEHIND_MOVES: &[&str] = &[
     "status entries 2 place 10 at 0.001000 0.000000 0.000000 known half none idle\n",
     "status entries 3 place 20 at 0.003000 0.000000 0.000000 known half none idle\n",
@@ -266,9 +266,9 @@ fn two_moves_in_room(
     ))
 }
 
-/// The writer fails in the line of a move that is done: no tick is made behind it, so the machine stands behind that move.
+/// The writer fails in the line of a move that is done: no tick is made after it, so the machine stands after that move.
 #[test]
-fn makes_no_tick_behind_a_line_that_is_not_written(rt: HostRuntime) -> Result<(), Fail> {
+fn makes_no_tick_after_a_line_that_is_not_written(rt: HostRuntime) -> Result<(), Fail> {
     for room in 13..27 {
         let found = two_moves_in_room(rt.alloc(), room)?;
         let (items, moves) = if room < 20 { (1, 0) } else { (3, 1) };
@@ -308,7 +308,7 @@ fn answered_from_heap(
     Ok((status, text.as_slice() == wanted.as_bytes()))
 }
 
-/// A program of so many empty lines behind the command that loads it, and the status behind that.
+/// A program of so many empty lines after the command that loads it, and the status after that.
 fn long_program(alloc: Global, command: &[u8], length: usize) -> Result<Vec<u8>, AllocError> {
     let mut lines = Vec::from_slice(alloc, command)?;
     lines.resize(command.len().saturating_add(length), b'\n')?;

@@ -1,5 +1,5 @@
 use linked_list_allocator::LocalHeap;
-use ng_canon::{Item, Outputs, Pulse, Step};
+use ng_canon::{AxisStep, Item, Outputs, Pulse};
 use ng_core::{Condition, Controller, Event, HalfShown, Reply, Source, Status, Text, power_on};
 use ng_journal::format;
 use ng_num::{Fault, Point};
@@ -56,7 +56,7 @@ pub type Shown = (u64, u64, i64, bool, Option<HalfShown>, Condition);
 /// Which of some events is the first with another reply than the wanted one, and that reply; none where each reply is as wanted.
 pub type Astray = Option<(usize, Option<Told>)>;
 
-/// Events with the replies to them, the status behind the last, and all items that were handed out.
+/// Events with the replies to them, the status after the last, and all items that were handed out.
 struct Job {
     name: &'static str,
     orders: &'static [(Order, Told)],
@@ -199,15 +199,15 @@ fn told_of(reply: Reply) -> Option<Told> {
 
 fn item_of(given: Given) -> Item {
     let (x, period_us) = match given {
-        Given::Forward(period_us) => (Step::Forward, period_us),
-        Given::Backward(period_us) => (Step::Backward, period_us),
+        Given::Forward(period_us) => (AxisStep::Forward, period_us),
+        Given::Backward(period_us) => (AxisStep::Backward, period_us),
         Given::Wait(us) => return Item::Dwell { us },
         Given::Off => return Item::Switch(Outputs::fresh()),
     };
     Item::Pulse(Pulse {
         x,
-        y: Step::Still,
-        z: Step::Still,
+        y: AxisStep::Still,
+        z: AxisStep::Still,
         period_us,
     })
 }
@@ -235,14 +235,14 @@ fn shown_of(status: Status) -> Option<Shown> {
         entries,
         place,
         point,
-        place_known,
+        point_known,
         half,
         condition,
     } = status;
     if point.y.nm() != 0 || point.z.nm() != 0 {
         return None;
     }
-    Some((entries, place, point.x.nm(), place_known, half, condition))
+    Some((entries, place, point.x.nm(), point_known, half, condition))
 }
 
 /// What the status of a controller shows.
@@ -291,8 +291,8 @@ pub fn first_astray<R: Rig, A: Allocator + Copy + Drop>(
     Ok(None)
 }
 
-/// Gives the events one by one: the first with another reply, what the status shows behind the last, and the device then.
-pub fn behind<R: Rig, A: Allocator + Copy + Drop>(
+/// Gives the events one by one: the first with another reply, what the status shows after the last, and the device then.
+pub fn after_orders<R: Rig, A: Allocator + Copy + Drop>(
     alloc: A,
     controller: Controller<R, A>,
     orders: &[(Order, Told)],
@@ -328,12 +328,12 @@ fn played<A: Allocator + Copy + Drop>(
     alloc: A,
     job: &Job,
 ) -> Result<(Astray, Option<Shown>, bool), Fault> {
-    let (astray, shown, rig) = behind(alloc, fresh(alloc)?, job.orders);
+    let (astray, shown, rig) = after_orders(alloc, fresh(alloc)?, job.orders);
     Ok((astray?, shown, has_given(&rig, job.given)?))
 }
 
 /// Gives the events as one list: whether the replies are told, what the status shows then, and the device.
-fn behind_list<A: Allocator + Copy + Drop>(
+fn after_list<A: Allocator + Copy + Drop>(
     controller: Controller<MemoryRig<A>, A>,
     events: &[Event<A>],
     orders: &[(Order, Told)],
@@ -352,7 +352,7 @@ fn run_whole<A: Allocator + Copy + Drop>(
     job: &Job,
 ) -> Result<(bool, Option<Shown>, bool), Fault> {
     let events = events_of(alloc, job.orders)?;
-    let (are_told, shown, rig) = behind_list(fresh(alloc)?, events.as_slice(), job.orders);
+    let (are_told, shown, rig) = after_list(fresh(alloc)?, events.as_slice(), job.orders);
     Ok((are_told?, shown, has_given(&rig, job.given)?))
 }
 
@@ -385,8 +385,8 @@ fn jobs_as_a_list(rt: HostRuntime) -> Result<(), Fail> {
 /// A move of the operator that is begun, and the tick that opens its segment.
 const MOVE: &[(Order, Told)] = &[(Order::Mdi("G0 X0.005"), Told::Begun), OPENED];
 
-/// The device behind the first n of these events.
-pub fn device_behind<A: Allocator + Copy + Drop>(
+/// The device after the first n of these events.
+pub fn device_after<A: Allocator + Copy + Drop>(
     alloc: A,
     orders: &[(Order, Told)],
 ) -> Result<MemoryRig<A>, Fault> {
@@ -397,7 +397,7 @@ pub fn device_behind<A: Allocator + Copy + Drop>(
     Ok(rig)
 }
 
-/// What the status shows once a device is powered on anew, after it was stopped behind so many of its calls with this many of the
+/// What the status shows once a device is powered on anew, after it was stopped after so many of its calls with this many of the
 /// unsynced writes of each sector kept.
 pub fn shown_after<A: Allocator + Copy + Drop>(
     alloc: A,
@@ -411,7 +411,7 @@ pub fn shown_after<A: Allocator + Copy + Drop>(
     Ok(shown)
 }
 
-/// Power is cut behind so many of the calls that a tick makes to open a segment (a write, a sync), with none of the unsynced writes kept
+/// Power is cut after so many of the calls that a tick makes to open a segment (a write, a sync), with none of the unsynced writes kept
 /// or with all of them: whether its block is then half-done, with nothing known of where the machine stands.
 const CUTS: &[(usize, &[usize], bool)] = &[
     (0, &[], false),
@@ -427,10 +427,10 @@ fn power_is_cut_while_a_segment_is_opened(rt: HostRuntime) -> Result<(), Fail> {
         source: Source::Mdi,
         index: 0,
     };
-    let Ok(before) = device_behind(rt.alloc(), &MOVE[..1]) else {
+    let Ok(before) = device_after(rt.alloc(), &MOVE[..1]) else {
         panic!(rt; "no device before")
     };
-    let Ok(rig) = device_behind(rt.alloc(), MOVE) else {
+    let Ok(rig) = device_after(rt.alloc(), MOVE) else {
         panic!(rt; "no device")
     };
     for (calls, keep, is_open) in CUTS {
@@ -458,7 +458,7 @@ fn failed_once<A: Allocator + Copy + Drop>(
 ) -> Result<(Astray, Option<Shown>, Option<Shown>), Fault> {
     let calls = calls_of_power_on(alloc, &rig)?;
     let controller = started(alloc, FailRig::new(rig, calls))?;
-    let (astray, broken, rig) = behind(alloc, controller, orders);
+    let (astray, broken, rig) = after_orders(alloc, controller, orders);
     let anew = shown_after(alloc, &rig.into_inner(), usize::MAX, &[])?;
     Ok((astray?, broken, anew))
 }
@@ -614,7 +614,7 @@ pub fn left_by<A: Allocator + Copy + Drop>(
     rig: MemoryRig<A>,
     orders: &[(Order, Told)],
 ) -> Result<MemoryRig<A>, Fault> {
-    let (astray, _, rig) = behind(alloc, started(alloc, rig)?, orders);
+    let (astray, _, rig) = after_orders(alloc, started(alloc, rig)?, orders);
     match astray? {
         None => Ok(rig),
         Some(_) => Err(Fault::Broken),
@@ -631,7 +631,7 @@ fn gone_on<A: Allocator + Copy + Drop>(
     alloc: A,
     given: &[Given],
 ) -> Result<(Astray, Option<Shown>, bool), Fault> {
-    let (astray, shown, rig) = behind(alloc, started(alloc, cut(alloc)?)?, GOING_ON);
+    let (astray, shown, rig) = after_orders(alloc, started(alloc, cut(alloc)?)?, GOING_ON);
     Ok((astray?, shown, has_given(&rig, given)?))
 }
 
@@ -670,7 +670,7 @@ fn given_up<A: Allocator + Copy + Drop, B: Allocator + Copy + Drop>(
     heap: A,
     alloc: B,
 ) -> Result<(Astray, Option<Shown>), Fault> {
-    let (astray, shown, rig) = behind(heap, started(heap, cut(alloc)?)?, GIVEN_UP);
+    let (astray, shown, rig) = after_orders(heap, started(heap, cut(alloc)?)?, GIVEN_UP);
     drop(rig);
     Ok((astray?, shown))
 }

@@ -7,7 +7,7 @@ use std::alloc::{AllocError, Global};
 use std::io::{self, ErrorKind, Read};
 use std::test::Fail;
 
-/// A reader that gives what it has, then no byte, and fails where it is read behind that.
+/// A reader that gives what it has, then no byte, and fails where it is read after that.
 #[derive(Drop)]
 struct Once<'a> {
     bytes: &'a [u8],
@@ -53,7 +53,7 @@ fn answered(alloc: Global, lines: &str, wanted: &str) -> Result<(u8, bool), Allo
 }
 
 #[test]
-fn the_reader_is_not_read_behind_its_end(rt: HostRuntime) -> Result<(), Fail> {
+fn the_reader_is_not_read_after_its_end(rt: HostRuntime) -> Result<(), Fail> {
     for (lines, wanted) in TEXTS {
         assert_eq!(rt;
             answered(rt.alloc(), lines, wanted)?,

@@ -1,7 +1,7 @@
 //! Entries of an operator as records of the log: what a cut of power leaves of a record, and of a log that is full.
 use crate::controller::{
-    Astray, DONE_1, DONE_2, MOVED, OPENED, Order, Shown, Told, behind, first_astray, formatted,
-    left_by, shown_after, started,
+    Astray, DONE_1, DONE_2, MOVED, OPENED, Order, Shown, Told, after_orders, first_astray,
+    formatted, left_by, shown_after, started,
 };
 use ng_core::{Condition, Controller, HalfShown, Source};
 use ng_num::Fault;
@@ -31,7 +31,7 @@ fn astray_over<A: Allocator + Copy + Drop>(
     rig: MemoryRig<A>,
     orders: &[(Order, Told)],
 ) -> Result<Astray, Fault> {
-    let (astray, _, rig) = behind(alloc, started(alloc, rig)?, orders);
+    let (astray, _, rig) = after_orders(alloc, started(alloc, rig)?, orders);
     drop(rig);
     Ok(astray?)
 }
@@ -80,7 +80,7 @@ const KEPT: &[(Order, Told)] = &[
 ];
 
 /// Which of these events is the first that is answered otherwise, where a cut left these of the three parts.
-fn astray_behind_a_cut<A: Allocator + Copy + Drop>(
+fn astray_after_a_cut<A: Allocator + Copy + Drop>(
     alloc: A,
     parts: [usize; 3],
     orders: &[(Order, Told)],
@@ -96,7 +96,7 @@ fn a_record_stands_where_each_part_is_kept(rt: HostRuntime) -> Result<(), Fail> 
         let parts = [choice % 2, choice / 2 % 2, choice / 4];
         let orders = if choice == 7 { KEPT } else { LOST };
         assert_eq!(rt;
-            astray_behind_a_cut(rt.alloc(), parts, orders),
+            astray_after_a_cut(rt.alloc(), parts, orders),
             Ok(None),
             "{choice}"
         );
@@ -107,7 +107,7 @@ fn a_record_stands_where_each_part_is_kept(rt: HostRuntime) -> Result<(), Fail> 
 /// An entry without a segment: a record of one part.
 const FEED: &[(Order, Told)] = &[(Order::Mdi("F100"), Told::Begun), DONE_1];
 
-/// Makes so many moves behind one entry, there and back by turns: a record as each is opened, and another as it is done. Which of them
+/// Makes so many moves after one entry, there and back by turns: a record as each is opened, and another as it is done. Which of them
 /// is the first that is answered otherwise.
 fn first_move_astray<R: Rig, A: Allocator + Copy + Drop>(
     alloc: A,
@@ -129,7 +129,7 @@ fn first_move_astray<R: Rig, A: Allocator + Copy + Drop>(
     Ok(None)
 }
 
-/// The device behind an entry in sector 686 and 512 moves. The last of them is opened in sector 1709, the log's last.
+/// The device after an entry in sector 686 and 512 moves. The last of them is opened in sector 1709, the log's last.
 fn filled<A: Allocator + Copy + Drop>(alloc: A) -> Result<MemoryRig<A>, Fault> {
     let mut controller = started(alloc, formatted(alloc)?)?;
     let feed = first_astray(alloc, &mut controller, FEED);
@@ -149,7 +149,7 @@ enum Left {
     Done,
 }
 
-/// Power is cut behind so many of the last 94 calls: the last move is opened (a write, a sync) and handed out (a pulse); as the log is
+/// Power is cut after so many of the last 94 calls: the last move is opened (a write, a sync) and handed out (a pulse); as the log is
 /// full, what stands is written first (86 writes, a sync, the header, a sync), and then the entry, into sector 686 (a write, a sync). Of
 /// the unsynced writes of the sectors from 0 on so many are kept.
 const CUTS: &[(usize, &[usize], Left)] = &[
@@ -184,7 +184,7 @@ fn shown_where(left: Left) -> Shown {
 }
 
 #[test]
-fn a_full_log_is_left_behind_a_checkpoint(rt: HostRuntime) -> Result<(), Fail> {
+fn a_full_log_is_left_after_a_checkpoint(rt: HostRuntime) -> Result<(), Fail> {
     let Ok(rig) = filled(rt.alloc()) else {
         panic!(rt; "a move is answered otherwise")
     };

@@ -2,37 +2,37 @@
 use Rattle.std.proofs.Common.{◌≡◌, ◌≢◌, ◌≤◌, ◌<◌, ◌+◌, Bool, true, not, ◌&&◌, List, [], ◌∷◌, Option, None, Some, refl, sym, ◌∙◌, ap, subst, arith}
 use Rattle.std.specs.Option.{is_none, option_map}
 use Rattle.std.specs.Prelude.{unwrap_or}
-use Rattle.ng_layout.specs.Stored.{HalfDone, Saved}
+use Rattle.ng_layout.specs.Stored.{HalfModel, StoredModel}
 use Rattle.ng_canon.specs.declared.geometry.Geometry.{Geometry}
 use Rattle.ng_canon.specs.declared.segment.Segment.{Segment}
-use Rattle.ng_layout.specs.Storable.{CanWait, IsStorable}
-use Rattle.ng_session.specs.Session.{Sitting, behind_block, committed_on, opened_on, next_opened}
-use Rattle.ng_session.specs.Kept.{Prepared, block_of, IsNext, IsReady, IsBeforeBlock, IsReadyOn, IsKept}
+use Rattle.ng_layout.specs.Storable.{IsStorableHalf, IsStorable}
+use Rattle.ng_session.specs.Session.{SessionModel, after_current_block, committed_on, opened_on, next_opened}
+use Rattle.ng_session.specs.SessionInvariant.{Prepared, block_of, IsNextEntry, IsReady, IsBeforeBlock, IsReadyOn, IsSessionInvariant}
 use Rattle.ng_session.proofs.Standing.{half_storable}
 use Rattle.ng_session.specs.declared.stage.Approach.{Approach}
 use Rattle.ng_session.specs.declared.stage.Stage.{Stage}
 use Rattle.ng_session.specs.declared.stage.Stage.TheVariants as stage
 
-pub kept_free : (x : Saved) (o : Option Prepared) (runs held half : Bool) → is_none (option_map block_of o) && not runs && not held && half ≡ true → IsKept x None → IsKept x o
+pub kept_free : (x : StoredModel) (o : Option Prepared) (runs held half : Bool) → is_none (option_map block_of o) && not runs && not held && half ≡ true → IsSessionInvariant x None → IsSessionInvariant x o
 kept_free x None runs held half free kept = kept
 kept_free x (Some c) runs held half free kept = cc
 
-ready_on : (x : Saved) (p : Prepared) (g : Stage) → g ≡ stage.OnBlock → IsReady x p → IsReadyOn x p g
+ready_on : (x : StoredModel) (p : Prepared) (g : Stage) → g ≡ stage.OnBlock → IsReady x p → IsReadyOn x p g
 ready_on x p g is r = subst (IsReadyOn x p) (sym is) r
 
 -- a block was begun
-pub kept_ready : (x : Saved) (o : Option Prepared) (p : Prepared) → IsKept x o → p.block.stage ≡ stage.OnBlock → IsReady x p → IsKept x (Some p)
+pub kept_ready : (x : StoredModel) (o : Option Prepared) (p : Prepared) → IsSessionInvariant x o → p.block.stage ≡ stage.OnBlock → IsReady x p → IsSessionInvariant x (Some p)
 kept_ready x o p k is r = record { count = k.count; storable = k.storable; next = ready_on x p p.block.stage is r }
 
 -- one with its approach
-pub kept_again : (x : Saved) (o : Option Prepared) (p : Prepared) (a : Approach) → IsKept x o → p.block.stage ≡ stage.ToApproach a → IsBeforeBlock x p a → IsKept x (Some p)
+pub kept_again : (x : StoredModel) (o : Option Prepared) (p : Prepared) (a : Approach) → IsSessionInvariant x o → p.block.stage ≡ stage.ToApproach a → IsBeforeBlock x p a → IsSessionInvariant x (Some p)
 kept_again x o p a k is r = record { count = k.count; storable = k.storable; next = subst (IsReadyOn x p) (sym is) r }
 
-some_is : {x y : Saved} → Some x ≡ Some y → x ≡ y
-some_is {x} {y} e = ap (λ (o : Option Saved). unwrap_or o x) e
+some_is : {x y : StoredModel} → Some x ≡ Some y → x ≡ y
+some_is {x} {y} e = ap (λ (o : Option StoredModel). unwrap_or o x) e
 
 -- something of the block is opened
-opened_ready : (geometry : Geometry) (x : Saved) (half : HalfDone) (p : Prepared) (g : Stage) → p.block.stage ≡ g → IsReadyOn x p g
+opened_ready : (geometry : Geometry) (x : StoredModel) (half : HalfModel) (p : Prepared) (g : Stage) → p.block.stage ≡ g → IsReadyOn x p g
     → IsReadyOn (record x { half = Some half }) (record p { block = opened_on geometry p.block g }) (opened_on geometry p.block g).stage
 opened_ready geometry x half p (stage.ToApproach a) is r = record {
   between = r.between;
@@ -56,7 +56,7 @@ opened_ready geometry x half p stage.OnBlock is r = by p.block.left
     by [] = subst (IsReadyOn (record x { half = Some half }) p) (sym is) (record { next = record { count = r.next.count; same = r.next.same; storable = r.next.storable }; after_is = r.after_is })
     by (segment ∷ left) = subst (IsReadyOn (record x { half = Some half }) (record p { block = next_opened geometry p.block (segment ∷ left) })) (sym is) (record { next = record { count = r.next.count; same = r.next.same; storable = r.next.storable }; after_is = r.after_is })
 
-pub kept_open : (geometry : Geometry) (x : Saved) (half : HalfDone) (p r : Prepared) → IsKept x (Some p) → CanWait half → r ≡ record p { block = opened_on geometry p.block p.block.stage } → IsKept (record x { half = Some half }) (Some r)
+pub kept_open : (geometry : Geometry) (x : StoredModel) (half : HalfModel) (p r : Prepared) → IsSessionInvariant x (Some p) → IsStorableHalf half → r ≡ record p { block = opened_on geometry p.block p.block.stage } → IsSessionInvariant (record x { half = Some half }) (Some r)
 kept_open geometry x half p r k waits is = record {
   count = k.count;
   storable = half_storable x half k.storable waits;
@@ -64,27 +64,27 @@ kept_open geometry x half p r k waits is = record {
 }
 
 -- a session with no block
-pub kept_report : (x y : Saved) (o : Option Prepared) → option_map block_of o ≡ None → y.entries ≤ 1_000_000_000_000 → IsStorable y → IsKept y o
+pub kept_report : (x y : StoredModel) (o : Option Prepared) → option_map block_of o ≡ None → y.entries ≤ 1_000_000_000_000 → IsStorable y → IsSessionInvariant y o
 kept_report x y None none count storable = record { count = count; storable = storable; next = tt }
 kept_report x y (Some p) none count storable = cc
 
 -- the approach is committed
-pub kept_between : (x between : Saved) (p r : Prepared) (a : Approach) → x.entries < 1_000_000_000_000 → IsBeforeBlock x p a → p.approached ≡ Some between → r.after ≡ p.after → behind_block between r.block ≡ behind_block between p.block
-    → r.block.stage ≡ stage.OnBlock → IsKept between (Some r)
+pub kept_between : (x between : StoredModel) (p r : Prepared) (a : Approach) → x.entries < 1_000_000_000_000 → IsBeforeBlock x p a → p.approached ≡ Some between → r.after ≡ p.after → after_current_block between r.block ≡ after_current_block between p.block
+    → r.block.stage ≡ stage.OnBlock → IsSessionInvariant between (Some r)
 kept_between x between p r a count k is after same on =
     let there : k.between ≡ between = some_is (sym k.held ∙ is) in
-    let more : between.entries ≡ x.entries + 1 = ap (λ (y : Saved). y.entries) (sym there) ∙ k.first.count in
+    let more : between.entries ≡ x.entries + 1 = ap (λ (y : StoredModel). y.entries) (sym there) ∙ k.first.count in
     record {
       count = omega (arith, count, more);
       storable = subst IsStorable there k.first.storable;
       next = ready_on between r r.block.stage on (record {
-        next = subst (IsNext between) (sym after) (subst (λ (y : Saved). IsNext y p.after) there k.second);
-        after_is = after ∙ subst (λ (y : Saved). p.after ≡ behind_block y p.block) there k.after_is ∙ sym same;
+        next = subst (IsNextEntry between) (sym after) (subst (λ (y : StoredModel). IsNextEntry y p.after) there k.second);
+        after_is = after ∙ subst (λ (y : StoredModel). p.after ≡ after_current_block y p.block) there k.after_is ∙ sym same;
       });
     }
 
 -- what comes next to be stored
-pub next_is : (s : Sitting) (p : Prepared) (g : Stage) (y : Saved) → g ≡ p.block.stage → IsReadyOn s.stored p g → (g ≡ stage.OnBlock → y ≡ p.after) → ((between : Saved) → p.approached ≡ Some between → g ≢ stage.OnBlock → y ≡ between)
+pub next_is : (s : SessionModel) (p : Prepared) (g : Stage) (y : StoredModel) → g ≡ p.block.stage → IsReadyOn s.stored p g → (g ≡ stage.OnBlock → y ≡ p.after) → ((between : StoredModel) → p.approached ≡ Some between → g ≢ stage.OnBlock → y ≡ between)
     → y ≡ (committed_on s p.block g).stored
 next_is s p (stage.ToApproach a) y is r on way = way r.between r.held (λ (e : stage.ToApproach a ≡ stage.OnBlock). cc) ∙ r.between_is
 next_is s p (stage.OnApproach a) y is r on way = way r.between r.held (λ (e : stage.OnApproach a ≡ stage.OnBlock). cc) ∙ r.between_is

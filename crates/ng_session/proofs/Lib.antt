@@ -5,7 +5,6 @@ pub mod Tying
 pub mod Cutting
 pub mod Living
 pub mod Keeping
-pub mod LinesBehind
 pub mod Limits
 pub mod Standing
 pub mod Refusing

@@ -15,18 +15,18 @@ use Rattle.ng_canon.specs.declared.outputs.Spindle.TheVariants.{Stopped}
 use Rattle.ng_modal.specs.Accepted.{slot_on, IsSlot, IsFromZero, IsAccepted}
 use Rattle.ng_modal.specs.declared.asks.Coolant.{Coolant}
 use Rattle.ng_modal.specs.declared.asks.Coolant.TheVariants.{Mist, Flood, Off}
-use Rattle.ng_modal.specs.declared.asks.Stop.{Stop as StopWord}
+use Rattle.ng_modal.specs.declared.asks.StopWord.{StopWord}
 use Rattle.ng_modal.specs.declared.block.Block.{Block}
-use Rattle.ng_modal.specs.declared.modes.Modes.{Modes}
-use Rattle.ng_modal.specs.declared.modes.FeedMode.{FeedMode}
-use Rattle.ng_modal.specs.declared.modes.FeedMode.TheVariants.{PerMinute, InverseTime}
+use Rattle.ng_state.specs.declared.modes.Modes.{Modes}
+use Rattle.ng_state.specs.declared.modes.FeedMode.{FeedMode}
+use Rattle.ng_state.specs.declared.modes.FeedMode.TheVariants.{PerMinute, InverseTime}
 use Rattle.ng_block.specs.Blocks.{feed_by, feed_word, feed_of, feed_mode_after}
 use Rattle.ng_block.specs.Ends.{ends}
-use Rattle.ng_block.specs.Order.{speed_outputs, selected_outputs, changed_outputs, spindle_outputs, coolant_outputs, stop_outputs, outputs_behind}
+use Rattle.ng_block.specs.Order.{speed_outputs, selected_outputs, changed_outputs, spindle_outputs, coolant_outputs, stop_outputs, outputs_after}
 use Rattle.ng_block.specs.Steps.{order}
 use Rattle.ng_block.specs.Tasks.{tasks_of}
-use Rattle.ng_block.specs.declared.machine.Machine.{Machine}
-use Rattle.ng_layout.specs.Storable.{CanStand}
+use Rattle.ng_state.specs.declared.machine.Machine.{Machine}
+use Rattle.ng_layout.specs.Storable.{IsStorableMachine}
 
 -- ---- results
 
@@ -117,7 +117,7 @@ held-near false slot before low near = tt
 held-near true None before low near = low
 held-near true (Some n) before low near = near
 
-outputs-fit : (b : Block) (m : Modes) (mode : FeedMode) (slots : ℕ) (o : Outputs) → slots ≤ 64 → IsAccepted b m slots → Fits o → Fits (outputs_behind (tasks_of b mode o) o order)
+outputs-fit : (b : Block) (m : Modes) (mode : FeedMode) (slots : ℕ) (o : Outputs) → slots ≤ 64 → IsAccepted b m slots → Fits o → Fits (outputs_after (tasks_of b mode o) o order)
 outputs-fit b m mode slots o few is fits =
     let slot = slot-near b.values.t slots few is.selected in
     stops b.m.stop _
@@ -126,10 +126,10 @@ outputs-fit b m mode slots o few is fits =
     (changes _ _ (held-near b.m.tool_change (slot_on b.values.t) o.selected_slot fits.selected slot)
     (selects _ _ slot (speeds b.values.s o is.speed fits)))))
 
--- ---- the machine behind a block
+-- ---- the machine after a block
 
-pub block-stands : (b : Block) (m after : Machine) (slots : ℕ) → slots ≤ 64 → IsAccepted b m.modes slots → CanStand m
-    → feed_of b m ≡ Ok after.feed_per_min → after.outputs ≡ outputs_behind (tasks_of b (feed_mode_after b m.modes) m.outputs) m.outputs order → CanStand after
+pub block-stands : (b : Block) (m after : Machine) (slots : ℕ) → slots ≤ 64 → IsAccepted b m.modes slots → IsStorableMachine m
+    → feed_of b m ≡ Ok after.feed_per_min → after.outputs ≡ outputs_after (tasks_of b (feed_mode_after b m.modes) m.outputs) m.outputs order → IsStorableMachine after
 block-stands b m after slots few is can feed outputs =
     let fits : Fits m.outputs = record { speed = can.speed; selected = can.selected; held = can.held } in
     let out : Fits after.outputs = subst Fits (sym outputs) (outputs-fit b m.modes (feed_mode_after b m.modes) slots m.outputs few is fits) in

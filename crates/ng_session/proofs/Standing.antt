@@ -1,4 +1,4 @@
--- What stands behind a line can be stored where what stood before it could be.
+-- What stands after a line can be stored where what stood before it could be.
 use Rattle.std.proofs.Common.{◌≡◌, ℕ, ◌-◌, ◌≤◌, ℤ, Bool, true, false, cond, List, [], ◌∷◌, length, Option, Some, None, Result, Ok, Err, refl, sym, ◌∙◌, ap, subst, arith}
 use Rattle.std.specs.Prelude.{◌&&◌, MatchResult, OnOk, IfSome}
 use Rattle.ng_num.specs.declared.point.Point.{Point}
@@ -7,57 +7,58 @@ use Rattle.std.proofs.lemmas.List.{length-map, length-set}
 use Rattle.std.proofs.lemmas.List.FromFn.{length-enumerate_from}
 use Rattle.ng_num.specs.declared.fault.Fault.{Fault}
 use Rattle.ng_num.specs.declared.fault.Fault.TheVariants.{LineTooLong}
-use Rattle.ng_canon.specs.Text.{Canonical}
+use Rattle.ng_canon.specs.Text.{CanonModel}
 use Rattle.ng_canon.specs.declared.geometry.Geometry.{Geometry}
 use Rattle.ng_words.specs.Grammar.{Piece, is_too_long}
 use Rattle.ng_words.specs.Kinds.{is_deletable}
 use Rattle.ng_words.specs.Lines.{last_comment}
 use Rattle.ng_words.specs.Reading.{read}
-use Rattle.ng_words.specs.declared.start.Kind.{Kind}
+use Rattle.ng_words.specs.declared.start.LineKind.{LineKind}
 use Rattle.ng_params.specs.Table.{with_value}
 use Rattle.ng_params.specs.Changes.{with_changes}
 use Rattle.ng_params.specs.declared.change.Change.{Change}
-use Rattle.ng_expr.specs.Settle.{Settled, settled}
+use Rattle.ng_expr.specs.Settle.{Settled, settled_pieces}
 use Rattle.ng_modal.specs.Accepted.{IsAccepted}
-use Rattle.ng_modal.specs.Check.{checked, first_fault}
+use Rattle.ng_num.specs.Causes.{first_fault}
+use Rattle.ng_modal.specs.Check.{checked}
 use Rattle.ng_modal.specs.declared.block.Block.{Block}
 use Rattle.ng_modal.proofs.AcceptedLemmas.{accepted_by}
 use Rattle.ng_block.specs.Blocks.{feed_of}
 use Rattle.ng_block.specs.Cycles.{kept_of}
-use Rattle.ng_block.specs.Dry.{Terms, idle, deleted, executed_unless_deleted, framed, is_end}
+use Rattle.ng_block.specs.Program.{TermsModel, idle, deleted, executed_unless_deleted, framed, is_end, executed_after, percent_by}
 use Rattle.ng_block.specs.Effects.{Done, lawful, block_done, executed, executed_pieces, executed_values, in_state}
 use Rattle.ng_block.specs.Faults.{path_faults}
-use Rattle.ng_block.specs.Goals.{Goal, goal_of, way_of}
-use Rattle.ng_block.specs.Parts.{executed_behind, percent_by}
+use Rattle.ng_block.specs.Goals.{Goal, goal_of, path_after_bearings}
 use Rattle.ng_block.specs.Remarks.{remark_of}
-use Rattle.ng_block.specs.Setup.{Setup}
+use Rattle.ng_state.specs.State.{StateModel}
 use Rattle.ng_block.specs.declared.effect.Effect.{Effect}
-use Rattle.ng_block.specs.declared.effect.Stop.{Stop}
-use Rattle.ng_block.specs.declared.effect.Stop.TheVariants.{GoesOn}
-use Rattle.ng_layout.specs.Storable.{CanStand, CanWait, IsStorable}
-use Rattle.ng_layout.specs.Stored.{HalfDone, Saved}
+use Rattle.ng_block.specs.declared.effect.ProgramFlow.{ProgramFlow}
+use Rattle.ng_block.specs.declared.effect.ProgramFlow.TheVariants.{GoesOn}
+use Rattle.ng_layout.specs.Limits.{longest_program}
+use Rattle.ng_layout.specs.Storable.{IsStorableMachine, IsStorableHalf, IsStorable}
+use Rattle.ng_layout.specs.Stored.{HalfModel, StoredModel}
 use Rattle.ng_layout.specs.declared.half.Source.{Source}
 use Rattle.ng_layout.specs.declared.half.Source.TheVariants.{Program, Mdi}
 use Rattle.ng_session.specs.Entries.{place_by, place_after, after_block, after_load, reached, after_reference, referenced, after_abandon, abandoned}
-use Rattle.ng_session.specs.Kept.{IsNext}
+use Rattle.ng_session.specs.SessionInvariant.{IsNextEntry}
 use Rattle.ng_session.proofs.Limits.{found, same, block-stands}
 
 -- what a line leads to can stand where what it began with could
-abbrev Keeps : Setup → Result Done Fault → Type 0
-Keeps s does = (done : Done) → does ≡ Ok done → CanStand s.machine → CanStand done.setup.machine
+abbrev Keeps : StateModel → Result Done Fault → Type 0
+Keeps s does = (done : Done) → does ≡ Ok done → IsStorableMachine s.machine → IsStorableMachine done.setup.machine
 
 unless-lawful : {X : Type 0} (o : Option Fault) (answer : Result X Fault) (x : X) → lawful o answer ≡ Ok x → answer ≡ Ok x
 unless-lawful None answer x e = e
 unless-lawful (Some fault) answer x e = absurd (cc e)
 
-feed-found : (b : Block) (s : Setup) (settings : List Change) (tools : List ℤ) (geometry : Geometry) (goal : Goal) → goal_of b settings s tools geometry ≡ Ok goal → feed_of b s.machine ≡ Ok goal.feed_per_min
+feed-found : (b : Block) (s : StateModel) (settings : List Change) (tools : List ℤ) (geometry : Geometry) (goal : Goal) → goal_of b settings s tools geometry ≡ Ok goal → feed_of b s.machine ≡ Ok goal.feed_per_min
 feed-found b s settings tools geometry goal e =
     let feed = found (feed_of b s.machine) _ goal e in
-    let way = found (way_of b settings s tools feed.0 geometry) _ goal feed.2 in
+    let way = found (path_after_bearings b settings s tools feed.0 geometry) _ goal feed.2 in
     let kept = found (kept_of b s.machine) _ goal way.2 in
     feed.1 ∙ ap (λ (g : Goal). Ok g.feed_per_min) (same _ goal kept.2)
 
-values-keep : (s : Setup) (remark : List Canonical) (values : Settled) (tools : List ℤ) (geometry : Geometry) → length tools ≤ 64 → Keeps s (executed_values s remark values tools geometry)
+values-keep : (s : StateModel) (remark : List CanonModel) (values : Settled) (tools : List ℤ) (geometry : Geometry) → length tools ≤ 64 → Keeps s (executed_values s remark values tools geometry)
 unfolding executed_values
 values-keep s remark values tools geometry few done e can =
     let block = found (checked values.words s.machine.modes (length tools)) _ done e in
@@ -65,25 +66,25 @@ values-keep s remark values tools geometry few done e can =
     let accepted : IsAccepted b s.machine.modes (length tools) = accepted_by values.words s.machine.modes (length tools) (omega arith) b (Ok tt) block.1 in
     let goal = found (goal_of b values.settings s tools geometry) _ done block.2 in
     let is : block_done b goal.0 remark s ≡ done = same _ done (unless-lawful (first_fault (path_faults goal.0.path geometry)) _ done goal.2) in
-    subst (λ (d : Done). CanStand d.setup.machine) is
+    subst (λ (d : Done). IsStorableMachine d.setup.machine) is
     (block-stands b s.machine _ (length tools) few accepted can (feed-found b s values.settings tools geometry goal.0 goal.1) refl)
 
-pieces-keep : (s : Setup) (pieces : List Piece) (tools : List ℤ) (geometry : Geometry) → length tools ≤ 64 → Keeps s (executed_pieces s pieces tools geometry)
+pieces-keep : (s : StateModel) (pieces : List Piece) (tools : List ℤ) (geometry : Geometry) → length tools ≤ 64 → Keeps s (executed_pieces s pieces tools geometry)
 unfolding executed_pieces
 pieces-keep s pieces tools geometry few done e can =
-    let values = found (settled pieces s.params) _ done e in
+    let values = found (settled_pieces pieces s.params) _ done e in
     values-keep s (remark_of (last_comment pieces)) values.0 tools geometry few done values.2 can
 
-line-keeps : (s : Setup) (tools : List ℤ) (geometry : Geometry) (text : List ℕ) → length tools ≤ 64 → Keeps s (executed s tools geometry text)
+line-keeps : (s : StateModel) (tools : List ℤ) (geometry : Geometry) (text : List ℕ) → length tools ≤ 64 → Keeps s (executed s tools geometry text)
 unfolding executed
 line-keeps s tools geometry text few done e can =
     let line = found (read text) _ done e in
     pieces-keep s line.0.pieces tools geometry few done line.2 can
 
-idle-keeps : (s : Setup) (stop : Stop) → Keeps s (Ok (idle s stop))
-idle-keeps s stop done e can = subst (λ (d : Done). CanStand d.setup.machine) (same (idle s stop) done e) can
+idle-keeps : (s : StateModel) (stop : ProgramFlow) → Keeps s (Ok (idle s stop))
+idle-keeps s stop done e can = subst (λ (d : Done). IsStorableMachine d.setup.machine) (same (idle s stop) done e) can
 
-alone-keeps : (t : Terms) (s : Setup) (text : List ℕ) → length t.tools ≤ 64 → Keeps s (executed_unless_deleted t s text)
+alone-keeps : (t : TermsModel) (s : StateModel) (text : List ℕ) → length t.tools ≤ 64 → Keeps s (executed_unless_deleted t s text)
 alone-keeps t s text few = by (t.block_delete && is_deletable text)
   where
     long : (b : Bool) → Keeps s (cond b (Err LineTooLong) (Ok (idle s GoesOn)))
@@ -94,39 +95,39 @@ alone-keeps t s text few = by (t.block_delete && is_deletable text)
     by true = long (is_too_long text)
     by false = line-keeps s t.tools t.geometry text few
 
-behind-keeps : (t : Terms) (first : Kind) (s : Setup) (text : List ℕ) → length t.tools ≤ 64 → Keeps s (executed_behind t first s text)
-behind-keeps t first s text few = by (percent_by first text)
+after-keeps : (t : TermsModel) (first : LineKind) (s : StateModel) (text : List ℕ) → length t.tools ≤ 64 → Keeps s (executed_after t first s text)
+after-keeps t first s text few = by (percent_by first text)
   where
-    by : (o : Option Stop) → Keeps s (framed o s (executed_unless_deleted t s text))
+    by : (o : Option ProgramFlow) → Keeps s (framed o s (executed_unless_deleted t s text))
     by None = alone-keeps t s text few
     by (Some stop) = idle-keeps s stop
 
-kept : {T : Type 0} (r : Result T Fault) (s : Setup) (does : Result Done Fault) (done : Done) → Keeps s does
-    → MatchResult r (λ x. does ≡ Ok done) (λ fault. does ≡ Err fault) → OnOk r (CanStand s.machine → CanStand done.setup.machine)
+kept : {T : Type 0} (r : Result T Fault) (s : StateModel) (does : Result Done Fault) (done : Done) → Keeps s does
+    → MatchResult r (λ x. does ≡ Ok done) (λ fault. does ≡ Err fault) → OnOk r (IsStorableMachine s.machine → IsStorableMachine done.setup.machine)
 kept (Ok x) s does done keeps e = keeps done e
 kept (Err fault) s does done keeps e = tt
 
--- a line by itself, and one behind others
-pub alone-stands : {T : Type 0} (r : Result T Fault) (t : Terms) (s : Setup) (text : List ℕ) (done : Done) → length t.tools ≤ 64
-    → MatchResult r (λ x. executed_unless_deleted t s text ≡ Ok done) (λ fault. executed_unless_deleted t s text ≡ Err fault) → OnOk r (CanStand s.machine → CanStand done.setup.machine)
+-- a line by itself, and one after others
+pub alone-stands : {T : Type 0} (r : Result T Fault) (t : TermsModel) (s : StateModel) (text : List ℕ) (done : Done) → length t.tools ≤ 64
+    → MatchResult r (λ x. executed_unless_deleted t s text ≡ Ok done) (λ fault. executed_unless_deleted t s text ≡ Err fault) → OnOk r (IsStorableMachine s.machine → IsStorableMachine done.setup.machine)
 alone-stands r t s text done few = kept r s (executed_unless_deleted t s text) done (alone-keeps t s text few)
 
-pub behind-stands : {T : Type 0} (r : Result T Fault) (t : Terms) (first : Kind) (s : Setup) (text : List ℕ) (done : Done) → length t.tools ≤ 64
-    → MatchResult r (λ x. executed_behind t first s text ≡ Ok done) (λ fault. executed_behind t first s text ≡ Err fault) → OnOk r (CanStand s.machine → CanStand done.setup.machine)
-behind-stands r t first s text done few = kept r s (executed_behind t first s text) done (behind-keeps t first s text few)
+pub after-stands : {T : Type 0} (r : Result T Fault) (t : TermsModel) (first : LineKind) (s : StateModel) (text : List ℕ) (done : Done) → length t.tools ≤ 64
+    → MatchResult r (λ x. executed_after t first s text ≡ Ok done) (λ fault. executed_after t first s text ≡ Err fault) → OnOk r (IsStorableMachine s.machine → IsStorableMachine done.setup.machine)
+after-stands r t first s text done few = kept r s (executed_after t first s text) done (after-keeps t first s text few)
 
 -- a half-done one
-pub again-stands : {T : Type 0} (r : Result T Fault) (s : Setup) (tools : List ℤ) (geometry : Geometry) (text : List ℕ) (done : Done) → length tools ≤ 64
-    → MatchResult r (λ x. executed s tools geometry text ≡ Ok done) (λ fault. executed s tools geometry text ≡ Err fault) → OnOk r (CanStand s.machine → CanStand done.setup.machine)
+pub again-stands : {T : Type 0} (r : Result T Fault) (s : StateModel) (tools : List ℤ) (geometry : Geometry) (text : List ℕ) (done : Done) → length tools ≤ 64
+    → MatchResult r (λ x. executed s tools geometry text ≡ Ok done) (λ fault. executed s tools geometry text ≡ Err fault) → OnOk r (IsStorableMachine s.machine → IsStorableMachine done.setup.machine)
 again-stands r s tools geometry text done few = kept r s (executed s tools geometry text) done (line-keeps s tools geometry text few)
 
--- ---- what is stored behind a block and behind a load
+-- ---- what is stored after a block and after a load
 
 long-after : (table : List ℤ) (changes : List Change) → length (with_changes table changes) ≡ length table
 long-after table [] = refl
 long-after table (c ∷ changes) = long-after (with_value table c.index c.value) changes ∙ length-set table (c.index - 1) c.value
 
-place-within : (next place limit : ℕ) (source : Source) (stop : Stop) → next ≤ limit → place ≤ limit → place_after next place source stop ≤ limit
+place-within : (next place limit : ℕ) (source : Source) (stop : ProgramFlow) → next ≤ limit → place ≤ limit → place_after next place source stop ≤ limit
 place-within next place limit source stop first second = by (is_end stop) source
   where
     by : (t : Bool) (source : Source) → cond t 0 (place_by next place source) ≤ limit
@@ -134,7 +135,7 @@ place-within next place limit source stop first second = by (is_end stop) source
     by false Program = first
     by false Mdi = second
 
-pub next_storable : (x : Saved) (next : ℕ) (source : Source) (e : Effect) → IsStorable x → next ≤ x.length → CanStand e.machine → IsNext x (after_block next x source (in_state x.setup e))
+pub next_storable : (x : StoredModel) (next : ℕ) (source : Source) (e : Effect) → IsStorable x → next ≤ x.length → IsStorableMachine e.machine → IsNextEntry x (after_block next x source (in_state x.setup e))
 next_storable x next source e was within can = record {
   count = refl;
   same = refl;
@@ -147,7 +148,7 @@ next_storable x next source e was within can = record {
   };
 }
 
-pub load_storable : (x : Saved) (length_new : ℕ) → IsStorable x → length_new ≤ 131_072 → IsStorable (after_load x length_new)
+pub load_storable : (x : StoredModel) (length_new : ℕ) → IsStorable x → length_new ≤ longest_program → IsStorable (after_load x length_new)
 load_storable x length_new was short = record {
   table = length-map (enumerate_from 1 x.setup.params) _ ∙ length-enumerate_from 1 x.setup.params ∙ was.table;
   machine = was.machine;
@@ -157,11 +158,11 @@ load_storable x length_new was short = record {
 }
 
 -- with a half-done block besides
-pub half_storable : (x : Saved) (half : HalfDone) → IsStorable x → CanWait half → IsStorable (record x { half = Some half })
+pub half_storable : (x : StoredModel) (half : HalfModel) → IsStorable x → IsStorableHalf half → IsStorable (record x { half = Some half })
 half_storable x half was waits = record { table = was.table; machine = was.machine; half = waits; place = was.place; program = was.program }
 
--- behind an approach
-pub approach_storable : (x : Saved) (half : HalfDone) (point : Point) → IsStorable x → length half.text ≤ 256 → IsNext x (reached x half point)
+-- after an approach
+pub approach_storable : (x : StoredModel) (half : HalfModel) (point : Point) → IsStorable x → length half.text ≤ 256 → IsNextEntry x (reached x half point)
 approach_storable x half point was short = record {
   count = refl;
   same = refl;
@@ -169,19 +170,19 @@ approach_storable x half point was short = record {
 }
 
 -- the machine is known to stand at a point
-pub reference_storable : (x y : Saved) (point : Point) → IsStorable x → y ≡ after_reference x point → IsStorable y
+pub reference_storable : (x y : StoredModel) (point : Point) → IsStorable x → y ≡ after_reference x point → IsStorable y
 reference_storable x y point was is = subst IsStorable (sym is) (by x.half refl)
   where
-    by : (o : Option HalfDone) → x.half ≡ o → IsStorable (referenced x point o)
+    by : (o : Option HalfModel) → x.half ≡ o → IsStorable (referenced x point o)
     by None held = record { table = was.table; machine = record { feed = was.machine.feed; speed = was.machine.speed; selected = was.machine.selected; held = was.machine.held }; half = tt; place = was.place; program = was.program }
     by (Some half) held =
-        let waits : CanWait half = subst (λ (o : Option HalfDone). IfSome o CanWait) held was.half in
+        let waits : IsStorableHalf half = subst (λ (o : Option HalfModel). IfSome o IsStorableHalf) held was.half in
         record { table = was.table; machine = was.machine; half = record { unknown = λ none. let e : false ≡ true = none in cc; text = waits.text }; place = was.place; program = was.program }
 
 -- a half-done block is given up
-pub abandon_storable : (x y : Saved) → IsStorable x → y ≡ after_abandon x → IsStorable y
+pub abandon_storable : (x y : StoredModel) → IsStorable x → y ≡ after_abandon x → IsStorable y
 abandon_storable x y was is = subst IsStorable (sym is) (by x.half)
   where
-    by : (o : Option HalfDone) → IsStorable (abandoned x o)
+    by : (o : Option HalfModel) → IsStorable (abandoned x o)
     by None = was
     by (Some half) = record { table = was.table; machine = record { feed = was.machine.feed; speed = was.machine.speed; selected = was.machine.selected; held = was.machine.held }; half = tt; place = was.place; program = was.program }

@@ -1,4 +1,4 @@
--- What is committed, and what stands behind it (own).
+-- What is committed, and what stands after it (own).
 use Rattle.std.specs.Prelude.{ℕ, ◌+◌, ℤ, List, ◌++◌, take, Bool, false, true, Result, Option, None, Some, unwrap_or, length, if◌then◌else◌}
 use Rattle.std.specs.Option.{is_some}
 use Rattle.ng_num.specs.declared.fault.Fault.{Fault}
@@ -9,19 +9,19 @@ use Rattle.ng_canon.specs.declared.outputs.Outputs.{Outputs}
 use Rattle.ng_canon.specs.declared.outputs.Spindle.TheVariants as spindle
 use Rattle.ng_canon.specs.declared.pace.Pace.TheVariants as pace
 use Rattle.ng_canon.specs.declared.segment.Segment.TheVariants as segment
-use Rattle.ng_cycles.specs.Segments.{behind, line_to}
-use Rattle.ng_cycles.specs.declared.standing.Standing.{Standing as Stance}
+use Rattle.ng_cycles.specs.Segments.{after_segments, line_to}
+use Rattle.ng_cycles.specs.declared.motion_state.MotionState.{MotionState as Stance}
 use Rattle.ng_step.specs.Hands.{hand}
 use Rattle.ng_params.specs.Lasting.{cleared}
-use Rattle.ng_block.specs.Dry.{Terms, executed_in_program, executed_unless_deleted, is_end}
+use Rattle.ng_block.specs.Program.{TermsModel, executed_in_program, executed_unless_deleted, is_end}
 use Rattle.ng_block.specs.Effects.{Done, executed}
-use Rattle.ng_block.specs.Setup.{Setup}
-use Rattle.ng_block.specs.declared.effect.Stop.{Stop}
-use Rattle.ng_block.specs.declared.machine.Machine.{Machine}
-use Rattle.ng_layout.specs.Stored.{HalfDone, Saved}
+use Rattle.ng_state.specs.State.{StateModel}
+use Rattle.ng_block.specs.declared.effect.ProgramFlow.{ProgramFlow}
+use Rattle.ng_state.specs.declared.machine.Machine.{Machine}
+use Rattle.ng_layout.specs.Stored.{HalfModel, StoredModel}
 use Rattle.ng_layout.specs.declared.half.Source.{Source}
 use Rattle.ng_layout.specs.declared.half.Source.TheVariants.{Program, Mdi}
-use Rattle.ng_layout.specs.Programs.{lines_before}
+use Rattle.ng_text.specs.Programs.{lines_before}
 use Rattle.ng_session.specs.declared.stage.Approach.{Approach}
 
 -- the tool table and the geometry: they stay as they are
@@ -38,74 +38,74 @@ pub data Entry : Type 0 where
   Approached : Entry
   Abandoned : Entry
 
-abbrev pub terms_of : Equipment → Bool → Terms
+abbrev pub terms_of : Equipment → Bool → TermsModel
 terms_of equipment block_delete = record { block_delete = block_delete; tools = equipment.tools; geometry = equipment.geometry }
 
-abbrev pub equipment_of : Terms → Equipment
+abbrev pub equipment_of : TermsModel → Equipment
 equipment_of terms = record { tools = terms.tools; geometry = terms.geometry }
 
--- what a line does, or why it is refused: a line of the program is one behind those before its place
-unfoldable pub done_of : Equipment → List ℕ → Saved → Source → List ℕ → Bool → Result Done Fault
+-- what a line does, or why it is refused: a line of the program is one after those before its place
+unfoldable pub done_of : Equipment → List ℕ → StoredModel → Source → List ℕ → Bool → Result Done Fault
 done_of equipment program x Program text block_delete = executed_in_program (terms_of equipment block_delete) (lines_before program x.place) x.setup text
 done_of equipment program x Mdi text block_delete = executed_unless_deleted (terms_of equipment block_delete) x.setup text
 
 -- what a half-done block does from its beginning, or why it is refused: none is deleted and none is a percent line, since it had a segment
-unfoldable pub done_again : Equipment → Saved → List ℕ → Result Done Fault
+unfoldable pub done_again : Equipment → StoredModel → List ℕ → Result Done Fault
 done_again equipment x text = executed x.setup equipment.tools equipment.geometry text
 
--- where the program goes on behind a block: a line of the program goes on at the next one, and the program's end at its beginning
+-- where the program goes on after a block: a line of the program goes on at the next one, and the program's end at its beginning
 abbrev pub place_by : ℕ → ℕ → Source → ℕ
 place_by next place Program = next
 place_by next place Mdi = place
 
-abbrev pub place_after : ℕ → ℕ → Source → Stop → ℕ
+abbrev pub place_after : ℕ → ℕ → Source → ProgramFlow → ℕ
 place_after next place source stop = if is_end stop then 0 else place_by next place source
 
--- what stands behind a block, where the next line of the program begins at this place
-abbrev pub after_block : ℕ → Saved → Source → Done → Saved
+-- what stands after a block, where the next line of the program begins at this place
+abbrev pub after_block : ℕ → StoredModel → Source → Done → StoredModel
 after_block next x source done =
     record { entries = x.entries + 1; setup = done.setup; place = place_after next x.place source done.stop; length = x.length; half = None }
 
--- what stands behind the load of a program of this length
-abbrev pub after_load : Saved → ℕ → Saved
+-- what stands after the load of a program of this length
+abbrev pub after_load : StoredModel → ℕ → StoredModel
 after_load x length =
     record { entries = x.entries + 1; setup = record { params = cleared x.setup.params; machine = x.setup.machine }; place = 0; length = length; half = None }
 
 -- ---- a half-done block
 
 -- how the machine stands before the segment of a number of a block that is begun in a state
-abbrev pub stance_before : Setup → Done → ℕ → Stance
-stance_before setup done n = behind (record { point = setup.machine.point; outputs = done.before }) (take n done.segments)
+abbrev pub stance_before : StateModel → Done → ℕ → Stance
+stance_before setup done n = after_segments (record { point = setup.machine.point; outputs = done.before }) (take n done.segments)
 
 -- what an approach hands out: a switch with the outputs there, then a line at the traverse rate
 abbrev pub hand_approach : Geometry → Approach → List Item
 hand_approach geometry a = hand (segment.Switch a.to.outputs) geometry ++ hand (line_to pace.Traverse a.from a.to.point) geometry
 
 -- the machine stands at a point of the operator's
-abbrev pub placed : Setup → Point → Setup
-placed setup point = record { params = setup.params; machine = record setup.machine { point = point; place_known = true } }
+abbrev pub placed : StateModel → Point → StateModel
+placed setup point = record { params = setup.params; machine = record setup.machine { point = point; point_known = true } }
 
 -- a half-done block whose machine stands at a point
-abbrev pub placed_at : Point → HalfDone → HalfDone
+abbrev pub placed_at : Point → HalfModel → HalfModel
 placed_at point half = record half { at = Some point; opened = None }
 
--- what stands behind a reference: with a half-done block it says where that one's machine stands, and nothing else
-abbrev pub referenced : Saved → Point → Option HalfDone → Saved
+-- what stands after a reference: with a half-done block it says where that one's machine stands, and nothing else
+abbrev pub referenced : StoredModel → Point → Option HalfModel → StoredModel
 referenced x point None = record { entries = x.entries + 1; setup = placed x.setup point; place = x.place; length = x.length; half = None }
 referenced x point (Some half) = record { entries = x.entries + 1; setup = x.setup; place = x.place; length = x.length; half = Some (placed_at point half) }
 
-abbrev pub after_reference : Saved → Point → Saved
+abbrev pub after_reference : StoredModel → Point → StoredModel
 after_reference x point = referenced x point x.half
 
--- what stands behind an approach of a half-done block that ended at a point
-abbrev pub reached : Saved → HalfDone → Point → Saved
+-- what stands after an approach of a half-done block that ended at a point
+abbrev pub reached : StoredModel → HalfModel → Point → StoredModel
 reached x half point = record { entries = x.entries + 1; setup = x.setup; place = x.place; length = x.length; half = Some (placed_at point half) }
 
-abbrev pub reached_by : Saved → Option HalfDone → Point → Saved
+abbrev pub reached_by : StoredModel → Option HalfModel → Point → StoredModel
 reached_by x None point = x
 reached_by x (Some half) point = reached x half point
 
-abbrev pub after_approach : Saved → Point → Saved
+abbrev pub after_approach : StoredModel → Point → StoredModel
 after_approach x point = reached_by x x.half point
 
 -- spindle stopped, coolant off
@@ -113,13 +113,13 @@ abbrev pub turned_off : Outputs → Outputs
 turned_off o = record o { spindle = spindle.Stopped; mist = false; flood = false }
 
 -- the machine where a half-done block is given up: it stands where that one says, if it says so
-abbrev pub given_up : Machine → HalfDone → Machine
-given_up m half = record m { outputs = turned_off m.outputs; point = unwrap_or half.at m.point; place_known = is_some half.at }
+abbrev pub given_up : Machine → HalfModel → Machine
+given_up m half = record m { outputs = turned_off m.outputs; point = unwrap_or half.at m.point; point_known = is_some half.at }
 
-abbrev pub abandoned : Saved → Option HalfDone → Saved
+abbrev pub abandoned : StoredModel → Option HalfModel → StoredModel
 abandoned x None = x
 abandoned x (Some half) = record { entries = x.entries + 1; setup = record { params = x.setup.params; machine = given_up x.setup.machine half }; place = x.place; length = x.length; half = None }
 
--- what stands behind a half-done block that is given up
-abbrev pub after_abandon : Saved → Saved
+-- what stands after a half-done block that is given up
+abbrev pub after_abandon : StoredModel → StoredModel
 after_abandon x = abandoned x x.half

@@ -9,58 +9,58 @@ use Rattle.ng_canon.specs.declared.segment.Segment.{Segment}
 use Rattle.ng_step.specs.Hands.{hand}
 use Rattle.ng_block.specs.Effects.{Done}
 use Rattle.ng_layout.specs.Limits.{longest_program}
-use Rattle.ng_layout.specs.Stored.{HalfDone, Saved, Standing}
+use Rattle.ng_layout.specs.Stored.{HalfModel, StoredModel, DurableState}
 use Rattle.ng_layout.specs.declared.half.Source.{Source}
 use Rattle.ng_layout.specs.declared.half.Source.TheVariants as source
-use Rattle.ng_layout.specs.Programs.{Line, line_at, place_behind}
+use Rattle.ng_text.specs.Programs.{ProgramLineModel, program_line_at, next_line_start}
 use Rattle.ng_session.specs.Entries.{Equipment, Entry, Block, Loaded, Referenced, Approached, Abandoned, done_of, done_again, after_block, after_load, stance_before, hand_approach, after_reference, after_approach, after_abandon}
 use Rattle.ng_session.specs.declared.stage.Approach.{Approach}
 
 -- what a block does: the half-done one where there is one
-abbrev pub block_done : Equipment → Standing → Option HalfDone → Source → List ℕ → Bool → Result Done Fault
+abbrev pub block_done : Equipment → DurableState → Option HalfModel → Source → List ℕ → Bool → Result Done Fault
 block_done equipment x None source text block_delete = done_of equipment x.program x.saved source text block_delete
 block_done equipment x (Some half) source text block_delete = done_again equipment x.saved text
 
-abbrev pub done_in : Equipment → Standing → Source → List ℕ → Bool → Result Done Fault
+abbrev pub done_in : Equipment → DurableState → Source → List ℕ → Bool → Result Done Fault
 done_in equipment x source text block_delete = block_done equipment x x.saved.half source text block_delete
 
 -- the number of its first segment that is still to do
-abbrev pub first_to_do : Option HalfDone → ℕ
+abbrev pub first_to_do : Option HalfModel → ℕ
 first_to_do None = 0
 first_to_do (Some half) = half.index
 
-abbrev pub still_to_do : Standing → Done → List Segment
+abbrev pub still_to_do : DurableState → Done → List Segment
 still_to_do x done = drop (first_to_do x.saved.half) done.segments
 
 -- the approach that the half-done block needs, from where its machine stands; none where that isn't known, or its text is refused
-abbrev pub approach_from : Saved → HalfDone → Option Point → Result Done Fault → Option Approach
+abbrev pub approach_from : StoredModel → HalfModel → Option Point → Result Done Fault → Option Approach
 approach_from x half None done = None
 approach_from x half (Some from) (Err fault) = None
 approach_from x half (Some from) (Ok done) = Some (record { from = from; to = stance_before x.setup done half.index })
 
-abbrev pub approach_to : Equipment → Saved → Option HalfDone → Option Approach
+abbrev pub approach_to : Equipment → StoredModel → Option HalfModel → Option Approach
 approach_to equipment x None = None
 approach_to equipment x (Some half) = approach_from x half half.at (done_again equipment x half.text)
 
-abbrev pub approach_in : Equipment → Standing → Option Approach
+abbrev pub approach_in : Equipment → DurableState → Option Approach
 approach_in equipment x = approach_to equipment x.saved x.saved.half
 
 -- ---- what stands after an entry
 
 -- one that is refused is never committed
-abbrev pub standing_behind : Standing → Source → Result Done Fault → Standing
-standing_behind x source (Err fault) = x
-standing_behind x source (Ok done) = record x { saved = after_block (place_behind x.program x.saved.place) x.saved source done }
+abbrev pub durable_state_after : DurableState → Source → Result Done Fault → DurableState
+durable_state_after x source (Err fault) = x
+durable_state_after x source (Ok done) = record x { saved = after_block (next_line_start x.program x.saved.place) x.saved source done }
 
-abbrev pub standing_reached : Standing → Option Approach → Standing
-standing_reached x None = x
-standing_reached x (Some a) = record x { saved = after_approach x.saved a.to.point }
+abbrev pub durable_state_reached : DurableState → Option Approach → DurableState
+durable_state_reached x None = x
+durable_state_reached x (Some a) = record x { saved = after_approach x.saved a.to.point }
 
-abbrev pub after : Equipment → Standing → Entry → Standing
-after equipment x (Block source text block_delete) = standing_behind x source (done_in equipment x source text block_delete)
+abbrev pub after : Equipment → DurableState → Entry → DurableState
+after equipment x (Block source text block_delete) = durable_state_after x source (done_in equipment x source text block_delete)
 after equipment x (Loaded text) = record { saved = after_load x.saved (length text); program = text }
 after equipment x (Referenced point) = record x { saved = after_reference x.saved point }
-after equipment x Approached = standing_reached x (approach_in equipment x)
+after equipment x Approached = durable_state_reached x (approach_in equipment x)
 after equipment x Abandoned = record x { saved = after_abandon x.saved }
 
 -- ---- what an entry hands out
@@ -70,7 +70,7 @@ abbrev pub hand_all : Equipment → List Segment → List Item
 hand_all equipment [] = []
 hand_all equipment (segment ∷ segments) = hand segment equipment.geometry ++ hand_all equipment segments
 
-abbrev pub items_done : Equipment → Standing → Result Done Fault → List Item
+abbrev pub items_done : Equipment → DurableState → Result Done Fault → List Item
 items_done equipment x (Err fault) = []
 items_done equipment x (Ok done) = hand_all equipment (still_to_do x done)
 
@@ -78,53 +78,53 @@ abbrev pub items_on_way : Equipment → Option Approach → List Item
 items_on_way equipment None = []
 items_on_way equipment (Some a) = hand_approach equipment.geometry a
 
-abbrev pub items : Equipment → Standing → Entry → List Item
+abbrev pub items : Equipment → DurableState → Entry → List Item
 items equipment x (Block source text block_delete) = items_done equipment x (done_in equipment x source text block_delete)
 items equipment x (Loaded text) = []
 items equipment x (Referenced point) = []
 items equipment x Approached = items_on_way equipment (approach_in equipment x)
 items equipment x Abandoned = []
 
-abbrev pub after_all : Equipment → Standing → List Entry → Standing
+abbrev pub after_all : Equipment → DurableState → List Entry → DurableState
 after_all equipment x [] = x
 after_all equipment x (entry ∷ entries) = after_all equipment (after equipment x entry) entries
 
-abbrev pub items_all : Equipment → Standing → List Entry → List Item
+abbrev pub items_all : Equipment → DurableState → List Entry → List Item
 items_all equipment x [] = []
 items_all equipment x (entry ∷ entries) = items equipment x entry ++ items_all equipment (after equipment x entry) entries
 
 -- ---- what may be committed where this stands, of an operator who gave these lines
 
 -- a half-done block goes on where its machine stands before its next segment
-abbrev pub GoesOn : Saved → HalfDone → List ℕ → Done → Type 0
-GoesOn x half text done = (text ≡ half.text) × (half.at ≡ Some (stance_before x.setup done half.index).point)
+abbrev pub ResumesHalf : StoredModel → HalfModel → List ℕ → Done → Type 0
+ResumesHalf x half text done = (text ≡ half.text) × (half.at ≡ Some (stance_before x.setup done half.index).point)
 
-abbrev pub IsLineAt : Option Line → List ℕ → Type 0
+abbrev pub IsLineAt : Option ProgramLineModel → List ℕ → Type 0
 IsLineAt None text = ⊥
 IsLineAt (Some line) text = text ≡ line.text
 
-abbrev pub IsGiven : List (List ℕ) → Standing → Source → List ℕ → Type 0
-IsGiven lines x source.Program text = IsLineAt (line_at x.program x.saved.place) text
+abbrev pub IsGiven : List (List ℕ) → DurableState → Source → List ℕ → Type 0
+IsGiven lines x source.Program text = IsLineAt (program_line_at x.program x.saved.place) text
 IsGiven lines x source.Mdi text = Contains lines text
 
 -- the text is the half-done block's own, which goes on where its machine stands; else the line of the program at its place, or one that the
 -- operator gave
-abbrev pub IsTextOf : List (List ℕ) → Standing → Option HalfDone → Source → List ℕ → Bool → Done → Type 0
+abbrev pub IsTextOf : List (List ℕ) → DurableState → Option HalfModel → Source → List ℕ → Bool → Done → Type 0
 IsTextOf lines x None source text block_delete done = IsGiven lines x source text
-IsTextOf lines x (Some half) source text block_delete done = (source ≡ half.source) × (block_delete ≡ false) × GoesOn x.saved half text done
+IsTextOf lines x (Some half) source text block_delete done = (source ≡ half.source) × (block_delete ≡ false) × ResumesHalf x.saved half text done
 
 -- a block that may be worked: it isn't refused
-pub record IsBlock (equipment : Equipment) (lines : List (List ℕ)) (x : Standing) (source : Source) (text : List ℕ) (block_delete : Bool) (done : Done) : Type 0 where
+pub record IsBlock (equipment : Equipment) (lines : List (List ℕ)) (x : DurableState) (source : Source) (text : List ℕ) (block_delete : Bool) (done : Done) : Type 0 where
   pub does : done_in equipment x source text block_delete ≡ Ok done
   pub text_is : IsTextOf lines x x.saved.half source text block_delete done
 
-abbrev pub IsLawful : Equipment → List (List ℕ) → Standing → Entry → Type 0
-IsLawful equipment lines x (Block source text block_delete) = (done : Done) × IsBlock equipment lines x source text block_delete done
-IsLawful equipment lines x (Loaded text) = (length text ≤ longest_program) × (x.saved.half ≡ None)
-IsLawful equipment lines x (Referenced point) = is_inside equipment.geometry point ≡ true
-IsLawful equipment lines x Approached = (a : Approach) × (approach_in equipment x ≡ Some a)
-IsLawful equipment lines x Abandoned = (half : HalfDone) × (x.saved.half ≡ Some half)
+abbrev pub FollowsFold : Equipment → List (List ℕ) → DurableState → Entry → Type 0
+FollowsFold equipment lines x (Block source text block_delete) = (done : Done) × IsBlock equipment lines x source text block_delete done
+FollowsFold equipment lines x (Loaded text) = (length text ≤ longest_program) × (x.saved.half ≡ None)
+FollowsFold equipment lines x (Referenced point) = is_inside equipment.geometry point ≡ true
+FollowsFold equipment lines x Approached = (a : Approach) × (approach_in equipment x ≡ Some a)
+FollowsFold equipment lines x Abandoned = (half : HalfModel) × (x.saved.half ≡ Some half)
 
-abbrev pub AreLawful : Equipment → List (List ℕ) → Standing → List Entry → Type 0
-AreLawful equipment lines x [] = Unit {0}
-AreLawful equipment lines x (entry ∷ entries) = IsLawful equipment lines x entry × AreLawful equipment lines (after equipment x entry) entries
+abbrev pub FollowFold : Equipment → List (List ℕ) → DurableState → List Entry → Type 0
+FollowFold equipment lines x [] = Unit {0}
+FollowFold equipment lines x (entry ∷ entries) = FollowsFold equipment lines x entry × FollowFold equipment lines (after equipment x entry) entries

@@ -1,8 +1,7 @@
 pub mod Entries
 pub mod Session
-pub mod Kept
+pub mod SessionInvariant
 pub mod Fold
 pub mod Runs
 pub mod Cuts
 pub mod Lives
-pub mod LinesBefore

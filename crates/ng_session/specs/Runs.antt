@@ -1,56 +1,56 @@
 -- A session over a list of events (own).
 use Rattle.std.specs.Prelude.{ℕ, ◌+◌, List, [], ◌∷◌, ◌++◌}
 use Rattle.ng_canon.specs.declared.item.Item.{Item}
-use Rattle.ng_layout.specs.Stored.{Standing}
+use Rattle.ng_layout.specs.Stored.{DurableState}
 use Rattle.ng_session.specs.Entries.{Equipment, Entry}
-use Rattle.ng_session.specs.Session.{Sitting, Outcome, resting, step}
+use Rattle.ng_session.specs.Session.{SessionModel, Transition, resting, step}
 use Rattle.ng_session.specs.declared.event.Event.{Event}
 use Rattle.ng_session.specs.declared.event.Event.TheVariants as event
 use Rattle.ng_session.specs.declared.reply.Reply.{Reply}
 use Rattle.ng_session.specs.declared.reply.Reply.TheVariants as reply
 
 -- a session, with the program that the device has
-pub record Scene : Type 0 where
+pub record ProgramSession : Type 0 where
   pub program : List ℕ
-  pub session : Sitting
+  pub session : SessionModel
 
 -- as power on leaves it
-abbrev pub resting_scene : Standing → Scene
-resting_scene x = record { program = x.program; session = resting x.saved }
+abbrev pub session_at_power_on : DurableState → ProgramSession
+session_at_power_on x = record { program = x.program; session = resting x.saved }
 
-abbrev pub leads_to : {A : Type 0} → Equipment → Scene → Event A → Outcome
+abbrev pub leads_to : {A : Type 0} → Equipment → ProgramSession → Event A → Transition
 leads_to equipment s event = step equipment s.program s.session event
 
-abbrev pub scene_after : Outcome → Scene
-scene_after out = record { program = out.program; session = out.next }
+abbrev pub session_of_transition : Transition → ProgramSession
+session_of_transition out = record { program = out.program; session = out.next }
 
-abbrev pub replies_of : {A : Type 0} → Equipment → Scene → List (Event A) → List Reply
+abbrev pub replies_of : {A : Type 0} → Equipment → ProgramSession → List (Event A) → List Reply
 replies_of equipment s [] = []
-replies_of equipment s (event ∷ events) = (leads_to equipment s event).reply ∷ replies_of equipment (scene_after (leads_to equipment s event)) events
+replies_of equipment s (event ∷ events) = (leads_to equipment s event).reply ∷ replies_of equipment (session_of_transition (leads_to equipment s event)) events
 
-abbrev pub items_of : {A : Type 0} → Equipment → Scene → List (Event A) → List Item
+abbrev pub items_of : {A : Type 0} → Equipment → ProgramSession → List (Event A) → List Item
 items_of equipment s [] = []
-items_of equipment s (event ∷ events) = (leads_to equipment s event).items ++ items_of equipment (scene_after (leads_to equipment s event)) events
+items_of equipment s (event ∷ events) = (leads_to equipment s event).items ++ items_of equipment (session_of_transition (leads_to equipment s event)) events
 
-abbrev pub entries_of : {A : Type 0} → Equipment → Scene → List (Event A) → List Entry
+abbrev pub entries_of : {A : Type 0} → Equipment → ProgramSession → List (Event A) → List Entry
 entries_of equipment s [] = []
-entries_of equipment s (event ∷ events) = (leads_to equipment s event).entries ++ entries_of equipment (scene_after (leads_to equipment s event)) events
+entries_of equipment s (event ∷ events) = (leads_to equipment s event).entries ++ entries_of equipment (session_of_transition (leads_to equipment s event)) events
 
-abbrev pub scene_behind : {A : Type 0} → Equipment → Scene → List (Event A) → Scene
-scene_behind equipment s [] = s
-scene_behind equipment s (event ∷ events) = scene_behind equipment (scene_after (leads_to equipment s event)) events
+abbrev pub session_after : {A : Type 0} → Equipment → ProgramSession → List (Event A) → ProgramSession
+session_after equipment s [] = s
+session_after equipment s (event ∷ events) = session_after equipment (session_of_transition (leads_to equipment s event)) events
 
 -- what a cut of power leaves: what stands, and what was handed out
-pub record Left : Type 0 where
-  pub standing : Standing
+pub record CrashState : Type 0 where
+  pub standing : DurableState
   pub items : List Item
 
-abbrev pub left_in : Scene → List Item → Left
-left_in s items = record { standing = record { saved = s.session.stored; program = s.program }; items = items }
+abbrev pub crash_in : ProgramSession → List Item → CrashState
+crash_in s items = record { standing = record { saved = s.session.stored; program = s.program }; items = items }
 
--- behind some events, where these items were handed out before
-abbrev pub left_behind : {A : Type 0} → Equipment → Scene → List Item → List (Event A) → Left
-left_behind equipment s before events = left_in (scene_behind equipment s events) (before ++ items_of equipment s events)
+-- after some events, where these items were handed out before
+abbrev pub crash_after : {A : Type 0} → Equipment → ProgramSession → List Item → List (Event A) → CrashState
+crash_after equipment s before events = crash_in (session_after equipment s events) (before ++ items_of equipment s events)
 
 abbrev pub done_count : Reply → ℕ
 done_count (reply.Done n) = 1

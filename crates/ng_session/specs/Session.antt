@@ -9,18 +9,18 @@ use Rattle.ng_canon.specs.declared.geometry.Geometry.{Geometry}
 use Rattle.ng_canon.specs.declared.item.Item.{Item}
 use Rattle.ng_canon.specs.declared.segment.Segment.{Segment}
 use Rattle.ng_step.specs.Hands.{hand}
-use Rattle.ng_block.specs.Dry.{first_kind, missing_end}
+use Rattle.ng_text.specs.Percent.{first_kind, missing_end}
 use Rattle.ng_block.specs.Effects.{Done}
-use Rattle.ng_block.specs.Setup.{Setup}
-use Rattle.ng_block.specs.declared.effect.Stop.{Stop}
-use Rattle.ng_block.specs.declared.effect.Stop.TheVariants as stop
+use Rattle.ng_state.specs.State.{StateModel}
+use Rattle.ng_block.specs.declared.effect.ProgramFlow.{ProgramFlow}
+use Rattle.ng_block.specs.declared.effect.ProgramFlow.TheVariants as stop
 use Rattle.ng_layout.specs.Limits.{longest_program}
-use Rattle.ng_layout.specs.Stored.{HalfDone, Saved}
+use Rattle.ng_layout.specs.Stored.{HalfModel, StoredModel}
 use Rattle.ng_layout.specs.declared.half.Source.{Source}
 use Rattle.ng_layout.specs.declared.half.Source.TheVariants as source
 use Rattle.ng_layout.specs.declared.half.Opened.{Opened}
 use Rattle.ng_layout.specs.declared.half.Opened.TheVariants as open_part
-use Rattle.ng_layout.specs.Programs.{Line, lines_before, line_at, place_behind}
+use Rattle.ng_text.specs.Programs.{ProgramLineModel, lines_before, program_line_at, next_line_start}
 use Rattle.ng_session.specs.Entries.{Equipment, Entry, Block, Loaded, Referenced, Approached, Abandoned, done_of, done_again, place_after, after_load, stance_before, hand_approach, after_reference, after_abandon}
 use Rattle.ng_session.specs.declared.activity.Activity.{Activity}
 use Rattle.ng_session.specs.declared.activity.Activity.TheVariants as activity
@@ -37,55 +37,55 @@ use Rattle.ng_session.specs.declared.stage.Stage.{Stage}
 use Rattle.ng_session.specs.declared.stage.Stage.TheVariants as stage
 
 -- the block that is worked, as it was begun, and what is left of it
-pub record Underway : Type 0 where
+pub record CurrentBlockModel : Type 0 where
   pub source : Source
   pub text : List ℕ
   pub block_delete : Bool
   pub stage : Stage
-  -- the number of the segment that opens next, behind the approach if there is one
+  -- the number of the segment that opens next, after the approach if there is one
   pub index : ℕ
   -- the segments that weren't opened yet, and the items of what is open that weren't handed out
   pub left : List Segment
   pub items : List Item
   -- the state that it leaves, where the next line of the program begins then, and how the program goes on
-  pub setup : Setup
+  pub setup : StateModel
   pub place : ℕ
-  pub stop : Stop
+  pub stop : ProgramFlow
 
 -- a session: what a controller keeps between two events
-pub record Sitting : Type 0 where
+pub record SessionModel : Type 0 where
   -- what the device stands for
-  pub stored : Saved
+  pub stored : StoredModel
   pub activity : Activity
   pub held : Bool
   pub optional_stop : Bool
   pub block_delete : Bool
-  pub current : Option Underway
+  pub current : Option CurrentBlockModel
 
 -- what an event leads to
-pub record Outcome : Type 0 where
+pub record Transition : Type 0 where
   pub reply : Reply
   -- none or one
   pub items : List Item
   -- none or one
   pub entries : List Entry
   pub program : List ℕ
-  pub next : Sitting
+  pub next : SessionModel
 
 -- as power on leaves it
-abbrev pub resting : Saved → Sitting
+abbrev pub resting : StoredModel → SessionModel
 resting x = record { stored = x; activity = activity.Idle; held = false; optional_stop = false; block_delete = false; current = None }
 
 -- an answer, and the session goes on to this
-abbrev pub answers : List ℕ → Reply → Sitting → Outcome
+abbrev pub answers : List ℕ → Reply → SessionModel → Transition
 answers program reply next = record { reply = reply; items = []; entries = []; program = program; next = next }
 
 -- a refusal changes nothing
-abbrev pub refuses : List ℕ → Fault → Sitting → Outcome
+abbrev pub refuses : List ℕ → Fault → SessionModel → Transition
 refuses program fault s = answers program (reply.Refused fault) s
 
 -- an entry is committed, and this stands
-abbrev pub commits : List ℕ → Entry → Sitting → Outcome
+abbrev pub commits : List ℕ → Entry → SessionModel → Transition
 commits program entry next = record { reply = reply.Done next.stored.entries; items = []; entries = entry ∷ []; program = program; next = next }
 
 abbrev pub is_running : Activity → Bool
@@ -99,12 +99,12 @@ is_idle activity.Running = false
 is_idle activity.Stopped = false
 
 -- no block is current, the program doesn't run, and nothing is held
-abbrev pub is_at_rest : Sitting → Bool
+abbrev pub is_at_rest : SessionModel → Bool
 is_at_rest s = is_none s.current && not (is_running s.activity) && not s.held
 
 -- at rest, with no half-done block
-abbrev pub is_free : Sitting → Bool
-is_free s = is_at_rest s && is_none s.stored.half
+abbrev pub accepts_load : SessionModel → Bool
+accepts_load s = is_at_rest s && is_none s.stored.half
 
 -- the reply of a session that has nothing to do
 abbrev pub idleness : Activity → Reply
@@ -114,27 +114,27 @@ idleness activity.Stopped = reply.Stopped
 
 -- ---- the operator's events
 
-abbrev pub start : List ℕ → Sitting → Outcome
+abbrev pub start : List ℕ → SessionModel → Transition
 start program s =
-    if not (is_free s) then refuses program fault.Busy s
-    else if not s.stored.setup.machine.place_known then refuses program fault.PlaceUnknown s
+    if not (accepts_load s) then refuses program fault.Busy s
+    else if not s.stored.setup.machine.point_known then refuses program fault.PlaceUnknown s
     else if s.stored.length == 0 then refuses program fault.NoProgram s
     else answers program reply.Going (record s { activity = activity.Running })
 
-abbrev pub hold : List ℕ → Sitting → Outcome
+abbrev pub hold : List ℕ → SessionModel → Transition
 hold program s =
     if is_running s.activity || is_some s.current then answers program reply.Held (record s { held = true })
     else answers program (idleness s.activity) s
 
-abbrev pub go_on : List ℕ → Sitting → Outcome
-go_on program s =
+abbrev pub resume_held : List ℕ → SessionModel → Transition
+resume_held program s =
     if s.held then answers program reply.Going (record s { held = false })
     else if is_running s.activity || is_some s.current then refuses program fault.Busy s
     else if is_idle s.activity then refuses program fault.NoProgram s
     else answers program reply.Going (record s { activity = activity.Running })
 
 -- a block as it is begun, before its first segment
-abbrev pub begun : Saved → Source → List ℕ → Bool → ℕ → Done → Underway
+abbrev pub begun : StoredModel → Source → List ℕ → Bool → ℕ → Done → CurrentBlockModel
 begun x source text block_delete next done = record {
   source = source;
   text = text;
@@ -149,7 +149,7 @@ begun x source text block_delete next done = record {
 }
 
 -- a line of the operator ends a hold, and the program that was held waits
-abbrev pub mdi_by : List ℕ → Sitting → List ℕ → Result Done Fault → Outcome
+abbrev pub mdi_by : List ℕ → SessionModel → List ℕ → Result Done Fault → Transition
 mdi_by program s text (Err fault) = refuses program fault s
 mdi_by program s text (Ok done) = answers program reply.Begun (record s {
   current = Some (begun s.stored source.Mdi text s.block_delete s.stored.place done);
@@ -158,64 +158,64 @@ mdi_by program s text (Ok done) = answers program reply.Begun (record s {
 })
 
 -- a block is current or half-done, or the program runs and isn't held
-abbrev pub is_engaged : Sitting → Bool
-is_engaged s = is_some s.current || (is_running s.activity && not s.held) || is_some s.stored.half
+abbrev pub refuses_mdi : SessionModel → Bool
+refuses_mdi s = is_some s.current || (is_running s.activity && not s.held) || is_some s.stored.half
 
 -- block delete is looked at here, when the line is begun
-abbrev pub mdi : Equipment → List ℕ → Sitting → List ℕ → Outcome
+abbrev pub mdi : Equipment → List ℕ → SessionModel → List ℕ → Transition
 mdi equipment program s text =
-    if is_engaged s then refuses program fault.Busy s
-    else if not s.stored.setup.machine.place_known then refuses program fault.PlaceUnknown s
+    if refuses_mdi s then refuses program fault.Busy s
+    else if not s.stored.setup.machine.point_known then refuses program fault.PlaceUnknown s
     else mdi_by program s text (done_of equipment program s.stored source.Mdi text s.block_delete)
 
-abbrev pub load_refusal : Sitting → List ℕ → Option Fault
+abbrev pub load_refusal : SessionModel → List ℕ → Option Fault
 load_refusal s text =
-    if not (is_free s) then Some fault.Busy
+    if not (accepts_load s) then Some fault.Busy
     else if nat_lt longest_program (length text) then Some fault.ProgramTooLong
     else None
 
-abbrev pub loaded : Sitting → Saved → Sitting
+abbrev pub loaded : SessionModel → StoredModel → SessionModel
 loaded s x = record s { stored = x; activity = activity.Idle }
 
-abbrev pub load_unless : List ℕ → Sitting → List ℕ → Option Fault → Outcome
+abbrev pub load_unless : List ℕ → SessionModel → List ℕ → Option Fault → Transition
 load_unless program s text (Some fault) = refuses program fault s
 load_unless program s text None = commits text (Loaded text) (loaded s (after_load s.stored (length text)))
 
-abbrev pub load : List ℕ → Sitting → List ℕ → Outcome
+abbrev pub load : List ℕ → SessionModel → List ℕ → Transition
 load program s text = load_unless program s text (load_refusal s text)
 
 -- ---- a half-done block: where its machine stands is told, it goes on, or it is given up
 
 -- the point is told while a block is half-done or none is
-abbrev pub reference_refusal : Geometry → Sitting → Point → Option Fault
+abbrev pub reference_refusal : Geometry → SessionModel → Point → Option Fault
 reference_refusal geometry s point =
     if not (is_at_rest s) then Some fault.Busy
     else if not (is_inside geometry point) then Some fault.OutsideTravel
     else None
 
-abbrev pub reference_unless : List ℕ → Sitting → Point → Option Fault → Outcome
+abbrev pub reference_unless : List ℕ → SessionModel → Point → Option Fault → Transition
 reference_unless program s point (Some fault) = refuses program fault s
 reference_unless program s point None = commits program (Referenced point) (record s { stored = after_reference s.stored point })
 
-abbrev pub reference : Equipment → List ℕ → Sitting → Point → Outcome
+abbrev pub reference : Equipment → List ℕ → SessionModel → Point → Transition
 reference equipment program s point = reference_unless program s point (reference_refusal equipment.geometry s point)
 
 -- why no half-done block can be given up
-abbrev pub abandon_refusal : Sitting → Option Fault
+abbrev pub abandon_refusal : SessionModel → Option Fault
 abandon_refusal s =
     if not (is_at_rest s) then Some fault.Busy
     else if is_none s.stored.half then Some fault.NothingHalfDone
     else None
 
-abbrev pub abandon_unless : List ℕ → Sitting → Option Fault → Outcome
+abbrev pub abandon_unless : List ℕ → SessionModel → Option Fault → Transition
 abandon_unless program s (Some fault) = refuses program fault s
 abandon_unless program s None = commits program Abandoned (record s { stored = after_abandon s.stored })
 
-abbrev pub abandon : List ℕ → Sitting → Outcome
+abbrev pub abandon : List ℕ → SessionModel → Transition
 abandon program s = abandon_unless program s (abandon_refusal s)
 
 -- The half-done block from its index on, and before that the approach, from a point. What it leaves is what the whole block leaves.
-abbrev pub begun_again : Saved → HalfDone → Point → ℕ → Done → Underway
+abbrev pub begun_again : StoredModel → HalfModel → Point → ℕ → Done → CurrentBlockModel
 begun_again x half from next done = record {
   source = half.source;
   text = half.text;
@@ -234,58 +234,58 @@ abbrev pub activity_again : Source → Activity → Activity
 activity_again source.Program before = activity.Running
 activity_again source.Mdi before = before
 
--- where the next line of the program begins then: behind its own, where that came from the program
-abbrev pub next_behind : List ℕ → ℕ → Source → ℕ
-next_behind program place source.Program = place_behind program place
-next_behind program place source.Mdi = place
+-- where the next line of the program begins then: after its own, where that came from the program
+abbrev pub next_place_after : List ℕ → ℕ → Source → ℕ
+next_place_after program place source.Program = next_line_start program place
+next_place_after program place source.Mdi = place
 
 -- why a line is refused, if it is
 abbrev pub refusal_of : Result Done Fault → Option Fault
 refusal_of (Ok done) = None
 refusal_of (Err fault) = Some fault
 
-abbrev pub half_refusal : Equipment → Saved → HalfDone → Option Point → Option Fault
+abbrev pub half_refusal : Equipment → StoredModel → HalfModel → Option Point → Option Fault
 half_refusal equipment x half None = Some fault.PlaceUnknown
 half_refusal equipment x half (Some from) = refusal_of (done_again equipment x half.text)
 
-abbrev pub waiting_refusal : Equipment → Saved → Option HalfDone → Option Fault
+abbrev pub waiting_refusal : Equipment → StoredModel → Option HalfModel → Option Fault
 waiting_refusal equipment x None = Some fault.NothingHalfDone
 waiting_refusal equipment x (Some half) = half_refusal equipment x half half.at
 
 -- why no half-done block goes on: the session isn't at rest, none is half-done, it isn't known where its machine stands, or its line is refused
-abbrev pub resume_refusal : Equipment → Sitting → Option Fault
+abbrev pub resume_refusal : Equipment → SessionModel → Option Fault
 resume_refusal equipment s = if not (is_at_rest s) then Some fault.Busy else waiting_refusal equipment s.stored s.stored.half
 
-abbrev pub resume_by : List ℕ → Sitting → HalfDone → Point → Result Done Fault → Outcome
+abbrev pub resume_by : List ℕ → SessionModel → HalfModel → Point → Result Done Fault → Transition
 resume_by program s half from (Err fault) = refuses program fault s
 resume_by program s half from (Ok done) = answers program reply.Going (record s {
-  current = Some (begun_again s.stored half from (next_behind program s.stored.place half.source) done);
+  current = Some (begun_again s.stored half from (next_place_after program s.stored.place half.source) done);
   activity = activity_again half.source s.activity;
 })
 
-abbrev pub resume_from : Equipment → List ℕ → Sitting → HalfDone → Option Point → Outcome
+abbrev pub resume_from : Equipment → List ℕ → SessionModel → HalfModel → Option Point → Transition
 resume_from equipment program s half None = refuses program fault.PlaceUnknown s
 resume_from equipment program s half (Some from) = resume_by program s half from (done_again equipment s.stored half.text)
 
-abbrev pub resume_half : Equipment → List ℕ → Sitting → Option HalfDone → Outcome
+abbrev pub resume_half : Equipment → List ℕ → SessionModel → Option HalfModel → Transition
 resume_half equipment program s None = refuses program fault.NothingHalfDone s
 resume_half equipment program s (Some half) = resume_from equipment program s half half.at
 
-abbrev pub resume : Equipment → List ℕ → Sitting → Outcome
+abbrev pub resume : Equipment → List ℕ → SessionModel → Transition
 resume equipment program s = if not (is_at_rest s) then refuses program fault.Busy s else resume_half equipment program s s.stored.half
 
 -- ---- what the status shows
 
 -- a block with an open segment counts as half-done
-abbrev pub point_shown : Point → Option HalfDone → Point
+abbrev pub point_shown : Point → Option HalfModel → Point
 point_shown point None = point
 point_shown point (Some half) = unwrap_or half.at point
 
-abbrev pub place_shown : Bool → Option HalfDone → Bool
-place_shown known None = known
-place_shown known (Some half) = is_some half.at
+abbrev pub point_known_shown : Bool → Option HalfModel → Bool
+point_known_shown known None = known
+point_known_shown known (Some half) = is_some half.at
 
-abbrev pub half_shown : HalfDone → HalfShown
+abbrev pub half_shown : HalfModel → HalfShown
 half_shown half = record { source = half.source; index = half.index }
 
 abbrev pub condition_of : Activity → Condition
@@ -293,12 +293,12 @@ condition_of activity.Idle = condition.Idle
 condition_of activity.Running = condition.Running
 condition_of activity.Stopped = condition.Stopped
 
-abbrev pub shown : Sitting → Status
-shown s = record {
+abbrev pub session_status : SessionModel → Status
+session_status s = record {
   entries = s.stored.entries;
   place = s.stored.place;
   point = point_shown s.stored.setup.machine.point s.stored.half;
-  place_known = place_shown s.stored.setup.machine.place_known s.stored.half;
+  point_known = point_known_shown s.stored.setup.machine.point_known s.stored.half;
   half = option_map half_shown s.stored.half;
   condition = if s.held then condition.Held else condition_of s.activity;
 }
@@ -314,49 +314,49 @@ abbrev pub rest_of : List Item → List Item
 rest_of [] = []
 rest_of (item ∷ items) = items
 
-abbrev pub item_of : Option Underway → Option Item
+abbrev pub item_of : Option CurrentBlockModel → Option Item
 item_of None = None
 item_of (Some c) = first_of c.items
 
-abbrev pub handed_on : Underway → Underway
+abbrev pub handed_on : CurrentBlockModel → CurrentBlockModel
 handed_on c = record c { items = rest_of c.items }
 
-abbrev pub handed : Sitting → Sitting
+abbrev pub handed : SessionModel → SessionModel
 handed s = record s { current = option_map handed_on s.current }
 
-abbrev pub hand_out : List ℕ → Sitting → Item → Outcome
+abbrev pub hand_out : List ℕ → SessionModel → Item → Transition
 hand_out program s item = record { reply = reply.Moved; items = item ∷ []; entries = []; program = program; next = handed s }
 
 -- 2. the approach or a segment that is left is opened: its block is stored as half-done. Indices are counted up to the greatest of 64 bits
 abbrev pub greatest_index : ℕ
 greatest_index = 18_446_744_073_709_551_615
 
-abbrev pub half_open : Underway → Opened → HalfDone
+abbrev pub half_open : CurrentBlockModel → Opened → HalfModel
 half_open c opened = record { text = c.text; source = c.source; index = c.index; at = None; opened = Some opened }
 
-abbrev pub segment_open : Underway → List Segment → Option HalfDone
+abbrev pub segment_open : CurrentBlockModel → List Segment → Option HalfModel
 segment_open c [] = None
 segment_open c (segment ∷ left) = Some (half_open c open_part.Segment)
 
-abbrev pub opening_on : Underway → Stage → Option HalfDone
+abbrev pub opening_on : CurrentBlockModel → Stage → Option HalfModel
 opening_on c (stage.ToApproach a) = Some (half_open c open_part.Approach)
 opening_on c (stage.OnApproach a) = None
 opening_on c stage.OnBlock = segment_open c c.left
 
-abbrev pub opening_of : Option Underway → Option HalfDone
+abbrev pub opening_of : Option CurrentBlockModel → Option HalfModel
 opening_of None = None
 opening_of (Some c) = opening_on c c.stage
 
-abbrev pub next_opened : Geometry → Underway → List Segment → Underway
+abbrev pub next_opened : Geometry → CurrentBlockModel → List Segment → CurrentBlockModel
 next_opened geometry c [] = c
 next_opened geometry c (segment ∷ left) = record c { index = min (c.index + 1) greatest_index; left = left; items = hand segment geometry }
 
-abbrev pub opened_on : Geometry → Underway → Stage → Underway
+abbrev pub opened_on : Geometry → CurrentBlockModel → Stage → CurrentBlockModel
 opened_on geometry c (stage.ToApproach a) = record c { stage = stage.OnApproach a; items = hand_approach geometry a }
 opened_on geometry c (stage.OnApproach a) = c
 opened_on geometry c stage.OnBlock = next_opened geometry c c.left
 
-abbrev pub opened : Geometry → Sitting → HalfDone → Sitting
+abbrev pub opened : Geometry → SessionModel → HalfModel → SessionModel
 opened geometry s half = record s {
   stored = record s.stored { half = Some half };
   current = option_map (λ c. opened_on geometry c c.stage) s.current;
@@ -367,7 +367,7 @@ opening_reply index None = reply.Opened index
 opening_reply index (Some open_part.Segment) = reply.Opened index
 opening_reply index (Some open_part.Approach) = reply.Approaching
 
-abbrev pub open_part_of : Equipment → List ℕ → Sitting → HalfDone → Outcome
+abbrev pub open_part_of : Equipment → List ℕ → SessionModel → HalfModel → Transition
 open_part_of equipment program s half = answers program (opening_reply half.index half.opened) (opened equipment.geometry s half)
 
 -- 3. an approach of which nothing is left is committed: the half-done block's machine stands where the approach ends. So is a block of
@@ -377,19 +377,19 @@ abbrev pub stopped_by : Source → Bool → Activity → Activity
 stopped_by source.Program wanted before = if wanted then activity.Stopped else before
 stopped_by source.Mdi wanted before = before
 
-abbrev pub activity_after : Source → Stop → Bool → Activity → Activity
+abbrev pub activity_after : Source → ProgramFlow → Bool → Activity → Activity
 activity_after source stop.GoesOn optional_stop before = before
 activity_after source stop.Stops optional_stop before = stopped_by source true before
 activity_after source stop.StopsIfWanted optional_stop before = stopped_by source optional_stop before
 activity_after source stop.Ends optional_stop before = activity.Idle
 
--- what stands behind the current block
-abbrev pub behind_block : Saved → Underway → Saved
-behind_block x c = record { entries = x.entries + 1; setup = c.setup; place = c.place; length = x.length; half = None }
+-- what stands after the current block
+abbrev pub after_current_block : StoredModel → CurrentBlockModel → StoredModel
+after_current_block x c = record { entries = x.entries + 1; setup = c.setup; place = c.place; length = x.length; half = None }
 
--- what stands behind the approach of the current block, which ends at a point
-abbrev pub behind_approach : Saved → Underway → Point → Saved
-behind_approach x c point = record {
+-- what stands after the approach of the current block, which ends at a point
+abbrev pub after_current_approach : StoredModel → CurrentBlockModel → Point → StoredModel
+after_current_approach x c point = record {
   entries = x.entries + 1;
   setup = x.setup;
   place = x.place;
@@ -397,102 +397,102 @@ behind_approach x c point = record {
   half = Some (record { text = c.text; source = c.source; index = c.index; at = Some point; opened = None });
 }
 
-abbrev pub approach_done : Sitting → Underway → Approach → Sitting
-approach_done s c a = record s { stored = behind_approach s.stored c a.to.point; current = Some (record c { stage = stage.OnBlock }) }
+abbrev pub approach_done : SessionModel → CurrentBlockModel → Approach → SessionModel
+approach_done s c a = record s { stored = after_current_approach s.stored c a.to.point; current = Some (record c { stage = stage.OnBlock }) }
 
 -- an approach is opened before it is committed, so of the first of these no Tick makes use
-abbrev pub committed_on : Sitting → Underway → Stage → Sitting
+abbrev pub committed_on : SessionModel → CurrentBlockModel → Stage → SessionModel
 committed_on s c (stage.ToApproach a) = approach_done s c a
 committed_on s c (stage.OnApproach a) = approach_done s c a
 committed_on s c stage.OnBlock = record s {
-  stored = behind_block s.stored c;
+  stored = after_current_block s.stored c;
   activity = activity_after c.source c.stop s.optional_stop s.activity;
   current = None;
 }
 
-abbrev pub committed : Sitting → Underway → Sitting
+abbrev pub committed : SessionModel → CurrentBlockModel → SessionModel
 committed s c = committed_on s c c.stage
 
-abbrev pub entry_on : Underway → Stage → Entry
+abbrev pub entry_on : CurrentBlockModel → Stage → Entry
 entry_on c (stage.ToApproach a) = Approached
 entry_on c (stage.OnApproach a) = Approached
 entry_on c stage.OnBlock = Block c.source c.text c.block_delete
 
-abbrev pub commit : List ℕ → Sitting → Underway → Outcome
+abbrev pub commit : List ℕ → SessionModel → CurrentBlockModel → Transition
 commit program s c = commits program (entry_on c c.stage) (committed s c)
 
 -- 4. a line of the program is begun; one that is refused stops the program before it
-abbrev pub begin_by : List ℕ → Sitting → Line → Result Done Fault → Outcome
+abbrev pub begin_by : List ℕ → SessionModel → ProgramLineModel → Result Done Fault → Transition
 begin_by program s line (Err fault) = answers program (reply.Refused fault) (record s { activity = activity.Stopped })
 begin_by program s line (Ok done) =
     answers program reply.Begun (record s { current = Some (begun s.stored source.Program line.text s.block_delete line.next done) })
 
 -- a program that ends before its end stops there
-abbrev pub break_off : List ℕ → Sitting → Outcome
+abbrev pub break_off : List ℕ → SessionModel → Transition
 break_off program s = answers program (reply.Refused (missing_end (first_kind (lines_before program s.stored.place)))) (record s { activity = activity.Stopped })
 
-abbrev pub begin : Equipment → List ℕ → Sitting → Option Line → Outcome
+abbrev pub begin : Equipment → List ℕ → SessionModel → Option ProgramLineModel → Transition
 begin equipment program s None = break_off program s
 begin equipment program s (Some line) = begin_by program s line (done_of equipment program s.stored source.Program line.text s.block_delete)
 
 -- 5. nothing is to do
-abbrev pub rest : List ℕ → Sitting → Outcome
+abbrev pub rest : List ℕ → SessionModel → Transition
 rest program s = answers program (idleness s.activity) s
 
 -- ---- a Tick: held, or the first that applies
 
-abbrev pub if_some : {T : Type 0} → Option T → (found : T → Outcome) → (otherwise : Outcome) → Outcome
+abbrev pub if_some : {T : Type 0} → Option T → (found : T → Transition) → (otherwise : Transition) → Transition
 if_some None found otherwise = otherwise
 if_some (Some x) found otherwise = found x
 
-abbrev pub tick : Equipment → List ℕ → Sitting → Outcome
+abbrev pub tick : Equipment → List ℕ → SessionModel → Transition
 tick equipment program s =
     if s.held then answers program reply.Held s
     else if_some (item_of s.current) (λ item. hand_out program s item)
     (if_some (opening_of s.current) (λ half. open_part_of equipment program s half)
     (if_some s.current (λ c. commit program s c)
-    (if is_running s.activity then begin equipment program s (line_at program s.stored.place)
+    (if is_running s.activity then begin equipment program s (program_line_at program s.stored.place)
     else rest program s)))
 
 -- the same from its third and from its second case on
-abbrev pub end : Equipment → List ℕ → Sitting → Option Underway → Outcome
+abbrev pub end : Equipment → List ℕ → SessionModel → Option CurrentBlockModel → Transition
 end equipment program s current =
     if_some current (λ c. commit program s c)
-    (if is_running s.activity then begin equipment program s (line_at program s.stored.place)
+    (if is_running s.activity then begin equipment program s (program_line_at program s.stored.place)
     else rest program s)
 
-abbrev pub open_next : Equipment → List ℕ → Sitting → Option HalfDone → Outcome
+abbrev pub open_next : Equipment → List ℕ → SessionModel → Option HalfModel → Transition
 open_next equipment program s opening = if_some opening (λ half. open_part_of equipment program s half) (end equipment program s s.current)
 
-abbrev pub hand_next : Equipment → List ℕ → Sitting → Option Item → Outcome
+abbrev pub hand_next : Equipment → List ℕ → SessionModel → Option Item → Transition
 hand_next equipment program s item = if_some item (λ item. hand_out program s item) (open_next equipment program s (opening_of s.current))
 
 -- ---- an event
 
-abbrev pub step : {A : Type 0} → Equipment → List ℕ → Sitting → Event A → Outcome
+abbrev pub step : {A : Type 0} → Equipment → List ℕ → SessionModel → Event A → Transition
 step equipment program s (event.Load text) = load program s text
 step equipment program s event.Start = start program s
 step equipment program s event.Hold = hold program s
-step equipment program s event.Continue = go_on program s
+step equipment program s event.Continue = resume_held program s
 step equipment program s (event.Mdi text) = mdi equipment program s text
 step equipment program s (event.Reference point) = reference equipment program s point
 step equipment program s event.Resume = resume equipment program s
 step equipment program s event.Abandon = abandon program s
 step equipment program s (event.OptionalStop wanted) = answers program reply.Taken (record s { optional_stop = wanted })
 step equipment program s (event.BlockDelete on) = answers program reply.Taken (record s { block_delete = on })
-step equipment program s event.Status = answers program (reply.Status (shown s)) s
+step equipment program s event.Status = answers program (reply.Status (session_status s)) s
 step equipment program s event.Tick = tick equipment program s
 
 -- a block is current, or the program runs
-abbrev pub is_busy : Sitting → Bool
-is_busy s = is_running s.activity || is_some s.current
+abbrev pub has_work : SessionModel → Bool
+has_work s = is_running s.activity || is_some s.current
 
 -- the program runs, and no block is current
-abbrev pub IsBetweenLines : Sitting → Type 0
+abbrev pub IsBetweenLines : SessionModel → Type 0
 IsBetweenLines s = (s.current ≡ None) × (is_running s.activity ≡ true)
 
 -- the half-done block is a line of the program
-abbrev pub IsProgramsLine : Option HalfDone → Type 0
+abbrev pub IsProgramsLine : Option HalfModel → Type 0
 IsProgramsLine None = ⊥
 IsProgramsLine (Some half) = half.source ≡ source.Program
 
@@ -500,12 +500,12 @@ IsProgramsLine (Some half) = half.source ≡ source.Program
 
 -- What takes memory: a program that is loaded, a line of the operator that is tried, a half-done block that goes on, a Tick between two
 -- lines of a program that runs.
-abbrev pub TakesMemory : {A : Type 0} → Equipment → Sitting → Event A → Type 0
+abbrev pub TakesMemory : {A : Type 0} → Equipment → SessionModel → Event A → Type 0
 TakesMemory equipment s (event.Load text) = load_refusal s text ≡ None
 TakesMemory equipment s event.Start = ⊥
 TakesMemory equipment s event.Hold = ⊥
 TakesMemory equipment s event.Continue = ⊥
-TakesMemory equipment s (event.Mdi text) = (is_engaged s ≡ false) × (s.stored.setup.machine.place_known ≡ true)
+TakesMemory equipment s (event.Mdi text) = (refuses_mdi s ≡ false) × (s.stored.setup.machine.point_known ≡ true)
 TakesMemory equipment s (event.Reference point) = ⊥
 TakesMemory equipment s event.Resume = resume_refusal equipment s ≡ None
 TakesMemory equipment s event.Abandon = ⊥
@@ -515,7 +515,7 @@ TakesMemory equipment s event.Status = ⊥
 TakesMemory equipment s event.Tick = (s.held ≡ false) × IsBetweenLines s
 
 -- What asks something of the device: what is committed, a line of the program that goes on, a Tick that finds something to do.
-abbrev pub AsksDevice : {A : Type 0} → Equipment → Sitting → Event A → Type 0
+abbrev pub AsksDevice : {A : Type 0} → Equipment → SessionModel → Event A → Type 0
 AsksDevice equipment s (event.Load text) = load_refusal s text ≡ None
 AsksDevice equipment s event.Start = ⊥
 AsksDevice equipment s event.Hold = ⊥
@@ -527,22 +527,22 @@ AsksDevice equipment s event.Abandon = abandon_refusal s ≡ None
 AsksDevice equipment s (event.OptionalStop wanted) = ⊥
 AsksDevice equipment s (event.BlockDelete on) = ⊥
 AsksDevice equipment s event.Status = ⊥
-AsksDevice equipment s event.Tick = (s.held ≡ false) × (is_busy s ≡ true)
+AsksDevice equipment s event.Tick = (s.held ≡ false) × (has_work s ≡ true)
 
--- a line of the program is read for it: the next one, or where that begins behind a half-done one
-abbrev pub ReadsLine : {A : Type 0} → Equipment → Sitting → Event A → Type 0
-ReadsLine equipment s (event.Load text) = ⊥
-ReadsLine equipment s event.Start = ⊥
-ReadsLine equipment s event.Hold = ⊥
-ReadsLine equipment s event.Continue = ⊥
-ReadsLine equipment s (event.Mdi text) = ⊥
-ReadsLine equipment s (event.Reference point) = ⊥
-ReadsLine equipment s event.Resume = (resume_refusal equipment s ≡ None) × IsProgramsLine s.stored.half
-ReadsLine equipment s event.Abandon = ⊥
-ReadsLine equipment s (event.OptionalStop wanted) = ⊥
-ReadsLine equipment s (event.BlockDelete on) = ⊥
-ReadsLine equipment s event.Status = ⊥
-ReadsLine equipment s event.Tick = (s.held ≡ false) × IsBetweenLines s
+-- a line of the program is read for it: the next one, or where that begins after a half-done one
+abbrev pub NeedsProgramLine : {A : Type 0} → Equipment → SessionModel → Event A → Type 0
+NeedsProgramLine equipment s (event.Load text) = ⊥
+NeedsProgramLine equipment s event.Start = ⊥
+NeedsProgramLine equipment s event.Hold = ⊥
+NeedsProgramLine equipment s event.Continue = ⊥
+NeedsProgramLine equipment s (event.Mdi text) = ⊥
+NeedsProgramLine equipment s (event.Reference point) = ⊥
+NeedsProgramLine equipment s event.Resume = (resume_refusal equipment s ≡ None) × IsProgramsLine s.stored.half
+NeedsProgramLine equipment s event.Abandon = ⊥
+NeedsProgramLine equipment s (event.OptionalStop wanted) = ⊥
+NeedsProgramLine equipment s (event.BlockDelete on) = ⊥
+NeedsProgramLine equipment s event.Status = ⊥
+NeedsProgramLine equipment s event.Tick = (s.held ≡ false) × IsBetweenLines s
 
 -- the session answers it of itself: the device is neither read, nor written, nor given an item
 abbrev pub IsQuiet : {A : Type 0} → Event A → Type 0

@@ -3,7 +3,7 @@ ghost use Rattle.std.specs.Prelude.{◌≡◌, ◌&&◌, if◌then◌else◌};
 ghost use Rattle.ng_session.specs.Session.{activity_after, activity_again, condition_of, idleness, is_running, stopped_by};
 
 use crate::reply::{Condition, Reply};
-use ng_block::Stop;
+use ng_block::ProgramFlow;
 use ng_layout::Source;
 
 /// Whether the program runs (own).
@@ -13,7 +13,7 @@ pub enum Activity {
     Idle,
     /// Its lines are begun one after the other.
     Running,
-    /// It waits to go on: behind a stop, before a line that was refused, at the end of a text without a program end, or since the
+    /// It waits to go on: after a stop, before a line that was refused, at the end of a text without a program end, or since the
     /// operator's own line ended a hold.
     Stopped,
 }
@@ -71,20 +71,20 @@ impl Activity {
         }
     }
 
-    /// Behind a block: the program's end ends it, its stops stop it, the optional one where it is wanted. A line of the
+    /// After a block: the program's end ends it, its stops stop it, the optional one where it is wanted. A line of the
     /// operator stops nothing.
-    pub(crate) fn after(self, source: Source, stop: Stop, optional_stop: bool) -> Activity
+    pub(crate) fn after(self, source: Source, stop: ProgramFlow, optional_stop: bool) -> Activity
         ensures { result ≡ activity_after source stop optional_stop self }
     {
         match stop {
-            Stop::Ends => Activity::Idle,
-            Stop::GoesOn => self,
-            Stop::Stops => self.stopped_by(source, true),
-            Stop::StopsIfWanted => self.stopped_by(source, optional_stop),
+            ProgramFlow::Ends => Activity::Idle,
+            ProgramFlow::GoesOn => self,
+            ProgramFlow::Stops => self.stopped_by(source, true),
+            ProgramFlow::StopsIfWanted => self.stopped_by(source, optional_stop),
         }
     }
 
-    /// Behind a stop that may be wanted or not.
+    /// After a stop that may be wanted or not.
     fn stopped_by(self, source: Source, wanted: bool) -> Activity
         ensures { result ≡ stopped_by source wanted self }
     {

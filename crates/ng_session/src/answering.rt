@@ -28,7 +28,7 @@ impl<A: Allocator + Copy + Drop> Session<A> {
         match event {
             Event::Start => Ok(self.start()),
             Event::Hold => Ok(self.hold()),
-            Event::Continue => Ok(self.go_on()),
+            Event::Continue => Ok(self.resume_held()),
             Event::Mdi(text) => self.mdi(text.bytes(), tools, geometry),
             Event::OptionalStop(wanted) => Ok(self.set_optional_stop(*wanted)),
             Event::BlockDelete(on) => Ok(self.set_block_delete(*on)),

@@ -1,34 +1,35 @@
 //! How a line is begun: by the operator, or by the program.
 ghost use Rattle.std.specs.Prelude.{◌≡◌, ◌≤◌, ℕ, List, Some, true, false, Ok, Err, IfOk, OnOk, OnErr, MatchResult, length};
-ghost use Rattle.ng_block.specs.Dry.{first_kind};
+ghost use Rattle.ng_text.specs.Percent.{first_kind};
 ghost use Rattle.ng_block.specs.Effects.{in_state};
 ghost use Rattle.ng_layout.specs.declared.half.Source.TheVariants as source;
-ghost use Rattle.ng_layout.specs.Programs.{lines_before};
-ghost use Rattle.ng_layout.specs.Storable.{CanStand};
+ghost use Rattle.ng_text.specs.Programs.{lines_before};
+ghost use Rattle.ng_layout.specs.Storable.{IsStorableMachine};
 ghost use Rattle.ng_session.specs.Entries.{equipment_of, done_of};
 
 use crate::activity::Activity;
-use crate::current::Current;
+use crate::current_block::CurrentBlock;
 use crate::reply::Reply;
 use crate::session::Session;
-use ng_block::{Effect, Places, Terms, Tools, missing_end};
+use ng_block::{Effect, Scratch, Terms, Tools};
 use ng_canon::Geometry;
 use ng_layout::{Source, Stored};
 use ng_num::Fault;
-use ng_words::Kind;
+use ng_text::missing_end;
+use ng_words::LineKind;
 use std::alloc::{AllocError, Allocator};
 
 /// What a line of the operator does, in places, or the first fault that refuses it.
 #[tactic(auto, unfolding(crate::specs::Entries::done_of))]
 fn execute_alone<'p, A: Allocator + Copy + Drop>(
-    places: &'p mut Places,
+    places: &'p mut Scratch,
     stored: &Stored<A>,
     text: &[u8],
     terms: &Terms<'_>,
 ) -> Result<&'p Effect, Fault>
     ensures done { (program : List ℕ) → MatchResult result (λ e. done_of (equipment_of terms.now) program stored.now source.Mdi text.now terms.now.block_delete ≡ Ok (in_state stored.now.setup e.now)) (λ fault. done_of (equipment_of terms.now) program stored.now source.Mdi text.now terms.now.block_delete ≡ Err fault) }
     ensures short { OnOk result (length text.now ≤ 256) }
-    ensures stands { IfOk result (λ e. CanStand stored.now.setup.machine → CanStand e.now.machine) }
+    ensures stands { IfOk result (λ e. IsStorableMachine stored.now.setup.machine → IsStorableMachine e.now.machine) }
 {
     // called for its contract: a table has at most 64 slots, and no more are stored
     let _ = terms.tools.slots();
@@ -41,27 +42,27 @@ fn execute_alone<'p, A: Allocator + Copy + Drop>(
 /// What a line of the program does, in places, or the first fault that refuses it; `first` is the kind of the first line
 /// before it that isn't blank.
 #[tactic(auto, unfolding(crate::specs::Entries::done_of))]
-fn execute_behind<'p, A: Allocator + Copy + Drop>(
-    places: &'p mut Places,
+fn execute_after_lines<'p, A: Allocator + Copy + Drop>(
+    places: &'p mut Scratch,
     stored: &Stored<A>,
-    first: Kind,
+    first: LineKind,
     text: &[u8],
     terms: &Terms<'_>,
 ) -> Result<&'p Effect, Fault>
     ensures done { (program : List ℕ) → first ≡ first_kind (lines_before program stored.now.place) → MatchResult result (λ e. done_of (equipment_of terms.now) program stored.now source.Program text.now terms.now.block_delete ≡ Ok (in_state stored.now.setup e.now)) (λ fault. done_of (equipment_of terms.now) program stored.now source.Program text.now terms.now.block_delete ≡ Err fault) }
     ensures short { OnOk result (length text.now ≤ 256) }
-    ensures stands { IfOk result (λ e. CanStand stored.now.setup.machine → CanStand e.now.machine) }
+    ensures stands { IfOk result (λ e. IsStorableMachine stored.now.setup.machine → IsStorableMachine e.now.machine) }
 {
     // called for its contract: a table has at most 64 slots, and no more are stored
     let _ = terms.tools.slots();
-    match places.execute_behind(terms, first, &stored.state, text) {
+    match places.execute_after(terms, first, &stored.state, text) {
         Ok(effect) => Ok(effect),
         Err(fault) => Err(fault),
     }
 }
 
 impl<A: Allocator + Copy + Drop> Session<A> {
-    ghost use Rattle.ng_session.specs.Session.{mdi, begin, break_off, is_engaged};
+    ghost use Rattle.ng_session.specs.Session.{mdi, begin, break_off, refuses_mdi};
 
     /// Begins a line of the operator; where the session was held, that ends, and a program that ran waits. K1 where a block is
     /// current or half-done, or the program runs and isn't held, K3 where it isn't known where the machine stands, then the
@@ -77,9 +78,9 @@ impl<A: Allocator + Copy + Drop> Session<A> {
         ensures reply { IfOk result (λ reply. (program : List ℕ) → reply ≡ (mdi (record { tools = tools.now; geometry = geometry.now }) program self.old text.now).reply) }
         ensures next { OnOk result ((program : List ℕ) → self.new ≡ (mdi (record { tools = tools.now; geometry = geometry.now }) program self.old text.now).next) }
         ensures err { OnErr result (self.new ≡ self.old) }
-        ensures memory { OnErr result ((is_engaged self.old ≡ false) × (self.old.stored.setup.machine.place_known ≡ true)) }
+        ensures memory { OnErr result ((refuses_mdi self.old ≡ false) × (self.old.stored.setup.machine.point_known ≡ true)) }
     {
-        if self.is_engaged() {
+        if self.refuses_mdi() {
             return Ok(Reply::Refused(Fault::Busy));
         }
         if !self.is_place_known() {
@@ -96,7 +97,14 @@ impl<A: Allocator + Copy + Drop> Session<A> {
             Ok(effect) => effect,
             Err(fault) => return Ok(Reply::Refused(fault)),
         };
-        let current = Current::begun(&self.stored, Source::Mdi, text, block_delete, place, effect)?;
+        let current = CurrentBlock::begun(
+            &self.stored,
+            Source::Mdi,
+            text,
+            block_delete,
+            place,
+            effect,
+        )?;
         self.activity = self.activity.laid_by(self.held);
         self.held = false;
         self.current = Some(current);
@@ -110,7 +118,7 @@ impl<A: Allocator + Copy + Drop> Session<A> {
         &mut self,
         text: &[u8],
         next: u64,
-        first: Kind,
+        first: LineKind,
         tools: &Tools,
         geometry: &Geometry,
     ) -> Result<Reply, AllocError>
@@ -126,14 +134,20 @@ impl<A: Allocator + Copy + Drop> Session<A> {
             tools,
             geometry,
         };
-        let effect = match execute_behind(&mut self.places, &self.stored, first, text, &terms) {
+        let effect = match execute_after_lines(
+            &mut self.places,
+            &self.stored,
+            first,
+            text,
+            &terms,
+        ) {
             Ok(effect) => effect,
             Err(fault) => {
                 self.activity = Activity::Stopped;
                 return Ok(Reply::Refused(fault));
             }
         };
-        let begun = Current::begun(
+        let begun = CurrentBlock::begun(
             &self.stored,
             Source::Program,
             text,
@@ -147,7 +161,7 @@ impl<A: Allocator + Copy + Drop> Session<A> {
 
     /// Stops the program at the end of its text, which has no program end: X4 where a percent line is missing, else X3. `first` is
     /// the kind of its first line that isn't blank.
-    pub fn break_off(&mut self, first: Kind) -> Reply
+    pub fn break_off(&mut self, first: LineKind) -> Reply
         ensures reply { (program : List ℕ) → first ≡ first_kind (lines_before program self.old.stored.place) → result ≡ (break_off program self.old).reply }
         ensures next { (program : List ℕ) → self.new ≡ (break_off program self.old).next }
     {

@@ -1,29 +1,30 @@
 //! A half-done block (own): where its machine stands is told, it goes on, or it is given up.
 ghost use Rattle.std.specs.Prelude.{◌≡◌, ◌≤◌, not, nat_lt, false, ℕ, List, Ok, Err, IfOk, OnOk, OnErr, MatchResult, MatchOption, length};
 ghost use Rattle.ng_block.specs.Effects.{in_state};
-ghost use Rattle.ng_layout.specs.Storable.{CanStand, IsStorable};
-ghost use Rattle.ng_layout.specs.Stored.{with_report};
+ghost use Rattle.ng_layout.specs.Storable.{IsStorableMachine, IsStorable};
+ghost use Rattle.ng_layout.specs.Stored.{with_decoded_state};
 ghost use Rattle.ng_session.specs.Entries.{equipment_of, done_again, turned_off, given_up};
 
-use crate::current::Current;
+use crate::current_block::CurrentBlock;
 use crate::reply::Reply;
 use crate::session::Session;
-use ng_block::{Effect, Machine, Places, Terms, Tools};
+use ng_block::{Effect, Scratch, Terms, Tools};
 use ng_canon::{Geometry, Outputs, Spindle};
-use ng_layout::{Half, Reported, Source, Stored};
+use ng_layout::{DecodedState, Half, Source, Stored};
 use ng_num::{Fault, Point};
+use ng_state::Machine;
 use std::alloc::{AllocError, Allocator};
 
 /// What the line of a half-done block does from its beginning, in places, or the first fault that refuses it.
 #[tactic(auto, unfolding(crate::specs::Entries::done_again))]
 fn execute_again<'p, A: Allocator + Copy + Drop>(
-    places: &'p mut Places,
+    places: &'p mut Scratch,
     stored: &Stored<A>,
     half: &Half,
     terms: &Terms<'_>,
 ) -> Result<&'p Effect, Fault>
     ensures done { MatchResult result (λ e. done_again (equipment_of terms.now) stored.now half.now.text ≡ Ok (in_state stored.now.setup e.now)) (λ fault. done_again (equipment_of terms.now) stored.now half.now.text ≡ Err fault) }
-    ensures stands { IfOk result (λ e. CanStand stored.now.setup.machine → CanStand e.now.machine) }
+    ensures stands { IfOk result (λ e. IsStorableMachine stored.now.setup.machine → IsStorableMachine e.now.machine) }
 {
     // called for its contract: a table has at most 64 slots, and no more are stored
     let _ = terms.tools.slots();
@@ -53,7 +54,7 @@ fn given_up(machine: &Machine, half: &Half) -> Machine
     Machine {
         outputs: turned_off(machine.outputs),
         point: half.at.unwrap_or(machine.point),
-        place_known: half.at.is_some(),
+        point_known: half.at.is_some(),
         ..*machine
     }
 }
@@ -61,8 +62,8 @@ fn given_up(machine: &Machine, half: &Half) -> Machine
 impl<A: Allocator + Copy + Drop> Session<A> {
     ghost use Rattle.std.specs.Prelude.{None, Some, IfNone, IfSome, true, ◌<◌, ◌+◌};
     ghost use Rattle.std.specs.Option.{is_some};
-    ghost use Rattle.ng_layout.specs.Programs.{place_behind};
-    ghost use Rattle.ng_layout.specs.Stored.{Report};
+    ghost use Rattle.ng_text.specs.Programs.{next_line_start};
+    ghost use Rattle.ng_layout.specs.Stored.{DecodedStateModel};
     ghost use Rattle.ng_session.specs.Entries.{after_reference, after_abandon};
     ghost use Rattle.ng_session.specs.Session.{reference_refusal, abandon_refusal};
 
@@ -83,17 +84,17 @@ impl<A: Allocator + Copy + Drop> Session<A> {
     /// What is to be stored once the machine is known to stand at a point, in nm of machine coordinates: where a block is half-done that
     /// one alone says it. The session stays as it is.
     #[tactic(auto, using(crate::proofs::Standing::reference_storable))]
-    pub fn referenced(&self, point: Point) -> Reported
+    pub fn referenced(&self, point: Point) -> DecodedState
         requires { self.now.stored.entries < 1_000_000_000_000 }
-        ensures value { with_report self.now.stored result self.now.stored.length ≡ after_reference self.now.stored point }
+        ensures value { with_decoded_state self.now.stored result self.now.stored.length ≡ after_reference self.now.stored point }
         ensures count { result.entries ≡ self.now.stored.entries + 1 }
-        ensures storable { IsStorable (with_report self.now.stored result self.now.stored.length) }
+        ensures storable { IsStorable (with_decoded_state self.now.stored result self.now.stored.length) }
     {
         let stored = &self.stored;
         let machine = stored.state.machine;
         let entries = stored.entries + 1;
         match &stored.half {
-            Some(half) => Reported {
+            Some(half) => DecodedState {
                 entries,
                 place: stored.place,
                 machine,
@@ -103,12 +104,12 @@ impl<A: Allocator + Copy + Drop> Session<A> {
                     ..half.copy()
                 }),
             },
-            None => Reported {
+            None => DecodedState {
                 entries,
                 place: stored.place,
                 machine: Machine {
                     point,
-                    place_known: true,
+                    point_known: true,
                     ..machine
                 },
                 half: None,
@@ -132,14 +133,14 @@ impl<A: Allocator + Copy + Drop> Session<A> {
     /// What is to be stored once the half-done block is given up: spindle stopped, coolant off, and the machine where that block says that
     /// it stands, else no longer known; none where no block is half-done. The session stays as it is.
     #[tactic(auto, using(crate::proofs::Standing::abandon_storable))]
-    pub fn abandoned(&self) -> Option<Reported>
+    pub fn abandoned(&self) -> Option<DecodedState>
         requires { self.now.stored.entries < 1_000_000_000_000 }
         ensures count { IfSome result (λ report. report.entries ≡ self.now.stored.entries + 1) }
-        ensures storable { IfSome result (λ report. IsStorable (with_report self.now.stored report self.now.stored.length)) }
-        ensures value { MatchOption result (self.now.stored.half ≡ None) (λ report. with_report self.now.stored report self.now.stored.length ≡ after_abandon self.now.stored) }
+        ensures storable { IfSome result (λ report. IsStorable (with_decoded_state self.now.stored report self.now.stored.length)) }
+        ensures value { MatchOption result (self.now.stored.half ≡ None) (λ report. with_decoded_state self.now.stored report self.now.stored.length ≡ after_abandon self.now.stored) }
     {
         match &self.stored.half {
-            Some(half) => Some(Reported {
+            Some(half) => Some(DecodedState {
                 entries: self.stored.entries + 1,
                 place: self.stored.place,
                 machine: given_up(&self.stored.state.machine, half),
@@ -152,7 +153,7 @@ impl<A: Allocator + Copy + Drop> Session<A> {
 
 impl<A: Allocator + Copy + Drop> Session<A> {
     ghost use Rattle.std.specs.Prelude.{IfSome, true};
-    ghost use Rattle.ng_session.specs.Session.{next_behind, resume, resume_refusal, IsProgramsLine};
+    ghost use Rattle.ng_session.specs.Session.{next_place_after, resume, resume_refusal, IsProgramsLine};
 
     /// Why no half-done block goes on now: K1 where the session isn't at rest, K4 where no block is half-done, K3 where it isn't known
     /// where its machine stands, then its line's own faults. The session stays as it is.
@@ -184,7 +185,7 @@ impl<A: Allocator + Copy + Drop> Session<A> {
     pub fn is_programs_line(&self) -> bool
         ensures yes { result ≡ true → IsProgramsLine self.now.stored.half }
         ensures no { result ≡ false → IsProgramsLine self.now.stored.half → ⊥ }
-        ensures stays { (program : List ℕ) → result ≡ false → IfSome self.now.stored.half (λ half. self.now.stored.place ≡ next_behind program self.now.stored.place half.source) }
+        ensures stays { (program : List ℕ) → result ≡ false → IfSome self.now.stored.half (λ half. self.now.stored.place ≡ next_place_after program self.now.stored.place half.source) }
     {
         match &self.stored.half {
             Some(half) => match half.source {
@@ -204,14 +205,14 @@ impl<A: Allocator + Copy + Drop> Session<A> {
 
     /// Puts a report in the place of what is stored of it, and gives that back: put in its place again, that takes the report back.
     #[tactic(auto, using(crate::proofs::Keeping::kept_report))]
-    pub fn exchange(&mut self, report: Reported) -> Reported
+    pub fn exchange(&mut self, report: DecodedState) -> DecodedState
         requires free { self.old.current ≡ None }
         requires count { report.entries ≤ 1_000_000_000_000 }
-        requires storable { IsStorable (with_report self.old.stored report self.old.stored.length) }
-        ensures next { self.new ≡ record self.old { stored = with_report self.old.stored report self.old.stored.length } }
+        requires storable { IsStorable (with_decoded_state self.old.stored report self.old.stored.length) }
+        ensures next { self.new ≡ record self.old { stored = with_decoded_state self.old.stored report self.old.stored.length } }
         ensures before { result ≡ record { entries = self.old.stored.entries; place = self.old.stored.place; machine = self.old.stored.setup.machine; half = self.old.stored.half } }
     {
-        let before = Reported {
+        let before = DecodedState {
             entries: self.stored.entries,
             place: self.stored.place,
             machine: self.stored.state.machine,
@@ -247,8 +248,8 @@ impl<A: Allocator + Copy + Drop> Session<A> {
     ) -> Result<Reply, AllocError>
         requires { next ≤ self.old.stored.length }
         ensures stored { OnOk result (self.new.stored ≡ self.old.stored) }
-        ensures reply { IfOk result (λ reply. (program : List ℕ) → IfSome self.old.stored.half (λ half. next ≡ next_behind program self.old.stored.place half.source) → reply ≡ (resume (record { tools = tools.now; geometry = geometry.now }) program self.old).reply) }
-        ensures next { OnOk result ((program : List ℕ) → IfSome self.old.stored.half (λ half. next ≡ next_behind program self.old.stored.place half.source) → self.new ≡ (resume (record { tools = tools.now; geometry = geometry.now }) program self.old).next) }
+        ensures reply { IfOk result (λ reply. (program : List ℕ) → IfSome self.old.stored.half (λ half. next ≡ next_place_after program self.old.stored.place half.source) → reply ≡ (resume (record { tools = tools.now; geometry = geometry.now }) program self.old).reply) }
+        ensures next { OnOk result ((program : List ℕ) → IfSome self.old.stored.half (λ half. next ≡ next_place_after program self.old.stored.place half.source) → self.new ≡ (resume (record { tools = tools.now; geometry = geometry.now }) program self.old).next) }
         ensures err { OnErr result (self.new ≡ self.old) }
         ensures memory { OnErr result (resume_refusal (record { tools = tools.now; geometry = geometry.now }) self.old ≡ None) }
     {
@@ -271,7 +272,7 @@ impl<A: Allocator + Copy + Drop> Session<A> {
             Ok(effect) => effect,
             Err(fault) => return Ok(Reply::Refused(fault)),
         };
-        let current = Current::begun_again(&self.stored, half, from, next, effect)?;
+        let current = CurrentBlock::begun_again(&self.stored, half, from, next, effect)?;
         self.activity = self.activity.again(half.source);
         self.current = Some(current);
         Ok(Reply::Going)

@@ -10,11 +10,10 @@
 mod activity;
 mod answering;
 mod beginning;
-mod current;
+mod current_block;
 mod event;
 mod half_done;
 pub mod laws;
-mod lines_before;
 mod loading;
 mod reply;
 mod session;
@@ -23,7 +22,6 @@ mod ticking;
 
 pub use activity::Activity;
 pub use event::{Event, Text};
-pub use lines_before::LinesBefore;
 pub use reply::{Condition, HalfShown, Reply, Status};
 pub use session::Session;
 pub use stage::{Approach, Stage};

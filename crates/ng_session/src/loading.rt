@@ -1,5 +1,6 @@
 //! How a program is loaded.
 ghost use Rattle.std.specs.Prelude.{◌≡◌, ◌≤◌, ℕ, Ok, IfOk, length};
+ghost use Rattle.ng_layout.specs.Limits.{longest_program};
 ghost use Rattle.ng_layout.specs.Storable.{IsStorable};
 ghost use Rattle.ng_session.specs.Entries.{after_load};
 
@@ -31,16 +32,16 @@ fn after_load<A: Allocator + Copy + Drop>(
 
 impl<A: Allocator + Copy + Drop> Session<A> {
     ghost use Rattle.std.specs.Prelude.{None, true, IfNone};
-    ghost use Rattle.ng_session.specs.Kept.{IsKept};
-    ghost use Rattle.ng_session.specs.Session.{is_free, load, load_refusal, loaded};
+    ghost use Rattle.ng_session.specs.SessionInvariant.{IsSessionInvariant};
+    ghost use Rattle.ng_session.specs.Session.{accepts_load, load, load_refusal, loaded};
 
     /// Why a program of these bytes isn't loaded now: K1 where the session isn't at rest or a block is half-done, J5 where it is
     /// too long.
     pub fn load_refusal(&self, text: &[u8]) -> Option<Fault>
         ensures value { result ≡ load_refusal self.now text.now }
-        ensures none { IfNone result ((is_free self.now ≡ true) × (length text.now ≤ 131_072)) }
+        ensures none { IfNone result ((accepts_load self.now ≡ true) × (length text.now ≤ longest_program)) }
     {
-        if !self.is_free() {
+        if !self.accepts_load() {
             return Some(Fault::Busy);
         }
         if text.len() > LONGEST_PROGRAM as usize {
@@ -54,7 +55,7 @@ impl<A: Allocator + Copy + Drop> Session<A> {
     #[tactic(auto, using(crate::proofs::Standing::load_storable))]
     pub fn loading(&self, text: &[u8]) -> Result<Stored<A>, AllocError>
         ensures value { IfOk result (λ x. x ≡ after_load self.now.stored (length text.now)) }
-        ensures storable { IfOk result (λ x. length text.now ≤ 131_072 → IsStorable x) }
+        ensures storable { IfOk result (λ x. length text.now ≤ longest_program → IsStorable x) }
     {
         after_load(&self.stored, text.len() as u64)
     }
@@ -62,8 +63,8 @@ impl<A: Allocator + Copy + Drop> Session<A> {
     /// Goes on with a program, once that is stored.
     #[tactic(auto, using(crate::proofs::Keeping::kept_free))]
     pub fn load(&mut self, stored: Stored<A>) -> Reply
-        requires free { is_free self.old ≡ true }
-        requires kept { IsKept stored None }
+        requires free { accepts_load self.old ≡ true }
+        requires kept { IsSessionInvariant stored None }
         ensures reply { result ≡ Reply.Done stored.entries }
         ensures next { self.new ≡ loaded self.old stored }
     {

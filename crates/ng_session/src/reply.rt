@@ -37,7 +37,7 @@ pub struct Status {
     /// stored point.
     pub point: Point,
     /// Whether the machine is known to stand there.
-    pub place_known: bool,
+    pub point_known: bool,
     /// The half-done block; one with an open segment counts as such.
     pub half: Option<HalfShown>,
     /// What the controller is about.

@@ -1,18 +1,19 @@
 //! A session: what a controller keeps between two events.
 ghost use Rattle.std.specs.Prelude.{◌≡◌, ◌≤◌, List, ℕ};
 ghost use Rattle.std.specs.Option.{option_map};
-ghost use Rattle.ng_session.specs.Session.{point_shown, place_shown, half_shown};
+ghost use Rattle.ng_session.specs.Session.{point_shown, point_known_shown, half_shown};
 
 use crate::activity::Activity;
-use crate::current::Current;
+use crate::current_block::CurrentBlock;
 use crate::reply::{Condition, HalfShown, Reply, Status};
-use ng_block::{Machine, Places};
+use ng_block::Scratch;
 use ng_layout::{Half, Stored};
 use ng_num::{Fault, Point};
+use ng_state::Machine;
 use std::alloc::Allocator;
 use std::marker::Model;
 
-/// What a controller keeps between two events (own). Contracts see a `Sitting`.
+/// What a controller keeps between two events (own). Contracts see a `SessionModel`.
 #[derive(Drop)]
 pub struct Session<A: Allocator> {
     /// What the device stands for.
@@ -21,32 +22,32 @@ pub struct Session<A: Allocator> {
     pub(crate) held: bool,
     pub(crate) optional_stop: bool,
     pub(crate) block_delete: bool,
-    pub(crate) current: Option<Current<A>>,
+    pub(crate) current: Option<CurrentBlock<A>>,
     /// The places that each line is executed in.
-    pub(crate) places: Places,
+    pub(crate) places: Scratch,
 }
 
 impl<A: Allocator> Model for Session<A> {
     ghost use Rattle.std.specs.Option.{option_map};
-    ghost use Rattle.ng_session.specs.Session.{Sitting};
-    ghost use Rattle.ng_session.specs.Kept.{IsKept, block_of};
+    ghost use Rattle.ng_session.specs.Session.{SessionModel};
+    ghost use Rattle.ng_session.specs.SessionInvariant.{IsSessionInvariant, block_of};
 
-    ghost Value = { Sitting };
+    ghost Value = { SessionModel };
 
     ghost view = { λ s. record { stored = s.stored; activity = s.activity; held = s.held; optional_stop = s.optional_stop; block_delete = s.block_delete; current = option_map block_of s.current } };
 
-    ghost invariant = { λ s. IsKept s.stored s.current };
+    ghost invariant = { λ s. IsSessionInvariant s.stored s.current };
 }
 
 impl<A: Allocator + Copy + Drop> Session<A> {
     ghost use Rattle.std.specs.Prelude.{None};
     ghost use Rattle.ng_layout.specs.Storable.{IsStorable};
-    ghost use Rattle.ng_session.specs.Kept.{IsKept};
-    ghost use Rattle.ng_session.specs.Session.{resting, is_at_rest, is_free, is_engaged, start, hold, go_on, shown};
+    ghost use Rattle.ng_session.specs.SessionInvariant.{IsSessionInvariant};
+    ghost use Rattle.ng_session.specs.Session.{resting, is_at_rest, accepts_load, refuses_mdi, start, hold, resume_held, session_status};
 
     /// A session as power on leaves it: at rest, over what the device stands for. It takes no memory.
     pub fn new(stored: Stored<A>) -> Session<A>
-        requires { IsKept stored None }
+        requires { IsSessionInvariant stored None }
         ensures { result ≡ resting stored }
     {
         Session {
@@ -56,7 +57,7 @@ impl<A: Allocator + Copy + Drop> Session<A> {
             optional_stop: false,
             block_delete: false,
             current: None,
-            places: Places::new(Machine::fresh()),
+            places: Scratch::new(Machine::fresh()),
         }
     }
 
@@ -77,15 +78,15 @@ impl<A: Allocator + Copy + Drop> Session<A> {
     }
 
     /// Whether it is at rest with no half-done block.
-    pub(crate) fn is_free(&self) -> bool
-        ensures { result ≡ is_free self.now }
+    pub(crate) fn accepts_load(&self) -> bool
+        ensures { result ≡ accepts_load self.now }
     {
         self.is_at_rest() && self.stored.half.is_none()
     }
 
     /// Whether a block is current or half-done, or the program runs and isn't held: then no line of the operator begins.
-    pub(crate) fn is_engaged(&self) -> bool
-        ensures { result ≡ is_engaged self.now }
+    pub(crate) fn refuses_mdi(&self) -> bool
+        ensures { result ≡ refuses_mdi self.now }
     {
         self.current.is_some()
             || (self.activity.is_running() && !self.held)
@@ -94,9 +95,9 @@ impl<A: Allocator + Copy + Drop> Session<A> {
 
     /// Whether it is known where the machine stands.
     pub(crate) fn is_place_known(&self) -> bool
-        ensures { result ≡ self.now.stored.setup.machine.place_known }
+        ensures { result ≡ self.now.stored.setup.machine.point_known }
     {
-        self.stored.state.machine.place_known
+        self.stored.state.machine.point_known
     }
 
     /// The byte of the program at which the next line begins.
@@ -113,7 +114,7 @@ impl<A: Allocator + Copy + Drop> Session<A> {
         ensures reply { (program : List ℕ) → result ≡ (start program self.old).reply }
         ensures next { (program : List ℕ) → self.new ≡ (start program self.old).next }
     {
-        if !self.is_free() {
+        if !self.accepts_load() {
             return Reply::Refused(Fault::Busy);
         }
         if !self.is_place_known() {
@@ -141,9 +142,9 @@ impl<A: Allocator + Copy + Drop> Session<A> {
 
     /// What was held goes on, or the program that was stopped. Unless it is held, K1 where the program runs or a block is current, and
     /// else K2 where it is Idle; nothing is changed then.
-    pub(crate) fn go_on(&mut self) -> Reply
-        ensures reply { (program : List ℕ) → result ≡ (go_on program self.old).reply }
-        ensures next { (program : List ℕ) → self.new ≡ (go_on program self.old).next }
+    pub(crate) fn resume_held(&mut self) -> Reply
+        ensures reply { (program : List ℕ) → result ≡ (resume_held program self.old).reply }
+        ensures next { (program : List ℕ) → self.new ≡ (resume_held program self.old).next }
     {
         if self.held {
             self.held = false;
@@ -181,7 +182,7 @@ impl<A: Allocator + Copy + Drop> Session<A> {
 
     /// What the status shows: what is stored, and what the session is about. A block with an open segment counts as half-done.
     pub fn status(&self) -> Status
-        ensures { result ≡ shown self.now }
+        ensures { result ≡ session_status self.now }
     {
         let machine = &self.stored.state.machine;
         let half = self.stored.half.as_ref();
@@ -189,7 +190,7 @@ impl<A: Allocator + Copy + Drop> Session<A> {
             entries: self.stored.entries,
             place: self.stored.place,
             point: point_shown(machine.point, half),
-            place_known: place_shown(machine.place_known, half),
+            point_known: point_known_shown(machine.point_known, half),
             half: half_shown(half),
             condition: if self.held {
                 Condition::Held
@@ -211,8 +212,8 @@ fn point_shown(point: Point, half: Option<&Half>) -> Point
 }
 
 /// Whether it is known that it stands there.
-fn place_shown(known: bool, half: Option<&Half>) -> bool
-    ensures { result ≡ place_shown known (option_map (λ h. h.now) half.entry) }
+fn point_known_shown(known: bool, half: Option<&Half>) -> bool
+    ensures { result ≡ point_known_shown known (option_map (λ h. h.now) half.entry) }
 {
     match half {
         Some(half) => half.at.is_some(),

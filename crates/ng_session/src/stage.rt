@@ -1,5 +1,5 @@
 //! How far the work on a block has come.
-use ng_cycles::Standing;
+use ng_cycles::MotionState;
 use ng_num::Point;
 
 /// The way back to where a half-done block goes on: from where the machine stands to how it is to stand there (own).
@@ -8,7 +8,7 @@ pub struct Approach {
     /// Where the machine stands, in nm of machine coordinates.
     pub from: Point,
     /// How it stands before the segment that goes on.
-    pub to: Standing,
+    pub to: MotionState,
 }
 
 /// How far the work on a block has come (own).

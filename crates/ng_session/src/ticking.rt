@@ -1,7 +1,7 @@
 //! What a Tick is made of: an item, an approach, a segment, an entry.
 ghost use Rattle.std.specs.Prelude.{◌≡◌, ◌≤◌, ◌<◌, List, ℕ, None, Some, MatchOption, IfSome, IfNone};
 
-use crate::current::Current;
+use crate::current_block::CurrentBlock;
 use crate::reply::Reply;
 use crate::session::Session;
 use crate::stage::{Approach, Stage};
@@ -11,11 +11,11 @@ use std::alloc::Allocator;
 
 impl<A: Allocator + Copy + Drop> Session<A> {
     ghost use Rattle.std.specs.Prelude.{true};
-    ghost use Rattle.ng_layout.specs.Storable.{CanWait};
+    ghost use Rattle.ng_layout.specs.Storable.{IsStorableHalf};
     ghost use Rattle.ng_session.specs.Entries.{Equipment};
-    ghost use Rattle.ng_session.specs.Kept.{IsNext};
-    ghost use Rattle.ng_session.specs.Session.{Underway, answers, tick, is_running, item_of, handed, opening_of, opening_reply, opened, committed, approach_done, activity_after, behind_block, rest};
-    ghost use Rattle.ng_session.specs.Kept.{IsBeforeBlock, IsReady};
+    ghost use Rattle.ng_session.specs.SessionInvariant.{IsNextEntry};
+    ghost use Rattle.ng_session.specs.Session.{CurrentBlockModel, answers, tick, is_running, item_of, handed, opening_of, opening_reply, opened, committed, approach_done, activity_after, after_current_block, rest};
+    ghost use Rattle.ng_session.specs.SessionInvariant.{IsBeforeBlock, IsReady};
 
     /// Whether it is held: then a Tick moves, opens, commits and begins nothing.
     pub fn is_held(&self) -> bool
@@ -48,7 +48,7 @@ impl<A: Allocator + Copy + Drop> Session<A> {
     /// session stays as it is.
     pub fn opening(&self) -> Option<Half>
         ensures half { result ≡ opening_of self.now.current }
-        ensures waits { IfSome result CanWait }
+        ensures waits { IfSome result IsStorableHalf }
     {
         match &self.current {
             Some(current) => current.opening(),
@@ -59,7 +59,7 @@ impl<A: Allocator + Copy + Drop> Session<A> {
     /// Opens that approach or segment, once the half-done block is stored. The reply is Approaching, or Opened with the segment's number.
     #[tactic(auto, using(crate::proofs::Keeping::kept_open))]
     pub fn open(&mut self, half: Half, geometry: &Geometry) -> Reply
-        requires { CanWait half }
+        requires { IsStorableHalf half }
         ensures reply { result ≡ opening_reply half.index half.opened }
         ensures next { self.new ≡ opened geometry.now self.old half }
     {
@@ -78,8 +78,8 @@ impl<A: Allocator + Copy + Drop> Session<A> {
     /// What is to be stored once nothing is left of the current block, or of its approach where that isn't committed; none where no
     /// block is current. The session stays as it is.
     pub fn after(&self) -> Option<&Stored<A>>
-        ensures after { MatchOption result (self.now.current ≡ None) (λ stored. (c : Underway) × (self.now.current ≡ Some c) × (stored.now ≡ (committed self.now c).stored)) }
-        ensures next { IfSome result (λ stored. IsNext self.now.stored stored.now) }
+        ensures after { MatchOption result (self.now.current ≡ None) (λ stored. (c : CurrentBlockModel) × (self.now.current ≡ Some c) × (stored.now ≡ (committed self.now c).stored)) }
+        ensures next { IfSome result (λ stored. IsNextEntry self.now.stored stored.now) }
     {
         match &self.current {
             Some(current) => Some(current.next_stored()),
@@ -87,12 +87,12 @@ impl<A: Allocator + Copy + Drop> Session<A> {
         }
     }
 
-    /// Goes on behind the current block or its approach, once that is stored. Where no block is current the reply is that of a session
+    /// Goes on after the current block or its approach, once that is stored. Where no block is current the reply is that of a session
     /// that has nothing to do, and the session stays as it is.
     pub fn commit(&mut self) -> Reply
         requires { IfSome self.old.current (λ c. self.old.stored.entries < 1_000_000_000_000) }
-        ensures reply { (c : Underway) → self.old.current ≡ Some c → result ≡ Reply.Done (committed self.old c).stored.entries }
-        ensures next { (c : Underway) → self.old.current ≡ Some c → self.new ≡ committed self.old c }
+        ensures reply { (c : CurrentBlockModel) → self.old.current ≡ Some c → result ≡ Reply.Done (committed self.old c).stored.entries }
+        ensures next { (c : CurrentBlockModel) → self.old.current ≡ Some c → self.new ≡ committed self.old c }
         ensures rest_reply { (program : List ℕ) → self.old.current ≡ None → result ≡ (rest program self.old).reply }
         ensures rest_next { self.old.current ≡ None → self.new ≡ self.old }
     {
@@ -108,12 +108,12 @@ impl<A: Allocator + Copy + Drop> Session<A> {
         Reply::Done(self.stored.entries)
     }
 
-    /// Goes on behind the block that was taken from it.
-    fn end_block(&mut self, current: Current<A>)
+    /// Goes on after the block that was taken from it.
+    fn end_block(&mut self, current: CurrentBlock<A>)
         requires count { self.old.stored.entries < 1_000_000_000_000 }
         requires none { self.old.current ≡ None }
         requires ready { IsReady self.old.stored current }
-        ensures { self.new ≡ record self.old { stored = behind_block self.old.stored current.block; activity = activity_after current.block.source current.block.stop self.old.optional_stop self.old.activity } }
+        ensures { self.new ≡ record self.old { stored = after_current_block self.old.stored current.block; activity = activity_after current.block.source current.block.stop self.old.optional_stop self.old.activity } }
     {
         self.activity = self
             .activity
@@ -121,14 +121,14 @@ impl<A: Allocator + Copy + Drop> Session<A> {
         self.stored = current.after;
     }
 
-    /// Goes on with the block that was taken from it, behind its approach.
+    /// Goes on with the block that was taken from it, after its approach.
     #[tactic(auto, using(crate::proofs::Keeping::kept_between))]
-    fn end_approach(&mut self, current: Current<A>, approach: Approach)
+    fn end_approach(&mut self, current: CurrentBlock<A>, approach: Approach)
         requires count { self.old.stored.entries < 1_000_000_000_000 }
         requires ready { IsBeforeBlock self.old.stored current approach }
         ensures { self.new ≡ record (approach_done self.old current.block approach) { current = Some (record current.block { stage = Stage.OnBlock }) } }
     {
-        let Current {
+        let CurrentBlock {
             source,
             text,
             block_delete,
@@ -146,7 +146,7 @@ impl<A: Allocator + Copy + Drop> Session<A> {
             unreachable!()
         };
         self.stored = between;
-        self.current = Some(Current {
+        self.current = Some(CurrentBlock {
             source,
             text,
             block_delete,

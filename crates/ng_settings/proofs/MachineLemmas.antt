@@ -8,22 +8,22 @@ use Rattle.toml.specs.View.{array_view}
 use Rattle.ng_settings.proofs.BoundLemmas.{head_within}
 use Rattle.ng_settings.specs.Numbers.{listed}
 use Rattle.ng_settings.specs.Causes.{is_beyond, are_beyond, is_beyond_limits}
-use Rattle.ng_settings.specs.Given.{three, numbers_given, IsWithin, AreWithin, IsMachine}
-use Rattle.ng_settings.specs.declared.given.Given.{Given}
+use Rattle.ng_settings.specs.Given.{three, numbers_given, IsInLimits, AreInLimits, IsMachine}
+use Rattle.ng_settings.specs.declared.setting_numbers.SettingNumbers.{SettingNumbers}
 use Rattle.ng_settings.specs.declared.numbers.PerAxis.{PerAxis}
 
 not_less : (a b : ℤ) → int_lt a b ≡ false → b ≤ℤ a
 not_less a b h = grind (arith, ints)
 
-within : (least greatest n : ℤ) → is_beyond least greatest n ≡ false → IsWithin least greatest n
+within : (least greatest n : ℤ) → is_beyond least greatest n ≡ false → IsInLimits least greatest n
 within least greatest n h =
     let parts = or_parts (int_lt n least) (int_lt greatest n) h in
     record { low = not_less n least parts.0; high = not_less greatest n parts.1 }
 
-one_within : (least greatest n : ℤ) → are_beyond least greatest (n ∷ []) ≡ false → IsWithin least greatest n
+one_within : (least greatest n : ℤ) → are_beyond least greatest (n ∷ []) ≡ false → IsInLimits least greatest n
 one_within least greatest n h = within least greatest n (head_within least greatest n [] h).0
 
-three_within : (least greatest : ℤ) (t : PerAxis) → are_beyond least greatest (three t) ≡ false → AreWithin least greatest t
+three_within : (least greatest : ℤ) (t : PerAxis) → are_beyond least greatest (three t) ≡ false → AreInLimits least greatest t
 three_within least greatest t h =
     let x = head_within least greatest t.x (t.y ∷ t.z ∷ []) h in
     let y = head_within least greatest t.y (t.z ∷ []) x.1 in
@@ -31,7 +31,7 @@ three_within least greatest t h =
     record { x = within least greatest t.x x.0; y = within least greatest t.y y.0; z = within least greatest t.z z.0 }
 
 -- the numbers of the machine, and those of the tools
-pub all_within : (given : Given) → is_beyond_limits (numbers_given given) ≡ false →
+pub all_within : (given : SettingNumbers) → is_beyond_limits (numbers_given given) ≡ false →
     IsMachine given × (are_beyond (pos 0) (pos 1_000_000_000) (filter_map as_integer (listed (array_view given.tools.now))) ≡ false)
 unfolding is_beyond_limits
 all_within given h =

@@ -1,5 +1,6 @@
 -- The settings of a text, or its first fault: the causes in the order in which they are looked for (own).
-use Rattle.std.specs.Prelude.{◌≡◌, ℕ, Bool, true, false, ◌⊎◌, List, [], ◌∷◌, ◌++◌, Some, IsUtf8}
+use Rattle.std.specs.Prelude.{◌≡◌, ℕ, Bool, ◌⊎◌, List, [], ◌∷◌, Some, IsUtf8}
+use Rattle.ng_num.specs.Causes.{NoneHolds, IsFirstFault}
 use Rattle.ng_num.specs.declared.fault.Fault.{Fault}
 use Rattle.ng_num.specs.declared.fault.Fault.TheVariants.{NotToml, MissingKey, UnknownKey, WrongType, OutOfLimits, TooManyTools, OutOfMemory}
 use Rattle.toml.specs.Data.{Members}
@@ -10,7 +11,7 @@ use Rattle.ng_settings.specs.Causes.{has_missing_key, has_unknown_key, has_wrong
 use Rattle.ng_settings.specs.Given.{numbers_set}
 use Rattle.ng_settings.specs.declared.standard.Settings.{Settings}
 
--- S2 to S6 of a table, each behind its cause
+-- S2 to S6 of a table, each with its cause before it
 abbrev pub faults : Members → List (Bool × Fault)
 faults table =
     (has_missing_key table, MissingKey)
@@ -19,15 +20,6 @@ faults table =
     ∷ ((is_beyond_limits (numbers_in table), OutOfLimits)
     ∷ ((has_many_tools (numbers_in table), TooManyTools)
     ∷ []))))
-
--- no cause holds
-abbrev pub NoneHolds : List (Bool × Fault) → Type 0
-NoneHolds [] = Unit {0}
-NoneHolds (f ∷ fs) = (f.0 ≡ false) × NoneHolds fs
-
--- the cause of a fault holds, and none before it
-abbrev pub IsLeast : List (Bool × Fault) → Fault → Type 0
-IsLeast fs fault = (before : List (Bool × Fault)) × (behind : List (Bool × Fault)) × (fs ≡ before ++ ((true, fault) ∷ behind)) × NoneHolds before
 
 -- a text is that of a table, by TOML's grammar and rules
 pub record IsToml (text : List ℕ) (table : Members) : Type 0 where
@@ -45,7 +37,7 @@ pub record AreSettings (text : List ℕ) (settings : Settings) : Type 0 where
 pub record IsTableFault (text : List ℕ) (fault : Fault) : Type 0 where
   pub table : Members
   pub read : IsToml text table
-  pub least : IsLeast (faults table) fault
+  pub least : IsFirstFault (faults table) fault
 
 -- a text is refused: for want of memory, which no blank text asks for; as that of no table; or by the fault of its table
 abbrev pub IsRefused : List ℕ → Fault → Type 0

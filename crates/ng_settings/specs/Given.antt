@@ -7,13 +7,13 @@ use Rattle.ng_canon.specs.declared.geometry.Axis.{Axis}
 use Rattle.ng_canon.specs.declared.geometry.Geometry.{Geometry}
 use Rattle.ng_settings.specs.Keys.{step_nm, low_nm, high_nm, traverse_nm_per_min, period_us, tools_nm}
 use Rattle.ng_settings.specs.Numbers.{is_whole, is_triple, is_list, listed, numbers_of, Numbers}
-use Rattle.ng_settings.specs.declared.found.Found.{Found}
+use Rattle.ng_settings.specs.declared.key_values.KeyValues.{KeyValues}
 use Rattle.ng_settings.specs.declared.numbers.PerAxis.{PerAxis}
-use Rattle.ng_settings.specs.declared.given.Given.{Given}
+use Rattle.ng_settings.specs.declared.setting_numbers.SettingNumbers.{SettingNumbers}
 use Rattle.ng_settings.specs.declared.standard.Settings.{Settings}
 
 -- these are the values of the keys
-pub record AreFound (table : Members) (found : Found) : Type 0 where
+pub record AreFound (table : Members) (found : KeyValues) : Type 0 where
   pub steps : get_member step_nm table ≡ Some (view found.steps.now)
   pub lows : get_member low_nm table ≡ Some (view found.lows.now)
   pub highs : get_member high_nm table ≡ Some (view found.highs.now)
@@ -22,7 +22,7 @@ pub record AreFound (table : Members) (found : Found) : Type 0 where
   pub tools : get_member tools_nm table ≡ Some (view found.tools.now)
 
 -- a value found is of another type
-unfoldable pub has_other_type : Found → Bool
+unfoldable pub has_other_type : KeyValues → Bool
 has_other_type found =
     not (is_triple (view found.steps.now))
     || not (is_triple (view found.lows.now))
@@ -32,13 +32,13 @@ has_other_type found =
     || not (is_list (view found.tools.now))
 
 -- the whole numbers of what is found
-abbrev pub numbers_found : Found → Numbers
+abbrev pub numbers_found : KeyValues → Numbers
 numbers_found found = record { steps = numbers_of (view found.steps.now); lows = numbers_of (view found.lows.now); highs = numbers_of (view found.highs.now); traverse = numbers_of (view found.traverse.now); period = numbers_of (view found.period.now); tools = numbers_of (view found.tools.now) }
 
 abbrev pub three : PerAxis → List ℤ
 three triple = triple.x ∷ triple.y ∷ triple.z ∷ []
 
-abbrev pub numbers_given : Given → Numbers
+abbrev pub numbers_given : SettingNumbers → Numbers
 numbers_given given = record { steps = three given.steps; lows = three given.lows; highs = three given.highs; traverse = given.traverse ∷ []; period = given.period ∷ []; tools = filter_map as_integer (listed (array_view given.tools.now)) }
 
 -- the numbers of settings
@@ -54,22 +54,22 @@ numbers_set settings =
       tools = settings.tools;
     }
 
-pub record IsWithin (least greatest n : ℤ) : Type 0 where
+pub record IsInLimits (least greatest n : ℤ) : Type 0 where
   pub low : least ≤ℤ n
   pub high : n ≤ℤ greatest
 
-pub record AreWithin (least greatest : ℤ) (triple : PerAxis) : Type 0 where
-  pub x : IsWithin least greatest triple.x
-  pub y : IsWithin least greatest triple.y
-  pub z : IsWithin least greatest triple.z
+pub record AreInLimits (least greatest : ℤ) (triple : PerAxis) : Type 0 where
+  pub x : IsInLimits least greatest triple.x
+  pub y : IsInLimits least greatest triple.y
+  pub z : IsInLimits least greatest triple.z
 
 -- the numbers of a machine are within their limits
-pub record IsMachine (given : Given) : Type 0 where
-  pub steps : AreWithin (pos 10) (pos 1_000_000) given.steps
-  pub lows : AreWithin (negsuc 9_999_999_999) (pos 0) given.lows
-  pub highs : AreWithin (pos 0) (pos 10_000_000_000) given.highs
-  pub traverse : IsWithin (pos 1) (pos 100_000_000_000) given.traverse
-  pub period : IsWithin (pos 1) (pos 1_000_000) given.period
+pub record IsMachine (given : SettingNumbers) : Type 0 where
+  pub steps : AreInLimits (pos 10) (pos 1_000_000) given.steps
+  pub lows : AreInLimits (negsuc 9_999_999_999) (pos 0) given.lows
+  pub highs : AreInLimits (pos 0) (pos 10_000_000_000) given.highs
+  pub traverse : IsInLimits (pos 1) (pos 100_000_000_000) given.traverse
+  pub period : IsInLimits (pos 1) (pos 1_000_000) given.period
 
 -- the axis of a step and a travel
 pub record IsAxisOf (axis : Axis) (nm least greatest : ℤ) : Type 0 where
@@ -77,7 +77,7 @@ pub record IsAxisOf (axis : Axis) (nm least greatest : ℤ) : Type 0 where
   pub low : axis.low ≡ least
   pub high : axis.high ≡ greatest
 
-pub record IsMachineOf (machine : Geometry) (given : Given) : Type 0 where
+pub record IsMachineOf (machine : Geometry) (given : SettingNumbers) : Type 0 where
   pub x : IsAxisOf machine.x given.steps.x given.lows.x given.highs.x
   pub y : IsAxisOf machine.y given.steps.y given.lows.y given.highs.y
   pub z : IsAxisOf machine.z given.steps.z given.lows.z given.highs.z

@@ -8,12 +8,12 @@
 //! the parsed table alone.
 #![tactic(auto)]
 
-mod found;
-mod given;
+mod key_values;
 mod limits;
 mod making;
 mod numbers;
 mod reading;
+mod setting_numbers;
 mod standard;
 mod whole;
 

@@ -5,9 +5,9 @@ ghost use Rattle.toml.specs.Data.{as_integer};
 ghost use Rattle.toml.specs.View.{array_view};
 ghost use Rattle.ng_settings.specs.Numbers.{listed};
 ghost use Rattle.ng_settings.specs.Causes.{is_beyond, are_beyond};
-ghost use Rattle.ng_settings.specs.Given.{IsAxisOf, IsMachine, IsMachineOf, IsWithin};
+ghost use Rattle.ng_settings.specs.Given.{IsAxisOf, IsMachine, IsMachineOf, IsInLimits};
 
-use crate::given::Given;
+use crate::setting_numbers::SettingNumbers;
 use crate::whole::Whole;
 use ng_canon::{Axis, Geometry, Rate};
 use ng_num::Len;
@@ -16,7 +16,7 @@ use toml::value::Array;
 
 /// The length of a number of nanometres.
 fn length(nm: Whole) -> Len
-    requires { IsWithin (negsuc 9_999_999_999) (pos 10_000_000_000) nm }
+    requires { IsInLimits (negsuc 9_999_999_999) (pos 10_000_000_000) nm }
     ensures { result ≡ nm }
 {
     Len::of_nm(nm.number() as i128).unwrap()
@@ -24,9 +24,9 @@ fn length(nm: Whole) -> Len
 
 /// The axis of a step and a travel.
 fn axis(step: Whole, low: Whole, high: Whole) -> Axis
-    requires step { IsWithin (pos 10) (pos 1_000_000) step }
-    requires low { IsWithin (negsuc 9_999_999_999) (pos 0) low }
-    requires high { IsWithin (pos 0) (pos 10_000_000_000) high }
+    requires step { IsInLimits (pos 10) (pos 1_000_000) step }
+    requires low { IsInLimits (negsuc 9_999_999_999) (pos 0) low }
+    requires high { IsInLimits (pos 0) (pos 10_000_000_000) high }
     ensures { IsAxisOf result step low high }
 {
     let low = length(low);
@@ -40,7 +40,7 @@ fn axis(step: Whole, low: Whole, high: Whole) -> Axis
 
 /// The traverse rate of a number.
 fn traverse(nm_per_min: Whole) -> Rate
-    requires { IsWithin (pos 1) (pos 100_000_000_000) nm_per_min }
+    requires { IsInLimits (pos 1) (pos 100_000_000_000) nm_per_min }
     ensures { pos result ≡ nm_per_min }
 {
     let per_min = Len::of_nm(nm_per_min.number() as i128).unwrap();
@@ -49,7 +49,7 @@ fn traverse(nm_per_min: Whole) -> Rate
 
 /// The least period of a number.
 fn period(microseconds: Whole) -> u32
-    requires { IsWithin (pos 1) (pos 1_000_000) microseconds }
+    requires { IsInLimits (pos 1) (pos 1_000_000) microseconds }
     ensures value { pos result ≡ microseconds }
     ensures low { 1 ≤ result }
     ensures high { result ≤ 1_000_000 }
@@ -65,7 +65,7 @@ fn tool_length(nm: i64) -> Len
     Len::of_nm(nm as i128).unwrap()
 }
 
-impl<'a> Given<'a> {
+impl<'a> SettingNumbers<'a> {
     /// The machine of numbers that are within their limits.
     pub(crate) fn geometry(&self) -> Geometry
         requires { IsMachine self.now }

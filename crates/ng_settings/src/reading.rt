@@ -3,9 +3,10 @@ ghost use Rattle.std.specs.Prelude.{◌≡◌, MatchResult};
 ghost use Rattle.toml.specs.View.{table_view};
 ghost use Rattle.ng_settings.specs.Numbers.{numbers_in};
 ghost use Rattle.ng_settings.specs.Given.{numbers_set};
-ghost use Rattle.ng_settings.specs.Check.{faults, NoneHolds, IsLeast, AreSettings, IsRefused};
+ghost use Rattle.ng_num.specs.Causes.{NoneHolds, IsFirstFault};
+ghost use Rattle.ng_settings.specs.Check.{faults, AreSettings, IsRefused};
 
-use crate::found::{find, has_unknown_key};
+use crate::key_values::{find, has_unknown_key};
 use crate::making::tools_of;
 use crate::standard::Settings;
 use ng_num::Fault;
@@ -14,7 +15,7 @@ use toml::Table;
 
 /// The settings of a table; else the least of S2 to S6 whose cause holds.
 fn settings_of(table: &Table) -> Result<Settings, Fault>
-    ensures { MatchResult result (λ settings. NoneHolds (faults (table_view table.now)) × (numbers_set settings ≡ numbers_in (table_view table.now))) (λ fault. IsLeast (faults (table_view table.now)) fault) }
+    ensures { MatchResult result (λ settings. NoneHolds (faults (table_view table.now)) × (numbers_set settings ≡ numbers_in (table_view table.now))) (λ fault. IsFirstFault (faults (table_view table.now)) fault) }
 {
     let found = match find(table) {
         Some(found) => found,

@@ -7,21 +7,21 @@ use Rattle.ng_canon.specs.declared.geometry.Geometry.{Geometry}
 use Rattle.ng_canon.specs.declared.plane.Plane.{Plane}
 use Rattle.ng_canon.specs.declared.plane.Plane.TheVariants.{Xy, Xz, Yz}
 use Rattle.ng_canon.specs.declared.segment.Arc.{Arc}
-use Rattle.ng_step.specs.declared.quadrant.Spot.{Spot}
+use Rattle.ng_canon.specs.declared.plane_point.PlanePoint.{PlanePoint}
 use Rattle.ng_step.specs.declared.frame.Frame.{Frame}
 use Rattle.ng_step.specs.declared.steps.Distances.{Distances}
 use Rattle.ng_step.specs.declared.centred.CentredArc.{CentredArc}
-use Rattle.ng_step.specs.Arcs.{cross}
-use Rattle.ng_step.specs.Frames.{of_a, of_b, of_third, at_x, at_y, at_z, mirrored}
+use Rattle.ng_canon.specs.Planes.{pick_a, pick_b}
+use Rattle.ng_step.specs.Frames.{of_third, at_x, at_y, at_z, mirrored}
 use Rattle.ng_step.specs.Hands.{from_centre, programmed, rounded_start, step_a, step_b, centred, closing_after}
 use Rattle.ng_step.specs.Sizes.{AreSized}
 use Rattle.ng_step.proofs.RoundLemmas.{stored}
 
 pub from_centre_is : (arc : Arc) (a b x y z m : ℤ) → x ≡ a -ℤ arc.centre_a → y ≡ z → z ≡ mirrored arc.turn m → m ≡ b -ℤ arc.centre_b
-    → let p : Spot = record { a = x; b = y } in p ≡ from_centre arc a b
+    → let p : PlanePoint = record { a = x; b = y } in p ≡ from_centre arc a b
 from_centre_is arc a b x y z m ea ey ez em = rw (ea, ey, ez, em) refl
 
-pub centred_is : (g : Geometry) (arc : Arc) (start end from : Spot) (sa sb square : ℕ) → start ≡ programmed arc arc.start → sa ≡ step_a g arc.plane → sb ≡ step_b g arc.plane
+pub centred_is : (g : Geometry) (arc : Arc) (start end from : PlanePoint) (sa sb square : ℕ) → start ≡ programmed arc arc.start → sa ≡ step_a g arc.plane → sb ≡ step_b g arc.plane
     → square ≡ unsigned_abs start.a * unsigned_abs start.a + unsigned_abs start.b * unsigned_abs start.b → end ≡ programmed arc arc.end → from ≡ rounded_start arc sa sb
     → let c : CentredArc = record {
       frame = record { plane = arc.plane; turn = arc.turn };
@@ -35,12 +35,12 @@ centred_is g arc start end from sa sb square es ea eb eq ee ef = rw (ef, ee, eq,
 
 -- ---- the closing line
 
-pub of_a_small : (plane : Plane) (d : Distances) (m : ℕ) → AreSized d m → unsigned_abs (of_a plane d.x d.y d.z) < m
+pub of_a_small : (plane : Plane) (d : Distances) (m : ℕ) → AreSized d m → unsigned_abs (pick_a plane d.x d.y d.z) < m
 of_a_small Xy d m h = h.x
 of_a_small Xz d m h = h.z
 of_a_small Yz d m h = h.y
 
-pub of_b_small : (plane : Plane) (d : Distances) (m : ℕ) → AreSized d m → unsigned_abs (of_b plane d.x d.y d.z) < m
+pub of_b_small : (plane : Plane) (d : Distances) (m : ℕ) → AreSized d m → unsigned_abs (pick_b plane d.x d.y d.z) < m
 of_b_small Xy d m h = h.y
 of_b_small Xz d m h = h.x
 of_b_small Yz d m h = h.z
@@ -51,12 +51,12 @@ of_third_small Xz d m h = h.y
 of_third_small Yz d m h = h.x
 
 -- the same of distances that the code has stored
-pub of_a_kept : (plane : Plane) (d : Distances) (r : ℤ) → AreSized d (2 ^ 50) → r ≡ of_a plane (to_z w64 (of_z w64 d.x)) (to_z w64 (of_z w64 d.y)) (to_z w64 (of_z w64 d.z)) → r ≡ of_a plane d.x d.y d.z
+pub of_a_kept : (plane : Plane) (d : Distances) (r : ℤ) → AreSized d (2 ^ 50) → r ≡ pick_a plane (to_z w64 (of_z w64 d.x)) (to_z w64 (of_z w64 d.y)) (to_z w64 (of_z w64 d.z)) → r ≡ pick_a plane d.x d.y d.z
 of_a_kept Xy d r h e = e ∙ stored d.x (omega (arith, h.x))
 of_a_kept Xz d r h e = e ∙ stored d.z (omega (arith, h.z))
 of_a_kept Yz d r h e = e ∙ stored d.y (omega (arith, h.y))
 
-pub of_b_kept : (plane : Plane) (d : Distances) (r : ℤ) → AreSized d (2 ^ 50) → r ≡ of_b plane (to_z w64 (of_z w64 d.x)) (to_z w64 (of_z w64 d.y)) (to_z w64 (of_z w64 d.z)) → r ≡ of_b plane d.x d.y d.z
+pub of_b_kept : (plane : Plane) (d : Distances) (r : ℤ) → AreSized d (2 ^ 50) → r ≡ pick_b plane (to_z w64 (of_z w64 d.x)) (to_z w64 (of_z w64 d.y)) (to_z w64 (of_z w64 d.z)) → r ≡ pick_b plane d.x d.y d.z
 of_b_kept Xy d r h e = e ∙ stored d.y (omega (arith, h.y))
 of_b_kept Xz d r h e = e ∙ stored d.x (omega (arith, h.x))
 of_b_kept Yz d r h e = e ∙ stored d.z (omega (arith, h.z))
@@ -69,14 +69,6 @@ of_third_kept Yz d r h e = e ∙ stored d.x (omega (arith, h.x))
 abbrev pub placed : Plane → ℤ → ℤ → Distances
 placed q a b = record { x = at_x q a b (pos 0); y = at_y q a b (pos 0); z = at_z q a b (pos 0) }
 
-pub closing_at : (q : Plane) (frame : Frame) (d : Distances) (net_a net_b a b ra rb rm : ℤ) → frame.plane ≡ q → ra ≡ of_a frame.plane d.x d.y d.z → rb ≡ of_b frame.plane d.x d.y d.z
+pub closing_at : (q : Plane) (frame : Frame) (d : Distances) (net_a net_b a b ra rb rm : ℤ) → frame.plane ≡ q → ra ≡ pick_a frame.plane d.x d.y d.z → rb ≡ pick_b frame.plane d.x d.y d.z
     → rm ≡ mirrored frame.turn net_b → a ≡ ra -ℤ net_a → b ≡ rb -ℤ rm → placed q a b ≡ closing_after frame d net_a net_b
 closing_at q frame d net_a net_b a b ra rb rm is fa fb fm ea eb = ap (λ p. placed p a b) (sym is) ∙ rw (ea, eb, fa, fb, fm) refl
-
--- ---- ahead
-
-lt_as_difference : (x y z : ℤ) → y -ℤ x ≡ z → int_lt x y ≡ int_lt (pos 0) z
-lt_as_difference x y z h = grind (arith, ints)
-
-pub ahead_is : (s e : Spot) (x y : ℤ) → x ≡ s.b *ℤ e.a → y ≡ s.a *ℤ e.b → int_lt x y ≡ int_lt (pos 0) (cross s e)
-ahead_is s e x y f g = lt_as_difference x y (cross s e) (rw (f, g) refl)

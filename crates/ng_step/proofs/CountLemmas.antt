@@ -2,7 +2,7 @@
 use Rattle.std.proofs.Common.{arith, ℕ, zero, suc, ◌≤◌, ◌≡◌, refl, ap, ◌∙◌, ℤ, pos, negsuc, ◌+ℤ◌, ◌-ℤ◌, ◌*ℤ◌, List, [], ◌∷◌, length, drop, true, false}
 use Rattle.std.proofs.lemmas.Int.{ints}
 use Rattle.ng_step.specs.declared.circle.Circle.{Circle}
-use Rattle.ng_step.specs.declared.quadrant.Spot.{Spot}
+use Rattle.ng_canon.specs.declared.plane_point.PlanePoint.{PlanePoint}
 use Rattle.ng_step.specs.declared.quadrant.PlaneStep.{PlaneStep}
 use Rattle.ng_step.specs.declared.quadrant.PlaneStep.TheVariants.{AddA, SubA, AddB, SubB}
 use Rattle.ng_step.specs.Arcs.{along_a, along_b, net_a, net_b, stops, left_after, IsArc, next_spot, step_at, moved}
@@ -28,20 +28,20 @@ backward x n s = let e = scaled_less n s in rw e (omega (arith, ints))
 still : (x n : ℤ) (s : ℕ) → x +ℤ n *ℤ pos s ≡ x +ℤ (pos 0 +ℤ n) *ℤ pos s
 still x n s = let e : pos 0 +ℤ n ≡ n = omega (arith, ints) in rw e refl
 
-moved_a : (c : Circle) (m : PlaneStep) (p : Spot) (n : ℤ) → (moved c m p).a +ℤ n *ℤ pos c.step_a ≡ p.a +ℤ (along_a m +ℤ n) *ℤ pos c.step_a
+moved_a : (c : Circle) (m : PlaneStep) (p : PlanePoint) (n : ℤ) → (moved c m p).a +ℤ n *ℤ pos c.step_a ≡ p.a +ℤ (along_a m +ℤ n) *ℤ pos c.step_a
 moved_a c AddA p n = forward p.a n c.step_a
 moved_a c SubA p n = backward p.a n c.step_a
 moved_a c AddB p n = still p.a n c.step_a
 moved_a c SubB p n = still p.a n c.step_a
 
-moved_b : (c : Circle) (m : PlaneStep) (p : Spot) (n : ℤ) → (moved c m p).b +ℤ n *ℤ pos c.step_b ≡ p.b +ℤ (along_b m +ℤ n) *ℤ pos c.step_b
+moved_b : (c : Circle) (m : PlaneStep) (p : PlanePoint) (n : ℤ) → (moved c m p).b +ℤ n *ℤ pos c.step_b ≡ p.b +ℤ (along_b m +ℤ n) *ℤ pos c.step_b
 moved_b c AddA p n = still p.b n c.step_b
 moved_b c SubA p n = still p.b n c.step_b
 moved_b c AddB p n = forward p.b n c.step_b
 moved_b c SubB p n = backward p.b n c.step_b
 
 -- where the arc does not stop there is a step more
-pub arc_more : (c : Circle) (e : Spot) (left : ℕ) (p : Spot) (ms : List PlaneStep) (n : ℕ) → stops e left p ≡ false → n ≤ length ms → IsArc c e left p (drop n ms)
+pub arc_more : (c : Circle) (e : PlanePoint) (left : ℕ) (p : PlanePoint) (ms : List PlaneStep) (n : ℕ) → stops e left p ≡ false → n ≤ length ms → IsArc c e left p (drop n ms)
     → (suc n ≤ length ms) × IsArc c e (left_after c left p) (next_spot c p) (drop (suc n) ms)
     × (net_a (drop n ms) ≡ along_a (step_at c p) +ℤ net_a (drop (suc n) ms)) × (net_b (drop n ms) ≡ along_b (step_at c p) +ℤ net_b (drop (suc n) ms))
 arc_more c e left p [] zero go le h = absurd (cc)
@@ -51,17 +51,17 @@ arc_more c e left p (m ∷ ms) (suc n) go le h =
     let more = arc_more c e left p ms n go (omega arith) h in
     (omega (arith, more.0), more.1, more.2, more.3)
 
-pub arc_all : (c : Circle) (e : Spot) (left : ℕ) (p : Spot) (ms : List PlaneStep) (n : ℕ) → stops e left p ≡ true → n ≤ length ms → IsArc c e left p (drop n ms) → n ≡ length ms
+pub arc_all : (c : Circle) (e : PlanePoint) (left : ℕ) (p : PlanePoint) (ms : List PlaneStep) (n : ℕ) → stops e left p ≡ true → n ≤ length ms → IsArc c e left p (drop n ms) → n ≡ length ms
 arc_all c e left p [] zero stop le h = refl
 arc_all c e left p (m ∷ ms) zero stop le h = absurd (cc (h.0, stop))
 arc_all c e left p [] (suc n) stop le h = absurd (omega arith)
 arc_all c e left p (m ∷ ms) (suc n) stop le h = let others = arc_all c e left p ms n stop (omega arith) h in omega arith
 
-pub next_reach_a : (c : Circle) (p : Spot) (ms : List PlaneStep) → reach_a c (next_spot c p) ms ≡ p.a +ℤ (along_a (step_at c p) +ℤ net_a ms) *ℤ pos c.step_a
+pub next_reach_a : (c : Circle) (p : PlanePoint) (ms : List PlaneStep) → reach_a c (next_spot c p) ms ≡ p.a +ℤ (along_a (step_at c p) +ℤ net_a ms) *ℤ pos c.step_a
 unfolding next_spot
 next_reach_a c p ms = moved_a c (step_at c p) p (net_a ms)
 
-pub next_reach_b : (c : Circle) (p : Spot) (ms : List PlaneStep) → reach_b c (next_spot c p) ms ≡ p.b +ℤ (along_b (step_at c p) +ℤ net_b ms) *ℤ pos c.step_b
+pub next_reach_b : (c : Circle) (p : PlanePoint) (ms : List PlaneStep) → reach_b c (next_spot c p) ms ≡ p.b +ℤ (along_b (step_at c p) +ℤ net_b ms) *ℤ pos c.step_b
 unfolding next_spot
 next_reach_b c p ms = moved_b c (step_at c p) p (net_b ms)
 

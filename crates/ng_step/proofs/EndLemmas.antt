@@ -6,23 +6,24 @@ use Rattle.std.proofs.lemmas.List.{map-append}
 use Rattle.std.specs.Prelude.{unsigned_abs, int_le}
 use Rattle.ng_canon.specs.declared.plane.Plane.{Plane}
 use Rattle.ng_canon.specs.declared.plane.Plane.TheVariants.{Xy, Xz, Yz}
-use Rattle.ng_canon.specs.declared.plane.Turn.{Turn}
-use Rattle.ng_canon.specs.declared.plane.Turn.TheVariants.{Clockwise, Counterclockwise}
+use Rattle.ng_canon.specs.declared.plane.ArcDirection.{ArcDirection}
+use Rattle.ng_canon.specs.declared.plane.ArcDirection.TheVariants.{Clockwise, Counterclockwise}
 use Rattle.ng_canon.specs.declared.item.Item.{Item}
-use Rattle.ng_canon.specs.declared.item.Step.{Step}
-use Rattle.ng_canon.specs.declared.item.Step.TheVariants.{Backward, Still, Forward}
+use Rattle.ng_canon.specs.declared.item.AxisStep.{AxisStep}
+use Rattle.ng_canon.specs.declared.item.AxisStep.TheVariants.{Backward, Still, Forward}
 use Rattle.ng_step.specs.declared.steps.Distances.{Distances}
 use Rattle.ng_step.specs.declared.quadrant.PlaneStep.{PlaneStep}
 use Rattle.ng_step.specs.declared.quadrant.PlaneStep.TheVariants.{AddA, SubA, AddB, SubB}
 use Rattle.ng_step.specs.declared.frame.Frame.{Frame}
 use Rattle.ng_step.specs.Arcs.{along_a, along_b, net_a, net_b}
-use Rattle.ng_step.specs.Frames.{at_x, at_y, at_z, of_a, of_b, of_third, mirrored, mirrored_step, on_a, on_b, pulse_of, pulse_with, pulse_without}
-use Rattle.ng_step.specs.Lines.{made, line_at, line_step, axis_step, step_toward, line_pulse, line_from, largest, line_pulses}
+use Rattle.ng_canon.specs.Planes.{pick_a, pick_b}
+use Rattle.ng_step.specs.Frames.{at_x, at_y, at_z, of_third, mirrored, mirrored_step, on_a, on_b, pulse_of, pulse_with, pulse_without}
+use Rattle.ng_step.specs.Lines.{made, point_on_line, line_step, axis_step, step_toward, line_pulse, line_from, largest, line_pulses}
 use Rattle.ng_step.specs.ArcPulses.{taking, taken, interleaved, arc_pulses}
 use Rattle.ng_step.specs.Hands.{pulse_item, across, closing}
 use Rattle.ng_step.specs.Promises.{step_value, moved_by, stands_after}
 use Rattle.ng_step.proofs.LineLemmas.{made_none, made_all, made_more, made_le, line_at_none, line_at_all}
-use Rattle.ng_step.proofs.StartLemmas.{line_at-step}
+use Rattle.ng_step.proofs.StartLemmas.{point_on_line-step}
 use Rattle.ng_step.proofs.HandLemmas.{line_none}
 
 abbrev pub moved : Distances → Distances → Distances
@@ -36,7 +37,7 @@ distances_same x y z x' y' z' e f g = cc
 
 -- where the axes stand after pulse k of n
 abbrev pub line_point : ℕ → Distances → Distances → ℕ → Distances
-line_point n p d k = record { x = line_at n p.x (p.x +ℤ d.x) k; y = line_at n p.y (p.y +ℤ d.y) k; z = line_at n p.z (p.z +ℤ d.z) k }
+line_point n p d k = record { x = point_on_line n p.x (p.x +ℤ d.x) k; y = point_on_line n p.y (p.y +ℤ d.y) k; z = point_on_line n p.z (p.z +ℤ d.z) k }
 
 -- no axis has more steps
 pub record AreAtMost (d : Distances) (n : ℕ) : Type 0 where
@@ -50,12 +51,12 @@ at_most_largest d = record { x = omega arith; y = omega arith; z = omega arith }
 pub difference_is : (a d : ℤ) → (a +ℤ d) -ℤ a ≡ d
 difference_is a d = omega (arith, ints)
 
-pub axis_moves : (n k : ℕ) (a d : ℤ) → 0 < n → unsigned_abs d ≤ n → line_at n a (a +ℤ d) k +ℤ step_value (line_step n d k) ≡ line_at n a (a +ℤ d) (k + 1)
+pub axis_moves : (n k : ℕ) (a d : ℤ) → 0 < n → unsigned_abs d ≤ n → point_on_line n a (a +ℤ d) k +ℤ step_value (line_step n d k) ≡ point_on_line n a (a +ℤ d) (k + 1)
 axis_moves n k a d some le =
     let e : (a +ℤ d) -ℤ a ≡ d = difference_is a d in
     let le' : unsigned_abs ((a +ℤ d) -ℤ a) ≤ n = rw e le in
-    let step : line_at n a (a +ℤ d) (k + 1) ≡ line_at n a (a +ℤ d) k +ℤ step_value (line_step n d k) =
-    line_at-step n k a (a +ℤ d) some le' ∙ ap (λ x. line_at n a (a +ℤ d) k +ℤ step_value (line_step n x k)) e in
+    let step : point_on_line n a (a +ℤ d) (k + 1) ≡ point_on_line n a (a +ℤ d) k +ℤ step_value (line_step n d k) =
+    point_on_line-step n k a (a +ℤ d) some le' ∙ ap (λ x. point_on_line n a (a +ℤ d) k +ℤ step_value (line_step n x k)) e in
     sym step
 
 pub line_moves : (us n k : ℕ) (p d : Distances) → 0 < n → AreAtMost d n → moved_by (pulse_item us (line_pulse n d k)) (line_point n p d k) ≡ line_point n p d (k + 1)
@@ -101,7 +102,7 @@ line_leads us p d = elim (cases_lt 0 (largest d)) [
 abbrev pub placed : Plane → ℤ → ℤ → ℤ → Distances
 placed plane a b third = record { x = at_x plane a b third; y = at_y plane a b third; z = at_z plane a b third }
 
-move_placed : (us : ℕ) (plane : Plane) (a b third : Step) (p : Distances) → moved_by (pulse_item us (pulse_of plane a b third)) p ≡ moved p (placed plane (step_value a) (step_value b) (step_value third))
+move_placed : (us : ℕ) (plane : Plane) (a b third : AxisStep) (p : Distances) → moved_by (pulse_item us (pulse_of plane a b third)) p ≡ moved p (placed plane (step_value a) (step_value b) (step_value third))
 move_placed us Xy a b third p = refl
 move_placed us Xz a b third p = refl
 move_placed us Yz a b third p = refl
@@ -114,17 +115,17 @@ add_placed Xy p a b t a' b' t' = distances_same _ _ _ _ _ _ (add_once p.x a a') 
 add_placed Xz p a b t a' b' t' = distances_same _ _ _ _ _ _ (add_once p.x b b') (add_once p.y t t') (add_once p.z a a')
 add_placed Yz p a b t a' b' t' = distances_same _ _ _ _ _ _ (add_once p.x t t') (add_once p.y a a') (add_once p.z b b')
 
-mirrored_value : (turn : Turn) (s : Step) → step_value (mirrored_step turn s) ≡ mirrored turn (step_value s)
+mirrored_value : (turn : ArcDirection) (s : AxisStep) → step_value (mirrored_step turn s) ≡ mirrored turn (step_value s)
 mirrored_value Counterclockwise s = refl
 mirrored_value Clockwise Backward = refl
 mirrored_value Clockwise Still = refl
 mirrored_value Clockwise Forward = refl
 
-mirrored_add : (turn : Turn) (a b : ℤ) → mirrored turn a +ℤ mirrored turn b ≡ mirrored turn (a +ℤ b)
+mirrored_add : (turn : ArcDirection) (a b : ℤ) → mirrored turn a +ℤ mirrored turn b ≡ mirrored turn (a +ℤ b)
 mirrored_add Counterclockwise a b = refl
 mirrored_add Clockwise a b = omega (arith, ints)
 
-mirrored_none : (turn : Turn) → mirrored turn (pos 0) ≡ pos 0
+mirrored_none : (turn : ArcDirection) → mirrored turn (pos 0) ≡ pos 0
 mirrored_none Counterclockwise = refl
 mirrored_none Clockwise = refl
 
@@ -140,20 +141,20 @@ value_b SubA = refl
 value_b AddB = refl
 value_b SubB = refl
 
-pub with_placed : (us : ℕ) (frame : Frame) (m : PlaneStep) (third : Step) (p : Distances)
+pub with_placed : (us : ℕ) (frame : Frame) (m : PlaneStep) (third : AxisStep) (p : Distances)
     → moved_by (pulse_item us (pulse_with frame m third)) p ≡ moved p (placed frame.plane (along_a m) (mirrored frame.turn (along_b m)) (step_value third))
 with_placed us frame m third p =
     move_placed us frame.plane (on_a m) (mirrored_step frame.turn (on_b m)) third p
     ∙ ap (λ b. moved p (placed frame.plane (step_value (on_a m)) b (step_value third))) (mirrored_value frame.turn (on_b m) ∙ ap (mirrored frame.turn) (value_b m))
     ∙ ap (λ a. moved p (placed frame.plane a (mirrored frame.turn (along_b m)) (step_value third))) (value_a m)
 
-pub without_placed : (us : ℕ) (frame : Frame) (third : Step) (p : Distances)
+pub without_placed : (us : ℕ) (frame : Frame) (third : AxisStep) (p : Distances)
     → moved_by (pulse_item us (pulse_without frame third)) p ≡ moved p (placed frame.plane (pos 0) (mirrored frame.turn (pos 0)) (step_value third))
 without_placed us frame third p =
     move_placed us frame.plane Still Still third p ∙ ap (λ b. moved p (placed frame.plane (pos 0) b (step_value third))) (sym (mirrored_none frame.turn))
 
 -- what one pulse does: how far it goes, and what is left
-pub record Takes (us : ℕ) (frame : Frame) (ms : List PlaneStep) (third : Step) (made_step : Step) (p : Distances) (left : ℕ) : Type 0 where
+pub record Takes (us : ℕ) (frame : Frame) (ms : List PlaneStep) (third : AxisStep) (made_step : AxisStep) (p : Distances) (left : ℕ) : Type 0 where
   pub a : ℤ
   pub b : ℤ
   pub moves : moved_by (pulse_item us (taking frame made_step ms third)) p ≡ moved p (placed frame.plane a (mirrored frame.turn b) (step_value third))
@@ -161,7 +162,7 @@ pub record Takes (us : ℕ) (frame : Frame) (ms : List PlaneStep) (third : Step)
   pub net_b : b +ℤ net_b (taken made_step ms) ≡ net_b ms
   pub rest : length (taken made_step ms) ≡ left
 
-takes : (us : ℕ) (frame : Frame) (ms : List PlaneStep) (third : Step) (p : Distances) (count before after : ℕ) → before ≤ after → after ≤ before + 1 → after ≤ count
+takes : (us : ℕ) (frame : Frame) (ms : List PlaneStep) (third : AxisStep) (p : Distances) (count before after : ℕ) → before ≤ after → after ≤ before + 1 → after ≤ count
     → length ms ≡ count - before → Takes us frame ms third (step_toward true (after - before)) p (count - after)
 takes us frame ms third p count before after le more most len = elim (cases_lt before after) [
   | inl step ↦ (let one : after - before ≡ 1 = omega arith in rw one (stepping us frame ms third p count before after (omega arith) most len))
@@ -175,7 +176,7 @@ takes us frame ms third p count before after le more most len = elim (cases_lt b
   }))
 ]
   where
-    stepping : (us : ℕ) (frame : Frame) (ms : List PlaneStep) (third : Step) (p : Distances) (count before after : ℕ) → after ≡ before + 1 → after ≤ count → length ms ≡ count - before
+    stepping : (us : ℕ) (frame : Frame) (ms : List PlaneStep) (third : AxisStep) (p : Distances) (count before after : ℕ) → after ≡ before + 1 → after ≤ count → length ms ≡ count - before
         → Takes us frame ms third (step_toward true 1) p (count - after)
     stepping us frame [] third p count before after is most len = absurd (omega arith)
     stepping us frame (m ∷ ms) third p count before after is most len = record {
@@ -280,7 +281,7 @@ rest_of x y = omega (arith, ints)
 pub none_more : (x : ℤ) → x +ℤ pos 0 ≡ x
 none_more x = omega (arith, ints)
 
-pub of_all : (plane : Plane) (d : Distances) → placed plane (of_a plane d.x d.y d.z) (of_b plane d.x d.y d.z) (of_third plane d.x d.y d.z) ≡ d
+pub of_all : (plane : Plane) (d : Distances) → placed plane (pick_a plane d.x d.y d.z) (pick_b plane d.x d.y d.z) (of_third plane d.x d.y d.z) ≡ d
 of_all Xy d = refl
 of_all Xz d = refl
 of_all Yz d = refl
@@ -293,6 +294,6 @@ over_leads us frame d ms p =
     ∙ stands_after-append (map (pulse_item us) (arc_pulses frame ms (across frame d))) (map (pulse_item us) (line_pulses (closing frame d ms))) p
     ∙ line_leads us _ (closing frame d ms)
     ∙ ap (λ q. moved q (closing frame d ms)) (arc_leads us frame ms (across frame d) p)
-    ∙ add_placed frame.plane p (net_a ms) (mirrored frame.turn (net_b ms)) (across frame d) (of_a frame.plane d.x d.y d.z -ℤ net_a ms) (of_b frame.plane d.x d.y d.z -ℤ mirrored frame.turn (net_b ms)) (pos 0)
+    ∙ add_placed frame.plane p (net_a ms) (mirrored frame.turn (net_b ms)) (across frame d) (pick_a frame.plane d.x d.y d.z -ℤ net_a ms) (pick_b frame.plane d.x d.y d.z -ℤ mirrored frame.turn (net_b ms)) (pos 0)
     ∙ placed_same frame.plane p _ _ _ _ _ _ (rest_of _ _) (rest_of _ _) (none_more _)
     ∙ ap (moved p) (of_all frame.plane d)

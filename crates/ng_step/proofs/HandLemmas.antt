@@ -5,7 +5,7 @@ use Rattle.std.proofs.lemmas.Nat.{mul-le}
 use Rattle.std.specs.Prelude.{unsigned_abs, int_le}
 use Rattle.ng_canon.specs.declared.segment.Arc.{Arc}
 use Rattle.ng_step.specs.declared.quadrant.PlaneStep.{PlaneStep}
-use Rattle.ng_step.specs.declared.walk.Walk.{Walk}
+use Rattle.ng_step.specs.declared.walk.ArcWalk.{ArcWalk}
 use Rattle.ng_step.specs.declared.frame.Frame.{Frame}
 use Rattle.ng_step.specs.declared.centred.CentredArc.{CentredArc}
 use Rattle.ng_step.specs.Arcs.{larger, IsArc, plane_steps, quadrants_to_walk, net_a as net_a_of, net_b as net_b_of}
@@ -17,14 +17,14 @@ use Rattle.ng_step.proofs.PulseLemmas.{pulses_of}
 use Rattle.ng_num.specs.declared.point.Point.{Point}
 use Rattle.ng_canon.specs.declared.geometry.Geometry.{Geometry}
 use Rattle.ng_canon.specs.declared.pace.Pace.{Pace}
-use Rattle.ng_step.specs.declared.steps.Steps.{Steps}
+use Rattle.ng_step.specs.declared.steps.AxisSteps.{AxisSteps}
 use Rattle.ng_step.specs.declared.steps.Distances.{Distances}
 use Rattle.ng_step.specs.Lines.{largest, line_pulses, line_from}
 use Rattle.ng_step.specs.Periods.{root_up, pulse_us}
 use Rattle.ng_step.specs.Hands.{pulse_item, distances, square_between, line_items, centred, is_small, arc_path, across, closing, closing_after, arc_total, items_over, large_arc_items, arc_items}
 
 -- where there is no pulse any period serves
-pub items_same : (total time other : ℕ) (pulses : List Steps) → (0 < total → time ≡ other) → (total ≡ 0 → pulses ≡ []) → map (pulse_item time) pulses ≡ map (pulse_item other) pulses
+pub items_same : (total time other : ℕ) (pulses : List AxisSteps) → (0 < total → time ≡ other) → (total ≡ 0 → pulses ≡ []) → map (pulse_item time) pulses ≡ map (pulse_item other) pulses
 items_same zero time other pulses h e = rw (e refl) refl
 items_same (suc total) time other pulses h e = rw (h (omega arith)) refl
 
@@ -36,11 +36,11 @@ pub line_none : (d : Distances) → largest d ≡ 0 → line_pulses d ≡ []
 unfolding line_pulses
 line_none d h = line_from_none (largest d) d (largest d) h
 
-line_over : (g : Geometry) (pace : Pace) (d : Distances) (length n us : ℕ) (line : List Steps) → n ≡ largest d → (0 < n → us ≡ pulse_us g pace length n) → line ≡ line_pulses d
+line_over : (g : Geometry) (pace : Pace) (d : Distances) (length n us : ℕ) (line : List AxisSteps) → n ≡ largest d → (0 < n → us ≡ pulse_us g pace length n) → line ≡ line_pulses d
     → map (pulse_item us) line ≡ map (pulse_item (pulse_us g pace length (largest d))) (line_pulses d)
 line_over g pace d length n us line most time pulses = rw pulses (items_same (largest d) us _ (line_pulses d) (rw most at time) (λ none. line_none d none))
 
-pub line_is : (g : Geometry) (pace : Pace) (p q : Point) (d : Distances) (length n us : ℕ) (line : List Steps) → d ≡ distances g p q → length ≡ root_up (square_between p q) → n ≡ largest d
+pub line_is : (g : Geometry) (pace : Pace) (p q : Point) (d : Distances) (length n us : ℕ) (line : List AxisSteps) → d ≡ distances g p q → length ≡ root_up (square_between p q) → n ≡ largest d
     → (0 < n → us ≡ pulse_us g pace length n) → line ≡ line_pulses d → map (pulse_item us) line ≡ line_items g pace p q
 unfolding line_items
 line_is g pace p q d length n us line is root most time pulses =
@@ -84,7 +84,7 @@ path_is c h = is_arc c.circle c.end (unsigned_abs c.start.a + unsigned_abs c.sta
 abbrev code_total : CentredArc → Distances → ℕ → Distances → ℕ
 code_total c d steps close = max steps (unsigned_abs (across c.frame d)) + largest close
 
-pub large_is : (g : Geometry) (pace : Pace) (c : CentredArc) (d : Distances) (w : Walk) (quadrants steps : ℕ) (net_a net_b : ℤ) (third : ℤ) (close : Distances) (us : ℕ) (arc line : List Steps)
+pub large_is : (g : Geometry) (pace : Pace) (c : CentredArc) (d : Distances) (w : ArcWalk) (quadrants steps : ℕ) (net_a net_b : ℤ) (third : ℤ) (close : Distances) (us : ℕ) (arc line : List AxisSteps)
     → IsWalkable c → w.frame ≡ c.frame → w.circle ≡ c.circle → spot_of w ≡ c.from → quadrants ≡ quadrants_to_walk c.start c.end c.from
     → ((ms : List PlaneStep) → IsArc w.circle c.end quadrants (spot_of w) ms → steps ≡ length ms)
     → ((ms : List PlaneStep) → IsArc w.circle c.end quadrants (spot_of w) ms → net_a ≡ net_a_of ms)

@@ -1,4 +1,3 @@
-pub mod QuadrantLemmas
 pub mod TurnLemmas
 pub mod PassageLemmas
 pub mod PlaceLemmas

@@ -8,13 +8,13 @@ use Rattle.std.proofs.lemmas.Nat.{div-mul-add, mul-le, div_below}
 use Rattle.std.proofs.lemmas.Bool.{cases_lt}
 use Rattle.std.specs.Prelude.{unsigned_abs, ◌≤ℤ◌, int_le}
 use Rattle.ng_step.specs.declared.steps.Distances.{Distances}
-use Rattle.ng_canon.specs.declared.item.Step.{Step}
-use Rattle.ng_canon.specs.declared.item.Step.TheVariants.{Still}
+use Rattle.ng_canon.specs.declared.item.AxisStep.{AxisStep}
+use Rattle.ng_canon.specs.declared.item.AxisStep.TheVariants.{Still}
 use Rattle.ng_step.specs.declared.spread.Spread.{Spread}
 use Rattle.ng_num.specs.Rounding.{nearest}
-use Rattle.ng_step.specs.Lines.{made, toward, line_at, in_steps, IsByHalfIn, step_toward, axis_step, line_from, largest, line_pulses}
-use Rattle.ng_step.specs.Axes.{Holds, IsSpread, Stepped}
-use Rattle.ng_step.specs.LineModel.{axes_from, spread_step, pulses_left, IsLine}
+use Rattle.ng_step.specs.Lines.{made, toward, point_on_line, in_steps, IsByHalfIn, step_toward, axis_step, line_from, largest, line_pulses}
+use Rattle.ng_step.specs.Axes.{Holds, IsSpread, SpreadStepSpec}
+use Rattle.ng_step.specs.LineInvariant.{axes_from, spread_step, pulses_left, IsLineInvariant}
 use Rattle.ng_step.specs.declared.line.LinePulses.TheInside.{Inside}
 
 made_is : (n d k q error : ℕ) → error < 2 * n → 2 * k * d + n ≡ q * (2 * n) + error → made n d k ≡ q
@@ -73,18 +73,18 @@ made_le n d k some le =
 
 -- ---- lines
 
-pub line_at_none : (n : ℕ) (a z : ℤ) → 0 < n → line_at n a z 0 ≡ a
-unfolding line_at
+pub line_at_none : (n : ℕ) (a z : ℤ) → 0 < n → point_on_line n a z 0 ≡ a
+unfolding point_on_line
 line_at_none n a z some = rw made_none (grind (arith, ints))
 
 -- a line ends on its end
-pub line_at_all : (n : ℕ) (a z : ℤ) → 0 < n → line_at n a z n ≡ z
-unfolding line_at
+pub line_at_all : (n : ℕ) (a z : ℤ) → 0 < n → point_on_line n a z n ≡ z
+unfolding point_on_line
 line_at_all n a z some = rw made_all (grind (arith, ints))
 
 -- an axis makes at most one step a pulse
-pub line_at_more : (n k : ℕ) (a z : ℤ) → 0 < n → unsigned_abs (z -ℤ a) ≤ n → unsigned_abs (line_at n a z (k + 1) -ℤ line_at n a z k) ≤ 1
-unfolding line_at
+pub line_at_more : (n k : ℕ) (a z : ℤ) → 0 < n → unsigned_abs (z -ℤ a) ≤ n → unsigned_abs (point_on_line n a z (k + 1) -ℤ point_on_line n a z k) ≤ 1
+unfolding point_on_line
 line_at_more n k a z some le =
     let more = made_more n (unsigned_abs (z -ℤ a)) k some le in
     apart a z (made n (unsigned_abs (z -ℤ a)) k) (made n (unsigned_abs (z -ℤ a)) (k + 1)) more.0 more.1
@@ -94,8 +94,8 @@ line_at_more n k a z some le =
 
 -- a line lies between its ends
 pub line_at_between : (n k : ℕ) (a z low high : ℤ) → 0 < n → k ≤ n → low ≤ℤ a → low ≤ℤ z → a ≤ℤ high → z ≤ℤ high
-    → (low ≤ℤ line_at n a z k) × (line_at n a z k ≤ℤ high)
-unfolding line_at
+    → (low ≤ℤ point_on_line n a z k) × (point_on_line n a z k ≤ℤ high)
+unfolding point_on_line
 line_at_between n k a z low high some le al zl ah zh =
     let m = made_le n (unsigned_abs (z -ℤ a)) k some le in
     inside a z low high (made n (unsigned_abs (z -ℤ a)) k) m al zl ah zh
@@ -136,7 +136,7 @@ le_cases x y = by_lt_z x y (λ h. inl (omega (arith, ints))) (λ h. inr h)
 
 -- a line whose start and end lie in the travel leaves it by no more than half a step
 pub line_inside : (n k s : ℕ) (p q low high : ℤ) → 0 < s → 0 < n → k ≤ n → low ≤ℤ p → low ≤ℤ q → p ≤ℤ high → q ≤ℤ high
-    → IsByHalfIn low high s (line_at n (in_steps p s) (in_steps q s) k)
+    → IsByHalfIn low high s (point_on_line n (in_steps p s) (in_steps q s) k)
 line_inside n k s p q low high steps some le pl ql ph qh =
     let first = in_steps_near p low high s steps pl ph in
     let last = in_steps_near q low high s steps ql qh in
@@ -198,8 +198,8 @@ axes_same n x y z x' y' z' (suc left) a b c d e f = let others = axes_same n x y
 pub axis_left : (n left : ℕ) (a : Spread) → 0 < left → left ≤ n → IsSpread n (n - left + 1) a → IsSpread n (n - (left - 1)) a
 axis_left n left a some le h = let e : n - (left - 1) ≡ n - left + 1 = omega arith in rw e h
 
-pub line_keeps : (a : Inside) (x y z : Spread) (i j k : Step) → IsLine a → 0 < a.left → Stepped a.whole a.x x i → Stepped a.whole a.y y j → Stepped a.whole a.z z k
-    → IsLine (record a { left = a.left - 1; x = x; y = y; z = z })
+pub line_keeps : (a : Inside) (x y z : Spread) (i j k : AxisStep) → IsLineInvariant a → 0 < a.left → SpreadStepSpec a.whole a.x x i → SpreadStepSpec a.whole a.y y j → SpreadStepSpec a.whole a.z z k
+    → IsLineInvariant (record a { left = a.left - 1; x = x; y = y; z = z })
 line_keeps a x y z i j k h some sx sy sz = record {
   whole = h.whole;
   small = h.small;
@@ -209,7 +209,7 @@ line_keeps a x y z i j k h some sx sy sz = record {
   z = λ more. axis_left a.total a.left z some h.left (sz.axis a.total (a.total - a.left) h.whole (h.z some));
 }
 
-pub line_next : (a : Inside) (x y z : Spread) (i j k : Step) → IsLine a → 0 < a.left → Stepped a.whole a.x x i → Stepped a.whole a.y y j → Stepped a.whole a.z z k
+pub line_next : (a : Inside) (x y z : Spread) (i j k : AxisStep) → IsLineInvariant a → 0 < a.left → SpreadStepSpec a.whole a.x x i → SpreadStepSpec a.whole a.y y j → SpreadStepSpec a.whole a.z z k
     → pulses_left a ≡ record { x = i; y = j; z = k } ∷ pulses_left (record a { left = a.left - 1; x = x; y = y; z = z })
 line_next a x y z i j k h some sx sy sz =
     let first = axes_from_more a.total a.x a.y a.z a.left some in

@@ -1,13 +1,13 @@
--- The points of a passage, without walking it.
+-- The points of a sweep, without walking it.
 use Rattle.std.proofs.Common.{arith, ℕ, zero, suc, ◌+◌, ◌-◌, ◌*◌, ◌/◌, ◌<◌, ◌≤◌, ◌≡◌, ◌⊎◌, ◌^◌, inl, inr, refl, subst}
 use Rattle.std.proofs.lemmas.Nat.{mul-le}
 use Rattle.std.proofs.lemmas.Bool.{cases_lt}
-use Rattle.ng_step.specs.declared.passage.Passage.{Passage}
-use Rattle.ng_step.specs.declared.passage.Way.{Way}
-use Rattle.ng_step.specs.declared.passage.Ahead.{Ahead}
+use Rattle.ng_step.specs.declared.sweep.QuadrantSweep.{QuadrantSweep}
+use Rattle.ng_step.specs.declared.sweep.SweepSteps.{SweepSteps}
+use Rattle.ng_step.specs.declared.sweep.QuadrantEnd.{QuadrantEnd}
 use Rattle.ng_step.specs.Turned.{norm}
 use Rattle.ng_step.specs.Periods.{ceil_div}
-use Rattle.ng_step.specs.Passages.{IsLeaving, inner_at, outer_at, OnWay, IsLast, IsPast, IsBefore, LeavesPast, LeavesBefore, ComesInward, ComesOutward, IsFirstPast}
+use Rattle.ng_step.specs.Sweeps.{IsLeaving, inner_at, outer_at, OnWay, IsLast, IsPast, IsBefore, LeavesPast, LeavesBefore, ComesInward, ComesOutward, IsFirstPast}
 
 pub norm_le : (i o i' o' : ℕ) → i ≤ i' → o ≤ o' → norm i o ≤ norm i' o'
 norm_le i o i' o' h k =
@@ -65,21 +65,21 @@ leaving_only : (square i o s m n : ℕ) → IsLeaving square i o s m → IsLeavi
 leaving_only square i o s m n h k = let one = leaving_le square i o s m n h k in let two = leaving_le square i o s n m k h in omega arith
 
 -- a level above is no nearer to the axis
-level_above : (p : Passage) (j k : ℕ) → j ≤ k → inner_at p k ≤ inner_at p j
+level_above : (p : QuadrantSweep) (j k : ℕ) → j ≤ k → inner_at p k ≤ inner_at p j
 level_above p j k h = let product = scaled_le j k p.inner_step h in omega arith
 
-outer_le : (p : Passage) (m n : ℕ) → m ≤ n → outer_at p m ≤ outer_at p n
+outer_le : (p : QuadrantSweep) (m n : ℕ) → m ≤ n → outer_at p m ≤ outer_at p n
 outer_le p m n h = let product = scaled_le m n p.outer_step h in omega arith
 
 -- a point where it goes inward is one that it comes to
-pub on_way-leaving : (p : Passage) (j m : ℕ) → j * p.inner_step < p.inner → IsLeaving p.square (inner_at p j) p.outer p.outer_step m → OnWay p j m
+pub on_way-leaving : (p : QuadrantSweep) (j m : ℕ) → j * p.inner_step < p.inner → IsLeaving p.square (inner_at p j) p.outer p.outer_step m → OnWay p j m
 on_way-leaving p j m inside h = record {
   inside = inside;
   entered = inr (let more = norm_le (inner_at p j) (outer_at p m) (inner_at p (j - 1)) (outer_at p m) (level_above p (j - 1) j (omega arith)) (omega arith) in let outside = h.outside in omega arith);
   kept = h.least;
 }
 
-pub last_is : (p : Passage) (way : Way) → way.inward ≡ (p.inner - 1) / p.inner_step → IsLeaving p.square (inner_at p way.inward) p.outer p.outer_step way.outward → IsLast p way
+pub last_is : (p : QuadrantSweep) (way : SweepSteps) → way.inward ≡ (p.inner - 1) / p.inner_step → IsLeaving p.square (inner_at p way.inward) p.outer p.outer_step way.outward → IsLast p way
 last_is p way is h =
     let some : 0 < p.inner = p.inner_in_range.0 in
     let parts = quotient (p.inner - 1) p.inner_step way.inward p.inner_step_in_range.0 is in
@@ -89,25 +89,25 @@ last_is p way is h =
 
 -- ---- the first point past an end
 
-past_least : (p : Passage) (e : Ahead) (j m n : ℕ) → IsPast p e j m → IsBefore p e j n → n < m
+past_least : (p : QuadrantSweep) (e : QuadrantEnd) (j m n : ℕ) → IsPast p e j m → IsBefore p e j n → n < m
 past_least p e j m n past before = elim (cases_lt n m) [
   | inl less ↦ less
   | inr le ↦ (let product = mul-le (outer_at p m) e.inner (outer_at p n) e.inner (outer_le p m n le) (omega arith) in absurd (omega arith))
 ]
 
 -- it enters a level: with no outward steps, or with those of the level above
-pub record Enters (p : Passage) (e : Ahead) (j m : ℕ) : Type 0 where
+pub record Enters (p : QuadrantSweep) (e : QuadrantEnd) (j m : ℕ) : Type 0 where
   pub inside : j * p.inner_step < p.inner
   pub on : ((j ≡ 0) × (m ≡ 0)) ⊎ ComesInward p e j m
 
-enters_entered : (p : Passage) (e : Ahead) (j m n : ℕ) → m ≤ n → Enters p e j m → (j ≡ 0) ⊎ (p.square < norm (inner_at p (j - 1)) (outer_at p n))
+enters_entered : (p : QuadrantSweep) (e : QuadrantEnd) (j m n : ℕ) → m ≤ n → Enters p e j m → (j ≡ 0) ⊎ (p.square < norm (inner_at p (j - 1)) (outer_at p n))
 enters_entered p e j m n le h = either h.on
   where
     either : ((j ≡ 0) × (m ≡ 0)) ⊎ ComesInward p e j m → (j ≡ 0) ⊎ (p.square < norm (inner_at p (j - 1)) (outer_at p n))
     either (inl first) = inl first.0
     either (inr down) = inr (let more = norm_le (inner_at p (j - 1)) (outer_at p m) (inner_at p (j - 1)) (outer_at p n) (omega arith) (outer_le p m n le) in let outside = down.outside in omega arith)
 
-comes : (p : Passage) (e : Ahead) (j m more : ℕ) → Enters p e j m → p.outer * e.inner < p.inner * e.outer → LeavesPast p e j
+comes : (p : QuadrantSweep) (e : QuadrantEnd) (j m more : ℕ) → Enters p e j m → p.outer * e.inner < p.inner * e.outer → LeavesPast p e j
     → IsPast p e j (m + more) → (0 < more → IsBefore p e j (m + more - 1)) → ComesInward p e j (m + more) ⊎ ComesOutward p e j (m + more)
 comes p e j m zero h enters leaves past before =
     let same : m + 0 ≡ m = omega arith in
@@ -149,7 +149,7 @@ ceil_div_is a b some =
     less (suc q) a b some more low = let e : suc q - 1 ≡ q = omega arith in rw e (omega arith)
 
 -- as many steps as the rest up to the end asks for
-pub first_past_is : (p : Passage) (e : Ahead) (j m more : ℕ) → Enters p e j m → p.outer * e.inner < p.inner * e.outer → LeavesPast p e j
+pub first_past_is : (p : QuadrantSweep) (e : QuadrantEnd) (j m more : ℕ) → Enters p e j m → p.outer * e.inner < p.inner * e.outer → LeavesPast p e j
     → more ≡ ceil_div (inner_at p j * e.outer - outer_at p m * e.inner) (p.outer_step * e.inner)
     → IsPast p e j (m + more) × (ComesInward p e j (m + more) ⊎ ComesOutward p e j (m + more))
 first_past_is p e j m more h enters leaves is =
@@ -170,10 +170,10 @@ first_past_is p e j m more h enters leaves is =
         let h' : more * (s * a) < x - (o + m * s) * a = rw e at h in
         rw f (omega arith)
 
-pub enters_at_none : (p : Passage) (e : Ahead) (j m : ℕ) → j ≡ 0 → m ≡ 0 → Enters p e j m
+pub enters_at_none : (p : QuadrantSweep) (e : QuadrantEnd) (j m : ℕ) → j ≡ 0 → m ≡ 0 → Enters p e j m
 enters_at_none p e j m f g = record { inside = (let some = p.inner_in_range in rw f (omega arith)); on = inl (f, g) }
 
-pub enters_below : (p : Passage) (e : Ahead) (j m : ℕ) → 0 < j → j * p.inner_step < p.inner → IsLeaving p.square (inner_at p (j - 1)) p.outer p.outer_step m → LeavesBefore p e (j - 1) → Enters p e j m
+pub enters_below : (p : QuadrantSweep) (e : QuadrantEnd) (j m : ℕ) → 0 < j → j * p.inner_step < p.inner → IsLeaving p.square (inner_at p (j - 1)) p.outer p.outer_step m → LeavesBefore p e (j - 1) → Enters p e j m
 enters_below p e j m some inside h before =
     let same = leaving_only p.square (inner_at p (j - 1)) p.outer p.outer_step before.m m before.leaving h in
     let product = scaled_le (j - 1) j p.inner_step (omega arith) in
@@ -188,13 +188,13 @@ enters_below p e j m some inside h before =
     }
 
 -- ---- the search by halves: the level is one of so many from the first on
-pub record Halves (p : Passage) (e : Ahead) (last first levels : ℕ) : Type 0 where
+pub record Halves (p : QuadrantSweep) (e : QuadrantEnd) (last first levels : ℕ) : Type 0 where
   pub some : 0 < levels
   pub within : first + levels ≤ last + 1
   pub past : LeavesPast p e (first + levels - 1)
   pub before : (first ≡ 0) ⊎ LeavesBefore p e (first - 1)
 
-pub halves_all : (p : Passage) (e : Ahead) (last : ℕ) → LeavesPast p e last → Halves p e last 0 (last + 1)
+pub halves_all : (p : QuadrantSweep) (e : QuadrantEnd) (last : ℕ) → LeavesPast p e last → Halves p e last 0 (last + 1)
 halves_all p e last past = record {
   some = omega arith;
   within = omega arith;
@@ -202,7 +202,7 @@ halves_all p e last past = record {
   before = inl refl;
 }
 
-pub halves_low : (p : Passage) (e : Ahead) (last first levels half : ℕ) → Halves p e last first levels → 0 < half → half ≤ levels → LeavesPast p e (first + half - 1) → Halves p e last first half
+pub halves_low : (p : QuadrantSweep) (e : QuadrantEnd) (last first levels half : ℕ) → Halves p e last first levels → 0 < half → half ≤ levels → LeavesPast p e (first + half - 1) → Halves p e last first half
 halves_low p e last first levels half h some le past = record {
   some = some;
   within = omega (arith, h.within);
@@ -210,7 +210,7 @@ halves_low p e last first levels half h some le past = record {
   before = h.before;
 }
 
-pub halves_high : (p : Passage) (e : Ahead) (last first levels half : ℕ) → Halves p e last first levels → half < levels → LeavesBefore p e (first + half - 1) → Halves p e last (first + half) (levels - half)
+pub halves_high : (p : QuadrantSweep) (e : QuadrantEnd) (last first levels half : ℕ) → Halves p e last first levels → half < levels → LeavesBefore p e (first + half - 1) → Halves p e last (first + half) (levels - half)
 halves_high p e last first levels half h less before = record {
   some = omega arith;
   within = omega (arith, h.within);
@@ -219,7 +219,7 @@ halves_high p e last first levels half h less before = record {
 }
 
 -- each of its levels lies in the quadrant
-pub halves_inside : (p : Passage) (e : Ahead) (last first levels level : ℕ) → last * p.inner_step < p.inner → Halves p e last first levels → level < first + levels → level * p.inner_step < p.inner
+pub halves_inside : (p : QuadrantSweep) (e : QuadrantEnd) (last first levels level : ℕ) → last * p.inner_step < p.inner → Halves p e last first levels → level < first + levels → level * p.inner_step < p.inner
 halves_inside p e last first levels level inside h less = let product = scaled_le level last p.inner_step (omega (arith, h.within)) in omega arith
 
 -- no farther than the root and a step
@@ -231,18 +231,18 @@ root_room square i o s r q some small few inside low high is =
     omega arith
 
 -- a point within the circle, and one step more
-within_room : (p : Passage) (i m : ℕ) → norm i (outer_at p m) ≤ p.square → outer_at p (m + 1) ≤ 2 ^ 48
+within_room : (p : QuadrantSweep) (i m : ℕ) → norm i (outer_at p m) ≤ p.square → outer_at p (m + 1) ≤ 2 ^ 48
 within_room p i m h =
     let few = p.square_in_range in
     let step = p.outer_step_in_range.1 in
     let root : outer_at p m ≤ 2 ^ 47 = root_small (outer_at p m) (omega arith) in
     omega arith
 
-on_way_room : (p : Passage) (j m : ℕ) → OnWay p j m → outer_at p m ≤ 2 ^ 48
+on_way_room : (p : QuadrantSweep) (j m : ℕ) → OnWay p j m → outer_at p m ≤ 2 ^ 48
 on_way_room p j zero h = let small = p.outer_in_range in omega arith
 on_way_room p j (suc m) h = let e : m + 1 ≡ suc m = omega arith in rw (← e) (within_room p (inner_at p j) m (h.kept m (omega arith)))
 
-pub comes_room : (p : Passage) (e : Ahead) (way : Way) → IsFirstPast p e way → outer_at p way.outward ≤ 2 ^ 48
+pub comes_room : (p : QuadrantSweep) (e : QuadrantEnd) (way : SweepSteps) → IsFirstPast p e way → outer_at p way.outward ≤ 2 ^ 48
 comes_room p e way h = either h.comes
   where
     either : ComesInward p e way.inward way.outward ⊎ ComesOutward p e way.inward way.outward → outer_at p way.outward ≤ 2 ^ 48
@@ -252,5 +252,5 @@ comes_room p e way h = either h.comes
         let one : way.outward - 1 + 1 ≡ way.outward = omega arith in
         rw one at (within_room p (inner_at p way.inward) (way.outward - 1) out.within)
 
-pub room_few : (p : Passage) (m : ℕ) → outer_at p m ≤ 2 ^ 48 → m ≤ 2 ^ 48
+pub room_few : (p : QuadrantSweep) (m : ℕ) → outer_at p m ≤ 2 ^ 48 → m ≤ 2 ^ 48
 room_few p m h = let product = mul-le m 1 m p.outer_step (omega arith) p.outer_step_in_range.0 in omega arith

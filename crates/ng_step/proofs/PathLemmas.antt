@@ -17,14 +17,14 @@ use Rattle.ng_step.specs.declared.circle.Circle.{Circle}
 use Rattle.ng_step.specs.declared.frame.Frame.{Frame}
 use Rattle.ng_step.specs.declared.steps.Distances.{Distances}
 use Rattle.ng_canon.specs.declared.item.Item.{Item}
-use Rattle.ng_step.specs.declared.quadrant.Spot.{Spot}
+use Rattle.ng_canon.specs.declared.plane_point.PlanePoint.{PlanePoint}
 use Rattle.ng_step.specs.declared.quadrant.PlaneStep.{PlaneStep}
-use Rattle.ng_step.specs.Arcs.{moved as stepped, spots, excess, larger, IsWithin, IsNearCircle}
-use Rattle.ng_step.specs.Frames.{of_a, of_b}
-use Rattle.ng_step.specs.Lines.{made, line_at, in_steps, largest, line_pulses}
+use Rattle.ng_step.specs.Arcs.{moved as stepped, spots, excess, larger, IsAtMostInSize, IsNearCircle}
+use Rattle.ng_canon.specs.Planes.{pick_a, pick_b}
+use Rattle.ng_step.specs.Lines.{made, point_on_line, in_steps, largest, line_pulses}
 use Rattle.ng_step.specs.ArcPulses.{arc_pulses}
 use Rattle.ng_step.specs.Hands.{pulse_item, rounded, distances, across, closing, centred, is_small, arc_path, arc_items, large_arc_items}
-use Rattle.ng_step.specs.Promises.{stands_after, offset_of, point_in_steps, on_line, stands_behind, round_total, steps_between, FollowsPath, FollowsItsPath}
+use Rattle.ng_step.specs.Promises.{stands_after, offset_of, point_in_steps, on_line, position_after, round_total, steps_between, FollowsPath, FollowsItsPath}
 use Rattle.ng_step.proofs.LineLemmas.{made_none, made_all, made_more}
 use Rattle.ng_step.proofs.EndLemmas.{moved, rest_of, distances_same, line_leads, over_leads, stands_after-append}
 use Rattle.ng_step.proofs.PromiseLemmas.{line_goes, true_arc, start_moved}
@@ -47,39 +47,39 @@ reaches n count j (suc last) some le h =
       | inr here ↦ (let before = reaches n count j last some le here in record { k = before.k; within = omega (arith, before.within); is = before.is })
     ]
 
-length-spots : (c : Circle) (p : Spot) (ms : List PlaneStep) → length (spots c p ms) ≡ length ms + 1
+length-spots : (c : Circle) (p : PlanePoint) (ms : List PlaneStep) → length (spots c p ms) ≡ length ms + 1
 length-spots c p [] = refl
 length-spots c p (m ∷ ms) = let e = length-spots c (stepped c m p) ms in omega arith
 
-abbrev NearBy : Circle → ℕ → ℕ → Spot → Type 0
+abbrev NearBy : Circle → ℕ → ℕ → PlanePoint → Type 0
 NearBy c w f0 x = unsigned_abs (excess c x) ≤ 2 * (larger c * w) + larger c * larger c + f0
 
 -- what is near at each spot is near where the machine stands
-near_at : (c : Circle) (p : Spot) (ms : List PlaneStep) (n : ℕ) (at : ℕ → Spot) → 0 < n → length ms ≤ n → ((k : ℕ) → k ≤ n → slice_get (spots c p ms) (made n (length ms) k) ≡ Some (at k))
-    → IsNearCircle c p ms → (w : ℕ) → ((k : ℕ) → k ≤ n → IsWithin w (at k)) → (k : ℕ) → k ≤ n → NearBy c w (unsigned_abs (excess c p)) (at k)
+near_at : (c : Circle) (p : PlanePoint) (ms : List PlaneStep) (n : ℕ) (at : ℕ → PlanePoint) → 0 < n → length ms ≤ n → ((k : ℕ) → k ≤ n → slice_get (spots c p ms) (made n (length ms) k) ≡ Some (at k))
+    → IsNearCircle c p ms → (w : ℕ) → ((k : ℕ) → k ≤ n → IsAtMostInSize w (at k)) → (k : ℕ) → k ≤ n → NearBy c w (unsigned_abs (excess c p)) (at k)
 near_at c p ms n at some le stands near w within k most =
     let path = spots c p ms in
-    let each : (i : ℕ) → i < length path → IsWithin w (get_or path i p) = λ i less.
+    let each : (i : ℕ) → i < length path → IsAtMostInSize w (get_or path i p) = λ i less.
     (let size = length-spots c p ms in
     let all = made_all n (length ms) some in
     let r = reaches n (length ms) i n some le (omega arith) in
     let found = get_or_from_slice_get path (made n (length ms) r.k) (at r.k) p (stands r.k r.within) in
     let same : at r.k ≡ get_or path i p = sym found ∙ ap (λ j. get_or path j p) r.is in
-    subst (λ (x : Spot). IsWithin w x) same (within r.k r.within)) in
-    let bounds = near w (All-from_get_or (IsWithin w) path p each) in
+    subst (λ (x : PlanePoint). IsAtMostInSize w x) same (within r.k r.within)) in
+    let bounds = near w (All-from_get_or (IsAtMostInSize w) path p each) in
     let here = stands k most in
     let inside = slice_get_within path (made n (length ms) k) (at k) here in
-    subst (λ (x : Spot). NearBy c w (unsigned_abs (excess c p)) x) (get_or_from_slice_get path (made n (length ms) k) (at k) p here)
+    subst (λ (x : PlanePoint). NearBy c w (unsigned_abs (excess c p)) x) (get_or_from_slice_get path (made n (length ms) k) (at k) p here)
     (All-get_or (NearBy c w (unsigned_abs (excess c p))) path (made n (length ms) k) p inside bounds)
 
 -- ---- the whole arc
 
-start_scaled_a : (plane : Plane) (x y z : ℤ) (sx sy sz : ℕ) → of_a plane (in_steps x sx) (in_steps y sy) (in_steps z sz) *ℤ pos (of_a plane sx sy sz) ≡ rounded (of_a plane x y z) (of_a plane sx sy sz)
+start_scaled_a : (plane : Plane) (x y z : ℤ) (sx sy sz : ℕ) → pick_a plane (in_steps x sx) (in_steps y sy) (in_steps z sz) *ℤ pos (pick_a plane sx sy sz) ≡ rounded (pick_a plane x y z) (pick_a plane sx sy sz)
 start_scaled_a Xy x y z sx sy sz = refl
 start_scaled_a Xz x y z sx sy sz = refl
 start_scaled_a Yz x y z sx sy sz = refl
 
-start_scaled_b : (plane : Plane) (x y z : ℤ) (sx sy sz : ℕ) → of_b plane (in_steps x sx) (in_steps y sy) (in_steps z sz) *ℤ pos (of_b plane sx sy sz) ≡ rounded (of_b plane x y z) (of_b plane sx sy sz)
+start_scaled_b : (plane : Plane) (x y z : ℤ) (sx sy sz : ℕ) → pick_b plane (in_steps x sx) (in_steps y sy) (in_steps z sz) *ℤ pos (pick_b plane sx sy sz) ≡ rounded (pick_b plane x y z) (pick_b plane sx sy sz)
 start_scaled_b Xy x y z sx sy sz = refl
 start_scaled_b Xz x y z sx sy sz = refl
 start_scaled_b Yz x y z sx sy sz = refl
@@ -100,21 +100,21 @@ large_list g arc us =
     ++ line_pulses (closing (centred g arc).frame (distances g arc.start arc.end) (arc_path (centred g arc))))
 
 large_goes : (g : Geometry) (arc : Arc) (us k : ℕ) → 0 < round_total g arc → k ≤ round_total g arc
-    → (slice_get (spots (centred g arc).circle (centred g arc).from (arc_path (centred g arc))) (made (round_total g arc) (length (arc_path (centred g arc))) k) ≡ Some (offset_of g arc (stands_behind g arc (large_list g arc us) k)))
-    × (third_of arc.plane (stands_behind g arc (large_list g arc us) k) ≡ line_at (round_total g arc) (third_of arc.plane (point_in_steps g arc.start)) (third_of arc.plane (point_in_steps g arc.end)) k)
+    → (slice_get (spots (centred g arc).circle (centred g arc).from (arc_path (centred g arc))) (made (round_total g arc) (length (arc_path (centred g arc))) k) ≡ Some (offset_of g arc (position_after g arc (large_list g arc us) k)))
+    × (third_of arc.plane (position_after g arc (large_list g arc us) k) ≡ point_on_line (round_total g arc) (third_of arc.plane (point_in_steps g arc.start)) (third_of arc.plane (point_in_steps g arc.end)) k)
 unfolding centred
 large_goes g arc us k some le =
     let ms = arc_path (centred g arc) in
     let d = distances g arc.start arc.end in
     let both = goes_round g arc us (centred g arc).circle.square (across (centred g arc).frame d) ms (point_in_steps g arc.start) (line_pulses (closing (centred g arc).frame d ms)) k some le in (
-      ap (λ (x : Spot). slice_get (spots (centred g arc).circle x ms) (made (round_total g arc) (length ms) k)) (sym (start_is g arc)) ∙ both.0,
-      both.1 ∙ ap (λ z. line_at (round_total g arc) (third_of arc.plane (point_in_steps g arc.start)) z k) (third_ends arc.plane g arc.start arc.end),
+      ap (λ (x : PlanePoint). slice_get (spots (centred g arc).circle x ms) (made (round_total g arc) (length ms) k)) (sym (start_is g arc)) ∙ both.0,
+      both.1 ∙ ap (λ z. point_on_line (round_total g arc) (third_of arc.plane (point_in_steps g arc.start)) z k) (third_ends arc.plane g arc.start arc.end),
     )
 
-stands_none : (g : Geometry) (arc : Arc) (items : List Item) (k : ℕ) → k ≡ 0 → stands_behind g arc items k ≡ point_in_steps g arc.start
+stands_none : (g : Geometry) (arc : Arc) (items : List Item) (k : ℕ) → k ≡ 0 → position_after g arc items k ≡ point_in_steps g arc.start
 stands_none g arc items k none = rw none refl
 
-near_start : (c : Circle) (w : ℕ) (x y : Spot) → y ≡ x → NearBy c w (unsigned_abs (excess c x)) y
+near_start : (c : Circle) (w : ℕ) (x y : PlanePoint) → y ≡ x → NearBy c w (unsigned_abs (excess c x)) y
 near_start c w x y is = rw is (omega arith)
 
 -- the list over steps in the plane, with its closing line
@@ -124,21 +124,21 @@ over_list us frame d ms = map (pulse_item us) (arc_pulses frame ms (across frame
 abbrev over_total : Frame → Distances → List PlaneStep → ℕ
 over_total frame d ms = max (length ms) (unsigned_abs (across frame d))
 
--- behind the arc's own pulses
-abbrev behind_arc : ℕ → Frame → Distances → List PlaneStep → Distances → Distances
-behind_arc us frame d ms p = stands_after (map (pulse_item us) (arc_pulses frame ms (across frame d))) p
+-- after the arc's own pulses
+abbrev after_arc : ℕ → Frame → Distances → List PlaneStep → Distances → Distances
+after_arc us frame d ms p = stands_after (map (pulse_item us) (arc_pulses frame ms (across frame d))) p
 
 over_length : (frame : Frame) (d : Distances) (ms : List PlaneStep) → length (arc_pulses frame ms (across frame d)) ≡ over_total frame d ms
 over_length frame d ms = length-interleaved frame (over_total frame d ms) (length ms) (int_le (pos 0) (across frame d)) (unsigned_abs (across frame d)) ms (over_total frame d ms)
 
-at_total : (us : ℕ) (frame : Frame) (d : Distances) (ms : List PlaneStep) (p : Distances) → stands_after (take (over_total frame d ms) (over_list us frame d ms)) p ≡ behind_arc us frame d ms p
+at_total : (us : ℕ) (frame : Frame) (d : Distances) (ms : List PlaneStep) (p : Distances) → stands_after (take (over_total frame d ms) (over_list us frame d ms)) p ≡ after_arc us frame d ms p
 at_total us frame d ms p =
     let e : over_total frame d ms ≡ over_total frame d ms + 0 = omega arith in
     ap (λ k. stands_after (take k (over_list us frame d ms)) p) e ∙ then_items us (arc_pulses frame ms (across frame d)) (line_pulses (closing frame d ms)) (over_total frame d ms) 0 p (over_length frame d ms)
 
-closes : (us : ℕ) (frame : Frame) (d : Distances) (ms : List PlaneStep) (p q : Distances) → moved p d ≡ q → moved (behind_arc us frame d ms p) (closing frame d ms) ≡ q
+closes : (us : ℕ) (frame : Frame) (d : Distances) (ms : List PlaneStep) (p q : Distances) → moved p d ≡ q → moved (after_arc us frame d ms p) (closing frame d ms) ≡ q
 closes us frame d ms p q to =
-    sym (line_leads us (behind_arc us frame d ms p) (closing frame d ms))
+    sym (line_leads us (after_arc us frame d ms p) (closing frame d ms))
     ∙ sym (stands_after-append (map (pulse_item us) (arc_pulses frame ms (across frame d))) (map (pulse_item us) (line_pulses (closing frame d ms))) p)
     ∙ sym (ap (λ (is : List Item). stands_after is p) (map-append (pulse_item us) (arc_pulses frame ms (across frame d)) (line_pulses (closing frame d ms))))
     ∙ over_leads us frame d ms p ∙ to
@@ -162,7 +162,7 @@ line_between us k p d q to some le =
 closing_line : (us : ℕ) (frame : Frame) (d : Distances) (ms : List PlaneStep) (p q s : Distances) (k : ℕ) → moved p d ≡ q → s ≡ stands_after (take (over_total frame d ms) (over_list us frame d ms)) p
     → 0 < largest (steps_between s q) → k ≤ largest (steps_between s q) → stands_after (take (over_total frame d ms + k) (over_list us frame d ms)) p ≡ on_line (largest (steps_between s q)) s q k
 closing_line us frame d ms p q s k to at some le =
-    let is : s ≡ behind_arc us frame d ms p = at ∙ at_total us frame d ms p in
+    let is : s ≡ after_arc us frame d ms p = at ∙ at_total us frame d ms p in
     then_items us (arc_pulses frame ms (across frame d)) (line_pulses (closing frame d ms)) (over_total frame d ms) k p (over_length frame d ms)
     ∙ ap (stands_after (take k (map (pulse_item us) (line_pulses (closing frame d ms))))) (sym is)
     ∙ line_between us k s (closing frame d ms) q (ap (λ (r : Distances). moved r (closing frame d ms)) is ∙ closes us frame d ms p q to) some le
@@ -172,7 +172,7 @@ follows_large g arc us near = record {
   path = λ k some le. (large_goes g arc us k some le).0;
   third = λ k some le. (large_goes g arc us k some le).1;
   near = λ w within k le. elim (cases_lt 0 (round_total g arc)) [
-    | inl some ↦ near_at (centred g arc).circle (centred g arc).from (arc_path (centred g arc)) (round_total g arc) (λ j. offset_of g arc (stands_behind g arc (large_list g arc us) j)) some (omega arith)
+    | inl some ↦ near_at (centred g arc).circle (centred g arc).from (arc_path (centred g arc)) (round_total g arc) (λ j. offset_of g arc (position_after g arc (large_list g arc us) j)) some (omega arith)
         (λ j most. (large_goes g arc us j some most).0) near w within k le
     | inr none ↦ near_start (centred g arc).circle w (centred g arc).from _ (ap (offset_of g arc) (stands_none g arc (large_list g arc us) k (omega arith)) ∙ start_is g arc)
   ];

@@ -12,8 +12,8 @@ use Rattle.ng_canon.specs.declared.geometry.Geometry.{Geometry}
 use Rattle.ng_canon.specs.declared.pace.Pace.{Pace}
 use Rattle.ng_canon.specs.declared.plane.Plane.{Plane}
 use Rattle.ng_canon.specs.declared.plane.Plane.TheVariants.{Xy, Xz, Yz}
-use Rattle.ng_canon.specs.declared.plane.Turn.{Turn}
-use Rattle.ng_canon.specs.declared.plane.Turn.TheVariants.{Clockwise, Counterclockwise}
+use Rattle.ng_canon.specs.declared.plane.ArcDirection.{ArcDirection}
+use Rattle.ng_canon.specs.declared.plane.ArcDirection.TheVariants.{Clockwise, Counterclockwise}
 use Rattle.ng_canon.specs.declared.segment.Arc.{Arc}
 use Rattle.ng_canon.specs.declared.segment.Segment.{Segment}
 use Rattle.ng_canon.specs.declared.segment.Segment.TheVariants.{Line as LineSegment, Arc as ArcSegment, Dwell as DwellSegment, Switch as SwitchSegment}
@@ -22,7 +22,7 @@ use Rattle.ng_step.specs.declared.steps.Distances.{Distances}
 use Rattle.ng_step.specs.declared.centred.CentredArc.{CentredArc}
 use Rattle.ng_step.specs.Arcs.{larger, HasSteps, IsLargeArc, quadrants_to_walk, plane_steps}
 use Rattle.ng_step.specs.Frames.{mirrored}
-use Rattle.ng_step.specs.Lines.{in_steps, line_at, line_from, largest, line_pulses, IsByHalfIn}
+use Rattle.ng_step.specs.Lines.{in_steps, point_on_line, line_from, largest, line_pulses, IsByHalfIn}
 use Rattle.ng_step.specs.Hands.{pulse_item, distances, line_items, centred, is_small, arc_path, large_arc_items, arc_items, step_a, step_b}
 use Rattle.ng_step.specs.Promises.{stands_after, on_line, FollowsLine, FollowsItsLine, StaysInTravel, point_in_steps, stands_at, LeadsTo, EndsOnItsEnd, IsInsideByHalf, StaysInside, IsTrueArc, KeepsToItsCircle}
 use Rattle.ng_step.proofs.LineLemmas.{in_steps_near, line_inside}
@@ -87,7 +87,7 @@ pulses_follow : (g : Geometry) (us : ℕ) (p q : Point) (k : ℕ) → 0 < larges
 pulses_follow g us p q k some le =
     let n = largest (distances g p q) in
     line_goes us (point_in_steps g p) (distances g p q) k some le
-    ∙ distances_same _ _ _ _ _ _ (ap (λ z. line_at n (in_steps p.x g.x.step_nm) z k) (rest_of _ _)) (ap (λ z. line_at n (in_steps p.y g.y.step_nm) z k) (rest_of _ _)) (ap (λ z. line_at n (in_steps p.z g.z.step_nm) z k) (rest_of _ _))
+    ∙ distances_same _ _ _ _ _ _ (ap (λ z. point_on_line n (in_steps p.x g.x.step_nm) z k) (rest_of _ _)) (ap (λ z. point_on_line n (in_steps p.y g.y.step_nm) z k) (rest_of _ _)) (ap (λ z. point_on_line n (in_steps p.z g.z.step_nm) z k) (rest_of _ _))
 
 line_follows : (g : Geometry) (pace : Pace) (p q : Point) (k : ℕ) → 0 < largest (distances g p q) → k ≤ largest (distances g p q)
     → stands_after (take k (line_items g pace p q)) (point_in_steps g p) ≡ on_line (largest (distances g p q)) (point_in_steps g p) (point_in_steps g q) k
@@ -119,12 +119,12 @@ within axis z h = let parts = both _ _ h in (at_most _ _ parts.0, at_most _ _ pa
 
 -- a coordinate between the ends of a line
 axis_inside : (axis : Axis) (n k : ℕ) (p q : ℤ) → 0 < axis.step_nm → 0 < n → k ≤ n → is_on axis p ≡ true → is_on axis q ≡ true
-    → IsByHalfIn axis.low axis.high axis.step_nm (line_at n (in_steps p axis.step_nm) (in_steps p axis.step_nm +ℤ (in_steps q axis.step_nm -ℤ in_steps p axis.step_nm)) k)
+    → IsByHalfIn axis.low axis.high axis.step_nm (point_on_line n (in_steps p axis.step_nm) (in_steps p axis.step_nm +ℤ (in_steps q axis.step_nm -ℤ in_steps p axis.step_nm)) k)
 axis_inside axis n k p q step some le hp hq =
     let first = within axis p hp in
     let last = within axis q hq in
     let e : in_steps p axis.step_nm +ℤ (in_steps q axis.step_nm -ℤ in_steps p axis.step_nm) ≡ in_steps q axis.step_nm = rest_of _ _ in
-    subst (λ (z : ℤ). IsByHalfIn axis.low axis.high axis.step_nm (line_at n (in_steps p axis.step_nm) z k)) (sym e)
+    subst (λ (z : ℤ). IsByHalfIn axis.low axis.high axis.step_nm (point_on_line n (in_steps p axis.step_nm) z k)) (sym e)
     (line_inside n k axis.step_nm p q axis.low axis.high step some le first.0 last.0 first.1 last.1)
 
 -- a point on the way
@@ -210,7 +210,7 @@ b_some g Yz = (limits g).z.0
 near_a : (u z c : ℤ) (s m : ℕ) → 2 * unsigned_abs (u -ℤ z) ≤ s → s ≤ m → 2 * unsigned_abs ((u -ℤ c) -ℤ (z -ℤ c)) ≤ m
 near_a u z c s m h le = omega (arith, ints)
 
-near_b : (turn : Turn) (u z c : ℤ) (s m : ℕ) → 2 * unsigned_abs (u -ℤ z) ≤ s → s ≤ m → 2 * unsigned_abs (mirrored turn (u -ℤ c) -ℤ mirrored turn (z -ℤ c)) ≤ m
+near_b : (turn : ArcDirection) (u z c : ℤ) (s m : ℕ) → 2 * unsigned_abs (u -ℤ z) ≤ s → s ≤ m → 2 * unsigned_abs (mirrored turn (u -ℤ c) -ℤ mirrored turn (z -ℤ c)) ≤ m
 near_b Counterclockwise u z c s m h le = omega (arith, ints)
 near_b Clockwise u z c s m h le = omega (arith, ints)
 

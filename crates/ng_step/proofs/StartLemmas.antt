@@ -4,9 +4,9 @@ use Rattle.std.proofs.lemmas.Int.{ints}
 use Rattle.std.proofs.lemmas.Nat.{mul-le}
 use Rattle.std.proofs.lemmas.Bool.{cases_lt}
 use Rattle.std.specs.Prelude.{unsigned_abs, int_le}
-use Rattle.ng_step.specs.declared.quadrant.Spot.{Spot}
+use Rattle.ng_canon.specs.declared.plane_point.PlanePoint.{PlanePoint}
 use Rattle.ng_step.specs.Promises.{step_value}
-use Rattle.ng_step.specs.Lines.{made, toward, line_at, step_toward, axis_step, line_step}
+use Rattle.ng_step.specs.Lines.{made, toward, point_on_line, step_toward, axis_step, line_step}
 use Rattle.ng_step.proofs.LineLemmas.{made_more}
 
 half_zero : (z p : ℤ) (s : ℕ) → unsigned_abs p ≡ 0 → 2 * unsigned_abs (p -ℤ z) ≤ s → 2 * unsigned_abs z ≤ s
@@ -19,7 +19,7 @@ centre_far a b s some large ha hb =
     let three : 1 * 1 ≤ s * s = mul-le 1 1 s s some some in
     omega arith
 
-pub start_some : (start p : Spot) (s : ℕ) → 0 < s → 4 * (s * s) ≤ unsigned_abs start.a * unsigned_abs start.a + unsigned_abs start.b * unsigned_abs start.b
+pub start_some : (start p : PlanePoint) (s : ℕ) → 0 < s → 4 * (s * s) ≤ unsigned_abs start.a * unsigned_abs start.a + unsigned_abs start.b * unsigned_abs start.b
     → 2 * unsigned_abs (p.a -ℤ start.a) ≤ s → 2 * unsigned_abs (p.b -ℤ start.b) ≤ s → 0 < unsigned_abs p.a + unsigned_abs p.b
 start_some start p s some large ha hb = elim (cases_lt 0 (unsigned_abs p.a + unsigned_abs p.b)) [
   | inl h ↦ h
@@ -38,8 +38,8 @@ step_adds a z m m' false e le more = elim (cases_lt m m') [
 ]
 
 -- the pulses of a line are the differences of its points
-pub line_at-step : (n k : ℕ) (a z : ℤ) → 0 < n → unsigned_abs (z -ℤ a) ≤ n → line_at n a z (k + 1) ≡ line_at n a z k +ℤ step_value (line_step n (z -ℤ a) k)
-unfolding line_at axis_step
-line_at-step n k a z some le =
+pub point_on_line-step : (n k : ℕ) (a z : ℤ) → 0 < n → unsigned_abs (z -ℤ a) ≤ n → point_on_line n a z (k + 1) ≡ point_on_line n a z k +ℤ step_value (line_step n (z -ℤ a) k)
+unfolding point_on_line axis_step
+point_on_line-step n k a z some le =
     let more = made_more n (unsigned_abs (z -ℤ a)) k some le in
     step_adds a z (made n (unsigned_abs (z -ℤ a)) k) (made n (unsigned_abs (z -ℤ a)) (k + 1)) (int_le (pos 0) (z -ℤ a)) refl more.0 more.1

@@ -5,22 +5,24 @@ use mir.Syntax.{w128}
 use Rattle.std.proofs.lemmas.Int.{ints}
 use Rattle.std.proofs.lemmas.Nat.{mul-le}
 use Rattle.std.specs.Prelude.{unsigned_abs, ◌≤ℤ◌, ◌<ℤ◌, int_le}
-use Rattle.ng_step.specs.declared.quadrant.Quadrant.{Quadrant}
-use Rattle.ng_step.specs.declared.quadrant.Quadrant.TheVariants.{First, Second, Third, Fourth}
+use Rattle.ng_canon.specs.declared.quadrant.Quadrant.{Quadrant}
+use Rattle.ng_canon.specs.declared.quadrant.Quadrant.TheVariants.{First, Second, Third, Fourth}
 use Rattle.ng_step.specs.declared.circle.Circle.{Circle}
-use Rattle.ng_step.specs.declared.quadrant.Spot.{Spot}
-use Rattle.ng_step.specs.declared.walk.Walk.{Walk}
+use Rattle.ng_canon.specs.declared.plane_point.PlanePoint.{PlanePoint}
+use Rattle.ng_step.specs.declared.walk.ArcWalk.{ArcWalk}
 use Rattle.ng_step.specs.declared.quadrant.PlaneStep.{PlaneStep}
-use Rattle.ng_step.specs.Arcs.{quadrant_after, cross, inward, outward, larger, moved}
-use Rattle.ng_step.specs.Turned.{turned, place, in_step, out_step, norm, Sound, Walks, IsStep, farthest, beyond}
+use Rattle.ng_canon.specs.Planes.{cross}
+use Rattle.ng_canon.specs.Quadrants.{quadrant_after}
+use Rattle.ng_step.specs.Arcs.{inward, outward, larger, moved}
+use Rattle.ng_step.specs.Turned.{turned, point_of_quadrant, in_step, out_step, norm, Sound, Walks, ArcStepSpec, farthest, beyond}
 use Rattle.ng_step.proofs.TurnLemmas.{sound_outward, sound_inward, sound_crossing}
 use Rattle.ng_step.proofs.PlaceLemmas.{moved_inward, moved_crossing, moved_outward, next_outside, next_inside, step_outside, step_inside, in_step_le}
-use Rattle.ng_canon.specs.declared.item.Step.TheVariants.{Still}
-use Rattle.ng_step.specs.declared.steps.Steps.{Steps}
+use Rattle.ng_canon.specs.declared.item.AxisStep.TheVariants.{Still}
+use Rattle.ng_step.specs.declared.steps.AxisSteps.{AxisSteps}
 use Rattle.ng_step.specs.Frames.{pulse_with}
 
 -- the differences are far from the ends of their type
-pub record Small (w : Walk) : Type 0 where
+pub record Small (w : ArcWalk) : Type 0 where
   pub excess : unsigned_abs w.excess < 2 ^ 100
   pub inward : unsigned_abs w.inward < 2 ^ 100
   pub outward : unsigned_abs w.outward < 2 ^ 100
@@ -37,7 +39,7 @@ abs_sum m n b z e h = grind (arith, ints)
 product_small : (m n : ℕ) → m ≤ 2 ^ 48 → n ≤ 2 ^ 48 → m * n ≤ 2 ^ 96
 product_small m n h k = let product : m * n ≤ 2 ^ 48 * 2 ^ 48 = mul-le m n (2 ^ 48) (2 ^ 48) h k in omega arith
 
-pub small : (w : Walk) → Walks w → Small w
+pub small : (w : ArcWalk) → Walks w → Small w
 small w h =
     let inner_le : w.inner_step ≤ larger w.circle = rw h.inner_step (in_step_le w.circle w.quadrant) in
     let outer_le : w.outer_step ≤ larger w.circle = rw h.outer_step (in_step_le w.circle (quadrant_after w.quadrant)) in
@@ -61,16 +63,16 @@ small w h =
     }
 
 -- the pulse of a step of the plane, the third axis still
-abbrev pub flat : Walk → PlaneStep → Steps
+abbrev pub flat : ArcWalk → PlaneStep → AxisSteps
 flat w m = pulse_with w.frame m Still
 
-abbrev pub after_outward : Walk → Walk
+abbrev pub after_outward : ArcWalk → ArcWalk
 after_outward w = record w { excess = w.excess +ℤ w.outward; outward = w.outward +ℤ w.outer_second; outer = w.outer + w.outer_step }
 
-abbrev pub after_inward : Walk → Walk
+abbrev pub after_inward : ArcWalk → ArcWalk
 after_inward w = record w { excess = w.excess +ℤ w.inward; inward = w.inward +ℤ w.inner_second; inner = w.inner - w.inner_step }
 
-abbrev pub after_crossing : Walk → Walk
+abbrev pub after_crossing : ArcWalk → ArcWalk
 after_crossing w = record {
   circle = w.circle;
   quadrant = quadrant_after w.quadrant;
@@ -88,10 +90,10 @@ after_crossing w = record {
   outward_made = flat w (outward (quadrant_after w.quadrant));
 }
 
-inside_of : (w : Walk) → Walks w → w.excess ≤ℤ pos 0 → norm w.inner w.outer ≤ w.circle.square
+inside_of : (w : ArcWalk) → Walks w → w.excess ≤ℤ pos 0 → norm w.inner w.outer ≤ w.circle.square
 inside_of w h inside = let e = h.excess in omega (arith, ints)
 
-outside_of : (w : Walk) → Walks w → pos 0 <ℤ w.excess → w.circle.square < norm w.inner w.outer
+outside_of : (w : ArcWalk) → Walks w → pos 0 <ℤ w.excess → w.circle.square < norm w.inner w.outer
 outside_of w h outside = let e = h.excess in omega (arith, ints)
 
 turn_turn : (c : Circle) (q : Quadrant) → out_step c (quadrant_after q) ≡ in_step c q
@@ -100,7 +102,7 @@ turn_turn c Second = refl
 turn_turn c Third = refl
 turn_turn c Fourth = refl
 
-pub outward_is : (w : Walk) → Walks w → w.excess ≤ℤ pos 0 → IsStep w (after_outward w) (flat w (outward w.quadrant))
+pub outward_is : (w : ArcWalk) → Walks w → w.excess ≤ℤ pos 0 → ArcStepSpec w (after_outward w) (flat w (outward w.quadrant))
 outward_is w h excess_low =
     let inside = inside_of w h excess_low in
     let outer_le : w.outer_step ≤ larger w.circle = rw h.outer_step (in_step_le w.circle (quadrant_after w.quadrant)) in
@@ -123,11 +125,11 @@ outward_is w h excess_low =
       frame = refl;
       step = ap (flat w) (sym (step_inside w.circle w.quadrant w.inner w.outer h.sound.some inside));
       spot = sym (next_inside w.circle w.quadrant w.inner w.outer h.sound.some inside ∙ moved_outward w.circle w.quadrant w.inner w.outer
-          ∙ ap (λ s. place w.quadrant w.inner (w.outer + s)) (sym h.outer_step));
+          ∙ ap (λ s. point_of_quadrant w.quadrant w.inner (w.outer + s)) (sym h.outer_step));
       circle = refl;
     }
 
-pub inward_is : (w : Walk) → Walks w → pos 0 <ℤ w.excess → w.inner_step < w.inner → IsStep w (after_inward w) (flat w (inward w.quadrant))
+pub inward_is : (w : ArcWalk) → Walks w → pos 0 <ℤ w.excess → w.inner_step < w.inner → ArcStepSpec w (after_inward w) (flat w (inward w.quadrant))
 inward_is w h excess_high far =
     let outside = outside_of w h excess_high in
     let j = w.inner - w.inner_step in
@@ -153,7 +155,7 @@ inward_is w h excess_high far =
       frame = refl;
       step = ap (flat w) (sym (step_outside w.circle w.quadrant w.inner w.outer h.sound.some outside));
       spot = sym (next_outside w.circle w.quadrant w.inner w.outer h.sound.some outside
-          ∙ ap (λ x. moved w.circle (inward w.quadrant) (place w.quadrant x w.outer)) (split ∙ ap (λ s. s + j) h.inner_step)
+          ∙ ap (λ x. moved w.circle (inward w.quadrant) (point_of_quadrant w.quadrant x w.outer)) (split ∙ ap (λ s. s + j) h.inner_step)
           ∙ moved_inward w.circle w.quadrant j w.outer);
       circle = refl;
     }
@@ -169,7 +171,7 @@ inward_is w h excess_high far =
         let two : i * s ≡ (s + j) * s = ap (λ x. x * s) split in
         omega (arith, ints)
 
-pub crossing_is : (w : Walk) → Walks w → pos 0 <ℤ w.excess → w.inner ≤ w.inner_step → IsStep w (after_crossing w) (flat w (inward w.quadrant))
+pub crossing_is : (w : ArcWalk) → Walks w → pos 0 <ℤ w.excess → w.inner ≤ w.inner_step → ArcStepSpec w (after_crossing w) (flat w (inward w.quadrant))
 crossing_is w h excess_high near =
     let outside = outside_of w h excess_high in
     let j = w.inner_step - w.inner in
@@ -216,20 +218,20 @@ pub kept : (z : ℤ) → unsigned_abs z < 2 ^ 100 → unsigned_abs (to_z w128 (o
 kept z h = omega (arith, ints)
 
 -- the same, as the code has it
-pub step_outward : (w : Walk) (excess change : ℤ) (m : Steps) → Walks w → w.excess ≤ℤ pos 0 → m ≡ flat w (outward w.quadrant)
+pub step_outward : (w : ArcWalk) (excess change : ℤ) (m : AxisSteps) → Walks w → w.excess ≤ℤ pos 0 → m ≡ flat w (outward w.quadrant)
     → excess ≡ w.excess +ℤ w.outward → change ≡ w.outward +ℤ w.outer_second
-    → IsStep w (record w { excess = excess; outward = change; outer = w.outer + w.outer_step }) m
+    → ArcStepSpec w (record w { excess = excess; outward = change; outer = w.outer + w.outer_step }) m
 step_outward w excess change m h low is e f = rw (is, e, f) (outward_is w h low)
 
-pub step_inward : (w : Walk) (excess change : ℤ) (m : Steps) → Walks w → pos 0 <ℤ w.excess → w.inner_step < w.inner → m ≡ flat w (inward w.quadrant)
+pub step_inward : (w : ArcWalk) (excess change : ℤ) (m : AxisSteps) → Walks w → pos 0 <ℤ w.excess → w.inner_step < w.inner → m ≡ flat w (inward w.quadrant)
     → excess ≡ w.excess +ℤ w.inward → change ≡ w.inward +ℤ w.inner_second
-    → IsStep w (record w { excess = excess; inward = change; inner = w.inner - w.inner_step }) m
+    → ArcStepSpec w (record w { excess = excess; inward = change; inner = w.inner - w.inner_step }) m
 step_inward w excess change m h high far is e f = rw (is, e, f) (inward_is w h high far)
 
-pub step_crossing : (w : Walk) (q : Quadrant) (excess change back first second : ℤ) (m in_made out_made : Steps) → Walks w → pos 0 <ℤ w.excess → w.inner ≤ w.inner_step → m ≡ flat w (inward w.quadrant)
+pub step_crossing : (w : ArcWalk) (q : Quadrant) (excess change back first second : ℤ) (m in_made out_made : AxisSteps) → Walks w → pos 0 <ℤ w.excess → w.inner ≤ w.inner_step → m ≡ flat w (inward w.quadrant)
     → q ≡ quadrant_after w.quadrant → excess ≡ w.excess +ℤ w.inward → change ≡ w.outer_second -ℤ w.outward → back ≡ w.inward +ℤ w.inner_second
     → first ≡ w.outer_second → second ≡ w.inner_second → in_made ≡ flat w (inward q) → out_made ≡ flat w (outward q)
-    → IsStep w (record {
+    → ArcStepSpec w (record {
       circle = w.circle;
       quadrant = q;
       inner = w.outer;
@@ -263,12 +265,12 @@ mul_neg_left (suc i) (negsuc n) = grind (arith, ints)
 le_as_difference : (x y z : ℤ) → x -ℤ y ≡ z → int_le x y ≡ int_le z (pos 0)
 le_as_difference x y z h = grind (arith, ints)
 
-pub cross-place : (q : Quadrant) (i o : ℕ) (e : Spot) → pos i *ℤ (turned q e).b -ℤ pos o *ℤ (turned q e).a ≡ cross (place q i o) e
+pub cross-place : (q : Quadrant) (i o : ℕ) (e : PlanePoint) → pos i *ℤ (turned q e).b -ℤ pos o *ℤ (turned q e).a ≡ cross (point_of_quadrant q i o) e
 cross-place First i o e = refl
 cross-place Second i o e = simp (mul_neg_right, mul_neg_left) (omega (arith, ints))
 cross-place Third i o e = simp (mul_neg_right, mul_neg_left) (omega (arith, ints))
 cross-place Fourth i o e = simp (mul_neg_right, mul_neg_left) (omega (arith, ints))
 
-pub past_is : (q : Quadrant) (i o : ℕ) (e t : Spot) (x y : ℤ) → t ≡ turned q e → x ≡ pos i *ℤ t.b → y ≡ pos o *ℤ t.a
-    → int_le x y ≡ int_le (cross (place q i o) e) (pos 0)
-past_is q i o e t x y is f g = le_as_difference x y (cross (place q i o) e) (rw (f, g, is) (cross-place q i o e))
+pub past_is : (q : Quadrant) (i o : ℕ) (e t : PlanePoint) (x y : ℤ) → t ≡ turned q e → x ≡ pos i *ℤ t.b → y ≡ pos o *ℤ t.a
+    → int_le x y ≡ int_le (cross (point_of_quadrant q i o) e) (pos 0)
+past_is q i o e t x y is f g = le_as_difference x y (cross (point_of_quadrant q i o) e) (rw (f, g, is) (cross-place q i o e))

@@ -1,50 +1,50 @@
 -- The pulses of an arc (own): its steps and those of the third axis, spread over as many pulses as the larger number.
 use Rattle.std.specs.Prelude.{ℕ, zero, suc, ◌-◌, max, ℤ, pos, unsigned_abs, int_le, Bool, true, List, [], ◌∷◌, length}
 use Rattle.ng_step.specs.declared.circle.Circle.{Circle}
-use Rattle.ng_step.specs.declared.quadrant.Spot.{Spot}
+use Rattle.ng_canon.specs.declared.plane_point.PlanePoint.{PlanePoint}
 use Rattle.ng_step.specs.declared.quadrant.PlaneStep.{PlaneStep}
 use Rattle.ng_step.specs.declared.frame.Frame.{Frame}
 use Rattle.ng_step.specs.Frames.{pulse_with, pulse_without}
-use Rattle.ng_step.specs.declared.steps.Steps.{Steps}
-use Rattle.ng_canon.specs.declared.item.Step.{Step}
-use Rattle.ng_canon.specs.declared.item.Step.TheVariants.{Backward, Still, Forward}
+use Rattle.ng_step.specs.declared.steps.AxisSteps.{AxisSteps}
+use Rattle.ng_canon.specs.declared.item.AxisStep.{AxisStep}
+use Rattle.ng_canon.specs.declared.item.AxisStep.TheVariants.{Backward, Still, Forward}
 use Rattle.ng_step.specs.Arcs.{step_at, next_spot}
 use Rattle.ng_step.specs.Lines.{axis_step}
 
 -- of the arc steps still to make, the next one in a pulse where the arc moves
-abbrev pub taking : Frame → Step → List PlaneStep → Step → Steps
+abbrev pub taking : Frame → AxisStep → List PlaneStep → AxisStep → AxisSteps
 taking frame Still ms third = pulse_without frame third
 taking frame Forward (m ∷ ms) third = pulse_with frame m third
 taking frame _ _ third = pulse_without frame third
 
-abbrev pub taken : Step → List PlaneStep → List PlaneStep
+abbrev pub taken : AxisStep → List PlaneStep → List PlaneStep
 taken Still ms = ms
 taken _ [] = []
 taken _ (m ∷ ms) = ms
 
 -- the last `left` of n pulses: of `count` arc steps the list ms is still to make, the third axis makes d steps
-abbrev pub interleaved : Frame → ℕ → ℕ → Bool → ℕ → List PlaneStep → ℕ → List Steps
+abbrev pub interleaved : Frame → ℕ → ℕ → Bool → ℕ → List PlaneStep → ℕ → List AxisSteps
 interleaved frame n count forward d ms zero = []
 interleaved frame n count forward d ms (suc left) =
     taking frame (axis_step n true count (n - suc left)) ms (axis_step n forward d (n - suc left))
     ∷ interleaved frame n count forward d (taken (axis_step n true count (n - suc left)) ms) left
 
 -- an arc's pulses before the closing line, over its steps
-abbrev pub arc_pulses : Frame → List PlaneStep → ℤ → List Steps
+abbrev pub arc_pulses : Frame → List PlaneStep → ℤ → List AxisSteps
 arc_pulses frame ms d = interleaved frame (max (length ms) (unsigned_abs d)) (length ms) (int_le (pos 0) d) (unsigned_abs d) ms (max (length ms) (unsigned_abs d))
 
 -- the same, with the steps by the rule in place of a list
-abbrev pub walking : Frame → Step → Circle → Spot → Step → Steps
+abbrev pub walking : Frame → AxisStep → Circle → PlanePoint → AxisStep → AxisSteps
 walking frame Still c p third = pulse_without frame third
 walking frame Forward c p third = pulse_with frame (step_at c p) third
 walking frame Backward c p third = pulse_without frame third
 
-abbrev pub walked : Step → Circle → Spot → Spot
+abbrev pub walked : AxisStep → Circle → PlanePoint → PlanePoint
 walked Still c p = p
 walked Forward c p = next_spot c p
 walked Backward c p = p
 
-abbrev pub pulses_from : Frame → ℕ → ℕ → Bool → ℕ → Circle → Spot → ℕ → List Steps
+abbrev pub pulses_from : Frame → ℕ → ℕ → Bool → ℕ → Circle → PlanePoint → ℕ → List AxisSteps
 pulses_from frame n count forward d c p zero = []
 pulses_from frame n count forward d c p (suc left) =
     walking frame (axis_step n true count (n - suc left)) c p (axis_step n forward d (n - suc left))

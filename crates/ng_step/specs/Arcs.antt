@@ -1,23 +1,17 @@
 -- The points of an arc, as offsets from its centre in nanometres (own).
 use Rattle.std.specs.Prelude.{◌≡◌, ℕ, zero, suc, ◌+◌, ◌-◌, ◌*◌, ◌%◌, ◌<◌, ◌≤◌, max, ℤ, pos, negsuc, ◌+ℤ◌, ◌-ℤ◌, ◌*ℤ◌, int_lt, int_le, unsigned_abs, Bool, true, false, ◌&&◌, ◌||◌, ◌==◌, if◌then◌else◌, IsTrue, List, [], ◌∷◌, All}
-use Rattle.ng_step.specs.declared.quadrant.Quadrant.{Quadrant}
-use Rattle.ng_step.specs.declared.quadrant.Quadrant.TheVariants.{First, Second, Third, Fourth}
+use Rattle.ng_canon.specs.Planes.{cross}
+use Rattle.ng_canon.specs.Quadrants.{quadrant, same_quadrant, quadrant_after, quadrant_changes}
+use Rattle.ng_canon.specs.declared.quadrant.Quadrant.{Quadrant}
+use Rattle.ng_canon.specs.declared.quadrant.Quadrant.TheVariants.{First, Second, Third, Fourth}
 use Rattle.ng_step.specs.declared.circle.Circle.{Circle}
-use Rattle.ng_step.specs.declared.quadrant.Spot.{Spot}
+use Rattle.ng_canon.specs.declared.plane_point.PlanePoint.{PlanePoint}
 use Rattle.ng_step.specs.declared.quadrant.PlaneStep.{PlaneStep}
 use Rattle.ng_step.specs.declared.quadrant.PlaneStep.TheVariants.{AddA, SubA, AddB, SubB}
 
 -- the larger step
 abbrev pub larger : Circle → ℕ
 larger c = max c.step_a c.step_b
-
--- the first quadrant has a > 0 and b >= 0, the second a <= 0 and b > 0, and so on round
-unfoldable pub quadrant : Spot → Quadrant
-quadrant p =
-    if int_lt (pos 0) p.a && int_le (pos 0) p.b then First
-    else if int_le p.a (pos 0) && int_lt (pos 0) p.b then Second
-    else if int_lt p.a (pos 0) && int_le p.b (pos 0) then Third
-    else Fourth
 
 abbrev pub inward : Quadrant → PlaneStep
 inward First = SubA
@@ -32,90 +26,61 @@ outward Third = SubB
 outward Fourth = AddA
 
 -- how far a point lies outside the circle, in squares
-unfoldable pub excess : Circle → Spot → ℤ
+unfoldable pub excess : Circle → PlanePoint → ℤ
 excess c p = p.a *ℤ p.a +ℤ p.b *ℤ p.b -ℤ pos c.square
 
 -- the step from a point
-unfoldable pub step_at : Circle → Spot → PlaneStep
+unfoldable pub step_at : Circle → PlanePoint → PlaneStep
 step_at c p = if int_lt (pos 0) (excess c p) then inward (quadrant p) else outward (quadrant p)
 
-abbrev pub moved : Circle → PlaneStep → Spot → Spot
+abbrev pub moved : Circle → PlaneStep → PlanePoint → PlanePoint
 moved c AddA p = record { a = p.a +ℤ pos c.step_a; b = p.b }
 moved c SubA p = record { a = p.a -ℤ pos c.step_a; b = p.b }
 moved c AddB p = record { a = p.a; b = p.b +ℤ pos c.step_b }
 moved c SubB p = record { a = p.a; b = p.b -ℤ pos c.step_b }
 
 -- the point after this one
-unfoldable pub next_spot : Circle → Spot → Spot
+unfoldable pub next_spot : Circle → PlanePoint → PlanePoint
 next_spot c p = moved c (step_at c p) p
 
-abbrev pub same_quadrant : Quadrant → Quadrant → Bool
-same_quadrant First First = true
-same_quadrant Second Second = true
-same_quadrant Third Third = true
-same_quadrant Fourth Fourth = true
-same_quadrant _ _ = false
-
--- the quadrant behind this one
-abbrev pub quadrant_after : Quadrant → Quadrant
-quadrant_after First = Second
-quadrant_after Second = Third
-quadrant_after Third = Fourth
-quadrant_after Fourth = First
-
 -- the quadrants still to be walked in, the present one included, after a step from p
-unfoldable pub left_after : Circle → ℕ → Spot → ℕ
+unfoldable pub left_after : Circle → ℕ → PlanePoint → ℕ
 left_after c left p = if same_quadrant (quadrant p) (quadrant (next_spot c p)) then left else left - 1
 
-abbrev pub cross : Spot → Spot → ℤ
-cross p e = p.a *ℤ e.b -ℤ p.b *ℤ e.a
-
 -- the stopping rule: past the last quadrant, or in it and not before the end
-unfoldable pub stops : Spot → ℕ → Spot → Bool
+unfoldable pub stops : PlanePoint → ℕ → PlanePoint → Bool
 stops e left p = left == 0 || (left == 1 && int_le (cross p e) (pos 0))
-
-abbrev pub number : Quadrant → ℕ
-number First = 0
-number Second = 1
-number Third = 2
-number Fourth = 3
-
--- the changes of quadrant from an arc's start to its end
-abbrev pub changes : Spot → Spot → ℕ
-changes s e =
-    if same_quadrant (quadrant s) (quadrant e) then (if int_lt (pos 0) (cross s e) then 0 else 4)
-    else (number (quadrant e) + 4 - number (quadrant s)) % 4
 
 -- the quadrants to walk in from p, where the start s is rounded to: one more than the changes from there; 0 where these
 -- would be fewer than none
-unfoldable pub quadrants_to_walk : Spot → Spot → Spot → ℕ
+unfoldable pub quadrants_to_walk : PlanePoint → PlanePoint → PlanePoint → ℕ
 quadrants_to_walk s e p =
-    if same_quadrant (quadrant_after (quadrant p)) (quadrant s) then changes s e + 2
-    else if same_quadrant (quadrant p) (quadrant_after (quadrant s)) then changes s e
-    else changes s e + 1
+    if same_quadrant (quadrant_after (quadrant p)) (quadrant s) then quadrant_changes s e + 2
+    else if same_quadrant (quadrant p) (quadrant_after (quadrant s)) then quadrant_changes s e
+    else quadrant_changes s e + 1
 
 -- these are the arc's steps from p: each follows the rule, and the first point that stops is the end
-abbrev pub IsArc : Circle → Spot → ℕ → Spot → List PlaneStep → Type 0
+abbrev pub IsArc : Circle → PlanePoint → ℕ → PlanePoint → List PlaneStep → Type 0
 IsArc c e left p [] = IsTrue (stops e left p)
 IsArc c e left p (m ∷ ms) = (stops e left p ≡ false) × (m ≡ step_at c p) × IsArc c e (left_after c left p) (next_spot c p) ms
 
 -- the arc's steps, at most `fuel` of them
-abbrev pub plane_steps_within : ℕ → Circle → Spot → ℕ → Spot → List PlaneStep
+abbrev pub plane_steps_within : ℕ → Circle → PlanePoint → ℕ → PlanePoint → List PlaneStep
 plane_steps_within zero c e left p = []
 plane_steps_within (suc fuel) c e left p = if stops e left p then [] else (step_at c p ∷ plane_steps_within fuel c e (left_after c left p) (next_spot c p))
 
 -- the points that the steps reach, the first one included
-abbrev pub spots : Circle → Spot → List PlaneStep → List Spot
+abbrev pub spots : Circle → PlanePoint → List PlaneStep → List PlanePoint
 spots c p [] = p ∷ []
 spots c p (m ∷ ms) = p ∷ spots c (moved c m p) ms
 
 -- both coordinates are at most w in size
-abbrev pub IsWithin : ℕ → Spot → Type 0
-IsWithin w p = (unsigned_abs p.a ≤ w) × (unsigned_abs p.b ≤ w)
+abbrev pub IsAtMostInSize : ℕ → PlanePoint → Type 0
+IsAtMostInSize w p = (unsigned_abs p.a ≤ w) × (unsigned_abs p.b ≤ w)
 
 -- steps of the arc from p leave the circle by no more than this
-abbrev pub IsNearCircle : Circle → Spot → List PlaneStep → Type 0
-IsNearCircle c p ms = (w : ℕ) → All (IsWithin w) (spots c p ms)
+abbrev pub IsNearCircle : Circle → PlanePoint → List PlaneStep → Type 0
+IsNearCircle c p ms = (w : ℕ) → All (IsAtMostInSize w) (spots c p ms)
     → All (λ x. unsigned_abs (excess c x) ≤ 2 * (larger c * w) + larger c * larger c + unsigned_abs (excess c p)) (spots c p ms)
 
 -- each axis has a step
@@ -130,15 +95,15 @@ pub record IsLargeArc (c : Circle) (radius : ℕ) : Type 0 where
   pub within : c.square ≤ radius * radius
 
 -- a length that no coordinate of the arc's points passes, for a start of that size
-abbrev pub reach : ℕ → Circle → Spot → ℕ
+abbrev pub reach : ℕ → Circle → PlanePoint → ℕ
 reach radius c p = radius + larger c + unsigned_abs p.a + unsigned_abs p.b
 
 -- more steps than an arc has
-abbrev pub most_steps : ℕ → Circle → ℕ → Spot → ℕ
+abbrev pub most_steps : ℕ → Circle → ℕ → PlanePoint → ℕ
 most_steps radius c left p = left * (2 * reach radius c p + 1) + 2 * reach radius c p
 
 -- the arc's steps: `start` and `e` are its programmed start and end, p is the rounded start
-unfoldable pub plane_steps : Circle → Spot → Spot → ℕ → Spot → List PlaneStep
+unfoldable pub plane_steps : Circle → PlanePoint → PlanePoint → ℕ → PlanePoint → List PlaneStep
 plane_steps c start e left p = plane_steps_within (most_steps (unsigned_abs start.a + unsigned_abs start.b) c left p) c e left p
 
 -- how far a step goes along each axis, in steps

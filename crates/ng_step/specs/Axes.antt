@@ -1,7 +1,7 @@
 -- What an axis keeps on a line (own).
 use Rattle.std.specs.Prelude.{◌≡◌, ℕ, ◌+◌, ◌*◌, ◌<◌, ◌≤◌}
 use Rattle.ng_step.specs.declared.spread.Spread.{Spread}
-use Rattle.ng_canon.specs.declared.item.Step.{Step}
+use Rattle.ng_canon.specs.declared.item.AxisStep.{AxisStep}
 use Rattle.ng_step.specs.Lines.{made, axis_step}
 
 -- after k pulses of n this error is left over, of a distance d
@@ -16,7 +16,7 @@ pub record IsSpread (n : ℕ) (k : ℕ) (a : Spread) : Type 0 where
   pub error : Holds n a.count k a.error
 
 -- an axis that made a step of the line
-pub record Stepped (whole : ℕ) (a a' : Spread) (t : Step) : Type 0 where
+pub record SpreadStepSpec (whole : ℕ) (a a' : Spread) (t : AxisStep) : Type 0 where
   pub step : (n k : ℕ) → whole ≡ 2 * n → IsSpread n k a → t ≡ axis_step n a.forward a.count k
   pub axis : (n k : ℕ) → whole ≡ 2 * n → IsSpread n k a → IsSpread n (k + 1) a'
   pub count : a'.count ≡ a.count

@@ -1,29 +1,17 @@
 -- The axes of an arc's plane (NISTIR 6556, 3.5.6), and the side that an arc is seen from (own).
 use Rattle.std.specs.Prelude.{ℤ, neg_ℤ}
-use Rattle.ng_canon.specs.declared.item.Step.{Step}
-use Rattle.ng_canon.specs.declared.item.Step.TheVariants.{Backward, Still, Forward}
+use Rattle.ng_canon.specs.declared.item.AxisStep.{AxisStep}
+use Rattle.ng_canon.specs.declared.item.AxisStep.TheVariants.{Backward, Still, Forward}
 use Rattle.ng_canon.specs.declared.plane.Plane.{Plane}
 use Rattle.ng_canon.specs.declared.plane.Plane.TheVariants.{Xy, Xz, Yz}
-use Rattle.ng_canon.specs.declared.plane.Turn.{Turn}
-use Rattle.ng_canon.specs.declared.plane.Turn.TheVariants.{Clockwise, Counterclockwise}
+use Rattle.ng_canon.specs.declared.plane.ArcDirection.{ArcDirection}
+use Rattle.ng_canon.specs.declared.plane.ArcDirection.TheVariants.{Clockwise, Counterclockwise}
 use Rattle.ng_step.specs.declared.frame.Frame.{Frame}
-use Rattle.ng_step.specs.declared.steps.Steps.{Steps}
+use Rattle.ng_step.specs.declared.steps.AxisSteps.{AxisSteps}
 use Rattle.ng_step.specs.declared.quadrant.PlaneStep.{PlaneStep}
 use Rattle.ng_step.specs.declared.quadrant.PlaneStep.TheVariants.{AddA, SubA, AddB, SubB}
 
--- of what belongs to X, Y and Z: what belongs to the plane's axis a
-abbrev pub of_a : {A : Type 0} → Plane → A → A → A → A
-of_a Xy x y z = x
-of_a Xz x y z = z
-of_a Yz x y z = y
-
--- to its axis b
-abbrev pub of_b : {A : Type 0} → Plane → A → A → A → A
-of_b Xy x y z = y
-of_b Xz x y z = x
-of_b Yz x y z = z
-
--- to the axis across it
+-- of what belongs to X, Y and Z: what belongs to the axis across the plane
 abbrev pub of_third : {A : Type 0} → Plane → A → A → A → A
 of_third Xy x y z = z
 of_third Xz x y z = y
@@ -48,45 +36,45 @@ at_z Xz a b third = a
 at_z Yz a b third = b
 
 -- a clockwise arc is a counterclockwise one with b negated
-abbrev pub mirrored : Turn → ℤ → ℤ
+abbrev pub mirrored : ArcDirection → ℤ → ℤ
 mirrored Counterclockwise b = b
 mirrored Clockwise b = neg_ℤ b
 
-abbrev pub mirrored_step : Turn → Step → Step
+abbrev pub mirrored_step : ArcDirection → AxisStep → AxisStep
 mirrored_step Counterclockwise s = s
 mirrored_step Clockwise Backward = Forward
 mirrored_step Clockwise Still = Still
 mirrored_step Clockwise Forward = Backward
 
 -- a step of the plane on its axis a
-abbrev pub on_a : PlaneStep → Step
+abbrev pub on_a : PlaneStep → AxisStep
 on_a AddA = Forward
 on_a SubA = Backward
 on_a AddB = Still
 on_a SubB = Still
 
 -- on its axis b
-abbrev pub on_b : PlaneStep → Step
+abbrev pub on_b : PlaneStep → AxisStep
 on_b AddA = Still
 on_b SubA = Still
 on_b AddB = Forward
 on_b SubB = Backward
 
 -- a pulse of the machine's axes, of what the plane's axes and the third one do
-abbrev pub pulse_of : Plane → Step → Step → Step → Steps
+abbrev pub pulse_of : Plane → AxisStep → AxisStep → AxisStep → AxisSteps
 pulse_of plane a b third = record { x = at_x plane a b third; y = at_y plane a b third; z = at_z plane a b third }
 
 -- a pulse with this step of the arc, and what the third axis does in it
-abbrev pub pulse_with : Frame → PlaneStep → Step → Steps
+abbrev pub pulse_with : Frame → PlaneStep → AxisStep → AxisSteps
 pulse_with frame m third = pulse_of frame.plane (on_a m) (mirrored_step frame.turn (on_b m)) third
 
 -- a pulse in which the third axis stands still so far, with what it does
-abbrev pub with_third : Plane → Steps → Step → Steps
+abbrev pub with_third : Plane → AxisSteps → AxisStep → AxisSteps
 with_third plane flat Still = flat
 with_third Xy flat third = record { x = flat.x; y = flat.y; z = third }
 with_third Xz flat third = record { x = flat.x; y = third; z = flat.z }
 with_third Yz flat third = record { x = third; y = flat.y; z = flat.z }
 
 -- a pulse in which the arc rests
-abbrev pub pulse_without : Frame → Step → Steps
+abbrev pub pulse_without : Frame → AxisStep → AxisSteps
 pulse_without frame third = pulse_of frame.plane Still Still third

@@ -10,20 +10,21 @@ use Rattle.ng_canon.specs.declared.segment.Segment.TheVariants.{Line as LineSegm
 use Rattle.ng_canon.specs.declared.item.Item.{Item}
 use Rattle.ng_canon.specs.declared.item.Item.TheVariants.{Pulse as PulseItem, Dwell as DwellItem, Switch as SwitchItem}
 use Rattle.ng_step.specs.declared.circle.Circle.{Circle}
-use Rattle.ng_step.specs.declared.quadrant.Spot.{Spot}
+use Rattle.ng_canon.specs.declared.plane_point.PlanePoint.{PlanePoint}
 use Rattle.ng_step.specs.declared.quadrant.PlaneStep.{PlaneStep}
 use Rattle.ng_step.specs.declared.frame.Frame.{Frame}
-use Rattle.ng_step.specs.declared.steps.Steps.{Steps}
+use Rattle.ng_step.specs.declared.steps.AxisSteps.{AxisSteps}
 use Rattle.ng_step.specs.declared.steps.Distances.{Distances}
 use Rattle.ng_step.specs.declared.centred.CentredArc.{CentredArc}
-use Rattle.ng_step.specs.Frames.{of_a, of_b, of_third, at_x, at_y, at_z, mirrored}
+use Rattle.ng_canon.specs.Planes.{pick_a, pick_b}
+use Rattle.ng_step.specs.Frames.{of_third, at_x, at_y, at_z, mirrored}
 use Rattle.ng_step.specs.Arcs.{larger, plane_steps, quadrants_to_walk, net_a, net_b}
 use Rattle.ng_step.specs.Lines.{in_steps, largest, line_pulses}
 use Rattle.ng_step.specs.ArcPulses.{arc_pulses}
 use Rattle.ng_step.specs.Periods.{root_up, pulse_us}
 
 -- a pulse that lasts so long
-abbrev pub pulse_item : ℕ → Steps → Item
+abbrev pub pulse_item : ℕ → AxisSteps → Item
 pulse_item us p = PulseItem (record { x = p.x; y = p.y; z = p.z; period_us = us })
 
 -- the steps of each axis from one machine point to another, each point rounded to whole steps
@@ -48,27 +49,27 @@ line_items g pace p q =
 -- ---- an arc
 
 -- a point of the arc's plane as an offset from its centre
-abbrev pub from_centre : Arc → ℤ → ℤ → Spot
+abbrev pub from_centre : Arc → ℤ → ℤ → PlanePoint
 from_centre arc a b = record { a = a -ℤ arc.centre_a; b = mirrored arc.turn (b -ℤ arc.centre_b) }
 
-abbrev pub programmed : Arc → Point → Spot
-programmed arc p = from_centre arc (of_a arc.plane p.x p.y p.z) (of_b arc.plane p.x p.y p.z)
+abbrev pub programmed : Arc → Point → PlanePoint
+programmed arc p = from_centre arc (pick_a arc.plane p.x p.y p.z) (pick_b arc.plane p.x p.y p.z)
 
 -- a coordinate rounded to whole steps, in nanometres
 abbrev pub rounded : ℤ → ℕ → ℤ
 rounded z s = in_steps z s *ℤ pos s
 
 abbrev pub step_a : Geometry → Plane → ℕ
-step_a g plane = of_a plane g.x.step_nm g.y.step_nm g.z.step_nm
+step_a g plane = pick_a plane g.x.step_nm g.y.step_nm g.z.step_nm
 
 abbrev pub step_b : Geometry → Plane → ℕ
-step_b g plane = of_b plane g.x.step_nm g.y.step_nm g.z.step_nm
+step_b g plane = pick_b plane g.x.step_nm g.y.step_nm g.z.step_nm
 
-abbrev pub rounded_start : Arc → ℕ → ℕ → Spot
+abbrev pub rounded_start : Arc → ℕ → ℕ → PlanePoint
 rounded_start arc step_a step_b =
-    from_centre arc (rounded (of_a arc.plane arc.start.x arc.start.y arc.start.z) step_a) (rounded (of_b arc.plane arc.start.x arc.start.y arc.start.z) step_b)
+    from_centre arc (rounded (pick_a arc.plane arc.start.x arc.start.y arc.start.z) step_a) (rounded (pick_b arc.plane arc.start.x arc.start.y arc.start.z) step_b)
 
-abbrev pub circle : Geometry → Plane → Spot → Circle
+abbrev pub circle : Geometry → Plane → PlanePoint → Circle
 circle g plane s = record {
   step_a = step_a g plane;
   step_b = step_b g plane;
@@ -97,11 +98,11 @@ arc_path c = plane_steps c.circle c.start c.end (quadrants_to_walk c.start c.end
 abbrev pub across : Frame → Distances → ℤ
 across frame d = of_third frame.plane d.x d.y d.z
 
--- what is left of the distances behind the arc's steps and the third axis's
+-- what is left of the distances after the arc's steps and the third axis's
 abbrev pub closing_after : Frame → Distances → ℤ → ℤ → Distances
 closing_after frame d net_a net_b =
-    let a = of_a frame.plane d.x d.y d.z -ℤ net_a in
-    let b = of_b frame.plane d.x d.y d.z -ℤ mirrored frame.turn net_b in
+    let a = pick_a frame.plane d.x d.y d.z -ℤ net_a in
+    let b = pick_b frame.plane d.x d.y d.z -ℤ mirrored frame.turn net_b in
     record { x = at_x frame.plane a b (pos 0); y = at_y frame.plane a b (pos 0); z = at_z frame.plane a b (pos 0) }
 
 abbrev pub closing : Frame → Distances → List PlaneStep → Distances

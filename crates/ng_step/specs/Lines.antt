@@ -2,9 +2,9 @@
 use Rattle.std.specs.Prelude.{ℕ, zero, suc, ◌+◌, ◌-◌, ◌*◌, ◌/◌, max, ℤ, pos, ◌+ℤ◌, ◌-ℤ◌, ◌*ℤ◌, ◌≤ℤ◌, unsigned_abs, int_lt, int_le, Bool, true, false, if◌then◌else◌, List, [], ◌∷◌}
 use Rattle.ng_num.specs.Rounding.{near}
 use Rattle.ng_step.specs.declared.steps.Distances.{Distances}
-use Rattle.ng_step.specs.declared.steps.Steps.{Steps}
-use Rattle.ng_canon.specs.declared.item.Step.{Step}
-use Rattle.ng_canon.specs.declared.item.Step.TheVariants.{Backward, Still, Forward}
+use Rattle.ng_step.specs.declared.steps.AxisSteps.{AxisSteps}
+use Rattle.ng_canon.specs.declared.item.AxisStep.{AxisStep}
+use Rattle.ng_canon.specs.declared.item.AxisStep.TheVariants.{Backward, Still, Forward}
 
 -- the steps that an axis with d of n steps has made after pulse k
 unfoldable pub made : ℕ → ℕ → ℕ → ℕ
@@ -15,8 +15,8 @@ abbrev pub toward : ℤ → ℤ → ℕ → ℤ
 toward a z k = if int_lt z a then a -ℤ pos k else a +ℤ pos k
 
 -- where an axis stands after pulse k of n, on a line from a to z in steps
-unfoldable pub line_at : ℕ → ℤ → ℤ → ℕ → ℤ
-line_at n a z k = toward a z (made n (unsigned_abs (z -ℤ a)) k)
+unfoldable pub point_on_line : ℕ → ℤ → ℤ → ℕ → ℤ
+point_on_line n a z k = toward a z (made n (unsigned_abs (z -ℤ a)) k)
 
 -- a coordinate in steps
 unfoldable pub in_steps : ℤ → ℕ → ℤ
@@ -27,24 +27,24 @@ abbrev pub IsByHalfIn : ℤ → ℤ → ℕ → ℤ → Type 0
 IsByHalfIn low high s p = ((low *ℤ pos 2 -ℤ pos s) ≤ℤ (p *ℤ pos s *ℤ pos 2)) × ((p *ℤ pos s *ℤ pos 2) ≤ℤ (high *ℤ pos 2 +ℤ pos s))
 
 -- what an axis does that makes this many steps in a pulse
-abbrev pub step_toward : Bool → ℕ → Step
+abbrev pub step_toward : Bool → ℕ → AxisStep
 step_toward forward zero = Still
 step_toward true (suc m) = Forward
 step_toward false (suc m) = Backward
 
 -- what an axis that is to make d steps does in pulse k + 1 of n
-unfoldable pub axis_step : ℕ → Bool → ℕ → ℕ → Step
+unfoldable pub axis_step : ℕ → Bool → ℕ → ℕ → AxisStep
 axis_step n forward d k = step_toward forward (made n d (k + 1) - made n d k)
 
 -- pulse k + 1 of n on a line over these distances
-abbrev pub line_step : ℕ → ℤ → ℕ → Step
+abbrev pub line_step : ℕ → ℤ → ℕ → AxisStep
 line_step n d k = axis_step n (int_le (pos 0) d) (unsigned_abs d) k
 
-abbrev pub line_pulse : ℕ → Distances → ℕ → Steps
+abbrev pub line_pulse : ℕ → Distances → ℕ → AxisSteps
 line_pulse n d k = record { x = line_step n d.x k; y = line_step n d.y k; z = line_step n d.z k }
 
 -- the last `left` of n pulses
-abbrev pub line_from : ℕ → Distances → ℕ → List Steps
+abbrev pub line_from : ℕ → Distances → ℕ → List AxisSteps
 line_from n d zero = []
 line_from n d (suc left) = line_pulse n d (n - suc left) ∷ line_from n d left
 
@@ -53,5 +53,5 @@ abbrev pub largest : Distances → ℕ
 largest d = max (max (unsigned_abs d.x) (unsigned_abs d.y)) (unsigned_abs d.z)
 
 -- the pulses of a line
-unfoldable pub line_pulses : Distances → List Steps
+unfoldable pub line_pulses : Distances → List AxisSteps
 line_pulses d = line_from (largest d) d (largest d)

@@ -6,16 +6,17 @@ use Rattle.ng_canon.specs.declared.geometry.Geometry.{Geometry}
 use Rattle.ng_canon.specs.declared.segment.Arc.{Arc}
 use Rattle.ng_canon.specs.declared.segment.Segment.{Segment}
 use Rattle.ng_canon.specs.declared.segment.Segment.TheVariants.{Line as LineSegment, Arc as ArcSegment, Dwell as DwellSegment, Switch as SwitchSegment}
-use Rattle.ng_canon.specs.declared.item.Step.{Step}
-use Rattle.ng_canon.specs.declared.item.Step.TheVariants.{Backward, Still, Forward}
+use Rattle.ng_canon.specs.declared.item.AxisStep.{AxisStep}
+use Rattle.ng_canon.specs.declared.item.AxisStep.TheVariants.{Backward, Still, Forward}
 use Rattle.ng_canon.specs.declared.item.Item.{Item}
 use Rattle.ng_canon.specs.declared.item.Item.TheVariants.{Pulse as PulseItem, Dwell as DwellItem, Switch as SwitchItem}
 use Rattle.ng_step.specs.declared.steps.Distances.{Distances}
 use Rattle.ng_step.specs.declared.centred.CentredArc.{CentredArc}
-use Rattle.ng_step.specs.declared.quadrant.Spot.{Spot}
-use Rattle.ng_step.specs.Frames.{of_a, of_b, of_third}
-use Rattle.ng_step.specs.Arcs.{IsArc, IsNearCircle, IsWithin, spots, excess, larger, quadrants_to_walk, most_steps}
-use Rattle.ng_step.specs.Lines.{in_steps, made, line_at, largest, IsByHalfIn}
+use Rattle.ng_canon.specs.declared.plane_point.PlanePoint.{PlanePoint}
+use Rattle.ng_canon.specs.Planes.{pick_a, pick_b}
+use Rattle.ng_step.specs.Frames.{of_third}
+use Rattle.ng_step.specs.Arcs.{IsArc, IsNearCircle, IsAtMostInSize, spots, excess, larger, quadrants_to_walk, most_steps}
+use Rattle.ng_step.specs.Lines.{in_steps, made, point_on_line, largest, IsByHalfIn}
 use Rattle.ng_step.specs.Hands.{hand, distances, from_centre, step_a, step_b, across, centred, is_small, arc_path}
 
 -- a machine point in whole steps
@@ -24,21 +25,21 @@ point_in_steps g p = record { x = in_steps p.x g.x.step_nm; y = in_steps p.y g.y
 
 -- where the axes stand after pulse k of n on a line, in steps
 abbrev pub on_line : ℕ → Distances → Distances → ℕ → Distances
-on_line n p q k = record { x = line_at n p.x q.x k; y = line_at n p.y q.y k; z = line_at n p.z q.z k }
+on_line n p q k = record { x = point_on_line n p.x q.x k; y = point_on_line n p.y q.y k; z = point_on_line n p.z q.z k }
 
 -- what a step adds to a coordinate in steps
-abbrev pub step_value : Step → ℤ
+abbrev pub step_value : AxisStep → ℤ
 step_value Backward = negsuc 0
 step_value Still = pos 0
 step_value Forward = pos 1
 
--- where the machine stands behind an item
+-- where the machine stands after an item
 abbrev pub moved_by : Item → Distances → Distances
 moved_by (PulseItem p) at = record { x = at.x +ℤ step_value p.x; y = at.y +ℤ step_value p.y; z = at.z +ℤ step_value p.z }
 moved_by (DwellItem us) at = at
 moved_by (SwitchItem outputs) at = at
 
--- behind all of them
+-- after all of them
 abbrev pub stands_after : List Item → Distances → Distances
 stands_after [] at = at
 stands_after (i ∷ is) at = stands_after is (moved_by i at)
@@ -103,12 +104,12 @@ KeepsToItsCircle (SwitchSegment outputs) g = Unit {0}
 -- ---- where the machine stands on an arc
 
 -- a machine point in steps, as an offset from the arc's centre in nanometres
-abbrev pub offset_of : Geometry → Arc → Distances → Spot
-offset_of g arc at = from_centre arc (of_a arc.plane at.x at.y at.z *ℤ pos (step_a g arc.plane)) (of_b arc.plane at.x at.y at.z *ℤ pos (step_b g arc.plane))
+abbrev pub offset_of : Geometry → Arc → Distances → PlanePoint
+offset_of g arc at = from_centre arc (pick_a arc.plane at.x at.y at.z *ℤ pos (step_a g arc.plane)) (pick_b arc.plane at.x at.y at.z *ℤ pos (step_b g arc.plane))
 
--- where the machine stands behind the first k items
-abbrev pub stands_behind : Geometry → Arc → List Item → ℕ → Distances
-stands_behind g arc items k = stands_after (take k items) (point_in_steps g arc.start)
+-- where the machine stands after the first k items
+abbrev pub position_after : Geometry → Arc → List Item → ℕ → Distances
+position_after g arc items k = stands_after (take k items) (point_in_steps g arc.start)
 
 -- the pulses before the closing line: as many as the arc has steps, or the third axis
 abbrev pub round_total : Geometry → Arc → ℕ
@@ -120,26 +121,26 @@ steps_between p q = record { x = q.x -ℤ p.x; y = q.y -ℤ p.y; z = q.z -ℤ p.
 
 -- the pulses of the closing line
 abbrev pub closing_total : Geometry → Arc → List Item → ℕ
-closing_total g arc items = largest (steps_between (stands_behind g arc items (round_total g arc)) (point_in_steps g arc.end))
+closing_total g arc items = largest (steps_between (position_after g arc items (round_total g arc)) (point_in_steps g arc.end))
 
 -- The machine goes along the arc's path, and from its end in a line to the rounded end.
 pub record FollowsPath (g : Geometry) (arc : Arc) (items : List Item) : Type 0 where
-  -- after pulse k the machine stands at the spot of the path behind the arc steps made by then
+  -- after pulse k the machine stands at the spot of the path after the arc steps made by then
   pub path : (k : ℕ) → 0 < round_total g arc → k ≤ round_total g arc
       → slice_get (spots (centred g arc).circle (centred g arc).from (arc_path (centred g arc))) (made (round_total g arc) (length (arc_path (centred g arc))) k)
-      ≡ Some (offset_of g arc (stands_behind g arc items k))
+      ≡ Some (offset_of g arc (position_after g arc items k))
   -- and the third axis where a line's formula has it
   pub third : (k : ℕ) → 0 < round_total g arc → k ≤ round_total g arc
-      → of_third arc.plane (stands_behind g arc items k).x (stands_behind g arc items k).y (stands_behind g arc items k).z
-      ≡ line_at (round_total g arc) (of_third arc.plane (point_in_steps g arc.start).x (point_in_steps g arc.start).y (point_in_steps g arc.start).z)
+      → of_third arc.plane (position_after g arc items k).x (position_after g arc items k).y (position_after g arc items k).z
+      ≡ point_on_line (round_total g arc) (of_third arc.plane (point_in_steps g arc.start).x (point_in_steps g arc.start).y (point_in_steps g arc.start).z)
       (of_third arc.plane (point_in_steps g arc.end).x (point_in_steps g arc.end).y (point_in_steps g arc.end).z) k
   -- each position up to there is near the circle, by the largest coordinate w among them
-  pub near : (w : ℕ) → ((k : ℕ) → k ≤ round_total g arc → IsWithin w (offset_of g arc (stands_behind g arc items k))) → (k : ℕ) → k ≤ round_total g arc
-      → unsigned_abs (excess (centred g arc).circle (offset_of g arc (stands_behind g arc items k)))
+  pub near : (w : ℕ) → ((k : ℕ) → k ≤ round_total g arc → IsAtMostInSize w (offset_of g arc (position_after g arc items k))) → (k : ℕ) → k ≤ round_total g arc
+      → unsigned_abs (excess (centred g arc).circle (offset_of g arc (position_after g arc items k)))
       ≤ 2 * (larger (centred g arc).circle * w) + larger (centred g arc).circle * larger (centred g arc).circle + unsigned_abs (excess (centred g arc).circle (centred g arc).from)
   -- then it follows the closing line
   pub closing : (k : ℕ) → 0 < closing_total g arc items → k ≤ closing_total g arc items
-      → stands_behind g arc items (round_total g arc + k) ≡ on_line (closing_total g arc items) (stands_behind g arc items (round_total g arc)) (point_in_steps g arc.end) k
+      → position_after g arc items (round_total g arc + k) ≡ on_line (closing_total g arc items) (position_after g arc items (round_total g arc)) (point_in_steps g arc.end) k
 
 -- an arc that isn't small does
 abbrev pub FollowsItsPath : Segment → Geometry → Type 0

@@ -1,21 +1,22 @@
 -- The same in every quadrant (own): a point by the coordinate that inward steps lessen and the one that outward steps make larger.
 use Rattle.std.specs.Prelude.{◌≡◌, ℕ, ◌+◌, ◌-◌, ◌*◌, ◌^◌, ◌<◌, ◌≤◌, pos, neg_ℤ, ◌+ℤ◌, ◌-ℤ◌}
-use Rattle.ng_step.specs.declared.quadrant.Quadrant.{Quadrant}
-use Rattle.ng_step.specs.declared.quadrant.Quadrant.TheVariants.{First, Second, Third, Fourth}
-use Rattle.ng_step.specs.Arcs.{inward, outward, quadrant_after, larger, HasSteps, step_at, next_spot}
-use Rattle.ng_canon.specs.declared.item.Step.TheVariants.{Still}
-use Rattle.ng_step.specs.declared.steps.Steps.{Steps}
+use Rattle.ng_canon.specs.declared.quadrant.Quadrant.{Quadrant}
+use Rattle.ng_canon.specs.declared.quadrant.Quadrant.TheVariants.{First, Second, Third, Fourth}
+use Rattle.ng_canon.specs.Quadrants.{quadrant_after}
+use Rattle.ng_step.specs.Arcs.{inward, outward, larger, HasSteps, step_at, next_spot}
+use Rattle.ng_canon.specs.declared.item.AxisStep.TheVariants.{Still}
+use Rattle.ng_step.specs.declared.steps.AxisSteps.{AxisSteps}
 use Rattle.ng_step.specs.Frames.{pulse_with}
-use Rattle.ng_step.specs.declared.walk.Walk.{Walk}
+use Rattle.ng_step.specs.declared.walk.ArcWalk.{ArcWalk}
 use Rattle.ng_step.specs.declared.circle.Circle.{Circle}
-use Rattle.ng_step.specs.declared.quadrant.Spot.{Spot}
+use Rattle.ng_canon.specs.declared.plane_point.PlanePoint.{PlanePoint}
 
 -- the point of a quadrant with these two sizes
-abbrev pub place : Quadrant → ℕ → ℕ → Spot
-place First i o = record { a = pos i; b = pos o }
-place Second i o = record { a = neg_ℤ (pos o); b = pos i }
-place Third i o = record { a = neg_ℤ (pos i); b = neg_ℤ (pos o) }
-place Fourth i o = record { a = pos o; b = neg_ℤ (pos i) }
+abbrev pub point_of_quadrant : Quadrant → ℕ → ℕ → PlanePoint
+point_of_quadrant First i o = record { a = pos i; b = pos o }
+point_of_quadrant Second i o = record { a = neg_ℤ (pos o); b = pos i }
+point_of_quadrant Third i o = record { a = neg_ℤ (pos i); b = neg_ℤ (pos o) }
+point_of_quadrant Fourth i o = record { a = pos o; b = neg_ℤ (pos i) }
 
 abbrev pub in_step : Circle → Quadrant → ℕ
 in_step c First = c.step_a
@@ -50,11 +51,11 @@ farthest = 2 ^ 47
 abbrev pub beyond : ℕ
 beyond = 2 ^ 48
 
-abbrev pub spot_of : Walk → Spot
-spot_of w = place w.quadrant w.inner w.outer
+abbrev pub spot_of : ArcWalk → PlanePoint
+spot_of w = point_of_quadrant w.quadrant w.inner w.outer
 
 -- the differences are those of the point
-pub record Walks (w : Walk) : Type 0 where
+pub record Walks (w : ArcWalk) : Type 0 where
   pub has : HasSteps w.circle
   pub roomy : Roomy w.circle.square farthest (larger w.circle) beyond
   pub sound : Sound w.circle.square farthest (larger w.circle) beyond w.inner w.outer
@@ -77,7 +78,7 @@ abbrev pub budget : ℕ → ℕ → ℕ → ℕ → ℕ
 budget k left i o = left * (2 * k + 1) + room k i o
 
 -- a walk made a step by the rule
-pub record IsStep (w w' : Walk) (made : Steps) : Type 0 where
+pub record ArcStepSpec (w w' : ArcWalk) (made : AxisSteps) : Type 0 where
   pub walks : Walks w'
   pub frame : w'.frame ≡ w.frame
   pub step : made ≡ pulse_with w.frame (step_at w.circle (spot_of w)) Still
@@ -85,7 +86,7 @@ pub record IsStep (w w' : Walk) (made : Steps) : Type 0 where
   pub circle : w'.circle ≡ w.circle
 
 -- a point seen from a quadrant, as its inner and its outer coordinate
-abbrev pub turned : Quadrant → Spot → Spot
+abbrev pub turned : Quadrant → PlanePoint → PlanePoint
 turned First p = p
 turned Second p = record { a = p.b; b = neg_ℤ p.a }
 turned Third p = record { a = neg_ℤ p.a; b = neg_ℤ p.b }

@@ -2,9 +2,9 @@
 
 use crate::frame::with_third;
 use crate::spread::Spread;
-use crate::steps::Steps;
-use crate::walk::Walk;
-use ng_canon::Step;
+use crate::steps::AxisSteps;
+use crate::walk::ArcWalk;
+use ng_canon::AxisStep;
 use std::marker::Model;
 
 /// The pulses of an arc that are still to come, without its closing line.
@@ -13,18 +13,18 @@ pub struct ArcPulses {
     total: u64,
     left: u64,
     whole: u64,
-    walk: Walk,
+    walk: ArcWalk,
     arc: Spread,
     third: Spread,
 }
 
 impl Model for ArcPulses {
     ghost use Rattle.std.specs.Prelude.{List};
-    ghost use Rattle.ng_step.specs.declared.steps.Steps.{Steps};
+    ghost use Rattle.ng_step.specs.declared.steps.AxisSteps.{AxisSteps};
 
-    ghost Value = { List Steps };
+    ghost Value = { List AxisSteps };
 
-    ghost use Rattle.ng_step.specs.ArcModel.{arc_left, IsArcLeft};
+    ghost use Rattle.ng_step.specs.ArcInvariant.{arc_left, IsArcLeft};
 
     ghost view = { arc_left };
 
@@ -37,7 +37,7 @@ impl ArcPulses {
     ghost use Rattle.ng_step.specs.ArcPulses.{pulses_from};
 
     /// Over the next `count` steps of a walk, while the third axis makes its own.
-    pub(crate) fn new(walk: Walk, count: u64, third: i64) -> ArcPulses
+    pub(crate) fn new(walk: ArcWalk, count: u64, third: i64) -> ArcPulses
         requires walks { Walks walk }
         requires count { count < 2 ^ 60 }
         requires third { unsigned_abs third < 2 ^ 60 }
@@ -55,7 +55,7 @@ impl ArcPulses {
     }
 
     /// The next pulse.
-    pub(crate) fn next(&mut self) -> Option<Steps>
+    pub(crate) fn next(&mut self) -> Option<AxisSteps>
         ensures { MatchOption result ((self.old ≡ []) × (self.new ≡ [])) (λ p. self.old ≡ p ∷ self.new) }
     {
         if self.left == 0 {
@@ -64,7 +64,7 @@ impl ArcPulses {
         self.left -= 1;
         let third = self.third.step(self.whole);
         match self.arc.step(self.whole) {
-            Step::Still => Some(self.walk.frame().pulse_without(third)),
+            AxisStep::Still => Some(self.walk.frame().pulse_without(third)),
             _ => Some(with_third(self.walk.frame().plane, self.walk.step(), third)),
         }
     }

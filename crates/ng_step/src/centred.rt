@@ -1,10 +1,9 @@
 //! An arc as it is seen from its centre.
 
 use crate::circle::Circle;
-use crate::frame::{Frame, mirrored, of_a, of_b};
-use crate::quadrant::Spot;
+use crate::frame::{Frame, mirrored};
 use crate::rounding::rounded;
-use ng_canon::{Arc, Geometry, Plane};
+use ng_canon::{Arc, Geometry, Plane, PlanePoint, pick_a, pick_b};
 use ng_num::Point;
 
 /// An arc in the frame of its plane, all offsets from its centre in nanometres, b negated for a clockwise one.
@@ -13,11 +12,11 @@ pub struct CentredArc {
     pub frame: Frame,
     pub circle: Circle,
     /// The programmed start.
-    pub start: Spot,
+    pub start: PlanePoint,
     /// The programmed end.
-    pub end: Spot,
+    pub end: PlanePoint,
     /// The start rounded to whole steps.
-    pub from: Spot,
+    pub from: PlanePoint,
 }
 
 impl CentredArc {
@@ -40,7 +39,7 @@ impl CentredArc {
             circle: Circle {
                 step_a: step_a as u64,
                 step_b: step_b as u64,
-                square: square_from_centre(start),
+                square: start.square(),
             },
             start,
             end: programmed(arc, &arc.end),
@@ -51,33 +50,33 @@ impl CentredArc {
 
 ghost use Rattle.std.specs.Prelude.{◌≡◌, ◌+◌, ◌*◌, ◌^◌, ◌<◌, ◌≤◌, ◌-ℤ◌, unsigned_abs};
 ghost use Rattle.ng_step.specs.Hands.{from_centre, programmed, rounded_start, step_a, step_b};
-ghost use Rattle.ng_step.specs.Sizes.{AreWithin};
+ghost use Rattle.ng_canon.specs.Planes.{AreBelowInSize};
 
 /// A point of the plane as an offset from the arc's centre.
-fn from_centre(arc: &Arc, a: i64, b: i64) -> Spot
+fn from_centre(arc: &Arc, a: i64, b: i64) -> PlanePoint
     requires a { unsigned_abs a < 2 ^ 44 }
     requires b { unsigned_abs b < 2 ^ 44 }
     ensures value { result ≡ from_centre arc.now a b }
-    ensures sizes { AreWithin result (2 ^ 45) }
+    ensures sizes { AreBelowInSize result (2 ^ 45) }
 {
-    Spot {
+    PlanePoint {
         a: a - arc.centre_a.nm(),
         b: mirrored(arc.turn, b - arc.centre_b.nm()),
     }
 }
 
 /// A programmed point as an offset from the arc's centre.
-fn programmed(arc: &Arc, at: &Point) -> Spot
+fn programmed(arc: &Arc, at: &Point) -> PlanePoint
     ensures value { result ≡ programmed arc.now at.now }
-    ensures sizes { AreWithin result (2 ^ 45) }
+    ensures sizes { AreBelowInSize result (2 ^ 45) }
 {
-    let a = of_a(arc.plane, at.x, at.y, at.z);
-    let b = of_b(arc.plane, at.x, at.y, at.z);
+    let a = pick_a(arc.plane, at.x, at.y, at.z);
+    let b = pick_b(arc.plane, at.x, at.y, at.z);
     from_centre(arc, a.nm(), b.nm())
 }
 
 /// The start rounded to whole steps, as an offset from the arc's centre.
-fn rounded_start(arc: &Arc, step_a: u32, step_b: u32) -> Spot
+fn rounded_start(arc: &Arc, step_a: u32, step_b: u32) -> PlanePoint
     requires a_some { 0 < step_a }
     requires a_most { step_a ≤ 1_000_000 }
     requires b_some { 0 < step_b }
@@ -86,8 +85,8 @@ fn rounded_start(arc: &Arc, step_a: u32, step_b: u32) -> Spot
     ensures near_a { 2 * unsigned_abs (result.a -ℤ (programmed arc.now arc.now.start).a) ≤ step_a }
     ensures near_b { 2 * unsigned_abs (result.b -ℤ (programmed arc.now arc.now.start).b) ≤ step_b }
 {
-    let a = of_a(arc.plane, arc.start.x, arc.start.y, arc.start.z);
-    let b = of_b(arc.plane, arc.start.x, arc.start.y, arc.start.z);
+    let a = pick_a(arc.plane, arc.start.x, arc.start.y, arc.start.z);
+    let b = pick_b(arc.plane, arc.start.x, arc.start.y, arc.start.z);
     from_centre(arc, rounded(a, step_a), rounded(b, step_b))
 }
 
@@ -115,13 +114,4 @@ fn step_b(geometry: &Geometry, plane: Plane) -> u32
         Plane::Xz => geometry.x.step_nm,
         Plane::Yz => geometry.z.step_nm,
     }
-}
-
-/// The square of a point's distance from the centre.
-fn square_from_centre(at: Spot) -> u128
-    requires { AreWithin at (2 ^ 45) }
-    ensures { result ≡ unsigned_abs at.a * unsigned_abs at.a + unsigned_abs at.b * unsigned_abs at.b }
-{
-    let (a, b) = (at.a.unsigned_abs() as u128, at.b.unsigned_abs() as u128);
-    a * a + b * b
 }

@@ -1,15 +1,15 @@
 //! The axes of an arc's plane, and the side that an arc is seen from.
 
 use crate::quadrant::PlaneStep;
-use crate::steps::{Distances, Steps};
-use ng_canon::{Plane, Step, Turn};
+use crate::steps::{AxisSteps, Distances};
+use ng_canon::{ArcDirection, AxisStep, Plane, pick_a, pick_b};
 
 /// How an arc lies in the machine: its plane, and its way round. A clockwise arc is stepped as a counterclockwise
 /// one with b negated.
 #[derive(Clone, Copy)]
 pub struct Frame {
     pub plane: Plane,
-    pub turn: Turn,
+    pub turn: ArcDirection,
 }
 
 impl Frame {
@@ -19,7 +19,7 @@ impl Frame {
     ghost use Rattle.ng_step.specs.Sizes.{AreSized};
 
     /// The pulse with this step of the arc, and what the third axis does in it.
-    pub(crate) fn pulse_with(self, made: PlaneStep, third: Step) -> Steps
+    pub(crate) fn pulse_with(self, made: PlaneStep, third: AxisStep) -> AxisSteps
         ensures { result ≡ pulse_with self made third }
     {
         let b = mirrored_step(self.turn, made.on_b());
@@ -27,10 +27,10 @@ impl Frame {
     }
 
     /// The pulse in which the arc rests.
-    pub(crate) fn pulse_without(self, third: Step) -> Steps
+    pub(crate) fn pulse_without(self, third: AxisStep) -> AxisSteps
         ensures { result ≡ pulse_without self third }
     {
-        pulse_of(self.plane, Step::Still, Step::Still, third)
+        pulse_of(self.plane, AxisStep::Still, AxisStep::Still, third)
     }
 
     /// The steps of the third axis.
@@ -42,7 +42,7 @@ impl Frame {
         of_third(self.plane, distance.x, distance.y, distance.z)
     }
 
-    /// What is left of the distances behind an arc's steps, this far along a and b, and those of the third axis.
+    /// What is left of the distances after an arc's steps, this far along a and b, and those of the third axis.
     pub(crate) fn closing_after(self, distance: &Distances, net_a: i64, net_b: i64) -> Distances
         requires distance { AreSized distance.now (2 ^ 50) }
         requires a { unsigned_abs net_a < 2 ^ 50 }
@@ -50,8 +50,8 @@ impl Frame {
         ensures value { result ≡ closing_after self distance.now net_a net_b }
         ensures sizes { AreSized result (2 ^ 54) }
     {
-        let a = of_a(self.plane, distance.x, distance.y, distance.z) - net_a;
-        let b = of_b(self.plane, distance.x, distance.y, distance.z) - mirrored(self.turn, net_b);
+        let a = pick_a(self.plane, distance.x, distance.y, distance.z) - net_a;
+        let b = pick_b(self.plane, distance.x, distance.y, distance.z) - mirrored(self.turn, net_b);
         match self.plane {
             Plane::Xy => Distances { x: a, y: b, z: 0 },
             Plane::Xz => Distances { x: b, y: 0, z: a },
@@ -61,31 +61,9 @@ impl Frame {
 }
 
 ghost use Rattle.std.specs.Prelude.{◌≡◌, ◌<◌, ◌^◌, unsigned_abs};
-ghost use Rattle.ng_step.specs.Frames.{of_a, of_b, of_third, mirrored, mirrored_step, pulse_of, with_third};
+ghost use Rattle.ng_step.specs.Frames.{of_third, mirrored, mirrored_step, pulse_of, with_third};
 
-/// What belongs to the plane's axis a, of what belongs to X, Y and Z.
-pub(crate) fn of_a<T: Copy>(plane: Plane, x: T, y: T, z: T) -> T
-    ensures { result ≡ of_a plane x y z }
-{
-    match plane {
-        Plane::Xy => x,
-        Plane::Xz => z,
-        Plane::Yz => y,
-    }
-}
-
-/// What belongs to the plane's axis b.
-pub(crate) fn of_b<T: Copy>(plane: Plane, x: T, y: T, z: T) -> T
-    ensures { result ≡ of_b plane x y z }
-{
-    match plane {
-        Plane::Xy => y,
-        Plane::Xz => x,
-        Plane::Yz => z,
-    }
-}
-
-/// What belongs to the axis across the plane.
+/// What belongs to the axis across the plane, of what belongs to X, Y and Z.
 fn of_third<T: Copy>(plane: Plane, x: T, y: T, z: T) -> T
     ensures { result ≡ of_third plane x y z }
 {
@@ -97,42 +75,42 @@ fn of_third<T: Copy>(plane: Plane, x: T, y: T, z: T) -> T
 }
 
 /// A coordinate of the plane's axis b, as the arc is stepped.
-pub(crate) fn mirrored(turn: Turn, b: i64) -> i64
+pub(crate) fn mirrored(turn: ArcDirection, b: i64) -> i64
     requires { unsigned_abs b < 2 ^ 58 }
     ensures value { result ≡ mirrored turn b }
     ensures size { unsigned_abs result ≡ unsigned_abs b }
 {
     match turn {
-        Turn::Clockwise => -b,
-        Turn::Counterclockwise => b,
+        ArcDirection::Clockwise => -b,
+        ArcDirection::Counterclockwise => b,
     }
 }
 
-fn mirrored_step(turn: Turn, step: Step) -> Step
+fn mirrored_step(turn: ArcDirection, step: AxisStep) -> AxisStep
     ensures { result ≡ mirrored_step turn step }
 {
     match (turn, step) {
-        (Turn::Clockwise, Step::Backward) => Step::Forward,
-        (Turn::Clockwise, Step::Forward) => Step::Backward,
+        (ArcDirection::Clockwise, AxisStep::Backward) => AxisStep::Forward,
+        (ArcDirection::Clockwise, AxisStep::Forward) => AxisStep::Backward,
         (_, step) => step,
     }
 }
 
-fn pulse_of(plane: Plane, a: Step, b: Step, third: Step) -> Steps
+fn pulse_of(plane: Plane, a: AxisStep, b: AxisStep, third: AxisStep) -> AxisSteps
     ensures { result ≡ pulse_of plane a b third }
 {
     match plane {
-        Plane::Xy => Steps {
+        Plane::Xy => AxisSteps {
             x: a,
             y: b,
             z: third,
         },
-        Plane::Xz => Steps {
+        Plane::Xz => AxisSteps {
             x: b,
             y: third,
             z: a,
         },
-        Plane::Yz => Steps {
+        Plane::Yz => AxisSteps {
             x: third,
             y: a,
             z: b,
@@ -141,22 +119,22 @@ fn pulse_of(plane: Plane, a: Step, b: Step, third: Step) -> Steps
 }
 
 /// A pulse in which the third axis stands still so far, with what it does.
-pub(crate) fn with_third(plane: Plane, flat: Steps, third: Step) -> Steps
+pub(crate) fn with_third(plane: Plane, flat: AxisSteps, third: AxisStep) -> AxisSteps
     ensures { result ≡ with_third plane flat third }
 {
     match (plane, third) {
-        (_, Step::Still) => flat,
-        (Plane::Xy, _) => Steps {
+        (_, AxisStep::Still) => flat,
+        (Plane::Xy, _) => AxisSteps {
             x: flat.x,
             y: flat.y,
             z: third,
         },
-        (Plane::Xz, _) => Steps {
+        (Plane::Xz, _) => AxisSteps {
             x: flat.x,
             y: third,
             z: flat.z,
         },
-        (Plane::Yz, _) => Steps {
+        (Plane::Yz, _) => AxisSteps {
             x: third,
             y: flat.y,
             z: flat.z,

@@ -8,7 +8,7 @@
 //!
 //! The crate stands on the types of `ng_canon` and `ng_num`. It takes no memory. The next pulse costs additions
 //! and comparisons alone. Making a stepper takes some square roots, also of an arc, whose period needs the number of
-//! its steps: `passage` knows the points of a quadrant without walking it, and `walk::count` puts quadrants together.
+//! its steps: `sweep` knows the points of a quadrant without walking it, and `walk::count` puts quadrants together.
 //! Whether a segment lies inside the travel is not looked at here.
 #![tactic(auto)]
 
@@ -18,12 +18,12 @@ mod circle;
 mod distance;
 mod frame;
 mod line;
-mod passage;
 mod quadrant;
 mod rounding;
 mod spread;
 mod stepper;
 mod steps;
+mod sweep;
 mod timing;
 mod walk;
 mod wide;

@@ -1,7 +1,7 @@
 //! The pulses of a line.
 
 use crate::spread::Spread;
-use crate::steps::{Distances, Steps};
+use crate::steps::{AxisSteps, Distances};
 use std::marker::Model;
 
 /// The pulses of a line that are still to come.
@@ -17,15 +17,15 @@ pub struct LinePulses {
 
 impl Model for LinePulses {
     ghost use Rattle.std.specs.Prelude.{List};
-    ghost use Rattle.ng_step.specs.declared.steps.Steps.{Steps};
+    ghost use Rattle.ng_step.specs.declared.steps.AxisSteps.{AxisSteps};
 
-    ghost Value = { List Steps };
+    ghost Value = { List AxisSteps };
 
-    ghost use Rattle.ng_step.specs.LineModel.{pulses_left, IsLine};
+    ghost use Rattle.ng_step.specs.LineInvariant.{pulses_left, IsLineInvariant};
 
     ghost view = { pulses_left };
 
-    ghost invariant = { IsLine };
+    ghost invariant = { IsLineInvariant };
 }
 
 impl LinePulses {
@@ -55,14 +55,14 @@ impl LinePulses {
     }
 
     /// The next pulse.
-    pub(crate) fn next(&mut self) -> Option<Steps>
+    pub(crate) fn next(&mut self) -> Option<AxisSteps>
         ensures { MatchOption result ((self.old ≡ []) × (self.new ≡ [])) (λ s. self.old ≡ s ∷ self.new) }
     {
         if self.left == 0 {
             return None;
         }
         self.left -= 1;
-        Some(Steps {
+        Some(AxisSteps {
             x: self.x.step(self.whole),
             y: self.y.step(self.whole),
             z: self.z.step(self.whole),

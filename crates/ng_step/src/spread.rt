@@ -1,6 +1,6 @@
 //! An axis's steps, spread evenly over the pulses of a move.
 
-use ng_canon::Step;
+use ng_canon::AxisStep;
 
 /// An axis on a line, with the error that it has gathered.
 #[derive(Clone, Copy)]
@@ -14,7 +14,7 @@ pub struct Spread {
 impl Spread {
     ghost use Rattle.std.specs.Prelude.{◌≡◌, ℕ, ◌+◌, ◌*◌, ◌^◌, ◌<◌, ◌≤◌, ℤ, unsigned_abs, int_le, pos};
     ghost use Rattle.ng_step.specs.Lines.{step_toward};
-    ghost use Rattle.ng_step.specs.Axes.{IsSpread, Stepped};
+    ghost use Rattle.ng_step.specs.Axes.{IsSpread, SpreadStepSpec};
 
     /// At the start of a line of `total` pulses.
     pub(crate) fn new(distance: i64, total: u64) -> Spread
@@ -34,28 +34,28 @@ impl Spread {
     }
 
     /// The axis's part of the next pulse; `whole` is twice the number of pulses.
-    pub(crate) fn step(&mut self, whole: u64) -> Step
+    pub(crate) fn step(&mut self, whole: u64) -> AxisStep
         requires error { self.old.error < whole }
         requires twice { self.old.twice ≤ whole }
         requires small { whole < 2 ^ 62 }
-        ensures { Stepped whole self.old self.new result }
+        ensures { SpreadStepSpec whole self.old self.new result }
     {
         self.error += self.twice;
         if self.error < whole {
-            Step::Still
+            AxisStep::Still
         } else {
             self.error -= whole;
             self.moved()
         }
     }
 
-    fn moved(&self) -> Step
+    fn moved(&self) -> AxisStep
         ensures { result ≡ step_toward self.now.forward 1 }
     {
         if self.forward {
-            Step::Forward
+            AxisStep::Forward
         } else {
-            Step::Backward
+            AxisStep::Backward
         }
     }
 }

@@ -5,9 +5,9 @@ use crate::centred::CentredArc;
 use crate::distance::square_between;
 use crate::line::LinePulses;
 use crate::quadrant::quadrants_to_walk;
-use crate::steps::{Distances, Steps};
+use crate::steps::{AxisSteps, Distances};
 use crate::timing::{pulse_us, root_up};
-use crate::walk::Walk;
+use crate::walk::ArcWalk;
 use ng_canon::{Arc, Geometry, Item, Pace, Pulse, Segment};
 use ng_num::{Num, Point};
 use std::marker::Model;
@@ -28,7 +28,7 @@ impl Model for Stepper {
 
     ghost Value = { List Item };
 
-    ghost use Rattle.ng_step.specs.StepperModel.{items_left};
+    ghost use Rattle.ng_step.specs.StepperInvariant.{items_left};
 
     ghost view = { items_left };
 }
@@ -38,7 +38,7 @@ impl Stepper {
     ghost use Rattle.ng_step.specs.Hands.{pulse_item, line_items, arc_items, large_arc_items, hand};
     ghost use Rattle.ng_step.specs.Promises.{EndsOnItsEnd, FollowsItsLine, StaysInside, KeepsToItsCircle, FollowsItsPath};
     ghost use Rattle.ng_step.specs.Sizes.{AreSized, IsWalkable};
-    ghost use Rattle.ng_step.specs.StepperModel.{or_none};
+    ghost use Rattle.ng_step.specs.StepperInvariant.{or_none};
 
     /// At the start of a segment: any one, inside the travel or not. It takes no memory and doesn't fail. It takes
     /// 60 roots at most, also for the longest arc.
@@ -105,7 +105,7 @@ impl Stepper {
         requires distance { AreSized distance.now (2 ^ 50) }
         ensures { result ≡ large_arc_items geometry.now pace arc.now distance.now }
     {
-        let walk = Walk::new(arc.frame, arc.circle, arc.from);
+        let walk = ArcWalk::new(arc.frame, arc.circle, arc.from);
         let count = walk.count(arc.end, quadrants_to_walk(arc.start, arc.end, arc.from));
         let across = arc.frame.across(distance);
         let closing = arc.frame.closing_after(distance, count.a, count.b);
@@ -161,7 +161,7 @@ fn dwell_us(time: Num) -> u64
     time.count().max(0) as u64
 }
 
-fn pulse_item(steps: Steps, period_us: u64) -> Item
+fn pulse_item(steps: AxisSteps, period_us: u64) -> Item
     ensures { result ≡ pulse_item period_us steps }
 {
     Item::Pulse(Pulse {

@@ -1,15 +1,15 @@
 //! The steps of the three axes: in one pulse, and over a whole move.
 
 use crate::rounding::steps_between;
-use ng_canon::{Geometry, Step};
+use ng_canon::{AxisStep, Geometry};
 use ng_num::Point;
 
 /// One pulse: what each axis does.
 #[derive(Clone, Copy)]
-pub struct Steps {
-    pub x: Step,
-    pub y: Step,
-    pub z: Step,
+pub struct AxisSteps {
+    pub x: AxisStep,
+    pub y: AxisStep,
+    pub z: AxisStep,
 }
 
 /// The steps that each axis has to make.

@@ -6,16 +6,16 @@ mod count;
 
 use crate::circle::Circle;
 use crate::frame::Frame;
-use crate::quadrant::{Quadrant, Spot};
-use crate::steps::Steps;
+use crate::quadrant::{PlaneStep, turned};
+use crate::steps::AxisSteps;
 use crate::wide::{difference, product, square, sum, twice};
-use ng_canon::Step;
+use ng_canon::{AxisStep, PlanePoint, Quadrant};
 
 /// A point on the way round a circle, seen from its quadrant: `inner` is the coordinate that an inward step
 /// lessens, `outer` the one that an outward step makes larger. The rest are differences, and what the steps of the
 /// quadrant are.
 #[derive(Clone, Copy)]
-pub struct Walk {
+pub struct ArcWalk {
     circle: Circle,
     quadrant: Quadrant,
     inner: u64,
@@ -28,17 +28,18 @@ pub struct Walk {
     inner_second: i128,
     outer_second: i128,
     frame: Frame,
-    inward_made: Steps,
-    outward_made: Steps,
+    inward_made: AxisSteps,
+    outward_made: AxisSteps,
 }
 
-impl Walk {
+impl ArcWalk {
     ghost use Rattle.std.specs.Prelude.{◌^◌, int_le, unsigned_abs, ◌≡◌, ℕ, ◌+◌, ◌*◌, ◌<◌, ◌≤◌, ◌≤ℤ◌, ◌<ℤ◌, pos};
-    ghost use Rattle.ng_step.specs.Arcs.{cross, stops, IsLargeArc, larger};
-    ghost use Rattle.ng_step.specs.Turned.{spot_of, Walks, IsStep, beyond, farthest, place, in_step, out_step};
+    ghost use Rattle.ng_canon.specs.Planes.{cross};
+    ghost use Rattle.ng_step.specs.Arcs.{stops, IsLargeArc, larger};
+    ghost use Rattle.ng_step.specs.Turned.{spot_of, Walks, ArcStepSpec, beyond, farthest, point_of_quadrant, in_step, out_step};
 
     /// From a point that isn't the centre.
-    pub(crate) fn new(frame: Frame, circle: Circle, from: Spot) -> Walk
+    pub(crate) fn new(frame: Frame, circle: Circle, from: PlanePoint) -> ArcWalk
         requires arc { IsLargeArc circle farthest }
         requires small { larger circle ≤ 2 ^ 47 }
         requires some { 0 < unsigned_abs from.a + unsigned_abs from.b }
@@ -52,7 +53,7 @@ impl Walk {
         let quadrant = from.quadrant();
         let (a, b) = (from.a.unsigned_abs(), from.b.unsigned_abs());
         match quadrant {
-            Quadrant::First | Quadrant::Third => Walk::begin(
+            Quadrant::First | Quadrant::Third => ArcWalk::begin(
                 frame,
                 circle,
                 quadrant,
@@ -61,7 +62,7 @@ impl Walk {
                 circle.step_a,
                 circle.step_b,
             ),
-            Quadrant::Second | Quadrant::Fourth => Walk::begin(
+            Quadrant::Second | Quadrant::Fourth => ArcWalk::begin(
                 frame,
                 circle,
                 quadrant,
@@ -81,7 +82,7 @@ impl Walk {
         outer: u64,
         inner_step: u64,
         outer_step: u64,
-    ) -> Walk
+    ) -> ArcWalk
         requires arc { IsLargeArc circle farthest }
         requires small { larger circle ≤ 2 ^ 47 }
         requires some { 0 < inner }
@@ -90,7 +91,7 @@ impl Walk {
         requires inner_step { inner_step ≡ in_step circle quadrant }
         requires outer_step { outer_step ≡ out_step circle quadrant }
         ensures walks { Walks result }
-        ensures spot { spot_of result ≡ place quadrant inner outer }
+        ensures spot { spot_of result ≡ point_of_quadrant quadrant inner outer }
         ensures quadrant { result.quadrant ≡ quadrant }
         ensures inner { result.inner ≡ inner }
         ensures outer { result.outer ≡ outer }
@@ -99,7 +100,7 @@ impl Walk {
     {
         let inner_square = square(inner_step);
         let outer_square = square(outer_step);
-        Walk {
+        ArcWalk {
             circle,
             quadrant,
             inner,
@@ -112,25 +113,25 @@ impl Walk {
             inner_second: sum(inner_square, inner_square),
             outer_second: sum(outer_square, outer_square),
             frame,
-            inward_made: frame.pulse_with(quadrant.inward(), Step::Still),
-            outward_made: frame.pulse_with(quadrant.outward(), Step::Still),
+            inward_made: frame.pulse_with(PlaneStep::inward(quadrant), AxisStep::Still),
+            outward_made: frame.pulse_with(PlaneStep::outward(quadrant), AxisStep::Still),
         }
     }
 
     /// Whether the point is level with an end or past it.
-    fn is_past(&self, end: Spot) -> bool
+    fn is_past(&self, end: PlanePoint) -> bool
         requires walks { Walks self.now }
         requires end_a { unsigned_abs end.a < 2 ^ 50 }
         requires end_b { unsigned_abs end.b < 2 ^ 50 }
         ensures { result ≡ int_le (cross (spot_of self.now) end) (pos 0) }
     {
-        let end = end.turned(self.quadrant);
+        let end = turned(end, self.quadrant);
         product(self.inner, end.b) <= product(self.outer, end.a)
     }
 
     /// Whether an arc that has `left` quadrants to walk in stops at the point.
     #[tactic(auto, unfolding(crate::specs::Arcs::stops))]
-    fn stops(&self, end: Spot, left: u64) -> bool
+    fn stops(&self, end: PlanePoint, left: u64) -> bool
         requires walks { Walks self.now }
         requires end_a { unsigned_abs end.a < 2 ^ 50 }
         requires end_b { unsigned_abs end.b < 2 ^ 50 }
@@ -147,7 +148,7 @@ impl Walk {
     }
 
     /// The point that it stands at.
-    fn spot(&self) -> Spot
+    fn spot(&self) -> PlanePoint
         requires { Walks self.now }
         ensures value { result ≡ spot_of self.now }
         ensures a { unsigned_abs result.a ≤ beyond }
@@ -155,16 +156,16 @@ impl Walk {
     {
         let (inner, outer) = (self.inner as i64, self.outer as i64);
         match self.quadrant {
-            Quadrant::First => Spot { a: inner, b: outer },
-            Quadrant::Second => Spot {
+            Quadrant::First => PlanePoint { a: inner, b: outer },
+            Quadrant::Second => PlanePoint {
                 a: -outer,
                 b: inner,
             },
-            Quadrant::Third => Spot {
+            Quadrant::Third => PlanePoint {
                 a: -inner,
                 b: -outer,
             },
-            Quadrant::Fourth => Spot {
+            Quadrant::Fourth => PlanePoint {
                 a: outer,
                 b: -inner,
             },
@@ -172,9 +173,9 @@ impl Walk {
     }
 
     /// Makes the next step, and says what pulse it is; the third axis stands still in it.
-    pub(crate) fn step(&mut self) -> Steps
+    pub(crate) fn step(&mut self) -> AxisSteps
         requires { Walks self.old }
-        ensures { IsStep self.old self.new result }
+        ensures { ArcStepSpec self.old self.new result }
     {
         if self.excess <= 0 {
             self.go_outward()
@@ -186,10 +187,10 @@ impl Walk {
     }
 
     #[tactic(auto, using(crate::proofs::WalkLemmas::small))]
-    fn go_outward(&mut self) -> Steps
+    fn go_outward(&mut self) -> AxisSteps
         requires walks { Walks self.old }
         requires inside { self.old.excess ≤ℤ pos 0 }
-        ensures { IsStep self.old self.new result }
+        ensures { ArcStepSpec self.old self.new result }
     {
         self.excess = sum(self.excess, self.outward);
         self.outward = sum(self.outward, self.outer_second);
@@ -198,11 +199,11 @@ impl Walk {
     }
 
     #[tactic(auto, using(crate::proofs::WalkLemmas::small))]
-    fn go_inward(&mut self) -> Steps
+    fn go_inward(&mut self) -> AxisSteps
         requires walks { Walks self.old }
         requires outside { pos 0 <ℤ self.old.excess }
         requires far { self.old.inner_step < self.old.inner }
-        ensures { IsStep self.old self.new result }
+        ensures { ArcStepSpec self.old self.new result }
     {
         self.excess = sum(self.excess, self.inward);
         self.inward = sum(self.inward, self.inner_second);
@@ -213,15 +214,15 @@ impl Walk {
     #[cold]
     #[inline(never)]
     #[tactic(auto, using(crate::proofs::WalkLemmas::small))]
-    fn cross(&mut self) -> Steps
+    fn cross(&mut self) -> AxisSteps
         requires walks { Walks self.old }
         requires outside { pos 0 <ℤ self.old.excess }
         requires near { self.old.inner ≤ self.old.inner_step }
-        ensures { IsStep self.old self.new result }
+        ensures { ArcStepSpec self.old self.new result }
     {
         let made = self.inward_made;
         let quadrant = self.quadrant.next();
-        *self = Walk {
+        *self = ArcWalk {
             circle: self.circle,
             quadrant,
             inner: self.outer,
@@ -234,8 +235,12 @@ impl Walk {
             inner_second: self.outer_second,
             outer_second: self.inner_second,
             frame: self.frame,
-            inward_made: self.frame.pulse_with(quadrant.inward(), Step::Still),
-            outward_made: self.frame.pulse_with(quadrant.outward(), Step::Still),
+            inward_made: self
+                .frame
+                .pulse_with(PlaneStep::inward(quadrant), AxisStep::Still),
+            outward_made: self
+                .frame
+                .pulse_with(PlaneStep::outward(quadrant), AxisStep::Still),
         };
         made
     }

@@ -42,11 +42,3 @@ pub(crate) fn twice(a: u64, b: u64) -> i128
 {
     2 * (a as i128 * b as i128)
 }
-
-pub(crate) fn signed_product(a: i64, b: i64) -> i128
-    requires first { unsigned_abs a < 2 ^ 50 }
-    requires second { unsigned_abs b < 2 ^ 50 }
-    ensures { result ≡ a *ℤ b }
-{
-    a as i128 * b as i128
-}

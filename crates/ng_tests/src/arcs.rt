@@ -1,5 +1,5 @@
 use ng_arc::{AskedArc, CentreOffsets, NamedAxes, check_arc, extremes_inside};
-use ng_canon::{Arc, Axis, Geometry, Pace, Plane, Turn};
+use ng_canon::{Arc, ArcDirection, Axis, Geometry, Pace, Plane};
 use ng_num::{Fault, Len, Point, Unit};
 use std::test::Fail;
 
@@ -17,9 +17,9 @@ const XZ: Plane = Plane::Xz;
 
 const YZ: Plane = Plane::Yz;
 
-const CW: Turn = Turn::Clockwise;
+const CW: ArcDirection = ArcDirection::Clockwise;
 
-const CCW: Turn = Turn::Counterclockwise;
+const CCW: ArcDirection = ArcDirection::Counterclockwise;
 
 const MM: Unit = Unit::Millimetres;
 
@@ -352,7 +352,13 @@ fn seen_from(plane: Plane, centre: (i64, i64), spot: (i64, i64)) -> Point {
 }
 
 /// An arc of a plane round a centre; start and end are seen from there.
-fn around(plane: Plane, turn: Turn, centre: (i64, i64), start: (i64, i64), end: (i64, i64)) -> Arc {
+fn around(
+    plane: Plane,
+    turn: ArcDirection,
+    centre: (i64, i64),
+    start: (i64, i64),
+    end: (i64, i64),
+) -> Arc {
     Arc {
         plane,
         turn,
@@ -402,7 +408,7 @@ const STEEP: Spot = (300_000, 400_000);
 const FLAT: Spot = (400_000, 300_000);
 
 /// Arcs of the XY plane: which way round, centre, start and end, and whether the extremes that they pass lie inside the travel.
-const EXTREMES: &[(Turn, Spot, Spot, Spot, bool)] = &[
+const EXTREMES: &[(ArcDirection, Spot, Spot, Spot, bool)] = &[
     (CCW, RIGHT, NORTH, WEST, true),
     (CW, RIGHT, NORTH, WEST, false),
     (CW, RIGHT, NORTH, EAST, false),

@@ -1,5 +1,7 @@
 use linked_list_allocator::LocalHeap;
-use ng_canon::{ArcFeed, Axis, Canon, Command, Geometry, Plane, Rate, Turn, print};
+use ng_canon::{
+    ArcDirection, ArcFeed, Axis, Canon, CanonicalCommand, Geometry, Plane, Rate, print,
+};
 use ng_num::{Len, Num, Point, Unit};
 use std::alloc::Allocator;
 use std::test::Fail;
@@ -23,7 +25,7 @@ fn point(x: i64, y: i64, z: i64) -> Point {
     }
 }
 
-/// Whether a command prints as this text behind another one.
+/// Whether a command prints as this text after another one.
 fn prints<A: Allocator + Copy + Drop>(alloc: A, canon: &Canon<'_>, want: &str) -> bool {
     let mut text = Vec::new(alloc);
     if text.extend_from_slice(b"N1\n").is_err() || print(&mut text, canon).is_err() {
@@ -33,37 +35,46 @@ fn prints<A: Allocator + Copy + Drop>(alloc: A, canon: &Canon<'_>, want: &str) -
 }
 
 /// Commands without a number, and their text.
-const PLAIN: [(Command, &str); 18] = [
+const PLAIN: [(CanonicalCommand, &str); 18] = [
     (
-        Command::StartSpindleClockwise,
+        CanonicalCommand::StartSpindleClockwise,
         "START_SPINDLE_CLOCKWISE()\n",
     ),
     (
-        Command::StartSpindleCounterclockwise,
+        CanonicalCommand::StartSpindleCounterclockwise,
         "START_SPINDLE_COUNTERCLOCKWISE()\n",
     ),
-    (Command::StopSpindle, "STOP_SPINDLE_TURNING()\n"),
-    (Command::MistOn, "MIST_ON()\n"),
-    (Command::MistOff, "MIST_OFF()\n"),
-    (Command::FloodOn, "FLOOD_ON()\n"),
-    (Command::FloodOff, "FLOOD_OFF()\n"),
-    (Command::SelectPlane(Plane::Xy), "SELECT_PLANE(XY)\n"),
-    (Command::SelectPlane(Plane::Xz), "SELECT_PLANE(XZ)\n"),
-    (Command::SelectPlane(Plane::Yz), "SELECT_PLANE(YZ)\n"),
+    (CanonicalCommand::StopSpindle, "STOP_SPINDLE_TURNING()\n"),
+    (CanonicalCommand::MistOn, "MIST_ON()\n"),
+    (CanonicalCommand::MistOff, "MIST_OFF()\n"),
+    (CanonicalCommand::FloodOn, "FLOOD_ON()\n"),
+    (CanonicalCommand::FloodOff, "FLOOD_OFF()\n"),
     (
-        Command::LengthUnits(Unit::Inches),
+        CanonicalCommand::SelectPlane(Plane::Xy),
+        "SELECT_PLANE(XY)\n",
+    ),
+    (
+        CanonicalCommand::SelectPlane(Plane::Xz),
+        "SELECT_PLANE(XZ)\n",
+    ),
+    (
+        CanonicalCommand::SelectPlane(Plane::Yz),
+        "SELECT_PLANE(YZ)\n",
+    ),
+    (
+        CanonicalCommand::LengthUnits(Unit::Inches),
         "USE_LENGTH_UNITS(INCHES)\n",
     ),
     (
-        Command::LengthUnits(Unit::Millimetres),
+        CanonicalCommand::LengthUnits(Unit::Millimetres),
         "USE_LENGTH_UNITS(MM)\n",
     ),
-    (Command::ProgramStop, "PROGRAM_STOP()\n"),
-    (Command::OptionalStop, "OPTIONAL_PROGRAM_STOP()\n"),
-    (Command::PalletShuttle, "PALLET_SHUTTLE()\n"),
-    (Command::ProgramEnd, "PROGRAM_END()\n"),
-    (Command::SelectTool(0), "SELECT_TOOL(0)\n"),
-    (Command::ChangeTool(64), "CHANGE_TOOL(64)\n"),
+    (CanonicalCommand::ProgramStop, "PROGRAM_STOP()\n"),
+    (CanonicalCommand::OptionalStop, "OPTIONAL_PROGRAM_STOP()\n"),
+    (CanonicalCommand::PalletShuttle, "PALLET_SHUTTLE()\n"),
+    (CanonicalCommand::ProgramEnd, "PROGRAM_END()\n"),
+    (CanonicalCommand::SelectTool(0), "SELECT_TOOL(0)\n"),
+    (CanonicalCommand::ChangeTool(64), "CHANGE_TOOL(64)\n"),
 ];
 
 #[test]
@@ -106,20 +117,20 @@ enum Numbered {
     OriginOffsets(i64, i64, i64),
     Traverse(i64, i64, i64),
     Feed(i64, i64, i64),
-    ArcFeed(Turn),
+    ArcFeed(ArcDirection),
 }
 
-fn command(numbered: Numbered) -> Command {
+fn command(numbered: Numbered) -> CanonicalCommand {
     match numbered {
-        Numbered::FeedRate(rate) => Command::FeedRate(nm(rate)),
-        Numbered::InverseTime(count) => Command::InverseTime(millionths(count)),
-        Numbered::SpindleSpeed(count) => Command::SpindleSpeed(millionths(count)),
-        Numbered::Dwell(count) => Command::Dwell(millionths(count)),
-        Numbered::ToolLength(length) => Command::ToolLength(nm(length)),
-        Numbered::OriginOffsets(x, y, z) => Command::OriginOffsets(point(x, y, z)),
-        Numbered::Traverse(x, y, z) => Command::Traverse(point(x, y, z)),
-        Numbered::Feed(x, y, z) => Command::Feed(point(x, y, z)),
-        Numbered::ArcFeed(turn) => Command::ArcFeed(ArcFeed {
+        Numbered::FeedRate(rate) => CanonicalCommand::FeedRate(nm(rate)),
+        Numbered::InverseTime(count) => CanonicalCommand::InverseTime(millionths(count)),
+        Numbered::SpindleSpeed(count) => CanonicalCommand::SpindleSpeed(millionths(count)),
+        Numbered::Dwell(count) => CanonicalCommand::Dwell(millionths(count)),
+        Numbered::ToolLength(length) => CanonicalCommand::ToolLength(nm(length)),
+        Numbered::OriginOffsets(x, y, z) => CanonicalCommand::OriginOffsets(point(x, y, z)),
+        Numbered::Traverse(x, y, z) => CanonicalCommand::Traverse(point(x, y, z)),
+        Numbered::Feed(x, y, z) => CanonicalCommand::Feed(point(x, y, z)),
+        Numbered::ArcFeed(turn) => CanonicalCommand::ArcFeed(ArcFeed {
             end: point(20_002_000, 0, -1),
             centre_a: nm(10_000_000),
             centre_b: nm(-9_999_999_999_999),
@@ -157,11 +168,11 @@ const NUMBERED: &[(Numbered, &str)] = &[
         "STRAIGHT_FEED(0.000001, -0.000025, 999.999999)\n",
     ),
     (
-        Numbered::ArcFeed(Turn::Clockwise),
+        Numbered::ArcFeed(ArcDirection::Clockwise),
         "ARC_FEED(20.002000, 0.000000, -0.000001, 10.000000, -9999999.999999, CW)\n",
     ),
     (
-        Numbered::ArcFeed(Turn::Counterclockwise),
+        Numbered::ArcFeed(ArcDirection::Counterclockwise),
         "ARC_FEED(20.002000, 0.000000, -0.000001, 10.000000, -9999999.999999, CCW)\n",
     ),
 ];
@@ -174,7 +185,7 @@ fn commands_with_numbers_print_as_lines(rt: HostRuntime) {
     }
 }
 
-/// Whether a command of 63 bytes was printed behind three bytes, and the text is as it then must be.
+/// Whether a command of 63 bytes was printed after three bytes, and the text is as it then must be.
 fn grows<A: Allocator + Copy + Drop>(alloc: A, canon: &Canon<'_>) -> (bool, bool) {
     let mut text = Vec::new(alloc);
     if text.extend_from_slice(b"N1\n").is_err() {
@@ -190,11 +201,11 @@ fn grows<A: Allocator + Copy + Drop>(alloc: A, canon: &Canon<'_>) -> (bool, bool
 
 #[test]
 fn refused_growth_leaves_the_text(rt: HostRuntime) -> Result<(), Fail> {
-    let arc = Canon::Command(Command::ArcFeed(ArcFeed {
+    let arc = Canon::Command(CanonicalCommand::ArcFeed(ArcFeed {
         end: point(1, 2, 3),
         centre_a: nm(4),
         centre_b: nm(5),
-        turn: Turn::Clockwise,
+        turn: ArcDirection::Clockwise,
     }));
     let mut refused = 0u32;
     let mut printed = 0u32;

@@ -1,7 +1,8 @@
 use ng_canon::{Geometry, Outputs, Pace, Segment, Spindle};
-use ng_cycles::{Canned, Cycle, CycleWords, KeptWords, Kind, Setting};
+use ng_cycles::{Canned, Cycle, CycleKind, CycleWords, Setting};
 use ng_num::{Fault, Len, Num, Point};
 use ng_offsets::Offsets;
+use ng_state::KeptWords;
 use std::alloc::Global;
 use std::test::Fail;
 
@@ -10,7 +11,7 @@ type Text = Result<String<Global>, Fail>;
 /// A cycle's line: its words in micrometres, P in millionths, and where the machine stands.
 #[derive(Clone, Copy)]
 struct Line {
-    kind: Kind,
+    kind: CycleKind,
     start: (i64, i64, i64),
     x: Option<i64>,
     y: Option<i64>,
@@ -30,7 +31,7 @@ struct Line {
 
 /// `G81 X1 R2 Z1` from `G0 Z5` under G98, with the spindle turning.
 const PLAIN: Line = Line {
-    kind: Kind::Drilling,
+    kind: CycleKind::Drilling,
     start: (0, 0, 5_000),
     x: Some(1_000),
     y: None,
@@ -56,13 +57,13 @@ const LOW: Line = Line {
 
 /// `G86`, the rest as `PLAIN`.
 const BORING: Line = Line {
-    kind: Kind::BoringWithStop,
+    kind: CycleKind::BoringWithStop,
     ..PLAIN
 };
 
 /// `G83`, the rest as `PLAIN`.
 const PECKING: Line = Line {
-    kind: Kind::PeckDrilling,
+    kind: CycleKind::PeckDrilling,
     ..PLAIN
 };
 
@@ -178,7 +179,7 @@ const ROWS: &[(Line, &str)] = &[
     ),
     (
         Line {
-            kind: Kind::PeckDrilling,
+            kind: CycleKind::PeckDrilling,
             x: Some(0),
             z: Some(-2_000),
             r: Some(1_000),
@@ -189,7 +190,7 @@ const ROWS: &[(Line, &str)] = &[
     ),
     (
         Line {
-            kind: Kind::BoringWithStop,
+            kind: CycleKind::BoringWithStop,
             z: Some(-1_000),
             r: Some(1_000),
             p: Some(500_000),
@@ -199,14 +200,14 @@ const ROWS: &[(Line, &str)] = &[
     ),
     (
         Line {
-            kind: Kind::DrillingWithDwell,
+            kind: CycleKind::DrillingWithDwell,
             ..LOW
         },
         "T 0 0 2000, T 1000 0 2000, F 1000 0 1000, D 0, T 1000 0 2000",
     ),
     (
         Line {
-            kind: Kind::Boring,
+            kind: CycleKind::Boring,
             keeps_old_z: false,
             ..PLAIN
         },
@@ -214,7 +215,7 @@ const ROWS: &[(Line, &str)] = &[
     ),
     (
         Line {
-            kind: Kind::BoringWithDwell,
+            kind: CycleKind::BoringWithDwell,
             p: Some(1_000_000),
             ..PLAIN
         },
@@ -233,7 +234,7 @@ fn rows(rt: HostRuntime) -> Result<(), Fail> {
 
 /// 10,000 pecks, which are 30,000 segments.
 const DEEP: Line = Line {
-    kind: Kind::PeckDrilling,
+    kind: CycleKind::PeckDrilling,
     x: Some(0),
     z: Some(-1_000_000),
     r: Some(0),

@@ -1,7 +1,7 @@
 use ng_num::Fault;
 use ng_words::{
-    Function, Kind, Letter, Line, Node, Operation, PIECES, Piece, Pieces, Tree, is_deletable,
-    kind_of, read_line,
+    Function, Letter, Line, LineKind, Node, Operation, PIECES, PieceRef, Pieces, Tree,
+    is_deletable, kind_of, read_line,
 };
 use std::test::Fail;
 
@@ -245,15 +245,15 @@ const UNREADABLE: &[&[u8]] = &[
 ];
 
 /// Lines and whether they are blank, percent lines or others.
-const KINDS: &[(&[u8], Kind)] = &[
-    (b"", Kind::Blank),
-    (b" \t ", Kind::Blank),
-    (b"%", Kind::Percent),
-    (b"\t% ", Kind::Percent),
-    (b"%%", Kind::Other),
-    (b"%X1", Kind::Other),
-    (b"X1%", Kind::Other),
-    (b"(%)", Kind::Other),
+const KINDS: &[(&[u8], LineKind)] = &[
+    (b"", LineKind::Blank),
+    (b" \t ", LineKind::Blank),
+    (b"%", LineKind::Percent),
+    (b"\t% ", LineKind::Percent),
+    (b"%%", LineKind::Other),
+    (b"%X1", LineKind::Other),
+    (b"X1%", LineKind::Other),
+    (b"(%)", LineKind::Other),
 ];
 
 /// A node's code: a number's digit, and a mark for anything else.
@@ -328,7 +328,7 @@ fn is_number(tree: &Tree<'_>, millionths: Option<i64>) -> bool {
 fn is_word(pieces: &mut Pieces<'_>, letter: Letter, millionths: Option<i64>) -> bool {
     match pieces.next() {
         Some(piece) => match piece {
-            Piece::Word(l, tree) => l == letter && is_number(&tree, millionths),
+            PieceRef::Word(l, tree) => l == letter && is_number(&tree, millionths),
             _ => false,
         },
         None => false,
@@ -339,7 +339,7 @@ fn is_word(pieces: &mut Pieces<'_>, letter: Letter, millionths: Option<i64>) -> 
 fn is_value(pieces: &mut Pieces<'_>, codes: &[u8]) -> bool {
     match pieces.next() {
         Some(piece) => match piece {
-            Piece::Word(l, tree) => l == Letter::X && has_codes(&tree, codes),
+            PieceRef::Word(l, tree) => l == Letter::X && has_codes(&tree, codes),
             _ => false,
         },
         None => false,
@@ -350,7 +350,7 @@ fn is_value(pieces: &mut Pieces<'_>, codes: &[u8]) -> bool {
 fn is_setting(pieces: &mut Pieces<'_>, index: &[u8], value: &[u8]) -> bool {
     match pieces.next() {
         Some(piece) => match piece {
-            Piece::Setting(i, v) => has_codes(&i, index) && has_codes(&v, value),
+            PieceRef::Setting(i, v) => has_codes(&i, index) && has_codes(&v, value),
             _ => false,
         },
         None => false,
@@ -361,7 +361,7 @@ fn is_setting(pieces: &mut Pieces<'_>, index: &[u8], value: &[u8]) -> bool {
 fn is_comment(pieces: &mut Pieces<'_>, text: &[u8]) -> bool {
     match pieces.next() {
         Some(piece) => match piece {
-            Piece::Comment(bytes) => bytes == text,
+            PieceRef::Comment(bytes) => bytes == text,
             _ => false,
         },
         None => false,

@@ -29,10 +29,10 @@ const POINTS: &[((i64, i64, i64), &str)] = &[
     ),
 ];
 
-/// Whether a text stands behind an X and before two bytes.
-fn is_between(text: &[u8], want: &str, behind: &[u8]) -> bool {
+/// Whether a text stands after an X and before two bytes.
+fn is_between(text: &[u8], want: &str, after: &[u8]) -> bool {
     match text.strip_prefix(b"X") {
-        Some(rest) => rest.strip_suffix(behind) == Some(want.as_bytes()),
+        Some(rest) => rest.strip_suffix(after) == Some(want.as_bytes()),
         None => false,
     }
 }

@@ -167,7 +167,7 @@ fn text_with_tools(alloc: Global, count: usize, last: &str) -> Result<String, Al
 }
 
 /// A text with bytes in front of the default settings.
-fn text_behind(alloc: Global, front: &[u8]) -> Result<Vec<u8>, AllocError> {
+fn text_after(alloc: Global, front: &[u8]) -> Result<Vec<u8>, AllocError> {
     let mut text = Vec::new(alloc);
     text.extend_from_slice(front)?;
     text.extend_from_slice(text_with(alloc, "", "")?.as_bytes())?;
@@ -264,12 +264,8 @@ const FRONTS: &[(&[u8], Option<Fault>)] = &[
 fn what_stands_in_front_and_its_fault(rt: HostRuntime) -> Result<(), Fail> {
     let alloc = rt.alloc();
     for (front, fault) in FRONTS {
-        let text = text_behind(alloc, front)?;
-        assert_eq!(rt;
-            fault_of(alloc, text.as_slice()),
-            *fault,
-            "behind {front:?}"
-        );
+        let text = text_after(alloc, front)?;
+        assert_eq!(rt; fault_of(alloc, text.as_slice()), *fault, "after {front:?}");
     }
     Ok(())
 }

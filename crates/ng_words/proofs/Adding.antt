@@ -1,4 +1,4 @@
--- What the reader's calls owe for pieces: each is added to the places behind those that are kept there.
+-- What the reader's calls owe for pieces: each is added to the places after those that are kept there.
 use Rattle.std.proofs.Common.{ℕ, ◌+◌, ◌≤◌, ◌≡◌, List, [], ◌∷◌, ◌++◌, length, drop, Bool, true, false, ◌==◌, Option, Some, None, MatchBool, IsTrue, refl, sym, ap, ◌∙◌, arith, append-nil, length-append, length-drop}
 use Rattle.std.specs.List.{flat_map}
 use Rattle.std.specs.Option.{option_map, option_and_then}
@@ -8,15 +8,15 @@ use Rattle.std.proofs.lemmas.Bool.Decides.{nat_tests, Decides-eqb}
 use Rattle.ng_words.specs.Plain.{StartsWithByte}
 use Rattle.ng_words.specs.Grammar.{Tree, Piece, word, setting, comment}
 use Rattle.ng_words.specs.Scan.{letter_of}
-use Rattle.ng_words.specs.Values.{behind, value_at}
+use Rattle.ng_words.specs.Values.{strip_prefix, value_at}
 use Rattle.ng_words.specs.Pieces.{comment_at, piece_at, pieces_at}
-use Rattle.ng_words.specs.Kept.{item_of, nodes_of, bytes_of, Places, Keeps, pieces_by}
-use Rattle.ng_words.specs.Walks.{places_of, AddsWord, setting_at, AddsSetting, AddsComment, Adds, TakesPiece, TakesPieces}
+use Rattle.ng_words.specs.Kept.{item_of, nodes_of, bytes_of, PieceStore, EncodesPieces, pieces_by}
+use Rattle.ng_words.specs.Walks.{store_of, AddsWord, setting_at, AddsSetting, AddsComment, Adds, TakesPiece, TakesPieces}
 use Rattle.ng_words.specs.declared.letter.Letter.{Letter}
-use Rattle.ng_words.specs.declared.item.Item.{Item}
+use Rattle.ng_words.specs.declared.piece_entry.PieceEntry.{PieceEntry}
 use Rattle.ng_words.specs.declared.tree.Node.{Node}
 use Rattle.ng_words.proofs.Kept.{kept_is}
-use Rattle.ng_words.proofs.Walk.{behind_is}
+use Rattle.ng_words.proofs.Walk.{strip_prefix_is}
 use Rattle.ng_words.proofs.PieceLaws.{comment_sound, length-piece_at, found_before, found_before_start, found_before_more}
 
 -- ---- how many bytes are left
@@ -28,25 +28,25 @@ comment_size (b ∷ bs) text rest s e =
     let sum : length bs ≡ length (text ++ 41 ∷ rest) = ap length (comment_sound bs (text, rest) e).0 in
     omega (arith, length-append text (41 ∷ rest))
 
-pub behind_shorter : (text bytes rest : List ℕ) → behind text bytes ≡ Some rest → length rest ≤ length bytes
-behind_shorter text bytes rest e =
-    let sum : length bytes ≡ length (text ++ rest) = ap length (behind_is text bytes rest e) in
+pub strip_prefix_shorter : (text bytes rest : List ℕ) → strip_prefix text bytes ≡ Some rest → length rest ≤ length bytes
+strip_prefix_shorter text bytes rest e =
+    let sum : length bytes ≡ length (text ++ rest) = ap length (strip_prefix_is text bytes rest e) in
     omega (arith, length-append text rest)
 
 pub advanced_shorter : (bytes rest : List ℕ) → rest ≡ drop 1 bytes → length rest ≤ length bytes
 advanced_shorter bytes rest e = let same : length rest ≡ length (drop 1 bytes) = ap length e in omega (arith, length-drop 1 bytes)
 
 -- a piece has two bytes at least
-pub piece_shorter : (bytes rest : List ℕ) (taken : Bool) (old new : Places) → TakesPiece bytes taken rest old new → IsTrue taken → length rest + 2 ≤ length bytes
+pub piece_shorter : (bytes rest : List ℕ) (taken : Bool) (old new : PieceStore) → TakesPiece bytes taken rest old new → IsTrue taken → length rest + 2 ≤ length bytes
 piece_shorter bytes rest true old new h t = length-piece_at bytes (h.0, rest) h.1
 piece_shorter bytes rest false old new h t = absurd (cc)
 
 -- ---- the piece that a byte begins
 
 -- a comment
-pub takes_comment : (bytes rest : List ℕ) (b : ℕ) (taken : Bool) (items items_then : List Item) (nodes : List Node) (texts texts_then : List ℕ) → StartsWithByte bytes b → b ≡ 40
+pub takes_comment : (bytes rest : List ℕ) (b : ℕ) (taken : Bool) (items items_then : List PieceEntry) (nodes : List Node) (texts texts_then : List ℕ) → StartsWithByte bytes b → b ≡ 40
     → MatchBool taken (AddsComment bytes rest items items_then texts texts_then) (comment_at (drop 1 bytes) ≡ None)
-    → TakesPiece bytes taken rest (places_of items nodes texts) (places_of items_then nodes texts_then)
+    → TakesPiece bytes taken rest (store_of items nodes texts) (store_of items_then nodes texts_then)
 takes_comment [] rest b taken items items_then nodes texts texts_then s e h = absurd s
 takes_comment (c ∷ bs) rest b true items items_then nodes texts texts_then s e h =
     let begins : (c == 40) ≡ true = (Decides-eqb c 40).1 (s ∙ e) in (
@@ -59,18 +59,18 @@ takes_comment (c ∷ bs) rest b false items items_then nodes texts texts_then s 
     rw begins (ap (option_map (λ (x : List ℕ × List ℕ). (comment x.0, x.1))) h)
 
 -- a setting
-pub takes_setting : (bytes behind_it rest : List ℕ) (b : ℕ) (taken : Bool) (items items_then : List Item) (nodes nodes_then : List Node) (texts : List ℕ) → StartsWithByte bytes b → b ≡ 35
-    → behind_it ≡ drop 1 bytes → MatchBool taken (AddsSetting behind_it rest items items_then nodes nodes_then) (setting_at behind_it ≡ None)
-    → TakesPiece bytes taken rest (places_of items nodes texts) (places_of items_then nodes_then texts)
-takes_setting [] behind_it rest b taken items items_then nodes nodes_then texts s e d h = absurd s
-takes_setting (c ∷ bs) behind_it rest b true items items_then nodes nodes_then texts s e d h =
+pub takes_setting : (bytes after_it rest : List ℕ) (b : ℕ) (taken : Bool) (items items_then : List PieceEntry) (nodes nodes_then : List Node) (texts : List ℕ) → StartsWithByte bytes b → b ≡ 35
+    → after_it ≡ drop 1 bytes → MatchBool taken (AddsSetting after_it rest items items_then nodes nodes_then) (setting_at after_it ≡ None)
+    → TakesPiece bytes taken rest (store_of items nodes texts) (store_of items_then nodes_then texts)
+takes_setting [] after_it rest b taken items items_then nodes nodes_then texts s e d h = absurd s
+takes_setting (c ∷ bs) after_it rest b true items items_then nodes nodes_then texts s e d h =
     let other : (c == 40) ≡ false = grind (arith, nat_tests, s ∙ e) in
     let begins : (c == 35) ≡ true = (Decides-eqb c 35).1 (s ∙ e) in (
       setting h.0 h.1,
       rw (other, begins) (ap setting_at (sym d) ∙ h.2),
       record { items_more = h.3; nodes_more = h.4; bytes_more = sym (append-nil texts) },
     )
-takes_setting (c ∷ bs) behind_it rest b false items items_then nodes nodes_then texts s e d h =
+takes_setting (c ∷ bs) after_it rest b false items items_then nodes nodes_then texts s e d h =
     let other : (c == 40) ≡ false = grind (arith, nat_tests, s ∙ e) in
     let begins : (c == 35) ≡ true = (Decides-eqb c 35).1 (s ∙ e) in
     rw (other, begins) (ap setting_at (sym d) ∙ h)
@@ -84,17 +84,17 @@ no_letter b n l e none = at (b == n) refl
     at false t = t
 
 -- a word
-pub takes_word : (bytes behind_it rest : List ℕ) (b : ℕ) (l : Letter) (taken : Bool) (items items_then : List Item) (nodes nodes_then : List Node) (texts : List ℕ) → StartsWithByte bytes b
-    → Some l ≡ letter_of b → behind_it ≡ drop 1 bytes → MatchBool taken (AddsWord l behind_it rest items items_then nodes nodes_then) (value_at behind_it ≡ None)
-    → TakesPiece bytes taken rest (places_of items nodes texts) (places_of items_then nodes_then texts)
-takes_word [] behind_it rest b l taken items items_then nodes nodes_then texts s e d h = absurd s
-takes_word (c ∷ bs) behind_it rest b l taken items items_then nodes nodes_then texts s e d h =
+pub takes_word : (bytes after_it rest : List ℕ) (b : ℕ) (l : Letter) (taken : Bool) (items items_then : List PieceEntry) (nodes nodes_then : List Node) (texts : List ℕ) → StartsWithByte bytes b
+    → Some l ≡ letter_of b → after_it ≡ drop 1 bytes → MatchBool taken (AddsWord l after_it rest items items_then nodes nodes_then) (value_at after_it ≡ None)
+    → TakesPiece bytes taken rest (store_of items nodes texts) (store_of items_then nodes_then texts)
+takes_word [] after_it rest b l taken items items_then nodes nodes_then texts s e d h = absurd s
+takes_word (c ∷ bs) after_it rest b l taken items items_then nodes nodes_then texts s e d h =
     takes taken h
   where
     is_letter : letter_of c ≡ Some l
     is_letter = ap letter_of s ∙ sym e
 
-    found : (o : Option (Tree × List ℕ)) → value_at behind_it ≡ o → piece_at (c ∷ bs) ≡ option_map (λ (v : Tree × List ℕ). (word l v.0, v.1)) o
+    found : (o : Option (Tree × List ℕ)) → value_at after_it ≡ o → piece_at (c ∷ bs) ≡ option_map (λ (v : Tree × List ℕ). (word l v.0, v.1)) o
     found o v =
         let no_comment : (c == 40) ≡ false = no_letter c 40 l (sym is_letter) refl in
         let no_setting : (c == 35) ≡ false = no_letter c 35 l (sym is_letter) refl in
@@ -103,39 +103,39 @@ takes_word (c ∷ bs) behind_it rest b l taken items items_then nodes nodes_then
         ∙ ap (option_map (λ (v : Tree × List ℕ). (word l v.0, v.1))) (ap value_at (sym d) ∙ v)
         )
 
-    takes : (taken : Bool) → MatchBool taken (AddsWord l behind_it rest items items_then nodes nodes_then) (value_at behind_it ≡ None)
-        → TakesPiece (c ∷ bs) taken rest (places_of items nodes texts) (places_of items_then nodes_then texts)
+    takes : (taken : Bool) → MatchBool taken (AddsWord l after_it rest items items_then nodes nodes_then) (value_at after_it ≡ None)
+        → TakesPiece (c ∷ bs) taken rest (store_of items nodes texts) (store_of items_then nodes_then texts)
     takes true h = (word l h.0, found (Some (h.0, rest)) h.1, record { items_more = h.2; nodes_more = h.3; bytes_more = sym (append-nil texts) })
     takes false h = found None h
 
 -- ---- the loop over the pieces
 
 -- the places keep pieces, which the bytes read as with those that follow
-abbrev pub IsTaking : List ℕ → List ℕ → Places → Type 0
-IsTaking bytes_first bytes places = (found : List Piece) × (found_before found bytes ≡ pieces_at (length bytes_first) bytes_first) × Keeps places found
+abbrev pub IsTaking : List ℕ → List ℕ → PieceStore → Type 0
+IsTaking bytes_first bytes places = (found : List Piece) × (found_before found bytes ≡ pieces_at (length bytes_first) bytes_first) × EncodesPieces places found
 
-pub taking_starts : (bytes : List ℕ) (items : List Item) (nodes : List Node) (texts : List ℕ) → items ≡ [] → nodes ≡ [] → texts ≡ [] → IsTaking bytes bytes (places_of items nodes texts)
+pub taking_starts : (bytes : List ℕ) (items : List PieceEntry) (nodes : List Node) (texts : List ℕ) → items ≡ [] → nodes ≡ [] → texts ≡ [] → IsTaking bytes bytes (store_of items nodes texts)
 taking_starts bytes items nodes texts i n t = ([], found_before_start [] bytes refl, record { items_are = i; nodes_are = n; bytes_are = t })
 
-keeps_more : (p : Piece) (found : List Piece) (old new : Places) → Keeps old found → Adds p old new → Keeps new (found ++ p ∷ [])
+keeps_more : (p : Piece) (found : List Piece) (old new : PieceStore) → EncodesPieces old found → Adds p old new → EncodesPieces new (found ++ p ∷ [])
 keeps_more p found old new k a = record {
-  items_are = a.items_more ∙ ap (λ (l : List Item). l ++ item_of p ∷ []) k.items_are ∙ sym (map-append item_of found (p ∷ []));
+  items_are = a.items_more ∙ ap (λ (l : List PieceEntry). l ++ item_of p ∷ []) k.items_are ∙ sym (map-append item_of found (p ∷ []));
   nodes_are = a.nodes_more ∙ ap (λ (l : List Node). l ++ nodes_of p) k.nodes_are ∙ ap (λ (l : List Node). flat_map nodes_of found ++ l) (sym (append-nil (nodes_of p))) ∙ sym (flat_map-append nodes_of found (p ∷ []));
   bytes_are = a.bytes_more ∙ ap (λ (l : List ℕ). l ++ bytes_of p) k.bytes_are ∙ ap (λ (l : List ℕ). flat_map bytes_of found ++ l) (sym (append-nil (bytes_of p))) ∙ sym (flat_map-append bytes_of found (p ∷ []));
 }
 
 -- a piece more
-pub taking_goes : (bytes_first bytes rest : List ℕ) (taken : Bool) (old new : Places) → IsTaking bytes_first bytes old → TakesPiece bytes taken rest old new → taken ≡ true
+pub taking_goes : (bytes_first bytes rest : List ℕ) (taken : Bool) (old new : PieceStore) → IsTaking bytes_first bytes old → TakesPiece bytes taken rest old new → taken ≡ true
     → IsTaking bytes_first rest new
 taking_goes bytes_first bytes rest true old new h p t =
     (h.0 ++ p.0 ∷ [], found_before_more h.0 (h.0 ++ p.0 ∷ []) bytes (p.0, rest) _ h.1 p.1 refl, keeps_more p.0 h.0 old new h.2 p.2)
 taking_goes bytes_first bytes rest false old new h p t = absurd (cc)
 
 -- an item more
-pub one_item_more : (bytes rest : List ℕ) (taken : Bool) (old new : Places) → TakesPiece bytes taken rest old new → taken ≡ true → length new.items ≡ length old.items + 1
+pub one_item_more : (bytes rest : List ℕ) (taken : Bool) (old new : PieceStore) → TakesPiece bytes taken rest old new → taken ≡ true → length new.items ≡ length old.items + 1
 one_item_more bytes rest true old new h t = simp length-append at (ap length h.2.items_more)
 one_item_more bytes rest false old new h t = absurd (cc)
 
 -- the pieces that were taken are those that the places keep
-pub pieces_taken : (bytes : List ℕ) (places : Places) → TakesPieces bytes true places → pieces_at (length bytes) bytes ≡ Some (pieces_by places)
+pub pieces_taken : (bytes : List ℕ) (places : PieceStore) → TakesPieces bytes true places → pieces_at (length bytes) bytes ≡ Some (pieces_by places)
 pieces_taken bytes places h = h.1 ∙ ap {B = Option (List Piece)} Some (sym (kept_is places h.0 h.2))

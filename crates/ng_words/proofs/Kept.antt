@@ -5,14 +5,14 @@ use Rattle.std.specs.Option.{option_or}
 use Rattle.std.proofs.lemmas.List.{append-nil, take_at, drop_at, take_rest}
 use Rattle.std.proofs.Math.Seq.{take-append_seam, drop-append_seam, drop-append-add}
 use Rattle.ng_words.specs.Grammar.{Tree, number, parameter, bracketed, applied, joined, Piece, word, setting, comment}
-use Rattle.ng_words.specs.Kept.{postfix, IsTree, built, latest, tree_by, item_of, nodes_of, bytes_of, Places, Keeps, IsKept, pieces_from, pieces_by}
+use Rattle.ng_words.specs.Kept.{postfix, IsTree, built, latest, tree_by, item_of, nodes_of, bytes_of, PieceStore, EncodesPieces, AreEncodedPieces, pieces_from, pieces_by}
 use Rattle.ng_words.specs.Items.{last_size}
 use Rattle.ng_words.specs.Lines.{last_comment}
 use Rattle.ng_words.specs.declared.letter.Letter.{Letter}
 use Rattle.ng_words.specs.declared.tree.Node.{Node}
 use Rattle.ng_words.specs.declared.tree.Node.TheVariants as node
-use Rattle.ng_words.specs.declared.item.Item.{Item}
-use Rattle.ng_words.specs.declared.item.Item.TheVariants as item
+use Rattle.ng_words.specs.declared.piece_entry.PieceEntry.{PieceEntry}
+use Rattle.ng_words.specs.declared.piece_entry.PieceEntry.TheVariants as item
 
 -- ---- trees
 
@@ -46,15 +46,15 @@ pieces_kept (comment text ∷ ps) =
     rw (take-append_seam text bytes, drop-append_seam text bytes) (ap (λ (x : List Piece). comment text ∷ x) (pieces_kept ps))
 
 -- places that keep pieces give them back
-pub kept_is : (places : Places) (pieces : List Piece) → Keeps places pieces → pieces_by places ≡ pieces
+pub kept_is : (places : PieceStore) (pieces : List Piece) → EncodesPieces places pieces → pieces_by places ≡ pieces
 kept_is places pieces k =
-    ap (λ (x : List Item). pieces_from x places.nodes places.bytes) k.items_are
+    ap (λ (x : List PieceEntry). pieces_from x places.nodes places.bytes) k.items_are
     ∙ ap (λ (x : List Node). pieces_from (map item_of pieces) x places.bytes) k.nodes_are
     ∙ ap (λ (x : List ℕ). pieces_from (map item_of pieces) (flat_map nodes_of pieces) x) k.bytes_are
     ∙ pieces_kept pieces
 
 -- a piece for each item
-pub length-pieces_from : (items : List Item) (nodes : List Node) (bytes : List ℕ) → length (pieces_from items nodes bytes) ≡ length items
+pub length-pieces_from : (items : List PieceEntry) (nodes : List Node) (bytes : List ℕ) → length (pieces_from items nodes bytes) ≡ length items
 length-pieces_from [] nodes bytes = refl
 length-pieces_from (item.Word letter n ∷ items) nodes bytes = ap suc (length-pieces_from items (drop n nodes) bytes)
 length-pieces_from (item.Setting i n ∷ items) nodes bytes = ap suc (length-pieces_from items (drop n (drop i nodes)) bytes)
@@ -63,12 +63,12 @@ length-pieces_from (item.Comment n ∷ items) nodes bytes = ap suc (length-piece
 -- ---- the first piece, taken from the places
 
 -- a word comes first: what holds of its nodes and of what is left
-pub record WordFirst (n : ℕ) (items : List Item) (nodes : List Node) (bytes : List ℕ) : Type 0 where
+pub record WordFirst (n : ℕ) (items : List PieceEntry) (nodes : List Node) (bytes : List ℕ) : Type 0 where
   pub within : n ≤ length nodes
   pub tree : IsTree (take n nodes)
-  pub kept : IsKept (record { items = items; nodes = drop n nodes; bytes = bytes })
+  pub kept : AreEncodedPieces (record { items = items; nodes = drop n nodes; bytes = bytes })
 
-word_first : (pieces : List Piece) (letter : Letter) (n : ℕ) (items : List Item) (nodes : List Node) (bytes : List ℕ)
+word_first : (pieces : List Piece) (letter : Letter) (n : ℕ) (items : List PieceEntry) (nodes : List Node) (bytes : List ℕ)
     → item.Word letter n ∷ items ≡ map item_of pieces → nodes ≡ flat_map nodes_of pieces → bytes ≡ flat_map bytes_of pieces → WordFirst n items nodes bytes
 word_first [] letter n items nodes bytes e f g = absurd (cc)
 word_first (word l t ∷ ps) letter n items nodes bytes e f g =
@@ -83,20 +83,20 @@ word_first (word l t ∷ ps) letter n items nodes bytes e f g =
 word_first (setting i v ∷ ps) letter n items nodes bytes e f g = absurd (cc)
 word_first (comment text ∷ ps) letter n items nodes bytes e f g = absurd (cc)
 
-pub kept_word : (places : Places) (first : Item) (letter : Letter) (n : ℕ) (items : List Item) → IsKept places → places.items ≡ first ∷ items → first ≡ item.Word letter n
+pub kept_word : (places : PieceStore) (first : PieceEntry) (letter : Letter) (n : ℕ) (items : List PieceEntry) → AreEncodedPieces places → places.items ≡ first ∷ items → first ≡ item.Word letter n
     → WordFirst n items places.nodes places.bytes
 kept_word places first letter n items k e is =
-    word_first k.0 letter n items places.nodes places.bytes (ap (λ (x : Item). x ∷ items) (sym is) ∙ sym e ∙ k.1.items_are) k.1.nodes_are k.1.bytes_are
+    word_first k.0 letter n items places.nodes places.bytes (ap (λ (x : PieceEntry). x ∷ items) (sym is) ∙ sym e ∙ k.1.items_are) k.1.nodes_are k.1.bytes_are
 
 -- a setting comes first
-pub record SettingFirst (i n : ℕ) (items : List Item) (nodes : List Node) (bytes : List ℕ) : Type 0 where
+pub record SettingFirst (i n : ℕ) (items : List PieceEntry) (nodes : List Node) (bytes : List ℕ) : Type 0 where
   pub index_within : i ≤ length nodes
   pub value_within : n ≤ length (drop i nodes)
   pub index : IsTree (take i nodes)
   pub value : IsTree (take n (drop i nodes))
-  pub kept : IsKept (record { items = items; nodes = drop n (drop i nodes); bytes = bytes })
+  pub kept : AreEncodedPieces (record { items = items; nodes = drop n (drop i nodes); bytes = bytes })
 
-setting_first : (pieces : List Piece) (i n : ℕ) (items : List Item) (nodes : List Node) (bytes : List ℕ)
+setting_first : (pieces : List Piece) (i n : ℕ) (items : List PieceEntry) (nodes : List Node) (bytes : List ℕ)
     → item.Setting i n ∷ items ≡ map item_of pieces → nodes ≡ flat_map nodes_of pieces → bytes ≡ flat_map bytes_of pieces → SettingFirst i n items nodes bytes
 setting_first [] i n items nodes bytes e f g = absurd (cc)
 setting_first (word l t ∷ ps) i n items nodes bytes e f g = absurd (cc)
@@ -106,27 +106,27 @@ setting_first (setting t u ∷ ps) i n items nodes bytes e f g =
     let others : items ≡ map item_of ps = cc in
     let rest = flat_map nodes_of ps in
     let parts : nodes ≡ postfix t ++ (postfix u ++ rest) = f ∙ append_assoc (postfix t) (postfix u) rest in
-    let behind : drop i nodes ≡ postfix u ++ rest = ap (drop i) parts ∙ drop_at (postfix t) (postfix u ++ rest) i index_count in
+    let after : drop i nodes ≡ postfix u ++ rest = ap (drop i) parts ∙ drop_at (postfix t) (postfix u ++ rest) i index_count in
     record {
       index_within = omega (arith, index_count, ap length parts, length-append (postfix t) (postfix u ++ rest));
-      value_within = omega (arith, count, ap length behind, length-append (postfix u) rest);
+      value_within = omega (arith, count, ap length after, length-append (postfix u) rest);
       index = (t, ap (take i) parts ∙ take_at (postfix t) (postfix u ++ rest) i index_count);
-      value = (u, ap (take n) behind ∙ take_at (postfix u) rest n count);
-      kept = (ps, record { items_are = others; nodes_are = ap (drop n) behind ∙ drop_at (postfix u) rest n count; bytes_are = g });
+      value = (u, ap (take n) after ∙ take_at (postfix u) rest n count);
+      kept = (ps, record { items_are = others; nodes_are = ap (drop n) after ∙ drop_at (postfix u) rest n count; bytes_are = g });
     }
 setting_first (comment text ∷ ps) i n items nodes bytes e f g = absurd (cc)
 
-pub kept_setting : (places : Places) (first : Item) (i n : ℕ) (items : List Item) → IsKept places → places.items ≡ first ∷ items → first ≡ item.Setting i n
+pub kept_setting : (places : PieceStore) (first : PieceEntry) (i n : ℕ) (items : List PieceEntry) → AreEncodedPieces places → places.items ≡ first ∷ items → first ≡ item.Setting i n
     → SettingFirst i n items places.nodes places.bytes
 kept_setting places first i n items k e is =
-    setting_first k.0 i n items places.nodes places.bytes (ap (λ (x : Item). x ∷ items) (sym is) ∙ sym e ∙ k.1.items_are) k.1.nodes_are k.1.bytes_are
+    setting_first k.0 i n items places.nodes places.bytes (ap (λ (x : PieceEntry). x ∷ items) (sym is) ∙ sym e ∙ k.1.items_are) k.1.nodes_are k.1.bytes_are
 
 -- a comment comes first
-pub record CommentFirst (n : ℕ) (items : List Item) (nodes : List Node) (bytes : List ℕ) : Type 0 where
+pub record CommentFirst (n : ℕ) (items : List PieceEntry) (nodes : List Node) (bytes : List ℕ) : Type 0 where
   pub within : n ≤ length bytes
-  pub kept : IsKept (record { items = items; nodes = nodes; bytes = drop n bytes })
+  pub kept : AreEncodedPieces (record { items = items; nodes = nodes; bytes = drop n bytes })
 
-comment_first : (pieces : List Piece) (n : ℕ) (items : List Item) (nodes : List Node) (bytes : List ℕ)
+comment_first : (pieces : List Piece) (n : ℕ) (items : List PieceEntry) (nodes : List Node) (bytes : List ℕ)
     → item.Comment n ∷ items ≡ map item_of pieces → nodes ≡ flat_map nodes_of pieces → bytes ≡ flat_map bytes_of pieces → CommentFirst n items nodes bytes
 comment_first [] n items nodes bytes e f g = absurd (cc)
 comment_first (word l t ∷ ps) n items nodes bytes e f g = absurd (cc)
@@ -140,10 +140,10 @@ comment_first (comment text ∷ ps) n items nodes bytes e f g =
       kept = (ps, record { items_are = others; nodes_are = f; bytes_are = ap (drop n) g ∙ drop_at text rest n count });
     }
 
-pub kept_comment : (places : Places) (first : Item) (n : ℕ) (items : List Item) → IsKept places → places.items ≡ first ∷ items → first ≡ item.Comment n
+pub kept_comment : (places : PieceStore) (first : PieceEntry) (n : ℕ) (items : List PieceEntry) → AreEncodedPieces places → places.items ≡ first ∷ items → first ≡ item.Comment n
     → CommentFirst n items places.nodes places.bytes
 kept_comment places first n items k e is =
-    comment_first k.0 n items places.nodes places.bytes (ap (λ (x : Item). x ∷ items) (sym is) ∙ sym e ∙ k.1.items_are) k.1.nodes_are k.1.bytes_are
+    comment_first k.0 n items places.nodes places.bytes (ap (λ (x : PieceEntry). x ∷ items) (sym is) ∙ sym e ∙ k.1.items_are) k.1.nodes_are k.1.bytes_are
 
 -- ---- the last comment
 
@@ -152,13 +152,13 @@ abbrev pub IsLastIn : List Piece → List ℕ → Option ℕ → Type 0
 IsLastIn pieces bytes None = (last_comment pieces ≡ None) × (bytes ≡ [])
 IsLastIn pieces bytes (Some n) = (last_comment pieces ≡ Some (drop (length bytes - n) bytes)) × (n ≤ length bytes)
 
-last_behind : (text rest : List ℕ) (pieces : List Piece) (o : Option ℕ) → IsLastIn pieces rest o → IsLastIn (comment text ∷ pieces) (text ++ rest) (option_or o (Some (length text)))
-last_behind text rest pieces None h =
+last_after : (text rest : List ℕ) (pieces : List Piece) (o : Option ℕ) → IsLastIn pieces rest o → IsLastIn (comment text ∷ pieces) (text ++ rest) (option_or o (Some (length text)))
+last_after text rest pieces None h =
     let all : text ++ rest ≡ text = ap (λ (l : List ℕ). text ++ l) h.1 ∙ append-nil text in
     let P : List ℕ → Type 0 = λ l. (option_or (last_comment pieces) (Some text) ≡ Some (drop (length l - length text) l)) × (length text ≤ length l) in
     let none : length text - length text ≡ 0 = omega arith in
     subst P (sym all) (ap (λ (o : Option (List ℕ)). option_or o (Some text)) h.0 ∙ ap (λ (n : ℕ). Some (drop n text)) (sym none), omega arith)
-last_behind text rest pieces (Some n) h =
+last_after text rest pieces (Some n) h =
     let far : length (text ++ rest) - n ≡ length text + (length rest - n) = omega (arith, length-append text rest, h.1) in (
       ap (λ (o : Option (List ℕ)). option_or o (Some text)) h.0
           ∙ ap (λ (l : List ℕ). Some l) (sym (drop-append-add text rest (length rest - n)))
@@ -178,27 +178,27 @@ last_in (setting i v ∷ ps) = last_setting i v ps (last_size (map item_of ps)) 
     last_setting : (i v : Tree) (ps : List Piece) (o : Option ℕ) → IsLastIn ps (flat_map bytes_of ps) o → IsLastIn (setting i v ∷ ps) (flat_map bytes_of ps) o
     last_setting i v ps None h = h
     last_setting i v ps (Some n) h = h
-last_in (comment text ∷ ps) = last_behind text (flat_map bytes_of ps) ps (last_size (map item_of ps)) (last_in ps)
+last_in (comment text ∷ ps) = last_after text (flat_map bytes_of ps) ps (last_size (map item_of ps)) (last_in ps)
 
-pub kept_last : (places : Places) → IsKept places → IsLastIn (pieces_by places) places.bytes (last_size places.items)
+pub kept_last : (places : PieceStore) → AreEncodedPieces places → IsLastIn (pieces_by places) places.bytes (last_size places.items)
 kept_last places k =
     let P : List Piece → Type 0 = λ ps. IsLastIn ps places.bytes (last_size places.items) in
     let Q : List ℕ → Type 0 = λ bytes. IsLastIn k.0 bytes (last_size places.items) in
-    let R : List Item → Type 0 = λ items. IsLastIn k.0 (flat_map bytes_of k.0) (last_size items) in
+    let R : List PieceEntry → Type 0 = λ items. IsLastIn k.0 (flat_map bytes_of k.0) (last_size items) in
     subst P (sym (kept_is places k.0 k.1)) (subst Q (sym k.1.bytes_are) (subst R (sym k.1.items_are) (last_in k.0)))
 
-last_by : (places : Places) (items : List Item) (o answer : Option ℕ) → IsKept places → items ≡ places.items → o ≡ last_size items → o ≡ answer
+last_by : (places : PieceStore) (items : List PieceEntry) (o answer : Option ℕ) → AreEncodedPieces places → items ≡ places.items → o ≡ last_size items → o ≡ answer
     → IsLastIn (pieces_by places) places.bytes answer
 last_by places items o answer k items_are is was =
     subst (IsLastIn (pieces_by places) places.bytes) (ap last_size (sym items_are) ∙ sym is ∙ was) (kept_last places k)
 
 -- how many bytes the last comment has is at most how many there are
-pub last_within : (places : Places) (items : List Item) (o : Option ℕ) (n : ℕ) → IsKept places → items ≡ places.items → o ≡ last_size items → o ≡ Some n
+pub last_within : (places : PieceStore) (items : List PieceEntry) (o : Option ℕ) (n : ℕ) → AreEncodedPieces places → items ≡ places.items → o ≡ last_size items → o ≡ Some n
     → n ≤ length places.bytes
 last_within places items o n k items_are is was = (last_by places items o (Some n) k items_are is was).1
 
 -- the bytes from there on are the last comment's
-pub last_text : (places : Places) (items : List Item) (o : Option ℕ) (n size : ℕ) (bytes : List ℕ) → IsKept places → items ≡ places.items → o ≡ last_size items → o ≡ Some n
+pub last_text : (places : PieceStore) (items : List PieceEntry) (o : Option ℕ) (n size : ℕ) (bytes : List ℕ) → AreEncodedPieces places → items ≡ places.items → o ≡ last_size items → o ≡ Some n
     → bytes ≡ places.bytes → size ≡ length places.bytes → last_comment (pieces_by places) ≡ Some (take (length bytes - (size - n)) (drop (size - n) bytes))
 last_text places items o n size bytes k items_are is was bytes_are size_is =
     (last_by places items o (Some n) k items_are is was).0
@@ -207,6 +207,6 @@ last_text places items o n size bytes k items_are is was bytes_are size_is =
     ∙ ap (λ (b : List ℕ). Some b) (sym (take_rest bytes (size - n)))
 
 -- where no item is a comment there is none
-pub last_none : (places : Places) (items : List Item) (o : Option ℕ) → IsKept places → items ≡ places.items → o ≡ last_size items → o ≡ None
+pub last_none : (places : PieceStore) (items : List PieceEntry) (o : Option ℕ) → AreEncodedPieces places → items ≡ places.items → o ≡ last_size items → o ≡ None
     → last_comment (pieces_by places) ≡ None
 last_none places items o k items_are is was = (last_by places items o None k items_are is was).0

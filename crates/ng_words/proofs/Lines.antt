@@ -3,10 +3,10 @@ use Rattle.std.proofs.Common.{ℕ, zero, suc, ◌^◌, ◌≤◌, ◌≡◌, Lis
 use Rattle.std.specs.Option.{option_map, option_and_then}
 use Rattle.std.proofs.lemmas.Bool.Decides.{nat_tests, Decides-eqb}
 use Rattle.std.proofs.Math.Nat.{pow-le-pow_right}
-use Rattle.ng_words.specs.Grammar.{AreDigits, written_after, Piece, Reads, Written, slash, IsBlockNumber, Writes}
+use Rattle.ng_words.specs.Grammar.{AreDigits, written_after, Piece, SpellsPieces, ParsedLine, slash, IsBlockNumber, SpellsLine}
 use Rattle.ng_words.specs.Scan.{front_digits, after_digits, whole_after, is_empty, slash_at, numbered, block_number_at}
 use Rattle.ng_words.specs.Pieces.{piece_at, pieces_at}
-use Rattle.ng_words.specs.Reading.{body_at, line_at}
+use Rattle.ng_words.specs.Reading.{body_at, parse_line}
 use Rattle.ng_words.proofs.Round.{written_lt}
 use Rattle.ng_words.proofs.Numbers.{option_map_some, front_digits_again, digits_split, whole_after_is}
 use Rattle.ng_words.proofs.Walk.{and_then_some}
@@ -15,23 +15,23 @@ use Rattle.ng_words.proofs.PieceLaws.{piece_again, piece_sound, BeginsPiece, Rea
 -- ---- pieces
 
 -- pieces of the grammar are read
-pub pieces_again : (bytes : List ℕ) (ps : List Piece) → Reads bytes ps → pieces_at (length bytes) bytes ≡ Some ps
+pub pieces_again : (bytes : List ℕ) (ps : List Piece) → SpellsPieces bytes ps → pieces_at (length bytes) bytes ≡ Some ps
 pieces_again bytes [] h = ap (λ l. pieces_at (length l) l) h
 pieces_again bytes (p ∷ ps) h =
     let found = ap piece_at h.2 ∙ piece_again h.0 h.1 p h.3 (BeginsPiece-Stops h.1 (Reads-begins h.1 ps h.4)) in
     pieces_step bytes (p, h.1) found ∙ ap (option_map (λ ps. p ∷ ps)) (pieces_again h.1 ps h.4)
 
 -- what is read up to the end is in the grammar
-pieces_sound_at : (most : ℕ) (bytes : List ℕ) (ps : List Piece) → pieces_at most bytes ≡ Some ps → Reads bytes ps
-pieces_sound_at most [] ps e = let same : [] ≡ ps = cc in subst (Reads []) same refl
+pieces_sound_at : (most : ℕ) (bytes : List ℕ) (ps : List Piece) → pieces_at most bytes ≡ Some ps → SpellsPieces bytes ps
+pieces_sound_at most [] ps e = let same : [] ≡ ps = cc in subst (SpellsPieces []) same refl
 pieces_sound_at zero (b ∷ bs) ps e = absurd (cc)
 pieces_sound_at (suc most) (b ∷ bs) ps e =
     let first = and_then_some (λ x. option_map (λ ps. x.0 ∷ ps) (pieces_at most x.1)) (piece_at (b ∷ bs)) ps e in
     let others = option_map_some (λ ps. first.0.0 ∷ ps) (pieces_at most first.0.1) ps first.2 in
     let found = piece_sound (b ∷ bs) first.0 first.1 in
-    subst (Reads (b ∷ bs)) others.2 (found.0, first.0.1, found.1, found.2, pieces_sound_at most first.0.1 others.0 others.1)
+    subst (SpellsPieces (b ∷ bs)) others.2 (found.0, first.0.1, found.1, found.2, pieces_sound_at most first.0.1 others.0 others.1)
 
-pub pieces_sound : (bytes : List ℕ) (ps : List Piece) → pieces_at (length bytes) bytes ≡ Some ps → Reads bytes ps
+pub pieces_sound : (bytes : List ℕ) (ps : List Piece) → pieces_at (length bytes) bytes ≡ Some ps → SpellsPieces bytes ps
 pieces_sound bytes ps e = pieces_sound_at (length bytes) bytes ps e
 
 -- ---- the slash and the block number
@@ -105,7 +105,7 @@ block_number_sound (b ∷ bs) x e = block_number_sound_at b bs x (b == 78) refl 
 -- ---- lines
 
 -- a line of the grammar is found
-pub line_found : (bytes : List ℕ) (line : Written) → Writes bytes line → line_at bytes ≡ Some line
+pub line_found : (bytes : List ℕ) (line : ParsedLine) → SpellsLine bytes line → parse_line bytes ≡ Some line
 line_found bytes line h =
     let rest = h.1 in
     let begins = Reads-begins rest line.pieces h.4 in
@@ -120,17 +120,17 @@ line_found bytes line h =
     no_slash_number front rest (Some n) h s = subst (λ f. NoSlash (f ++ rest)) (sym h.1) (omega arith)
 
 -- every line of the grammar with these bytes is the one that is read
-pub line_only : (bytes : List ℕ) (w : Written) → line_at bytes ≡ Some w → (line : Written) → Writes bytes line → line ≡ w
+pub line_only : (bytes : List ℕ) (w : ParsedLine) → parse_line bytes ≡ Some w → (line : ParsedLine) → SpellsLine bytes line → line ≡ w
 line_only bytes w e line h = let found = line_found bytes line h in cc
 
 -- what is read is in the grammar
-pub line_sound : (bytes : List ℕ) (w : Written) → line_at bytes ≡ Some w → Writes bytes w
+pub line_sound : (bytes : List ℕ) (w : ParsedLine) → parse_line bytes ≡ Some w → SpellsLine bytes w
 line_sound bytes w e =
     let deletable = (slash_at bytes).0 in
     let x = and_then_some (λ x. option_map (λ ps. record { deletable = deletable; number = x.0; pieces = ps }) (pieces_at (length x.1) x.1)) (block_number_at (slash_at bytes).1) w e in
     let ps = option_map_some (λ ps. record { deletable = deletable; number = x.0.0; pieces = ps }) (pieces_at (length x.0.1) x.0.1) w x.2 in
     let number = block_number_sound (slash_at bytes).1 x.0 x.1 in
-    subst (Writes bytes) ps.2 (
+    subst (SpellsLine bytes) ps.2 (
       number.0,
       x.0.1,
       slash_is bytes ∙ ap (λ l. slash deletable ++ l) number.1,

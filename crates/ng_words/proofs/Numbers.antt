@@ -46,7 +46,7 @@ digits_split (b ∷ bs) = digits_split_at b bs (is_digit b) refl (digits_split b
 
 -- ---- numbers
 
--- the digits before or behind a point, then what stops a number
+-- the digits before or after a point, then what stops a number
 pub Stops_front : (rest : List ℕ) → Stops rest → point_at rest ≡ None
 Stops_front [] s = refl
 Stops_front (b ∷ rest) s = grind (arith, nat_tests, s.1)
@@ -71,9 +71,9 @@ unsigned_again_point : (whole fraction rest : List ℕ) → AreDigits whole → 
     → unsigned_at (whole ++ (46 ∷ (fraction ++ rest))) ≡ Some (capped whole fraction, rest)
 unsigned_again_point whole fraction rest d e some s =
     let before = front_digits_again whole (46 ∷ (fraction ++ rest)) d refl in
-    let behind = front_digits_again fraction rest e (NoDigit-stops rest s) in
+    let after = front_digits_again fraction rest e (NoDigit-stops rest s) in
     let some_digit : (is_empty whole && is_empty fraction) ≡ false = not_both_empty whole fraction some in
-    rw (before.0, before.1, behind.0, behind.1, some_digit) refl
+    rw (before.0, before.1, after.0, after.1, some_digit) refl
 
 -- the whole part stops at ten million
 pub whole_after_is : (ds : List ℕ) (n m : ℕ) → n ≡ min 10000000 m → whole_after n ds ≡ min 10000000 (written_after m ds)
@@ -177,13 +177,13 @@ number_again bytes rest z h s =
 
 -- ---- what is found is so spelled
 
-point_at_some_at : (b : ℕ) (bs behind : List ℕ) (t : Bool) → (b == 46) ≡ t → cond t (Some bs) None ≡ Some behind → b ∷ bs ≡ 46 ∷ behind
-point_at_some_at b bs behind true e f = let same : b ≡ 46 = (Decides-eqb b 46).0 e in cc
-point_at_some_at b bs behind false e f = absurd (cc)
+point_at_some_at : (b : ℕ) (bs after : List ℕ) (t : Bool) → (b == 46) ≡ t → cond t (Some bs) None ≡ Some after → b ∷ bs ≡ 46 ∷ after
+point_at_some_at b bs after true e f = let same : b ≡ 46 = (Decides-eqb b 46).0 e in cc
+point_at_some_at b bs after false e f = absurd (cc)
 
-point_at_some : (bs behind : List ℕ) → point_at bs ≡ Some behind → bs ≡ 46 ∷ behind
-point_at_some [] behind e = absurd (cc)
-point_at_some (b ∷ bs) behind e = point_at_some_at b bs behind (b == 46) refl e
+point_at_some : (bs after : List ℕ) → point_at bs ≡ Some after → bs ≡ 46 ∷ after
+point_at_some [] after e = absurd (cc)
+point_at_some (b ∷ bs) after e = point_at_some_at b bs after (b == 46) refl e
 
 if_some : {A : Type 0} (t : Bool) (y x : A) → cond t None (Some y) ≡ Some x → (t ≡ false) × (y ≡ x)
 if_some true y x e = absurd (cc)
@@ -215,19 +215,19 @@ unsigned_sound_at bytes x None o_is e =
       (digits_split bytes).0,
       λ negative. ap (λ m. count_of (signed negative m)) (sym zero_more) ∙ count_of-capped negative whole [] tt,
     )
-unsigned_sound_at bytes x (Some behind) o_is e =
+unsigned_sound_at bytes x (Some after) o_is e =
     let whole = front_digits bytes in
-    let fraction = front_digits behind in
-    let found = if_some (is_empty whole && is_empty fraction) (capped whole fraction, after_digits behind) x e in
-    let joined : bytes ≡ (whole ++ (46 ∷ fraction)) ++ after_digits behind =
-    (digits_split bytes).0 ∙ ap (λ l. whole ++ l) (point_at_some (after_digits bytes) behind o_is ∙ ap (λ l. 46 ∷ l) (digits_split behind).0)
-    ∙ sym (append_assoc whole (46 ∷ fraction) (after_digits behind)) in
+    let fraction = front_digits after in
+    let found = if_some (is_empty whole && is_empty fraction) (capped whole fraction, after_digits after) x e in
+    let joined : bytes ≡ (whole ++ (46 ∷ fraction)) ++ after_digits after =
+    (digits_split bytes).0 ∙ ap (λ l. whole ++ l) (point_at_some (after_digits bytes) after o_is ∙ ap (λ l. 46 ∷ l) (digits_split after).0)
+    ∙ sym (append_assoc whole (46 ∷ fraction) (after_digits after)) in
     subst (FoundUnsigned bytes) found.1 (
       whole ++ (46 ∷ fraction),
       millionths whole fraction,
-      record { whole = whole; fraction = fraction; whole_digits = (digits_split bytes).1; fraction_digits = (digits_split behind).1; some = some_not_empty whole fraction found.0; spelled = inr refl; count = refl },
+      record { whole = whole; fraction = fraction; whole_digits = (digits_split bytes).1; fraction_digits = (digits_split after).1; some = some_not_empty whole fraction found.0; spelled = inr refl; count = refl },
       joined,
-      λ negative. count_of-capped negative whole fraction (digits_split behind).1,
+      λ negative. count_of-capped negative whole fraction (digits_split after).1,
     )
 
 unsigned_sound : (bytes : List ℕ) (x : ℕ × List ℕ) → unsigned_at bytes ≡ Some x → FoundUnsigned bytes x

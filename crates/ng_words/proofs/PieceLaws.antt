@@ -2,14 +2,14 @@
 use Rattle.std.proofs.Common.{ℕ, zero, suc, ◌+◌, ◌≤◌, ◌≡◌, ◌≢◌, ◌⊎◌, inl, inr, List, [], ◌∷◌, ◌++◌, length, Bool, true, false, cond, ◌==◌, Option, Some, None, refl, sym, ap, ◌∙◌, subst, arith, append_assoc, append-nil, length-append}
 use Rattle.std.specs.Option.{option_map, option_and_then}
 use Rattle.std.proofs.lemmas.Bool.Decides.{nat_tests, Decides-eqb}
-use Rattle.ng_words.specs.Grammar.{is_digit, Tree, IsValue, code, Piece, word, setting, comment, HasNoParentheses, Spells, Reads}
+use Rattle.ng_words.specs.Grammar.{is_digit, Tree, IsValue, code, Piece, word, setting, comment, HasNoParentheses, Spells, SpellsPieces}
 use Rattle.ng_words.specs.Scan.{letters, letter_among, letter_of}
-use Rattle.ng_words.specs.Values.{behind, value_at}
+use Rattle.ng_words.specs.Values.{strip_prefix, value_at}
 use Rattle.ng_words.specs.Pieces.{comment_at, set_at, piece_from, piece_at, pieces_at}
 use Rattle.ng_words.specs.declared.letter.Letter.{Letter}
 use Rattle.ng_words.specs.declared.letter.Letter.TheVariants.{A, B, C, D, F, G, H, I, J, K, L, M, P, Q, R, S, T, X, Y, Z}
 use Rattle.ng_words.proofs.Numbers.{Stops, NoDigit, option_map_some}
-use Rattle.ng_words.proofs.Walk.{and_then_some, behind_is}
+use Rattle.ng_words.proofs.Walk.{and_then_some, strip_prefix_is}
 use Rattle.ng_words.proofs.ValueLaws.{value_again, value_sound, length-value_at}
 
 -- ---- letters
@@ -133,14 +133,14 @@ comment_found bs x e =
 setting_found : (bs : List ℕ) (x : Piece × List ℕ) → option_and_then (λ i. set_at i.0 i.1) (value_at bs) ≡ Some x → FoundPiece (35 ∷ bs) x
 setting_found bs x e =
     let i = and_then_some (λ (i : Tree × List ℕ). set_at i.0 i.1) (value_at bs) x e in
-    let rest = and_then_some (λ rest. option_map (λ (v : Tree × List ℕ). (setting i.0.0 v.0, v.1)) (value_at rest)) (behind (61 ∷ []) i.0.1) x i.2 in
+    let rest = and_then_some (λ rest. option_map (λ (v : Tree × List ℕ). (setting i.0.0 v.0, v.1)) (value_at rest)) (strip_prefix (61 ∷ []) i.0.1) x i.2 in
     let v = option_map_some (λ (v : Tree × List ℕ). (setting i.0.0 v.0, v.1)) (value_at rest.0) x rest.2 in
     let index_is = value_sound bs i.0 i.1 in
     let value_is = value_sound rest.0 v.0 v.1 in
     subst (FoundPiece (35 ∷ bs)) v.2 (
       35 ∷ index_is.0 ++ 61 ∷ value_is.0,
       ap (λ l. 35 ∷ l) (
-          index_is.1 ∙ ap (λ l. index_is.0 ++ l) (behind_is (61 ∷ []) i.0.1 rest.0 rest.1 ∙ ap (λ l. 61 ∷ l) value_is.1)
+          index_is.1 ∙ ap (λ l. index_is.0 ++ l) (strip_prefix_is (61 ∷ []) i.0.1 rest.0 rest.1 ∙ ap (λ l. 61 ∷ l) value_is.1)
           ∙ sym (append_assoc index_is.0 (61 ∷ value_is.0) v.0.1)
           ),
       (index_is.0, value_is.0, refl, index_is.2, value_is.2),
@@ -204,7 +204,7 @@ abbrev pub BeginsPiece : List ℕ → Type 0
 BeginsPiece [] = Unit {0}
 BeginsPiece (b ∷ bs) = ((65 ≤ b) × (b ≤ 90) × (b ≢ 78)) ⊎ ((b ≡ 35) ⊎ (b ≡ 40))
 
-pub Reads-begins : (rest : List ℕ) (ps : List Piece) → Reads rest ps → BeginsPiece rest
+pub Reads-begins : (rest : List ℕ) (ps : List Piece) → SpellsPieces rest ps → BeginsPiece rest
 Reads-begins rest [] e = subst BeginsPiece (sym e) tt
 Reads-begins rest (word l value ∷ ps) h =
     let begins : rest ≡ code l ∷ (h.3.0 ++ h.1) = h.2 ∙ ap (λ f. f ++ h.1) h.3.1 in
@@ -251,12 +251,12 @@ BeginsPiece-NoN (b ∷ bs) h = (not_these b h).3
 -- ---- the pieces up to the end
 
 -- the first piece, and then those of the rest
-abbrev pieces_behind : ℕ → Piece × List ℕ → Option (List Piece)
-pieces_behind most x = option_map (λ ps. x.0 ∷ ps) (pieces_at most x.1)
+abbrev pieces_after : ℕ → Piece × List ℕ → Option (List Piece)
+pieces_after most x = option_map (λ ps. x.0 ∷ ps) (pieces_at most x.1)
 
 pieces_at-more_at : (most : ℕ) (b : ℕ) (bs : List ℕ) (o : Option (Piece × List ℕ)) → piece_at (b ∷ bs) ≡ o → length bs ≤ most
     → ((rest : List ℕ) → length rest ≤ length bs → (pieces_at most rest ≡ pieces_at (length rest) rest) × (pieces_at (length bs) rest ≡ pieces_at (length rest) rest))
-    → option_and_then (pieces_behind most) o ≡ option_and_then (pieces_behind (length bs)) o
+    → option_and_then (pieces_after most) o ≡ option_and_then (pieces_after (length bs)) o
 pieces_at-more_at most b bs None e h same = refl
 pieces_at-more_at most b bs (Some x) e h same =
     let shorter = length-piece_at (b ∷ bs) x e in
@@ -277,12 +277,12 @@ pub pieces_step : (bytes : List ℕ) (x : Piece × List ℕ) → piece_at bytes 
 pieces_step [] x e = absurd (cc)
 pieces_step (b ∷ bs) x e =
     let shorter = length-piece_at (b ∷ bs) x e in
-    ap (option_and_then (pieces_behind (length bs))) e ∙ ap (option_map (λ ps. x.0 ∷ ps)) (pieces_at-more (length bs) (length bs) x.1 (omega arith) (omega arith))
+    ap (option_and_then (pieces_after (length bs))) e ∙ ap (option_map (λ ps. x.0 ∷ ps)) (pieces_at-more (length bs) (length bs) x.1 (omega arith) (omega arith))
 
 -- where no piece stands at the front the pieces can't be read
 pub pieces_none : (bytes : List ℕ) → bytes ≢ [] → piece_at bytes ≡ None → pieces_at (length bytes) bytes ≡ None
 pieces_none [] n e = absurd (n refl)
-pieces_none (b ∷ bs) n e = ap (option_and_then (pieces_behind (length bs))) e
+pieces_none (b ∷ bs) n e = ap (option_and_then (pieces_after (length bs))) e
 
 -- ---- the reader's loop
 

@@ -5,9 +5,9 @@ use Rattle.std.specs.Option.{option_map}
 use Rattle.std.proofs.lemmas.Bool.Decides.{nat_tests}
 use Rattle.ng_words.specs.Grammar.{Tree, number, parameter, bracketed, applied, joined, level}
 use Rattle.ng_words.specs.Scan.{number_at}
-use Rattle.ng_words.specs.Values.{behind, Waiting, index, brackets, function, left, openings, operations, entry_at, Place, before, after, settled, gathered, closed, opened, continued, step_at, value_from, value_at}
+use Rattle.ng_words.specs.Values.{strip_prefix, Waiting, index, brackets, function, left, openings, operations, entry_at, WalkPosition, before, after, settled_value, gathered, closed, opened, continued, step_at, value_from, value_at}
 use Rattle.ng_words.specs.Kept.{postfix}
-use Rattle.ng_words.specs.Walks.{mark, marks, waiting_nodes, HoldsBefore, HoldsAfter, Stands, nearest, is_index, operation_within, closing, IsOpening, function_openings, TakesValue, GoesOn, Settles, Gathers, Closes, BeginsNumber}
+use Rattle.ng_words.specs.Walks.{mark, marks, waiting_nodes, HoldsBefore, HoldsAfter, Stands, nearest, is_index, operation_within, closing, IsOpening, function_openings, TakesValue, WalkStepSpec, Settles, Gathers, ClosesBrackets, BeginsNumber}
 use Rattle.ng_words.specs.declared.tree.Operation.{Operation}
 use Rattle.ng_words.specs.declared.tree.Function.{Function}
 use Rattle.ng_words.specs.declared.tree.Node.{Node}
@@ -58,7 +58,7 @@ one_less stack rest h t = let n : length rest ≡ length (take (length stack - 1
 abbrev pub IsSettling : List Mark → List Node → List Mark → List Node → Type 0
 IsSettling stack_first nodes_first stack nodes =
     (t : Tree) (ws : List Waiting) (base : List Node) → HoldsAfter t ws base stack_first nodes_first
-    → (u : Tree) × (vs : List Waiting) × HoldsAfter u vs base stack nodes × (settled u vs ≡ settled t ws)
+    → (u : Tree) × (vs : List Waiting) × HoldsAfter u vs base stack nodes × (settled_value u vs ≡ settled_value t ws)
 
 pub settling_starts : (stack : List Mark) (nodes : List Node) → IsSettling stack nodes stack nodes
 settling_starts stack nodes t ws base h = (t, ws, h, refl)
@@ -75,7 +75,7 @@ index_waits stack o b e f g = some_waits stack marked.Index (sym e ∙ is_index_
 
 settling_on : (base : List Node) (u : Tree) (vs : List Waiting) (stack stack_then : List Mark) (nodes nodes_then : List Node) → HoldsAfter u vs base stack nodes → is_index (nearest_of vs) ≡ true
     → stack_then ≡ take (length stack - 1) stack → nodes_then ≡ nodes ++ node.Parameter ∷ []
-    → (v : Tree) × (rest : List Waiting) × HoldsAfter v rest base stack_then nodes_then × (settled v rest ≡ settled u vs)
+    → (v : Tree) × (rest : List Waiting) × HoldsAfter v rest base stack_then nodes_then × (settled_value v rest ≡ settled_value u vs)
 settling_on base u [] stack stack_then nodes nodes_then h i s n = absurd (cc)
 settling_on base u (index ∷ vs) stack stack_then nodes nodes_then h i s n = (
   parameter u,
@@ -96,7 +96,7 @@ settling_goes stack_first stack stack_then nodes_first nodes nodes_then o b h e 
     let now = settling_on base was.0 was.1 stack stack_then nodes nodes_then was.2 waits s n in
     (now.0, now.1, now.2, now.3 ∙ was.3)
 
-settling_stops : (u : Tree) (vs : List Waiting) → is_index (nearest_of vs) ≡ false → after u vs ≡ settled u vs
+settling_stops : (u : Tree) (vs : List Waiting) → is_index (nearest_of vs) ≡ false → after u vs ≡ settled_value u vs
 settling_stops u [] e = refl
 settling_stops u (index ∷ vs) e = absurd (cc)
 settling_stops u (brackets ∷ vs) e = refl
@@ -108,7 +108,7 @@ pub settling_ends : (stack_first stack : List Mark) (nodes_first nodes : List No
 settling_ends stack_first stack nodes_first nodes o b h e f g t ws base holds =
     let was = h t ws base holds in
     let none_waits : is_index (nearest_of was.1) ≡ false = ap is_index (sym (nearest-marks was.1 stack was.2.stack_is) ∙ sym e) ∙ sym f ∙ g in
-    let P : Place → Type 0 = λ p. Stands p base true stack nodes in
+    let P : WalkPosition → Type 0 = λ p. Stands p base true stack nodes in
     subst P (settling_stops was.0 was.1 none_waits ∙ was.3) (refl, was.2)
 
 -- ---- a value is gathered
@@ -193,7 +193,7 @@ closing_waits stack (Some m) n e f = some_waits stack m (sym e)
 
 closes_at : (base : List Node) (n : Node) (t : Tree) (ws : List Waiting) (stack stack_then : List Mark) (nodes nodes_then : List Node) → HoldsAfter t ws base stack nodes → closing (nearest_of ws) ≡ Some n
     → stack_then ≡ take (length stack - 1) stack → nodes_then ≡ nodes ++ n ∷ []
-    → (u : Tree) × (rest : List Waiting) × (closed t ws ≡ Some (settled u rest)) × HoldsAfter u rest base stack_then nodes_then
+    → (u : Tree) × (rest : List Waiting) × (closed t ws ≡ Some (settled_value u rest)) × HoldsAfter u rest base stack_then nodes_then
 closes_at base n t [] stack stack_then nodes nodes_then h i s m = absurd (cc)
 closes_at base n t (index ∷ ws) stack stack_then nodes nodes_then h i s m = absurd (cc)
 closes_at base n t (brackets ∷ ws) stack stack_then nodes nodes_then h i s m =
@@ -220,10 +220,10 @@ closes_at base n t (left op l ∷ ws) stack stack_then nodes nodes_then h i s m 
 
 pub closes : (n : Node) (stack stack_then stack_last : List Mark) (nodes nodes_then nodes_last : List Node) (o : Option Mark) → o ≡ nearest stack → closing o ≡ Some n
     → stack_then ≡ take (length stack - 1) stack → nodes_then ≡ nodes ++ n ∷ [] → Settles stack_then nodes_then stack_last nodes_last
-    → Closes stack nodes true stack_last nodes_last
+    → ClosesBrackets stack nodes true stack_last nodes_last
 closes n stack stack_then stack_last nodes nodes_then nodes_last o e f s m settles t ws base holds =
     let c = closes_at base n t ws stack stack_then nodes nodes_then holds (ap closing (sym (nearest-marks ws stack holds.stack_is) ∙ sym e) ∙ f) s m in
-    (settled c.0 c.1, c.2, settles c.0 c.1 base c.3)
+    (settled_value c.0 c.1, c.2, settles c.0 c.1 base c.3)
 
 closes_none_at : (t : Tree) (ws : List Waiting) → closing (nearest_of ws) ≡ None → closed t ws ≡ None
 closes_none_at t [] e = refl
@@ -232,16 +232,16 @@ closes_none_at t (brackets ∷ ws) e = absurd (cc)
 closes_none_at t (function f ∷ ws) e = absurd (cc)
 closes_none_at t (left op l ∷ ws) e = refl
 
-pub closes_none : (stack stack_last : List Mark) (nodes nodes_last : List Node) (o : Option Mark) → o ≡ nearest stack → closing o ≡ None → Closes stack nodes false stack_last nodes_last
+pub closes_none : (stack stack_last : List Mark) (nodes nodes_last : List Node) (o : Option Mark) → o ≡ nearest stack → closing o ≡ None → ClosesBrackets stack nodes false stack_last nodes_last
 closes_none stack stack_last nodes nodes_last o e f t ws base holds =
     closes_none_at t ws (ap closing (sym (nearest-marks ws stack holds.stack_is) ∙ sym e) ∙ f)
 
 -- ---- what opens a value
 
-pub opening_function : (bytes one two rest : List ℕ) (f : Function) → behind (codes "#") bytes ≡ None → one ≡ bytes → behind (codes "[") one ≡ None → two ≡ one
+pub opening_function : (bytes one two rest : List ℕ) (f : Function) → strip_prefix (codes "#") bytes ≡ None → one ≡ bytes → strip_prefix (codes "[") one ≡ None → two ≡ one
     → entry_at function_openings two ≡ Some (function f, rest) → IsOpening bytes (Some (marked.Function f)) rest
 opening_function bytes one two rest f none_0 e none_1 g found =
-    let second : behind (codes "[") bytes ≡ None = ap (behind (codes "[")) (sym e) ∙ none_1 in
+    let second : strip_prefix (codes "[") bytes ≡ None = ap (strip_prefix (codes "[")) (sym e) ∙ none_1 in
     let third : entry_at function_openings bytes ≡ Some (function f, rest) = ap (entry_at function_openings) (sym e ∙ sym g) ∙ found in
     (function f, rw (none_0, second) third, refl, refl)
 
@@ -262,7 +262,7 @@ value_shorter bytes rest base nodes (Some n) h = length-value_at bytes (h.0, res
 
 -- something that opens one
 pub begin_opens : (bytes rest : List ℕ) (m : Mark) (stack stack_then : List Mark) (nodes : List Node) → IsOpening bytes (Some m) rest → stack_then ≡ stack ++ m ∷ []
-    → GoesOn false bytes stack nodes (Some false) rest stack_then nodes
+    → WalkStepSpec false bytes stack nodes (Some false) rest stack_then nodes
 begin_opens bytes rest m stack stack_then nodes h s (before ws) base stands = (
   before (h.0 ∷ ws),
   ap (opened ws bytes) h.1,
@@ -285,42 +285,42 @@ begin_opens bytes rest m stack stack_then nodes h s (after t ws) base stands = a
 -- a number
 pub begin_number : (bytes same rest : List ℕ) (value : Option ℤ) (stack stack_last : List Mark) (nodes nodes_then nodes_last : List Node) → entry_at openings bytes ≡ None → same ≡ bytes
     → number_at same ≡ Some (value, rest) → nodes_then ≡ nodes ++ node.Number value ∷ [] → Settles stack nodes_then stack_last nodes_last
-    → GoesOn false bytes stack nodes (Some true) rest stack_last nodes_last
+    → WalkStepSpec false bytes stack nodes (Some true) rest stack_last nodes_last
 begin_number bytes same rest value stack stack_last nodes nodes_then nodes_last none e found n settles (before ws) base stands = (
-  settled (number value) ws,
-  ap (opened ws bytes) none ∙ ap (option_map (λ (v : Option ℤ × List ℕ). (settled (number v.0) ws, v.1))) (ap number_at (sym e) ∙ found),
+  settled_value (number value) ws,
+  ap (opened ws bytes) none ∙ ap (option_map (λ (v : Option ℤ × List ℕ). (settled_value (number v.0) ws, v.1))) (ap number_at (sym e) ∙ found),
   settles (number value) ws base (record { stack_is = stands.1.stack_is; nodes_are = n ∙ ap (λ l. l ++ node.Number value ∷ []) stands.1.nodes_are ∙ append_assoc base (waiting_nodes ws) (node.Number value ∷ []) }),
 )
 begin_number bytes same rest value stack stack_last nodes nodes_then nodes_last none e found n settles (after t ws) base stands = absurd (let f : true ≡ false = sym stands.0 in cc)
 
 -- neither
 pub begin_none : (bytes same rest : List ℕ) (stack stack_last : List Mark) (nodes nodes_last : List Node) → entry_at openings bytes ≡ None → same ≡ bytes → number_at same ≡ None
-    → GoesOn false bytes stack nodes None rest stack_last nodes_last
+    → WalkStepSpec false bytes stack nodes None rest stack_last nodes_last
 begin_none bytes same rest stack stack_last nodes nodes_last none e found (before ws) base stands =
-    ap (opened ws bytes) none ∙ ap (option_map (λ (v : Option ℤ × List ℕ). (settled (number v.0) ws, v.1))) (ap number_at (sym e) ∙ found)
+    ap (opened ws bytes) none ∙ ap (option_map (λ (v : Option ℤ × List ℕ). (settled_value (number v.0) ws, v.1))) (ap number_at (sym e) ∙ found)
 begin_none bytes same rest stack stack_last nodes nodes_last none e found (after t ws) base stands = absurd (let f : true ≡ false = sym stands.0 in cc)
 
--- ---- a step behind a value
+-- ---- a step after a value
 
 -- a bracket that closes
-pub go_on_closes : (bytes rest : List ℕ) (stack stack_then stack_last : List Mark) (nodes nodes_then nodes_last : List Node) → behind (codes "]") bytes ≡ Some rest
-    → Gathers 3 stack nodes stack_then nodes_then → Closes stack_then nodes_then true stack_last nodes_last → GoesOn true bytes stack nodes (Some true) rest stack_last nodes_last
+pub go_on_closes : (bytes rest : List ℕ) (stack stack_then stack_last : List Mark) (nodes nodes_then nodes_last : List Node) → strip_prefix (codes "]") bytes ≡ Some rest
+    → Gathers 3 stack nodes stack_then nodes_then → ClosesBrackets stack_then nodes_then true stack_last nodes_last → WalkStepSpec true bytes stack nodes (Some true) rest stack_last nodes_last
 go_on_closes bytes rest stack stack_then stack_last nodes nodes_then nodes_last found gathers closes (before ws) base stands = absurd (let e : true ≡ false = stands.0 in cc)
 go_on_closes bytes rest stack stack_then stack_last nodes nodes_then nodes_last found gathers closes (after t ws) base stands =
     let c = closes (gathered 3 t ws).0 (gathered 3 t ws).1 base (gathers t ws base stands.1) in
-    (c.0, ap (continued t ws bytes) found ∙ ap (option_map (λ (p : Place). (p, rest))) c.1, c.2)
+    (c.0, ap (continued t ws bytes) found ∙ ap (option_map (λ (p : WalkPosition). (p, rest))) c.1, c.2)
 
 -- one that closes nothing
-pub go_on_unopened : (bytes rest behind_it : List ℕ) (stack stack_then stack_last : List Mark) (nodes nodes_then nodes_last : List Node) → behind (codes "]") bytes ≡ Some rest
-    → Gathers 3 stack nodes stack_then nodes_then → Closes stack_then nodes_then false stack_last nodes_last → GoesOn true bytes stack nodes None behind_it stack_last nodes_last
-go_on_unopened bytes rest behind_it stack stack_then stack_last nodes nodes_then nodes_last found gathers closes (before ws) base stands = absurd (let e : true ≡ false = stands.0 in cc)
-go_on_unopened bytes rest behind_it stack stack_then stack_last nodes nodes_then nodes_last found gathers closes (after t ws) base stands =
-    ap (continued t ws bytes) found ∙ ap (option_map (λ (p : Place). (p, rest))) (closes (gathered 3 t ws).0 (gathered 3 t ws).1 base (gathers t ws base stands.1))
+pub go_on_unopened : (bytes rest after_it : List ℕ) (stack stack_then stack_last : List Mark) (nodes nodes_then nodes_last : List Node) → strip_prefix (codes "]") bytes ≡ Some rest
+    → Gathers 3 stack nodes stack_then nodes_then → ClosesBrackets stack_then nodes_then false stack_last nodes_last → WalkStepSpec true bytes stack nodes None after_it stack_last nodes_last
+go_on_unopened bytes rest after_it stack stack_then stack_last nodes nodes_then nodes_last found gathers closes (before ws) base stands = absurd (let e : true ≡ false = stands.0 in cc)
+go_on_unopened bytes rest after_it stack stack_then stack_last nodes nodes_then nodes_last found gathers closes (after t ws) base stands =
+    ap (continued t ws bytes) found ∙ ap (option_map (λ (p : WalkPosition). (p, rest))) (closes (gathered 3 t ws).0 (gathered 3 t ws).1 base (gathers t ws base stands.1))
 
 -- an operation
-pub go_on_operation : (bytes same rest : List ℕ) (op : Operation) (most : ℕ) (stack stack_then stack_last : List Mark) (nodes nodes_then : List Node) → behind (codes "]") bytes ≡ None → same ≡ bytes
+pub go_on_operation : (bytes same rest : List ℕ) (op : Operation) (most : ℕ) (stack stack_then stack_last : List Mark) (nodes nodes_then : List Node) → strip_prefix (codes "]") bytes ≡ None → same ≡ bytes
     → entry_at operations same ≡ Some (op, rest) → most ≡ level op → Gathers most stack nodes stack_then nodes_then → stack_last ≡ stack_then ++ marked.Operation op ∷ []
-    → GoesOn true bytes stack nodes (Some false) rest stack_last nodes_then
+    → WalkStepSpec true bytes stack nodes (Some false) rest stack_last nodes_then
 go_on_operation bytes same rest op most stack stack_then stack_last nodes nodes_then none e found m gathers s (before ws) base stands = absurd (let f : true ≡ false = stands.0 in cc)
 go_on_operation bytes same rest op most stack stack_then stack_last nodes nodes_then none e found m gathers s (after t ws) base stands =
     let P : ℕ → Type 0 = λ n. HoldsAfter (gathered n t ws).0 (gathered n t ws).1 base stack_then nodes_then in
@@ -331,8 +331,8 @@ go_on_operation bytes same rest op most stack stack_then stack_last nodes nodes_
     )
 
 -- neither
-pub go_on_none : (bytes same rest : List ℕ) (stack stack_last : List Mark) (nodes nodes_last : List Node) → behind (codes "]") bytes ≡ None → same ≡ bytes → entry_at operations same ≡ None
-    → GoesOn true bytes stack nodes None rest stack_last nodes_last
+pub go_on_none : (bytes same rest : List ℕ) (stack stack_last : List Mark) (nodes nodes_last : List Node) → strip_prefix (codes "]") bytes ≡ None → same ≡ bytes → entry_at operations same ≡ None
+    → WalkStepSpec true bytes stack nodes None rest stack_last nodes_last
 go_on_none bytes same rest stack stack_last nodes nodes_last none e found (before ws) base stands = absurd (let f : true ≡ false = stands.0 in cc)
 go_on_none bytes same rest stack stack_last nodes nodes_last none e found (after t ws) base stands =
     ap (continued t ws bytes) none ∙ ap (option_map (λ (x : Operation × List ℕ). (before (left x.0 (gathered (level x.0) t ws).0 ∷ (gathered (level x.0) t ws).1), x.1))) (ap (entry_at operations) (sym e) ∙ found)
@@ -341,72 +341,72 @@ go_on_none bytes same rest stack stack_last nodes nodes_last none e found (after
 
 -- the walk has come to a place: it gives there what it is to give
 abbrev pub IsWalking : List ℕ → List Node → List ℕ → Bool → List Mark → List Node → Type 0
-IsWalking bytes_first base bytes behind_value stack nodes =
-    (p : Place) × (value_from (length bytes) p bytes ≡ value_at bytes_first) × Stands p base behind_value stack nodes
+IsWalking bytes_first base bytes after_value stack nodes =
+    (p : WalkPosition) × (value_from (length bytes) p bytes ≡ value_at bytes_first) × Stands p base after_value stack nodes
 
 pub walking_starts : (bytes : List ℕ) (stack : List Mark) (nodes : List Node) → stack ≡ [] → IsWalking bytes nodes bytes false stack nodes
 walking_starts bytes stack nodes e = (before [], refl, (refl, record { stack_is = e; nodes_are = sym (append-nil nodes) }))
 
-walking_goes_at : (bytes_first bytes : List ℕ) (base : List Node) (behind_value : Bool) (stack : List Mark) (nodes : List Node) (p : Place) (x : Place × List ℕ)
-    → value_from (length bytes) p bytes ≡ value_at bytes_first → Stands p base behind_value stack nodes → ((behind_value ≡ true) × (stack ≡ []) → ⊥) → step_at p bytes ≡ Some x
+walking_goes_at : (bytes_first bytes : List ℕ) (base : List Node) (after_value : Bool) (stack : List Mark) (nodes : List Node) (p : WalkPosition) (x : WalkPosition × List ℕ)
+    → value_from (length bytes) p bytes ≡ value_at bytes_first → Stands p base after_value stack nodes → ((after_value ≡ true) × (stack ≡ []) → ⊥) → step_at p bytes ≡ Some x
     → value_from (length x.1) x.0 x.1 ≡ value_at bytes_first
-walking_goes_at bytes_first bytes base behind_value stack nodes (before ws) x e h n s = sym (walk_before ws bytes x s) ∙ e
-walking_goes_at bytes_first bytes base behind_value stack nodes (after t []) x e h n s = absurd (n (h.0, h.1.stack_is))
-walking_goes_at bytes_first bytes base behind_value stack nodes (after t (w ∷ ws)) x e h n s = sym (walk_after t w ws bytes x s) ∙ e
+walking_goes_at bytes_first bytes base after_value stack nodes (before ws) x e h n s = sym (walk_before ws bytes x s) ∙ e
+walking_goes_at bytes_first bytes base after_value stack nodes (after t []) x e h n s = absurd (n (h.0, h.1.stack_is))
+walking_goes_at bytes_first bytes base after_value stack nodes (after t (w ∷ ws)) x e h n s = sym (walk_after t w ws bytes x s) ∙ e
 
 -- a loop that goes on
-pub not_ended : (ended : Bool) (behind_value : Bool) (stack : List Mark) → (IsTrue ended ↔ ((behind_value ≡ true) × (stack ≡ []))) → ended ≡ false → (behind_value ≡ true) × (stack ≡ []) → ⊥
-not_ended true behind_value stack h e f = absurd (cc)
-not_ended false behind_value stack h e f = let t : IsTrue false = h.1 f in grind (arith, nat_tests)
+pub not_ended : (ended : Bool) (after_value : Bool) (stack : List Mark) → (IsTrue ended ↔ ((after_value ≡ true) × (stack ≡ []))) → ended ≡ false → (after_value ≡ true) × (stack ≡ []) → ⊥
+not_ended true after_value stack h e f = absurd (cc)
+not_ended false after_value stack h e f = let t : IsTrue false = h.1 f in grind (arith, nat_tests)
 
 -- a loop that is left
-pub has_ended_is : (ended : Bool) (behind_value : Bool) (stack : List Mark) → (IsTrue ended ↔ ((behind_value ≡ true) × (stack ≡ []))) → ended ≡ true → (behind_value ≡ true) × (stack ≡ [])
-has_ended_is true behind_value stack h e = h.0 (search rules)
-has_ended_is false behind_value stack h e = absurd (cc)
+pub has_ended_is : (ended : Bool) (after_value : Bool) (stack : List Mark) → (IsTrue ended ↔ ((after_value ≡ true) × (stack ≡ []))) → ended ≡ true → (after_value ≡ true) × (stack ≡ [])
+has_ended_is true after_value stack h e = h.0 (search rules)
+has_ended_is false after_value stack h e = absurd (cc)
 
 -- a step on
-pub walking_goes : (bytes_first bytes rest : List ℕ) (base : List Node) (behind_value behind_then : Bool) (stack stack_then : List Mark) (nodes nodes_then : List Node)
-    → IsWalking bytes_first base bytes behind_value stack nodes → ((behind_value ≡ true) × (stack ≡ []) → ⊥)
-    → GoesOn behind_value bytes stack nodes (Some behind_then) rest stack_then nodes_then
-    → IsWalking bytes_first base rest behind_then stack_then nodes_then × (length rest < length bytes)
-walking_goes bytes_first bytes rest base behind_value behind_then stack stack_then nodes nodes_then h n goes =
+pub walking_goes : (bytes_first bytes rest : List ℕ) (base : List Node) (after_value after_value_then : Bool) (stack stack_then : List Mark) (nodes nodes_then : List Node)
+    → IsWalking bytes_first base bytes after_value stack nodes → ((after_value ≡ true) × (stack ≡ []) → ⊥)
+    → WalkStepSpec after_value bytes stack nodes (Some after_value_then) rest stack_then nodes_then
+    → IsWalking bytes_first base rest after_value_then stack_then nodes_then × (length rest < length bytes)
+walking_goes bytes_first bytes rest base after_value after_value_then stack stack_then nodes nodes_then h n goes =
     let s = goes h.0 base h.2 in
-    ((s.0, walking_goes_at bytes_first bytes base behind_value stack nodes h.0 (s.0, rest) h.1 h.2 n s.1, s.2), step_shorter h.0 bytes (s.0, rest) s.1)
+    ((s.0, walking_goes_at bytes_first bytes base after_value stack nodes h.0 (s.0, rest) h.1 h.2 n s.1, s.2), step_shorter h.0 bytes (s.0, rest) s.1)
 
-walking_none_at : (bytes_first bytes : List ℕ) (base : List Node) (behind_value : Bool) (stack : List Mark) (nodes : List Node) (p : Place)
-    → value_from (length bytes) p bytes ≡ value_at bytes_first → Stands p base behind_value stack nodes → ((behind_value ≡ true) × (stack ≡ []) → ⊥) → step_at p bytes ≡ None
+walking_none_at : (bytes_first bytes : List ℕ) (base : List Node) (after_value : Bool) (stack : List Mark) (nodes : List Node) (p : WalkPosition)
+    → value_from (length bytes) p bytes ≡ value_at bytes_first → Stands p base after_value stack nodes → ((after_value ≡ true) × (stack ≡ []) → ⊥) → step_at p bytes ≡ None
     → value_at bytes_first ≡ None
-walking_none_at bytes_first bytes base behind_value stack nodes (before ws) e h n s = sym e ∙ walk_before_none ws bytes s
-walking_none_at bytes_first bytes base behind_value stack nodes (after t []) e h n s = absurd (n (h.0, h.1.stack_is))
-walking_none_at bytes_first bytes base behind_value stack nodes (after t (w ∷ ws)) e h n s = sym e ∙ walk_after_none t w ws bytes s
+walking_none_at bytes_first bytes base after_value stack nodes (before ws) e h n s = sym e ∙ walk_before_none ws bytes s
+walking_none_at bytes_first bytes base after_value stack nodes (after t []) e h n s = absurd (n (h.0, h.1.stack_is))
+walking_none_at bytes_first bytes base after_value stack nodes (after t (w ∷ ws)) e h n s = sym e ∙ walk_after_none t w ws bytes s
 
 -- no step on: there is no value
-pub walking_none : (bytes_first bytes rest : List ℕ) (base : List Node) (behind_value : Bool) (stack stack_then : List Mark) (nodes nodes_then : List Node)
-    → IsWalking bytes_first base bytes behind_value stack nodes → ((behind_value ≡ true) × (stack ≡ []) → ⊥)
-    → GoesOn behind_value bytes stack nodes None rest stack_then nodes_then → value_at bytes_first ≡ None
-walking_none bytes_first bytes rest base behind_value stack stack_then nodes nodes_then h n goes =
-    walking_none_at bytes_first bytes base behind_value stack nodes h.0 h.1 h.2 n (goes h.0 base h.2)
+pub walking_none : (bytes_first bytes rest : List ℕ) (base : List Node) (after_value : Bool) (stack stack_then : List Mark) (nodes nodes_then : List Node)
+    → IsWalking bytes_first base bytes after_value stack nodes → ((after_value ≡ true) × (stack ≡ []) → ⊥)
+    → WalkStepSpec after_value bytes stack nodes None rest stack_then nodes_then → value_at bytes_first ≡ None
+walking_none bytes_first bytes rest base after_value stack stack_then nodes nodes_then h n goes =
+    walking_none_at bytes_first bytes base after_value stack nodes h.0 h.1 h.2 n (goes h.0 base h.2)
 
 value_from-end : (most : ℕ) (t : Tree) (bytes : List ℕ) → value_from most (after t []) bytes ≡ Some (t, bytes)
 value_from-end zero t bytes = refl
 value_from-end (suc most) t bytes = refl
 
-walking_ends_at : (bytes_first bytes : List ℕ) (base : List Node) (behind_value : Bool) (stack : List Mark) (nodes : List Node) (p : Place) (n : ℕ)
-    → value_from (length bytes) p bytes ≡ value_at bytes_first → Stands p base behind_value stack nodes → behind_value ≡ true → stack ≡ [] → n ≡ length nodes - length base
+walking_ends_at : (bytes_first bytes : List ℕ) (base : List Node) (after_value : Bool) (stack : List Mark) (nodes : List Node) (p : WalkPosition) (n : ℕ)
+    → value_from (length bytes) p bytes ≡ value_at bytes_first → Stands p base after_value stack nodes → after_value ≡ true → stack ≡ [] → n ≡ length nodes - length base
     → TakesValue bytes_first base (Some n) bytes nodes
-walking_ends_at bytes_first bytes base behind_value stack nodes (before ws) n e h b s l = absurd (let f : true ≡ false = sym b ∙ h.0 in cc)
-walking_ends_at bytes_first bytes base behind_value stack nodes (after t []) n e h b s l =
+walking_ends_at bytes_first bytes base after_value stack nodes (before ws) n e h b s l = absurd (let f : true ≡ false = sym b ∙ h.0 in cc)
+walking_ends_at bytes_first bytes base after_value stack nodes (after t []) n e h b s l =
     let sum : length nodes ≡ length base + (0 + length (postfix t)) = simp length-append at (ap length h.1.nodes_are) in
     (t, sym e ∙ value_from-end (length bytes) t bytes, h.1.nodes_are, omega arith)
-walking_ends_at bytes_first bytes base behind_value stack nodes (after t (w ∷ ws)) n e h b s l =
+walking_ends_at bytes_first bytes base after_value stack nodes (after t (w ∷ ws)) n e h b s l =
     let none : length (marks ws ++ mark w ∷ []) ≡ 0 = ap length (sym h.1.stack_is ∙ s) in absurd (omega (arith, length-append (marks ws) (mark w ∷ [])))
 
--- nothing waits behind a value: it is taken
-pub walking_ends : (bytes_first bytes : List ℕ) (base : List Node) (behind_value : Bool) (stack : List Mark) (nodes : List Node) (n : ℕ)
-    → IsWalking bytes_first base bytes behind_value stack nodes → (behind_value ≡ true) × (stack ≡ []) → n ≡ length nodes - length base
+-- nothing waits after a value: it is taken
+pub walking_ends : (bytes_first bytes : List ℕ) (base : List Node) (after_value : Bool) (stack : List Mark) (nodes : List Node) (n : ℕ)
+    → IsWalking bytes_first base bytes after_value stack nodes → (after_value ≡ true) × (stack ≡ []) → n ≡ length nodes - length base
     → TakesValue bytes_first base (Some n) bytes nodes
-walking_ends bytes_first bytes base behind_value stack nodes n h ended l =
-    walking_ends_at bytes_first bytes base behind_value stack nodes h.0 n h.1 h.2 ended.0 ended.1 l
+walking_ends bytes_first bytes base after_value stack nodes n h ended l =
+    walking_ends_at bytes_first bytes base after_value stack nodes h.0 n h.1 h.2 ended.0 ended.1 l
 
 -- ---- a number, of which no walk is needed
 
@@ -429,9 +429,9 @@ pub number_taken : (bytes rest : List ℕ) (value : Option ℤ) (nodes nodes_the
     → nodes_then ≡ nodes ++ node.Number value ∷ [] → TakesValue bytes nodes (Some 1) rest nodes_then
 number_taken bytes rest value nodes nodes_then h e n =
     let stepped : step_at (before []) bytes ≡ Some (after (number value) [], rest) =
-    ap (opened [] bytes) (no_opening bytes h) ∙ ap (option_map (λ (v : Option ℤ × List ℕ). (settled (number v.0) [], v.1))) e in
+    ap (opened [] bytes) (no_opening bytes h) ∙ ap (option_map (λ (v : Option ℤ × List ℕ). (settled_value (number v.0) [], v.1))) e in
     (number value, walk_before [] bytes (after (number value) [], rest) stepped ∙ value_from-end (length rest) (number value) rest, n, refl)
 
 pub number_missing : (bytes : List ℕ) → BeginsNumber bytes → number_at bytes ≡ None → value_at bytes ≡ None
 number_missing bytes h e =
-    walk_before_none [] bytes (ap (opened [] bytes) (no_opening bytes h) ∙ ap (option_map (λ (v : Option ℤ × List ℕ). (settled (number v.0) [], v.1))) e)
+    walk_before_none [] bytes (ap (opened [] bytes) (no_opening bytes h) ∙ ap (option_map (λ (v : Option ℤ × List ℕ). (settled_value (number v.0) [], v.1))) e)

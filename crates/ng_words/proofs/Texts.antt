@@ -5,7 +5,7 @@ use Rattle.std.proofs.Math.Seq.{take-suc}
 use Rattle.std.proofs.lemmas.List.{drop_all}
 use Rattle.std.proofs.lemmas.Bool.Decides.{nat_tests, Decides-eqb}
 use Rattle.ng_words.specs.Plain.{plain, StartsWithByte, IsOutside, HasNoComment}
-use Rattle.ng_words.specs.Values.{behind}
+use Rattle.ng_words.specs.Values.{strip_prefix}
 use Rattle.ng_words.specs.Pieces.{comment_at}
 use Rattle.ng_words.specs.Walks.{ClosesAt}
 
@@ -15,15 +15,15 @@ use Rattle.ng_words.specs.Walks.{ClosesAt}
 pub text_from : (text : List ℕ) (i : ℕ) → i < length text → drop i text ≡ get_or text i 0 ∷ drop (i + 1) text
 text_from text i h = rw add-one (drop-cons text i 0 h)
 
-behind_first : (b c : ℕ) (cs bs : List ℕ) → b ≡ c → behind (c ∷ cs) (b ∷ bs) ≡ behind cs bs
-behind_first b c cs bs e = grind (arith, nat_tests)
+strip_prefix_first : (b c : ℕ) (cs bs : List ℕ) → b ≡ c → strip_prefix (c ∷ cs) (b ∷ bs) ≡ strip_prefix cs bs
+strip_prefix_first b c cs bs e = grind (arith, nat_tests)
 
-behind_other : (b c : ℕ) (cs bs : List ℕ) → b ≢ c → behind (c ∷ cs) (b ∷ bs) ≡ None
-behind_other b c cs bs n = grind (arith, nat_tests)
+strip_prefix_other : (b c : ℕ) (cs bs : List ℕ) → b ≢ c → strip_prefix (c ∷ cs) (b ∷ bs) ≡ None
+strip_prefix_other b c cs bs n = grind (arith, nat_tests)
 
-skip_goes_at : (c : ℕ) (cs bytes : List ℕ) → StartsWithByte bytes c → behind (c ∷ cs) bytes ≡ behind cs (drop 1 bytes)
+skip_goes_at : (c : ℕ) (cs bytes : List ℕ) → StartsWithByte bytes c → strip_prefix (c ∷ cs) bytes ≡ strip_prefix cs (drop 1 bytes)
 skip_goes_at c cs [] s = absurd s
-skip_goes_at c cs (b ∷ bs) s = behind_first b c cs bs s
+skip_goes_at c cs (b ∷ bs) s = strip_prefix_first b c cs bs s
 
 -- what a test of the next byte says
 next_same : (o : Option ℕ) (c : ℕ) → not (option_eq eqb o (Some c)) ≡ false → o ≡ Some c
@@ -40,23 +40,23 @@ next_other (Some b) c e = λ f. let same : b ≡ c = cc in grind (arith, nat_tes
 
 -- the next byte is the text's
 pub skip_goes : (text : List ℕ) (i : ℕ) (bytes after : List ℕ) (o : Option ℕ) → i < length text → MatchOption o (bytes ≡ []) (λ b. StartsWithByte bytes b)
-    → not (option_eq eqb o (Some (get_or text i 0))) ≡ false → after ≡ drop 1 bytes → behind (drop (i + 1) text) after ≡ behind (drop i text) bytes
+    → not (option_eq eqb o (Some (get_or text i 0))) ≡ false → after ≡ drop 1 bytes → strip_prefix (drop (i + 1) text) after ≡ strip_prefix (drop i text) bytes
 skip_goes text i bytes after None h m o a = absurd (cc)
 skip_goes text i bytes after (Some b) h m o a =
     let it : Some b ≡ Some (get_or text i 0) = next_same (Some b) (get_or text i 0) o in
     let same : b ≡ get_or text i 0 = cc in
-    ap (behind (drop (i + 1) text)) a ∙ sym (skip_goes_at _ _ bytes (subst (StartsWithByte bytes) same m)) ∙ ap (λ t. behind t bytes) (sym (text_from text i h))
+    ap (strip_prefix (drop (i + 1) text)) a ∙ sym (skip_goes_at _ _ bytes (subst (StartsWithByte bytes) same m)) ∙ ap (λ t. strip_prefix t bytes) (sym (text_from text i h))
 
-skip_stops_at : (c b : ℕ) (cs bytes : List ℕ) → StartsWithByte bytes b → b ≢ c → behind (c ∷ cs) bytes ≡ None
+skip_stops_at : (c b : ℕ) (cs bytes : List ℕ) → StartsWithByte bytes b → b ≢ c → strip_prefix (c ∷ cs) bytes ≡ None
 skip_stops_at c b cs [] s n = refl
-skip_stops_at c b cs (d ∷ bs) s n = behind_other d c cs bs (λ e. n (sym s ∙ e))
+skip_stops_at c b cs (d ∷ bs) s n = strip_prefix_other d c cs bs (λ e. n (sym s ∙ e))
 
 -- the next byte isn't the text's
 pub skip_stops : (text : List ℕ) (i : ℕ) (bytes : List ℕ) (o : Option ℕ) → i < length text → MatchOption o (bytes ≡ []) (λ b. StartsWithByte bytes b)
-    → not (option_eq eqb o (Some (get_or text i 0))) ≡ true → behind (drop i text) bytes ≡ None
-skip_stops text i bytes None h m n = ap (λ t. behind t bytes) (text_from text i h) ∙ ap (behind (get_or text i 0 ∷ drop (i + 1) text)) m
+    → not (option_eq eqb o (Some (get_or text i 0))) ≡ true → strip_prefix (drop i text) bytes ≡ None
+skip_stops text i bytes None h m n = ap (λ t. strip_prefix t bytes) (text_from text i h) ∙ ap (strip_prefix (get_or text i 0 ∷ drop (i + 1) text)) m
 skip_stops text i bytes (Some b) h m n =
-    ap (λ t. behind t bytes) (text_from text i h) ∙ skip_stops_at _ b _ bytes m (λ f. next_other (Some b) (get_or text i 0) n (ap {B = Option ℕ} Some f))
+    ap (λ t. strip_prefix t bytes) (text_from text i h) ∙ skip_stops_at _ b _ bytes m (λ f. next_other (Some b) (get_or text i 0) n (ap {B = Option ℕ} Some f))
 
 IsOutside_at : (c : ℕ) (bytes : List ℕ) → StartsWithByte bytes c → c ≢ 40 → IsOutside bytes
 IsOutside_at c [] s n = absurd s
@@ -79,62 +79,62 @@ HasNoComment-more text i h n = (HasNoComment-next text i h n).1
 
 -- ---- a comment
 
--- what is found further on, behind bytes that belong to the comment
-abbrev pub found_behind : List ℕ → Option (List ℕ × List ℕ) → Option (List ℕ × List ℕ)
-found_behind front o = option_map (λ x. (front ++ x.0, x.1)) o
+-- what is found further on, after bytes that belong to the comment
+abbrev pub found_after : List ℕ → Option (List ℕ × List ℕ) → Option (List ℕ × List ℕ)
+found_after front o = option_map (λ x. (front ++ x.0, x.1)) o
 
-pub found_behind-nothing : (o : Option (List ℕ × List ℕ)) → found_behind [] o ≡ o
-found_behind-nothing None = refl
-found_behind-nothing (Some x) = refl
+pub found_after-nothing : (o : Option (List ℕ × List ℕ)) → found_after [] o ≡ o
+found_after-nothing None = refl
+found_after-nothing (Some x) = refl
 
 plain_from : (bytes : List ℕ) (i : ℕ) → i < length bytes → plain true (drop i bytes) ≡ get_or bytes i 0 ∷ plain (not (get_or bytes i 0 == 41)) (drop (i + 1) bytes)
 plain_from bytes i h = ap (plain true) (text_from bytes i h)
 
 -- a closing parenthesis
 pub comment_closes : (bytes : List ℕ) (i : ℕ) → i < length bytes → get_or bytes i 0 ≡ 41
-    → found_behind (take i bytes) (comment_at (plain true (drop i bytes))) ≡ comment_at (plain true bytes)
+    → found_after (take i bytes) (comment_at (plain true (drop i bytes))) ≡ comment_at (plain true bytes)
     → ClosesAt bytes i
 comment_closes bytes i h e f =
     let shown : comment_at (plain true bytes) ≡ Some (take i bytes, plain false (drop (i + 1) bytes)) =
-    sym f ∙ ap (λ l. found_behind (take i bytes) (comment_at l)) (plain_from bytes i h) ∙ closed (get_or bytes i 0) e in (h, shown)
+    sym f ∙ ap (λ l. found_after (take i bytes) (comment_at l)) (plain_from bytes i h) ∙ closed (get_or bytes i 0) e in (h, shown)
   where
-    closed : (b : ℕ) → b ≡ 41 → found_behind (take i bytes) (comment_at (b ∷ plain (not (b == 41)) (drop (i + 1) bytes))) ≡ Some (take i bytes, plain false (drop (i + 1) bytes))
+    closed : (b : ℕ) → b ≡ 41 → found_after (take i bytes) (comment_at (b ∷ plain (not (b == 41)) (drop (i + 1) bytes))) ≡ Some (take i bytes, plain false (drop (i + 1) bytes))
     closed b e = let t : (b == 41) ≡ true = (Decides-eqb b 41).1 e in rw t (ap {B = Option (List ℕ × List ℕ)} (λ l. Some (l, plain false (drop (i + 1) bytes))) (append-nil (take i bytes)))
 
 -- an opening parenthesis
 pub comment_opens : (bytes : List ℕ) (i : ℕ) → i < length bytes → get_or bytes i 0 ≡ 40
-    → found_behind (take i bytes) (comment_at (plain true (drop i bytes))) ≡ comment_at (plain true bytes)
+    → found_after (take i bytes) (comment_at (plain true (drop i bytes))) ≡ comment_at (plain true bytes)
     → comment_at (plain true bytes) ≡ None
 comment_opens bytes i h e f =
-    sym f ∙ ap (λ l. found_behind (take i bytes) (comment_at l)) (plain_from bytes i h) ∙ opened (get_or bytes i 0) e
+    sym f ∙ ap (λ l. found_after (take i bytes) (comment_at l)) (plain_from bytes i h) ∙ opened (get_or bytes i 0) e
   where
-    opened : (b : ℕ) → b ≡ 40 → found_behind (take i bytes) (comment_at (b ∷ plain (not (b == 41)) (drop (i + 1) bytes))) ≡ None
+    opened : (b : ℕ) → b ≡ 40 → found_after (take i bytes) (comment_at (b ∷ plain (not (b == 41)) (drop (i + 1) bytes))) ≡ None
     opened b e =
         let t : (b == 40) ≡ true = (Decides-eqb b 40).1 e in
         let u : (b == 41) ≡ false = grind (arith, nat_tests) in rw (u, t) refl
 
 -- any other byte
 pub comment_goes : (bytes : List ℕ) (i : ℕ) → i < length bytes → get_or bytes i 0 ≢ 41 → get_or bytes i 0 ≢ 40
-    → found_behind (take i bytes) (comment_at (plain true (drop i bytes))) ≡ comment_at (plain true bytes)
-    → found_behind (take (i + 1) bytes) (comment_at (plain true (drop (i + 1) bytes))) ≡ comment_at (plain true bytes)
+    → found_after (take i bytes) (comment_at (plain true (drop i bytes))) ≡ comment_at (plain true bytes)
+    → found_after (take (i + 1) bytes) (comment_at (plain true (drop (i + 1) bytes))) ≡ comment_at (plain true bytes)
 comment_goes bytes i h n m f =
-    ap (λ l. found_behind l (comment_at (plain true (drop (i + 1) bytes)))) longer ∙ moved (comment_at (plain true (drop (i + 1) bytes)))
-    ∙ sym (goes (get_or bytes i 0) n m) ∙ ap (λ l. found_behind (take i bytes) (comment_at l)) (sym (plain_from bytes i h)) ∙ f
+    ap (λ l. found_after l (comment_at (plain true (drop (i + 1) bytes)))) longer ∙ moved (comment_at (plain true (drop (i + 1) bytes)))
+    ∙ sym (goes (get_or bytes i 0) n m) ∙ ap (λ l. found_after (take i bytes) (comment_at l)) (sym (plain_from bytes i h)) ∙ f
   where
     longer : take (i + 1) bytes ≡ take i bytes ++ (get_or bytes i 0 ∷ [])
     longer = rw add-one (take-suc bytes i 0 h)
 
-    moved : (o : Option (List ℕ × List ℕ)) → found_behind (take i bytes ++ (get_or bytes i 0 ∷ [])) o ≡ found_behind (take i bytes) (option_map (λ x. (get_or bytes i 0 ∷ x.0, x.1)) o)
+    moved : (o : Option (List ℕ × List ℕ)) → found_after (take i bytes ++ (get_or bytes i 0 ∷ [])) o ≡ found_after (take i bytes) (option_map (λ x. (get_or bytes i 0 ∷ x.0, x.1)) o)
     moved None = refl
     moved (Some x) = ap {B = Option (List ℕ × List ℕ)} (λ l. Some (l, x.1)) (append_assoc (take i bytes) (get_or bytes i 0 ∷ []) x.0)
 
-    goes : (b : ℕ) → b ≢ 41 → b ≢ 40 → found_behind (take i bytes) (comment_at (b ∷ plain (not (b == 41)) (drop (i + 1) bytes)))
-        ≡ found_behind (take i bytes) (option_map (λ x. (b ∷ x.0, x.1)) (comment_at (plain true (drop (i + 1) bytes))))
+    goes : (b : ℕ) → b ≢ 41 → b ≢ 40 → found_after (take i bytes) (comment_at (b ∷ plain (not (b == 41)) (drop (i + 1) bytes)))
+        ≡ found_after (take i bytes) (option_map (λ x. (b ∷ x.0, x.1)) (comment_at (plain true (drop (i + 1) bytes))))
     goes b n m =
         let t : (b == 41) ≡ false = grind (arith, nat_tests) in
         let u : (b == 40) ≡ false = grind (arith, nat_tests) in rw (t, u) refl
 
 -- no closing parenthesis
 pub comment_ends : (bytes : List ℕ) (i : ℕ) → length bytes ≤ i
-    → found_behind (take i bytes) (comment_at (plain true (drop i bytes))) ≡ comment_at (plain true bytes) → comment_at (plain true bytes) ≡ None
-comment_ends bytes i e f = sym f ∙ ap (λ l. found_behind (take i bytes) (comment_at (plain true l))) (drop_all i bytes (omega arith))
+    → found_after (take i bytes) (comment_at (plain true (drop i bytes))) ≡ comment_at (plain true bytes) → comment_at (plain true bytes) ≡ None
+comment_ends bytes i e f = sym f ∙ ap (λ l. found_after (take i bytes) (comment_at (plain true l))) (drop_all i bytes (omega arith))

@@ -4,13 +4,13 @@ use Rattle.std.specs.Option.{option_map}
 use Rattle.std.proofs.lemmas.Bool.Decides.{nat_tests}
 use Rattle.ng_words.specs.Grammar.{AreDigits, IsNumber, symbol, level, name, Tree, number, parameter, bracketed, applied, joined, looseness, IsChain, IsValue}
 use Rattle.ng_words.specs.Scan.{number_at}
-use Rattle.ng_words.specs.Values.{behind, entry_or, entry_at, Waiting, index, brackets, function, left, openings, operations, Place, before, after, settled, gathered, closed, opened, continued, step_at, value_from, value_at}
+use Rattle.ng_words.specs.Values.{strip_prefix, entry_or, entry_at, Waiting, index, brackets, function, left, openings, operations, WalkPosition, before, after, settled_value, gathered, closed, opened, continued, step_at, value_from, value_at}
 use Rattle.ng_words.specs.declared.tree.Operation.{Operation}
 use Rattle.ng_words.specs.declared.tree.Operation.TheVariants.{Power, Times, Over, Modulo, Plus, Minus, Or, Xor, And}
 use Rattle.ng_words.specs.declared.tree.Function.{Function}
 use Rattle.ng_words.specs.declared.tree.Function.TheVariants.{Abs, Fix, Fup, Round, Sqrt}
 use Rattle.ng_words.proofs.Numbers.{Stops, option_map_some, number_again, number_sound}
-use Rattle.ng_words.proofs.Walk.{and_then_some, behind_is, EachEntry, opener, Opens, opening_found, operation_found, walk_before, walk_after}
+use Rattle.ng_words.proofs.Walk.{and_then_some, strip_prefix_is, EachEntry, opener, Opens, opening_found, operation_found, walk_before, walk_after}
 
 -- ---- how loosely chains bind
 
@@ -45,7 +45,7 @@ looseness_most (joined op l r) = level_most op
 
 -- ---- what may wait round a chain
 
--- a chain of this looseness may stand behind what waits
+-- a chain of this looseness may stand after what waits
 abbrev pub Fits : ℕ → List Waiting → Type 0
 Fits n [] = n ≡ 0
 Fits n (index ∷ ws) = n ≡ 0
@@ -68,7 +68,7 @@ fits_less m n (brackets ∷ ws) h f = tt
 fits_less m n (function g ∷ ws) h f = tt
 fits_less m n (left op l ∷ ws) h f = omega arith
 
-settled_not : (t : Tree) (ws : List Waiting) → NotIndex ws → settled t ws ≡ after t ws
+settled_not : (t : Tree) (ws : List Waiting) → NotIndex ws → settled_value t ws ≡ after t ws
 settled_not t [] h = refl
 settled_not t (index ∷ ws) h = absurd h
 settled_not t (brackets ∷ ws) h = refl
@@ -141,7 +141,7 @@ Avoids b [] = ⊥
 Avoids b (c ∷ cs) = b ≢ c
 
 entry_none_at : {X : Type 0} (text : List ℕ) (x : X) (es : List (List ℕ × X)) (b : ℕ) (bs : List ℕ) → Avoids b text → entry_at es (b ∷ bs) ≡ None
-    → entry_or x (behind text (b ∷ bs)) (entry_at es (b ∷ bs)) ≡ None
+    → entry_or x (strip_prefix text (b ∷ bs)) (entry_at es (b ∷ bs)) ≡ None
 entry_none_at [] x es b bs h e = absurd h
 entry_none_at (c ∷ cs) x es b bs h e = let other : (b == c) ≡ false = grind (arith, nat_tests) in rw other e
 
@@ -185,24 +185,24 @@ chain_begins (joined op l r) bytes h = begins_more bytes h.0 _ h.2 (chain_begins
 -- ---- the walk's steps, forwards
 
 -- from a place before bytes the walk comes to a place before the rest
-abbrev Leads : Place → List ℕ → Place → List ℕ → Type 0
+abbrev Leads : WalkPosition → List ℕ → WalkPosition → List ℕ → Type 0
 Leads p bytes q rest = value_from (length bytes) p bytes ≡ value_from (length rest) q rest
 
 -- the same bytes, otherwise written
-leads_from : (p q : Place) (bytes same rest : List ℕ) → bytes ≡ same → Leads p same q rest → Leads p bytes q rest
+leads_from : (p q : WalkPosition) (bytes same rest : List ℕ) → bytes ≡ same → Leads p same q rest → Leads p bytes q rest
 leads_from p q bytes same rest e h = ap (λ l. value_from (length l) p l) e ∙ h
 
-leads_to : (p q r : Place) (bytes rest : List ℕ) → Leads p bytes q rest → q ≡ r → Leads p bytes r rest
+leads_to : (p q r : WalkPosition) (bytes rest : List ℕ) → Leads p bytes q rest → q ≡ r → Leads p bytes r rest
 leads_to p q r bytes rest h e = h ∙ ap (λ s. value_from (length rest) s rest) e
 
--- a bracket closes what waits behind the operations
-close_leads : (u t : Tree) (waits ws : List Waiting) (w : Waiting) (p : Place) (rest : List ℕ) → gathered 3 u waits ≡ (t, w ∷ ws) → closed t (w ∷ ws) ≡ Some p
+-- a bracket closes what waits after the operations
+close_leads : (u t : Tree) (waits ws : List Waiting) (w : Waiting) (p : WalkPosition) (rest : List ℕ) → gathered 3 u waits ≡ (t, w ∷ ws) → closed t (w ∷ ws) ≡ Some p
     → Leads (after u waits) (93 ∷ rest) p rest
 close_leads u t [] ws w p rest e f = let nothing : [] ≡ w ∷ ws = ap (λ x. x.1) e in absurd (cc)
 close_leads u t (v ∷ waits) ws w p rest e f =
-    walk_after u v waits (93 ∷ rest) (p, rest) (ap {A = Tree × List Waiting} (λ x. option_map (λ (p : Place). (p, rest)) (closed x.0 x.1)) e ∙ ap (option_map (λ (p : Place). (p, rest))) f)
+    walk_after u v waits (93 ∷ rest) (p, rest) (ap {A = Tree × List Waiting} (λ x. option_map (λ (p : WalkPosition). (p, rest)) (closed x.0 x.1)) e ∙ ap (option_map (λ (p : WalkPosition). (p, rest))) f)
 
-no_bracket : (op : Operation) (tail : List ℕ) → behind (codes "]") (symbol op ++ tail) ≡ None
+no_bracket : (op : Operation) (tail : List ℕ) → strip_prefix (codes "]") (symbol op ++ tail) ≡ None
 no_bracket Power tail = refl
 no_bracket Times tail = refl
 no_bracket Over tail = refl
@@ -241,7 +241,7 @@ operation_before op back rest b =
     subst (λ l. entry_at operations (symbol op ++ l) ≡ Some (op, l)) (sym same) (operation_again op b.first (b.others ++ rest) b.no_star)
 
 -- what an operation makes of what waits
-abbrev waits_for : Tree → List Waiting → Operation × List ℕ → Place × List ℕ
+abbrev waits_for : Tree → List Waiting → Operation × List ℕ → WalkPosition × List ℕ
 waits_for u waits x = (before (left x.0 (gathered (level x.0) u waits).0 ∷ (gathered (level x.0) u waits).1), x.1)
 
 -- an operation takes what binds as tightly as its left part
@@ -255,14 +255,14 @@ join_leads op u l (w ∷ waits) ws tail e h f =
     walk_after u w waits (symbol op ++ tail) (before (left op l ∷ ws), tail) (
     ap (continued u (w ∷ waits) (symbol op ++ tail)) (no_bracket op tail)
     ∙ ap (option_map (waits_for u (w ∷ waits))) f
-    ∙ ap {A = Tree × List Waiting} {B = Option (Place × List ℕ)} (λ x. Some (before (left op x.0 ∷ x.1), tail)) e
+    ∙ ap {A = Tree × List Waiting} {B = Option (WalkPosition × List ℕ)} (λ x. Some (before (left op x.0 ∷ x.1), tail)) e
     )
 
 -- ---- a chain is walked
 
 -- a value by itself, up to where it has settled
 abbrev WalkedAlone : Tree → Type 0
-WalkedAlone t = looseness t ≡ 0 → (ws : List Waiting) (bytes rest : List ℕ) → IsChain bytes t → Stops rest → Leads (before ws) (bytes ++ rest) (settled t ws) rest
+WalkedAlone t = looseness t ≡ 0 → (ws : List Waiting) (bytes rest : List ℕ) → IsChain bytes t → Stops rest → Leads (before ws) (bytes ++ rest) (settled_value t ws) rest
 
 -- a chain, up to where its parts wait
 abbrev WalkedTo : List Waiting → Tree → List ℕ → List ℕ → Type 0
@@ -273,26 +273,26 @@ Walked t = (ws : List Waiting) (bytes rest : List ℕ) → IsChain bytes t → S
 
 walked_by : (t : Tree) → looseness t ≡ 0 → WalkedAlone t → WalkedAlone t × Walked t
 walked_by t e alone =
-    (alone, λ ws bytes rest h s fits not_index. (t, ws, leads_to (before ws) (settled t ws) (after t ws) (bytes ++ rest) rest (alone e ws bytes rest h s) (settled_not t ws not_index), gathered_none (looseness t) t ws fits))
+    (alone, λ ws bytes rest h s fits not_index. (t, ws, leads_to (before ws) (settled_value t ws) (after t ws) (bytes ++ rest) rest (alone e ws bytes rest h s) (settled_not t ws not_index), gathered_none (looseness t) t ws fits))
 
 number_walked : (value : Option ℤ) → WalkedAlone (number value)
 number_walked value e ws bytes rest h s =
     let b = number_begins bytes h.0 h.1 in
     let same : bytes ++ rest ≡ b.first ∷ (b.others ++ rest) = ap (λ l. l ++ rest) b.is in
     let none : entry_at openings (bytes ++ rest) ≡ None = ap (entry_at openings) same ∙ no_opening b.first (b.others ++ rest) b.low b.high in
-    walk_before ws (bytes ++ rest) (settled (number value) ws, rest) (
+    walk_before ws (bytes ++ rest) (settled_value (number value) ws, rest) (
     ap (opened ws (bytes ++ rest)) none
-    ∙ ap (option_map (λ (v : Option ℤ × List ℕ). (settled (number v.0) ws, v.1))) (number_again bytes rest h.0 h.1 s)
-    ∙ ap {B = Option (Place × List ℕ)} (λ c. Some (settled (number c) ws, rest)) (sym h.2)
+    ∙ ap (option_map (λ (v : Option ℤ × List ℕ). (settled_value (number v.0) ws, v.1))) (number_again bytes rest h.0 h.1 s)
+    ∙ ap {B = Option (WalkPosition × List ℕ)} (λ c. Some (settled_value (number c) ws, rest)) (sym h.2)
     )
 
 parameter_walked : (t : Tree) → WalkedAlone t → WalkedAlone (parameter t)
 parameter_walked t alone e ws bytes rest h s =
-    leads_from (before ws) (settled (parameter t) ws) (bytes ++ rest) (35 ∷ (h.0 ++ rest)) rest (ap (λ l. l ++ rest) h.1)
+    leads_from (before ws) (settled_value (parameter t) ws) (bytes ++ rest) (35 ∷ (h.0 ++ rest)) rest (ap (λ l. l ++ rest) h.1)
     (walk_before ws (35 ∷ (h.0 ++ rest)) (before (index ∷ ws), h.0 ++ rest) refl ∙ alone h.3 (index ∷ ws) h.0 rest h.2 s)
 
 -- a chain, and the bracket that closes what waits
-closed_walked : (t : Tree) (w : Waiting) (ws : List Waiting) (p : Place) (inner rest : List ℕ) → Walked t → IsChain inner t → Fits (looseness t) (w ∷ ws) → NotIndex (w ∷ ws)
+closed_walked : (t : Tree) (w : Waiting) (ws : List Waiting) (p : WalkPosition) (inner rest : List ℕ) → Walked t → IsChain inner t → Fits (looseness t) (w ∷ ws) → NotIndex (w ∷ ws)
     → closed t (w ∷ ws) ≡ Some p → Leads (before (w ∷ ws)) (inner ++ (93 ∷ rest)) p rest
 closed_walked t w ws p inner rest walked h fits not_index e =
     let to = walked (w ∷ ws) inner (93 ∷ rest) h (refl, omega arith) fits not_index in
@@ -300,7 +300,7 @@ closed_walked t w ws p inner rest walked h fits not_index e =
     gathered_more (looseness t) 3 to.0 to.1 (t, w ∷ ws) to.3 (looseness_most t) ∙ gathered_closed t w ws p e in
     to.2 ∙ close_leads to.0 t to.1 ws w p rest all e
   where
-    gathered_closed : (t : Tree) (w : Waiting) (ws : List Waiting) (p : Place) → closed t (w ∷ ws) ≡ Some p → gathered 3 t (w ∷ ws) ≡ (t, w ∷ ws)
+    gathered_closed : (t : Tree) (w : Waiting) (ws : List Waiting) (p : WalkPosition) → closed t (w ∷ ws) ≡ Some p → gathered 3 t (w ∷ ws) ≡ (t, w ∷ ws)
     gathered_closed t index ws p e = refl
     gathered_closed t brackets ws p e = refl
     gathered_closed t (function f) ws p e = refl
@@ -308,11 +308,11 @@ closed_walked t w ws p inner rest walked h fits not_index e =
 
 bracketed_walked : (t : Tree) → Walked t → WalkedAlone (bracketed t)
 bracketed_walked t walked e ws bytes rest h s =
-    leads_from (before ws) (settled (bracketed t) ws) (bytes ++ rest) (91 ∷ (h.0 ++ (93 ∷ rest))) rest
+    leads_from (before ws) (settled_value (bracketed t) ws) (bytes ++ rest) (91 ∷ (h.0 ++ (93 ∷ rest))) rest
     (ap (λ l. l ++ rest) h.1 ∙ ap (λ l. 91 ∷ l) (append_assoc h.0 (93 ∷ []) rest))
     (
     walk_before ws (91 ∷ (h.0 ++ (93 ∷ rest))) (before (brackets ∷ ws), h.0 ++ (93 ∷ rest)) refl
-    ∙ closed_walked t brackets ws (settled (bracketed t) ws) h.0 rest walked h.2 tt tt refl
+    ∙ closed_walked t brackets ws (settled_value (bracketed t) ws) h.0 rest walked h.2 tt tt refl
     )
 
 function_opens : (f : Function) (ws : List Waiting) (tail : List ℕ) → step_at (before ws) (name f ++ (91 ∷ tail)) ≡ Some (before (function f ∷ ws), tail)
@@ -324,11 +324,11 @@ function_opens Sqrt ws tail = refl
 
 applied_walked : (f : Function) (t : Tree) → Walked t → WalkedAlone (applied f t)
 applied_walked f t walked e ws bytes rest h s =
-    leads_from (before ws) (settled (applied f t) ws) (bytes ++ rest) (name f ++ (91 ∷ (h.0 ++ (93 ∷ rest)))) rest
+    leads_from (before ws) (settled_value (applied f t) ws) (bytes ++ rest) (name f ++ (91 ∷ (h.0 ++ (93 ∷ rest)))) rest
     (ap (λ l. l ++ rest) h.1 ∙ append_assoc (name f) (91 ∷ h.0 ++ 93 ∷ []) rest ∙ ap (λ l. name f ++ (91 ∷ l)) (append_assoc h.0 (93 ∷ []) rest))
     (
     walk_before ws (name f ++ (91 ∷ (h.0 ++ (93 ∷ rest)))) (before (function f ∷ ws), h.0 ++ (93 ∷ rest)) (function_opens f ws (h.0 ++ (93 ∷ rest)))
-    ∙ closed_walked t (function f) ws (settled (applied f t) ws) h.0 rest walked h.2 tt tt refl
+    ∙ closed_walked t (function f) ws (settled_value (applied f t) ws) h.0 rest walked h.2 tt tt refl
     )
 
 joined_walked : (op : Operation) (l r : Tree) → Walked l → Walked r → Walked (joined op l r)
@@ -381,11 +381,11 @@ abbrev pub StandsAt : ℕ → Tree → List Waiting → List ℕ → Type 0
 StandsAt n t ws bytes = (front : List ℕ) × (back : List ℕ) × (bytes ≡ front ++ back) × Waits ws front × IsChain back t × (looseness t ≤ n) × Fits n ws × NotIndex ws
 
 -- these bytes lead to a place
-abbrev pub LeadTo : Place → List ℕ → Type 0
+abbrev pub LeadTo : WalkPosition → List ℕ → Type 0
 LeadTo (before ws) bytes = Waits ws bytes
 LeadTo (after t ws) bytes = StandsAlone t ws bytes
 
-settled_stands : (t : Tree) (ws : List Waiting) (front back bytes : List ℕ) → bytes ≡ front ++ back → Waits ws front → IsChain back t → looseness t ≡ 0 → LeadTo (settled t ws) bytes
+settled_stands : (t : Tree) (ws : List Waiting) (front back bytes : List ℕ) → bytes ≡ front ++ back → Waits ws front → IsChain back t → looseness t ≡ 0 → LeadTo (settled_value t ws) bytes
 settled_stands t [] front back bytes e w c alone = (front, back, e, w, c, alone, tt)
 settled_stands t (index ∷ ws) front back bytes e w c alone =
     settled_stands (parameter t) ws w.0 (35 ∷ back) bytes (e ∙ ap (λ l. l ++ back) w.1 ∙ append_assoc w.0 (35 ∷ []) back) w.2 (back, refl, c, alone) refl
@@ -428,7 +428,7 @@ stands_left_at : (n : ℕ) (op : Operation) (l t : Tree) (ws : List Waiting) (by
 stands_left_at n op l t ws bytes true e tight loose = tight (grind (arith, nat_tests))
 stands_left_at n op l t ws bytes false e tight loose = loose (grind (arith, nat_tests))
 
--- an operation that waits, with what stands behind it
+-- an operation that waits, with what stands after it
 joined_spelled : (bytes front back first part : List ℕ) (op : Operation) → bytes ≡ front ++ back → front ≡ first ++ (part ++ symbol op)
     → bytes ≡ first ++ (part ++ (symbol op ++ back))
 joined_spelled bytes front back first part op e f =
@@ -455,11 +455,11 @@ alone_stands n t w ws bytes s =
     gathered_stands n t (w ∷ ws) s.0 s.1 bytes s.2 s.3 s.4 (omega arith) (fits_zero (looseness t) (w ∷ ws) s.5) (inside_more w ws s.6)
 
 -- brackets closed round a chain
-closed_stands : (t : Tree) (ws : List Waiting) (bytes : List ℕ) (p : Place) → StandsAt 3 t ws bytes → closed t ws ≡ Some p → LeadTo p (bytes ++ 93 ∷ [])
+closed_stands : (t : Tree) (ws : List Waiting) (bytes : List ℕ) (p : WalkPosition) → StandsAt 3 t ws bytes → closed t ws ≡ Some p → LeadTo p (bytes ++ 93 ∷ [])
 closed_stands t [] bytes p s e = absurd (cc)
 closed_stands t (index ∷ ws) bytes p s e = absurd (cc)
 closed_stands t (brackets ∷ ws) bytes p s e =
-    let same : settled (bracketed t) ws ≡ p = cc in
+    let same : settled_value (bracketed t) ws ≡ p = cc in
     let w = s.3 in
     subst (λ q. LeadTo q (bytes ++ 93 ∷ [])) same
     (
@@ -468,7 +468,7 @@ closed_stands t (brackets ∷ ws) bytes p s e =
     w.2 (s.1, refl, s.4) refl
     )
 closed_stands t (function f ∷ ws) bytes p s e =
-    let same : settled (applied f t) ws ≡ p = cc in
+    let same : settled_value (applied f t) ws ≡ p = cc in
     let w = s.3 in
     subst (λ q. LeadTo q (bytes ++ 93 ∷ [])) same
     (
@@ -484,7 +484,7 @@ closed_stands t (function f ∷ ws) bytes p s e =
 closed_stands t (left op l ∷ ws) bytes p s e = absurd (cc)
 
 -- the bytes past and then those that a step takes lead to its place
-abbrev pub Stepped : List ℕ → List ℕ → Place × List ℕ → Type 0
+abbrev pub Stepped : List ℕ → List ℕ → WalkPosition × List ℕ → Type 0
 Stepped past bytes x = (taken : List ℕ) × (bytes ≡ taken ++ x.1) × LeadTo x.0 (past ++ taken)
 
 opened_waits : (w : Waiting) (ws : List Waiting) (bytes text : List ℕ) → Waits ws bytes → text ≡ opener w → Opens w → Waits (w ∷ ws) (bytes ++ text)
@@ -493,14 +493,14 @@ opened_waits brackets ws bytes text h e o = (bytes, ap (λ l. bytes ++ l) e, h)
 opened_waits (function f) ws bytes text h e o = (bytes, ap (λ l. bytes ++ l) e, h)
 opened_waits (left op l) ws bytes text h e o = absurd o
 
-opened_steps : (ws : List Waiting) (past bytes : List ℕ) (x : Place × List ℕ) (o : Option (Waiting × List ℕ)) → Waits ws past → entry_at openings bytes ≡ o → opened ws bytes o ≡ Some x
+opened_steps : (ws : List Waiting) (past bytes : List ℕ) (x : WalkPosition × List ℕ) (o : Option (Waiting × List ℕ)) → Waits ws past → entry_at openings bytes ≡ o → opened ws bytes o ≡ Some x
     → Stepped past bytes x
 opened_steps ws past bytes x (Some y) h o_is e =
     let f = opening_found bytes y o_is in
     let same : (before (y.0 ∷ ws), y.1) ≡ x = cc in
     subst (Stepped past bytes) same (f.0, f.1, opened_waits y.0 ws past f.0 h f.2.0 f.2.1)
 opened_steps ws past bytes x None h o_is e =
-    let v = option_map_some (λ (v : Option ℤ × List ℕ). (settled (number v.0) ws, v.1)) (number_at bytes) x e in
+    let v = option_map_some (λ (v : Option ℤ × List ℕ). (settled_value (number v.0) ws, v.1)) (number_at bytes) x e in
     let n = number_sound bytes v.0 v.1 in
     subst (Stepped past bytes) v.2 (n.0, n.3, settled_stands (number v.0.0) ws past n.0 (past ++ n.0) refl h (n.1, n.2, n.4) refl)
 
@@ -508,12 +508,12 @@ operation_waits : (op : Operation) (t : Tree) (ws : List Waiting) (bytes text : 
 operation_waits op t ws bytes text s e =
     (s.0, s.1, ap (λ l. l ++ text) s.2 ∙ append_assoc s.0 s.1 text ∙ ap (λ l. s.0 ++ (s.1 ++ l)) e, s.4, s.5, s.6, s.7, s.3)
 
-continued_steps : (t : Tree) (w : Waiting) (ws : List Waiting) (past bytes : List ℕ) (x : Place × List ℕ) (o : Option (List ℕ)) → StandsAlone t (w ∷ ws) past → behind (codes "]") bytes ≡ o
+continued_steps : (t : Tree) (w : Waiting) (ws : List Waiting) (past bytes : List ℕ) (x : WalkPosition × List ℕ) (o : Option (List ℕ)) → StandsAlone t (w ∷ ws) past → strip_prefix (codes "]") bytes ≡ o
     → continued t (w ∷ ws) bytes o ≡ Some x → Stepped past bytes x
 continued_steps t w ws past bytes x (Some rest) s o_is e =
     let all = gathered 3 t (w ∷ ws) in
-    let p = option_map_some (λ (p : Place). (p, rest)) (closed all.0 all.1) x e in
-    subst (Stepped past bytes) p.2 (93 ∷ [], behind_is (codes "]") bytes rest o_is, closed_stands all.0 all.1 past p.0 (alone_stands 3 t w ws past s) p.1)
+    let p = option_map_some (λ (p : WalkPosition). (p, rest)) (closed all.0 all.1) x e in
+    subst (Stepped past bytes) p.2 (93 ∷ [], strip_prefix_is (codes "]") bytes rest o_is, closed_stands all.0 all.1 past p.0 (alone_stands 3 t w ws past s) p.1)
 continued_steps t w ws past bytes x None s o_is e =
     let y = option_map_some (waits_for t (w ∷ ws)) (entry_at operations bytes) x e in
     let f = operation_found bytes y.0 y.1 in
@@ -526,7 +526,7 @@ continued_steps t w ws past bytes x None s o_is e =
 abbrev FoundValue : List ℕ → List ℕ → Tree × List ℕ → Type 0
 FoundValue past bytes x = (taken : List ℕ) × (bytes ≡ taken ++ x.1) × IsValue (past ++ taken) x.0
 
-found_more : (past bytes : List ℕ) (x : Tree × List ℕ) (y : Place × List ℕ) (s : Stepped past bytes y) → FoundValue (past ++ s.0) y.1 x → FoundValue past bytes x
+found_more : (past bytes : List ℕ) (x : Tree × List ℕ) (y : WalkPosition × List ℕ) (s : Stepped past bytes y) → FoundValue (past ++ s.0) y.1 x → FoundValue past bytes x
 found_more past bytes x y s f =
     (s.0 ++ f.0, s.1 ∙ ap (λ l. s.0 ++ l) f.1 ∙ sym (append_assoc s.0 f.0 x.1), subst (λ l. IsValue l x.0) (append_assoc past s.0 f.0) f.2)
 
@@ -535,18 +535,18 @@ found_alone t past bytes s =
     let all : past ++ [] ≡ s.1 = append-nil past ∙ s.2 ∙ ap (λ l. l ++ s.1) s.3 in
     ([], refl, (subst (λ l. IsChain l t) (sym all) s.4, s.5))
 
-value_walked : (m : ℕ) (p : Place) (past bytes : List ℕ) (x : Tree × List ℕ) → LeadTo p past → value_from m p bytes ≡ Some x → FoundValue past bytes x
+value_walked : (m : ℕ) (p : WalkPosition) (past bytes : List ℕ) (x : Tree × List ℕ) → LeadTo p past → value_from m p bytes ≡ Some x → FoundValue past bytes x
 value_walked m (after t []) past bytes x h e =
     let same : (t, bytes) ≡ x = cc in
     subst (FoundValue past bytes) same (found_alone t past bytes h)
 value_walked zero (after t (w ∷ ws)) past bytes x h e = absurd (cc)
 value_walked zero (before ws) past bytes x h e = absurd (cc)
 value_walked (suc m) (after t (w ∷ ws)) past bytes x h e =
-    let y = and_then_some (λ (y : Place × List ℕ). value_from m y.0 y.1) (step_at (after t (w ∷ ws)) bytes) x e in
-    let s = continued_steps t w ws past bytes y.0 (behind (codes "]") bytes) h refl y.1 in
+    let y = and_then_some (λ (y : WalkPosition × List ℕ). value_from m y.0 y.1) (step_at (after t (w ∷ ws)) bytes) x e in
+    let s = continued_steps t w ws past bytes y.0 (strip_prefix (codes "]") bytes) h refl y.1 in
     found_more past bytes x y.0 s (value_walked m y.0.0 (past ++ s.0) y.0.1 x s.2 y.2)
 value_walked (suc m) (before ws) past bytes x h e =
-    let y = and_then_some (λ (y : Place × List ℕ). value_from m y.0 y.1) (step_at (before ws) bytes) x e in
+    let y = and_then_some (λ (y : WalkPosition × List ℕ). value_from m y.0 y.1) (step_at (before ws) bytes) x e in
     let s = opened_steps ws past bytes y.0 (entry_at openings bytes) h refl y.1 in
     found_more past bytes x y.0 s (value_walked m y.0.0 (past ++ s.0) y.0.1 x s.2 y.2)
 

@@ -19,12 +19,12 @@ abbrev pub AreDigits : List ℕ → Type 0
 AreDigits [] = Unit {0}
 AreDigits (b ∷ bs) = IsTrue (is_digit b) × AreDigits bs
 
--- the number that digits write behind the number n
+-- the number that digits write after the number n
 abbrev pub written_after : ℕ → List ℕ → ℕ
 written_after n [] = n
 written_after n (b ∷ bs) = written_after (n * 10 + (b - 48)) bs
 
--- millionths of a number without its sign, by the digits before and behind its point
+-- millionths of a number without its sign, by the digits before and after its point
 abbrev pub millionths : List ℕ → List ℕ → ℕ
 millionths whole fraction = written_after 0 whole * 1_000_000 + nearest (written_after 0 fraction * 1_000_000) (10 ^ length fraction)
 
@@ -152,15 +152,15 @@ Spells bytes (word letter value) = (spelled : List ℕ) × (bytes ≡ code lette
 Spells bytes (setting index value) = (front : List ℕ) × (back : List ℕ) × (bytes ≡ 35 ∷ front ++ 61 ∷ back) × IsValue front index × IsValue back value
 Spells bytes (comment text) = (bytes ≡ 40 ∷ text ++ 41 ∷ []) × HasNoParentheses text
 
--- these bytes are these pieces, one behind the other
-abbrev pub Reads : List ℕ → List Piece → Type 0
-Reads bytes [] = bytes ≡ []
-Reads bytes (piece ∷ pieces) = (front : List ℕ) × (rest : List ℕ) × (bytes ≡ front ++ rest) × Spells front piece × Reads rest pieces
+-- these bytes are these pieces, one after the other
+abbrev pub SpellsPieces : List ℕ → List Piece → Type 0
+SpellsPieces bytes [] = bytes ≡ []
+SpellsPieces bytes (piece ∷ pieces) = (front : List ℕ) × (rest : List ℕ) × (bytes ≡ front ++ rest) × Spells front piece × SpellsPieces rest pieces
 
 -- ---- lines (3.3)
 
 -- a line as written: whether a slash comes first, its block number, its pieces
-pub record Written : Type 0 where
+pub record ParsedLine : Type 0 where
   pub deletable : Bool
   pub number : Option ℕ
   pub pieces : List Piece
@@ -176,8 +176,8 @@ IsBlockNumber bytes None = bytes ≡ []
 IsBlockNumber bytes (Some n) = (digits : List ℕ) × (bytes ≡ 78 ∷ digits) × AreDigits digits × (1 ≤ length digits) × (length digits ≤ 5) × (n ≡ written_after 0 digits)
 
 -- these bytes that count are this line
-abbrev pub Writes : List ℕ → Written → Type 0
-Writes bytes line = (front : List ℕ) × (rest : List ℕ) × (bytes ≡ slash line.deletable ++ (front ++ rest)) × IsBlockNumber front line.number × Reads rest line.pieces
+abbrev pub SpellsLine : List ℕ → ParsedLine → Type 0
+SpellsLine bytes line = (front : List ℕ) × (rest : List ℕ) × (bytes ≡ slash line.deletable ++ (front ++ rest)) × IsBlockNumber front line.number × SpellsPieces rest line.pieces
 
 -- the most bytes of a line, without its end (own)
 abbrev pub longest : ℕ
@@ -187,5 +187,5 @@ abbrev pub is_too_long : List ℕ → Bool
 is_too_long text = nat_lt longest (length text)
 
 -- a text that isn't too long is this line
-abbrev pub IsLine : List ℕ → Written → Type 0
-IsLine text line = (length text ≤ longest) × Writes (plain false text) line
+abbrev pub IsLineOf : List ℕ → ParsedLine → Type 0
+IsLineOf text line = (length text ≤ longest) × SpellsLine (plain false text) line

@@ -1,12 +1,12 @@
--- How what was read is kept in places of fixed number (own): trees as lists of nodes, each node behind its parts.
+-- How what was read is kept in places of fixed number (own): trees as lists of nodes, each node after its parts.
 use Rattle.std.specs.Prelude.{ℕ, ◌≡◌, List, [], ◌∷◌, ◌++◌, length, map, flat_map, take, drop, Bool, Option, None}
-use Rattle.ng_words.specs.Grammar.{Tree, number, parameter, bracketed, applied, joined, Piece, word, setting, comment, Written}
+use Rattle.ng_words.specs.Grammar.{Tree, number, parameter, bracketed, applied, joined, Piece, word, setting, comment, ParsedLine}
 use Rattle.ng_words.specs.declared.tree.Node.{Node}
 use Rattle.ng_words.specs.declared.tree.Node.TheVariants as node
-use Rattle.ng_words.specs.declared.item.Item.{Item}
-use Rattle.ng_words.specs.declared.item.Item.TheVariants as item
+use Rattle.ng_words.specs.declared.piece_entry.PieceEntry.{PieceEntry}
+use Rattle.ng_words.specs.declared.piece_entry.PieceEntry.TheVariants as item
 
--- the nodes of a tree, each behind its parts
+-- the nodes of a tree, each after its parts
 abbrev pub postfix : Tree → List Node
 postfix (number value) = node.Number value ∷ []
 postfix (parameter t) = postfix t ++ node.Parameter ∷ []
@@ -37,10 +37,10 @@ latest (t ∷ ts) = t
 abbrev pub tree_by : List Node → Tree
 tree_by nodes = latest (built [] nodes)
 
--- ---- the pieces of a line: for each an item, and its nodes or bytes behind those of the pieces before it
+-- ---- the pieces of a line: for each an item, and its nodes or bytes after those of the pieces before it
 
 -- a letter and how many nodes its value has; how many the index and the value of a setting; how many bytes a comment
-abbrev pub item_of : Piece → Item
+abbrev pub item_of : Piece → PieceEntry
 item_of (word letter t) = item.Word letter (length (postfix t))
 item_of (setting index value) = item.Setting (length (postfix index)) (length (postfix value))
 item_of (comment text) = item.Comment (length text)
@@ -56,37 +56,37 @@ bytes_of (setting index value) = []
 bytes_of (comment text) = text
 
 -- the places that keep pieces
-pub record Places : Type 0 where
-  pub items : List Item
+pub record PieceStore : Type 0 where
+  pub items : List PieceEntry
   pub nodes : List Node
   pub bytes : List ℕ
 
 -- these places keep these pieces
-pub record Keeps (places : Places) (pieces : List Piece) : Type 0 where
+pub record EncodesPieces (places : PieceStore) (pieces : List Piece) : Type 0 where
   pub items_are : places.items ≡ map item_of pieces
   pub nodes_are : places.nodes ≡ flat_map nodes_of pieces
   pub bytes_are : places.bytes ≡ flat_map bytes_of pieces
 
 -- they keep some pieces
-abbrev pub IsKept : Places → Type 0
-IsKept places = (pieces : List Piece) × Keeps places pieces
+abbrev pub AreEncodedPieces : PieceStore → Type 0
+AreEncodedPieces places = (pieces : List Piece) × EncodesPieces places pieces
 
 -- the pieces that items, nodes and bytes keep
-abbrev pub pieces_from : List Item → List Node → List ℕ → List Piece
+abbrev pub pieces_from : List PieceEntry → List Node → List ℕ → List Piece
 pieces_from [] nodes bytes = []
 pieces_from (item.Word letter n ∷ items) nodes bytes = word letter (tree_by (take n nodes)) ∷ pieces_from items (drop n nodes) bytes
 pieces_from (item.Setting i n ∷ items) nodes bytes =
     setting (tree_by (take i nodes)) (tree_by (take n (drop i nodes))) ∷ pieces_from items (drop n (drop i nodes)) bytes
 pieces_from (item.Comment n ∷ items) nodes bytes = comment (take n bytes) ∷ pieces_from items nodes (drop n bytes)
 
-abbrev pub pieces_by : Places → List Piece
+abbrev pub pieces_by : PieceStore → List Piece
 pieces_by places = pieces_from places.items places.nodes places.bytes
 
 -- the places that keep a line, and the line
-pub record LinePlaces : Type 0 where
+pub record LineModel : Type 0 where
   pub deletable : Bool
   pub number : Option ℕ
-  pub places : Places
+  pub places : PieceStore
 
-abbrev pub written_by : LinePlaces → Written
+abbrev pub written_by : LineModel → ParsedLine
 written_by l = record { deletable = l.deletable; number = l.number; pieces = pieces_by l.places }

@@ -1,13 +1,13 @@
 -- What is said of a line that was read.
 use Rattle.std.specs.Prelude.{ℕ, List, [], ◌∷◌, false, Option, Some, None}
 use Rattle.std.specs.Option.{option_or}
-use Rattle.ng_words.specs.Grammar.{Piece, word, setting, comment, Written}
+use Rattle.ng_words.specs.Grammar.{Piece, word, setting, comment, ParsedLine}
 use Rattle.ng_words.specs.Kept.{tree_by}
-use Rattle.ng_words.specs.declared.pieces.Piece.{Piece as Given}
-use Rattle.ng_words.specs.declared.pieces.Piece.TheVariants.{Word, Setting, Comment}
+use Rattle.ng_words.specs.declared.pieces.PieceRef.{PieceRef}
+use Rattle.ng_words.specs.declared.pieces.PieceRef.TheVariants.{Word, Setting, Comment}
 
 -- nothing on it
-abbrev pub blank : Written
+abbrev pub blank : ParsedLine
 blank = record { deletable = false; number = None; pieces = [] }
 
 -- the last comment's bytes
@@ -18,7 +18,7 @@ last_comment (setting index value ∷ pieces) = last_comment pieces
 last_comment (comment text ∷ pieces) = option_or (last_comment pieces) (Some text)
 
 -- a piece that is handed out, wherever its parts lie
-abbrev pub piece_of : Given → Piece
+abbrev pub piece_of : PieceRef → Piece
 piece_of (Word letter t) = word letter (tree_by t)
 piece_of (Setting index value) = setting (tree_by index) (tree_by value)
 piece_of (Comment text) = comment text.now

@@ -20,12 +20,12 @@ abbrev pub whole_after : ℕ → List ℕ → ℕ
 whole_after n [] = n
 whole_after n (b ∷ bs) = whole_after (min 10_000_000 (n * 10 + (b - 48))) bs
 
--- the digits behind the point, the first of them worth unit
+-- the digits after the point, the first of them worth unit
 abbrev pub fraction_from : ℕ → List ℕ → ℕ
 fraction_from unit [] = 0
 fraction_from unit (b ∷ bs) = (b - 48) * unit + fraction_from (unit / 10) bs
 
--- the point and the digits behind it, where there is a point
+-- the point and the digits after it, where there is a point
 abbrev pub point_at : List ℕ → Option (List ℕ)
 point_at [] = None
 point_at (b ∷ bs) = if b == 46 then Some bs else None
@@ -37,9 +37,9 @@ is_empty (b ∷ bs) = false
 -- an unsigned number's millionths, and what follows
 abbrev pub unsigned_parts : List ℕ → List ℕ → Option (List ℕ) → Option (ℕ × List ℕ)
 unsigned_parts whole rest None = if is_empty whole then None else Some (whole_after 0 whole * 1_000_000, rest)
-unsigned_parts whole rest (Some behind) =
-    if is_empty whole && is_empty (front_digits behind) then None
-    else Some (whole_after 0 whole * 1_000_000 + (fraction_from 1_000_000 (front_digits behind) + 5) / 10, after_digits behind)
+unsigned_parts whole rest (Some after) =
+    if is_empty whole && is_empty (front_digits after) then None
+    else Some (whole_after 0 whole * 1_000_000 + (fraction_from 1_000_000 (front_digits after) + 5) / 10, after_digits after)
 
 abbrev pub unsigned_at : List ℕ → Option (ℕ × List ℕ)
 unsigned_at bytes = unsigned_parts (front_digits bytes) (after_digits bytes) (point_at (after_digits bytes))
@@ -71,7 +71,7 @@ abbrev pub slash_at : List ℕ → Bool × List ℕ
 slash_at [] = (false, [])
 slash_at (b ∷ bs) = if b == 47 then (true, bs) else (false, b ∷ bs)
 
--- one to five digits behind an N, and what follows
+-- one to five digits after an N, and what follows
 abbrev pub numbered : List ℕ → List ℕ → Option (Option ℕ × List ℕ)
 numbered digits rest = if is_empty digits || nat_lt 5 (length digits) then None else Some (Some (whole_after 0 digits), rest)
 

@@ -9,20 +9,20 @@ use Rattle.ng_words.specs.declared.tree.Operation.TheVariants.{Power, Times, Ove
 use Rattle.ng_words.specs.declared.tree.Function.{Function}
 use Rattle.ng_words.specs.declared.tree.Function.TheVariants.{Abs, Fix, Fup, Round, Sqrt}
 
--- what stands behind a text, where the text stands in front
-abbrev pub behind : List ℕ → List ℕ → Option (List ℕ)
-behind [] bytes = Some bytes
-behind (c ∷ cs) [] = None
-behind (c ∷ cs) (b ∷ bs) = if b == c then behind cs bs else None
+-- what stands after a text, where the text stands in front
+abbrev pub strip_prefix : List ℕ → List ℕ → Option (List ℕ)
+strip_prefix [] bytes = Some bytes
+strip_prefix (c ∷ cs) [] = None
+strip_prefix (c ∷ cs) (b ∷ bs) = if b == c then strip_prefix cs bs else None
 
--- the first entry of a table whose text stands in front, and what stands behind it
+-- the first entry of a table whose text stands in front, and what stands after it
 abbrev pub entry_or : {X : Type 0} → X → Option (List ℕ) → Option (X × List ℕ) → Option (X × List ℕ)
 entry_or x None others = others
 entry_or x (Some rest) others = Some (x, rest)
 
 abbrev pub entry_at : {X : Type 0} → List (List ℕ × X) → List ℕ → Option (X × List ℕ)
 entry_at [] bytes = None
-entry_at (e ∷ es) bytes = entry_or e.1 (behind e.0 bytes) (entry_at es bytes)
+entry_at (e ∷ es) bytes = entry_or e.1 (strip_prefix e.0 bytes) (entry_at es bytes)
 
 -- what waits for the value to its right: a parameter for its index, brackets or a function for their chain,
 -- an operation with what stands to its left
@@ -44,18 +44,18 @@ operations =
     (symbol Power, Power) ∷ (symbol Times, Times) ∷ (symbol Over, Over) ∷ (symbol Modulo, Modulo) ∷ (symbol Plus, Plus)
     ∷ (symbol Minus, Minus) ∷ (symbol Or, Or) ∷ (symbol Xor, Xor) ∷ (symbol And, And) ∷ []
 
--- a place in the walk: before a value, or behind one; what waits, the nearest first
-pub data Place : Type 0 where
-  before : List Waiting → Place
-  after : Tree → List Waiting → Place
+-- a place in the walk: before a value, or after one; what waits, the nearest first
+pub data WalkPosition : Type 0 where
+  before : List Waiting → WalkPosition
+  after : Tree → List Waiting → WalkPosition
 
 -- a value by itself: the parameters that wait take it as their index
-abbrev pub settled : Tree → List Waiting → Place
-settled t [] = after t []
-settled t (index ∷ ws) = settled (parameter t) ws
-settled t (brackets ∷ ws) = after t (brackets ∷ ws)
-settled t (function f ∷ ws) = after t (function f ∷ ws)
-settled t (left op l ∷ ws) = after t (left op l ∷ ws)
+abbrev pub settled_value : Tree → List Waiting → WalkPosition
+settled_value t [] = after t []
+settled_value t (index ∷ ws) = settled_value (parameter t) ws
+settled_value t (brackets ∷ ws) = after t (brackets ∷ ws)
+settled_value t (function f ∷ ws) = after t (function f ∷ ws)
+settled_value t (left op l ∷ ws) = after t (left op l ∷ ws)
 
 -- the operations that wait and bind as tightly as n or tighter take the value as their right part
 abbrev pub gathered : ℕ → Tree → List Waiting → Tree × List Waiting
@@ -66,30 +66,30 @@ gathered n t (function f ∷ ws) = (t, function f ∷ ws)
 gathered n t (left op l ∷ ws) = if nat_le (level op) n then gathered n (joined op l t) ws else (t, left op l ∷ ws)
 
 -- the brackets that wait are closed round a chain
-abbrev pub closed : Tree → List Waiting → Option Place
+abbrev pub closed : Tree → List Waiting → Option WalkPosition
 closed t [] = None
 closed t (index ∷ ws) = None
-closed t (brackets ∷ ws) = Some (settled (bracketed t) ws)
-closed t (function f ∷ ws) = Some (settled (applied f t) ws)
+closed t (brackets ∷ ws) = Some (settled_value (bracketed t) ws)
+closed t (function f ∷ ws) = Some (settled_value (applied f t) ws)
 closed t (left op l ∷ ws) = None
 
 -- a step of the walk: before a value, something that opens one, or a number
-abbrev pub opened : List Waiting → List ℕ → Option (Waiting × List ℕ) → Option (Place × List ℕ)
+abbrev pub opened : List Waiting → List ℕ → Option (Waiting × List ℕ) → Option (WalkPosition × List ℕ)
 opened ws bytes (Some x) = Some (before (x.0 ∷ ws), x.1)
-opened ws bytes None = option_map (λ v. (settled (number v.0) ws, v.1)) (number_at bytes)
+opened ws bytes None = option_map (λ v. (settled_value (number v.0) ws, v.1)) (number_at bytes)
 
--- behind a value, a bracket that closes, or an operation
-abbrev pub continued : Tree → List Waiting → List ℕ → Option (List ℕ) → Option (Place × List ℕ)
+-- after a value, a bracket that closes, or an operation
+abbrev pub continued : Tree → List Waiting → List ℕ → Option (List ℕ) → Option (WalkPosition × List ℕ)
 continued t ws bytes (Some rest) = option_map (λ p. (p, rest)) (closed (gathered 3 t ws).0 (gathered 3 t ws).1)
 continued t ws bytes None =
     option_map (λ x. (before (left x.0 (gathered (level x.0) t ws).0 ∷ (gathered (level x.0) t ws).1), x.1)) (entry_at operations bytes)
 
-abbrev pub step_at : Place → List ℕ → Option (Place × List ℕ)
+abbrev pub step_at : WalkPosition → List ℕ → Option (WalkPosition × List ℕ)
 step_at (before ws) bytes = opened ws bytes (entry_at openings bytes)
-step_at (after t ws) bytes = continued t ws bytes (behind (codes "]") bytes)
+step_at (after t ws) bytes = continued t ws bytes (strip_prefix (codes "]") bytes)
 
--- the walk, up to where nothing waits behind a value; the first argument counts how many steps there may be
-abbrev pub value_from : ℕ → Place → List ℕ → Option (Tree × List ℕ)
+-- the walk, up to where nothing waits after a value; the first argument counts how many steps there may be
+abbrev pub value_from : ℕ → WalkPosition → List ℕ → Option (Tree × List ℕ)
 value_from most (after t []) bytes = Some (t, bytes)
 value_from zero (after t (w ∷ ws)) bytes = None
 value_from zero (before ws) bytes = None

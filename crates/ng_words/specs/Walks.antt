@@ -3,19 +3,19 @@ use Rattle.std.specs.Prelude.{ℕ, ◌+◌, ◌-◌, ◌<◌, ◌≤◌, ◌≡�
 use Rattle.std.specs.Option.{option_and_then}
 use Rattle.ng_words.specs.Plain.{plain}
 use Rattle.ng_words.specs.Grammar.{Tree, level, Piece, word, setting, comment}
-use Rattle.ng_words.specs.Values.{Waiting, index, brackets, function, left, openings, entry_at, Place, before, after, settled, gathered, closed, step_at, value_at}
+use Rattle.ng_words.specs.Values.{Waiting, index, brackets, function, left, openings, entry_at, WalkPosition, before, after, settled_value, gathered, closed, step_at, value_at}
 use Rattle.ng_words.specs.Pieces.{comment_at, set_at, piece_at, pieces_at}
-use Rattle.ng_words.specs.Kept.{postfix, item_of, nodes_of, bytes_of, Places, Keeps}
+use Rattle.ng_words.specs.Kept.{postfix, item_of, nodes_of, bytes_of, PieceStore, EncodesPieces}
 use Rattle.ng_words.specs.declared.tree.Operation.{Operation}
 use Rattle.ng_words.specs.declared.tree.Function.{Function}
 use Rattle.ng_words.specs.declared.letter.Letter.{Letter}
-use Rattle.ng_words.specs.declared.item.Item.{Item}
+use Rattle.ng_words.specs.declared.piece_entry.PieceEntry.{PieceEntry}
 use Rattle.ng_words.specs.declared.tree.Node.{Node}
 use Rattle.ng_words.specs.declared.tree.Node.TheVariants as node
 use Rattle.ng_words.specs.declared.value.Waiting.{Waiting as Mark}
 use Rattle.ng_words.specs.declared.value.Waiting.TheVariants as marked
 
--- a comment whose bytes these are closes behind the first n of them
+-- a comment whose bytes these are closes after the first n of them
 abbrev pub ClosesAt : List ℕ → ℕ → Type 0
 ClosesAt bytes n = (n < length bytes) × (comment_at (plain true bytes) ≡ Some (take n bytes, plain false (drop (n + 1) bytes)))
 
@@ -51,15 +51,15 @@ pub record HoldsAfter (t : Tree) (ws : List Waiting) (base : List Node) (stack :
   pub stack_is : stack ≡ marks ws
   pub nodes_are : nodes ≡ base ++ (waiting_nodes ws ++ postfix t)
 
--- a place of the walk stands in the code: whether a value stands right before, the stack, the nodes behind the base
-abbrev pub Stands : Place → List Node → Bool → List Mark → List Node → Type 0
-Stands (before ws) base behind_value stack nodes = (behind_value ≡ false) × HoldsBefore ws base stack nodes
-Stands (after t ws) base behind_value stack nodes = (behind_value ≡ true) × HoldsAfter t ws base stack nodes
+-- a place of the walk stands in the code: whether a value stands right before, the stack, the nodes after the base
+abbrev pub Stands : WalkPosition → List Node → Bool → List Mark → List Node → Type 0
+Stands (before ws) base after_value stack nodes = (after_value ≡ false) × HoldsBefore ws base stack nodes
+Stands (after t ws) base after_value stack nodes = (after_value ≡ true) × HoldsAfter t ws base stack nodes
 
 -- a step from a place: none, or one to the place that stands there now
-abbrev pub Steps : Place → List Node → List ℕ → Option Bool → List ℕ → List Mark → List Node → Type 0
-Steps p base bytes None rest stack nodes = step_at p bytes ≡ None
-Steps p base bytes (Some behind_value) rest stack nodes = (q : Place) × (step_at p bytes ≡ Some (q, rest)) × Stands q base behind_value stack nodes
+abbrev pub IsWalkStep : WalkPosition → List Node → List ℕ → Option Bool → List ℕ → List Mark → List Node → Type 0
+IsWalkStep p base bytes None rest stack nodes = step_at p bytes ≡ None
+IsWalkStep p base bytes (Some after_value) rest stack nodes = (q : WalkPosition) × (step_at p bytes ≡ Some (q, rest)) × Stands q base after_value stack nodes
 
 -- the nearest of the stack
 abbrev pub nearest : List Mark → Option Mark
@@ -108,14 +108,14 @@ TakesValue bytes base None rest nodes = value_at bytes ≡ None
 TakesValue bytes base (Some n) rest nodes = (t : Tree) × (value_at bytes ≡ Some (t, rest)) × (nodes ≡ base ++ postfix t) × (n ≡ length (postfix t))
 
 -- wherever the walk stands, it makes its step
-abbrev pub GoesOn : Bool → List ℕ → List Mark → List Node → Option Bool → List ℕ → List Mark → List Node → Type 0
-GoesOn behind_value bytes stack nodes to rest stack_then nodes_then =
-    (p : Place) (base : List Node) → Stands p base behind_value stack nodes → Steps p base bytes to rest stack_then nodes_then
+abbrev pub WalkStepSpec : Bool → List ℕ → List Mark → List Node → Option Bool → List ℕ → List Mark → List Node → Type 0
+WalkStepSpec after_value bytes stack nodes to rest stack_then nodes_then =
+    (p : WalkPosition) (base : List Node) → Stands p base after_value stack nodes → IsWalkStep p base bytes to rest stack_then nodes_then
 
 -- wherever a value stands, it is settled
 abbrev pub Settles : List Mark → List Node → List Mark → List Node → Type 0
 Settles stack nodes stack_then nodes_then =
-    (t : Tree) (ws : List Waiting) (base : List Node) → HoldsAfter t ws base stack nodes → Stands (settled t ws) base true stack_then nodes_then
+    (t : Tree) (ws : List Waiting) (base : List Node) → HoldsAfter t ws base stack nodes → Stands (settled_value t ws) base true stack_then nodes_then
 
 -- wherever a value stands, the operations that bind as tightly as n or tighter gather it
 abbrev pub Gathers : ℕ → List Mark → List Node → List Mark → List Node → Type 0
@@ -123,11 +123,11 @@ Gathers n stack nodes stack_then nodes_then =
     (t : Tree) (ws : List Waiting) (base : List Node) → HoldsAfter t ws base stack nodes → HoldsAfter (gathered n t ws).0 (gathered n t ws).1 base stack_then nodes_then
 
 -- wherever a chain stands, the brackets that wait are closed round it
-abbrev pub Closes : List Mark → List Node → Bool → List Mark → List Node → Type 0
-Closes stack nodes false stack_then nodes_then =
+abbrev pub ClosesBrackets : List Mark → List Node → Bool → List Mark → List Node → Type 0
+ClosesBrackets stack nodes false stack_then nodes_then =
     (t : Tree) (ws : List Waiting) (base : List Node) → HoldsAfter t ws base stack nodes → closed t ws ≡ None
-Closes stack nodes true stack_then nodes_then =
-    (t : Tree) (ws : List Waiting) (base : List Node) → HoldsAfter t ws base stack nodes → (p : Place) × (closed t ws ≡ Some p) × Stands p base true stack_then nodes_then
+ClosesBrackets stack nodes true stack_then nodes_then =
+    (t : Tree) (ws : List Waiting) (base : List Node) → HoldsAfter t ws base stack nodes → (p : WalkPosition) × (closed t ws ≡ Some p) × Stands p base true stack_then nodes_then
 
 -- a byte from the plus to the nine comes first: of all values only a number begins so
 abbrev pub BeginsNumber : List ℕ → Type 0
@@ -136,41 +136,41 @@ BeginsNumber (b ∷ bs) = (43 ≤ b) × (b ≤ 57)
 
 -- ---- the pieces
 
-abbrev pub places_of : List Item → List Node → List ℕ → Places
-places_of items nodes bytes = record { items = items; nodes = nodes; bytes = bytes }
+abbrev pub store_of : List PieceEntry → List Node → List ℕ → PieceStore
+store_of items nodes bytes = record { items = items; nodes = nodes; bytes = bytes }
 
--- a value was taken behind a letter: its word is added
-abbrev pub AddsWord : Letter → List ℕ → List ℕ → List Item → List Item → List Node → List Node → Type 0
+-- a value was taken after a letter: its word is added
+abbrev pub AddsWord : Letter → List ℕ → List ℕ → List PieceEntry → List PieceEntry → List Node → List Node → Type 0
 AddsWord letter bytes rest items items_then nodes nodes_then =
     (v : Tree) × (value_at bytes ≡ Some (v, rest)) × (items_then ≡ items ++ item_of (word letter v) ∷ []) × (nodes_then ≡ nodes ++ postfix v)
 
--- what stands behind a setting's sign
+-- what stands after a setting's sign
 abbrev pub setting_at : List ℕ → Option (Piece × List ℕ)
 setting_at bytes = option_and_then (λ i. set_at i.0 i.1) (value_at bytes)
 
 -- a setting was taken: it is added
-abbrev pub AddsSetting : List ℕ → List ℕ → List Item → List Item → List Node → List Node → Type 0
+abbrev pub AddsSetting : List ℕ → List ℕ → List PieceEntry → List PieceEntry → List Node → List Node → Type 0
 AddsSetting bytes rest items items_then nodes nodes_then =
     (i : Tree) × (v : Tree) × (setting_at bytes ≡ Some (setting i v, rest)) × (items_then ≡ items ++ item_of (setting i v) ∷ [])
     × (nodes_then ≡ nodes ++ (postfix i ++ postfix v))
 
 -- a comment was taken: it is added
-abbrev pub AddsComment : List ℕ → List ℕ → List Item → List Item → List ℕ → List ℕ → Type 0
+abbrev pub AddsComment : List ℕ → List ℕ → List PieceEntry → List PieceEntry → List ℕ → List ℕ → Type 0
 AddsComment bytes rest items items_then texts texts_then =
     (text : List ℕ) × (comment_at (drop 1 bytes) ≡ Some (text, rest)) × (items_then ≡ items ++ item_of (comment text) ∷ []) × (texts_then ≡ texts ++ text)
 
--- a piece's item, nodes and bytes stand behind those that were there
-pub record Adds (p : Piece) (old new : Places) : Type 0 where
+-- a piece's item, nodes and bytes stand after those that were there
+pub record Adds (p : Piece) (old new : PieceStore) : Type 0 where
   pub items_more : new.items ≡ old.items ++ item_of p ∷ []
   pub nodes_more : new.nodes ≡ old.nodes ++ nodes_of p
   pub bytes_more : new.bytes ≡ old.bytes ++ bytes_of p
 
 -- a piece was taken, or there is none
-abbrev pub TakesPiece : List ℕ → Bool → List ℕ → Places → Places → Type 0
+abbrev pub TakesPiece : List ℕ → Bool → List ℕ → PieceStore → PieceStore → Type 0
 TakesPiece bytes false rest old new = piece_at bytes ≡ None
 TakesPiece bytes true rest old new = (p : Piece) × (piece_at bytes ≡ Some (p, rest)) × Adds p old new
 
 -- all pieces were taken, or the bytes aren't made of pieces
-abbrev pub TakesPieces : List ℕ → Bool → Places → Type 0
+abbrev pub TakesPieces : List ℕ → Bool → PieceStore → Type 0
 TakesPieces bytes false new = pieces_at (length bytes) bytes ≡ None
-TakesPieces bytes true new = (pieces : List Piece) × (pieces_at (length bytes) bytes ≡ Some pieces) × Keeps new pieces
+TakesPieces bytes true new = (pieces : List Piece) × (pieces_at (length bytes) bytes ≡ Some pieces) × EncodesPieces new pieces

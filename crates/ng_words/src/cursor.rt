@@ -1,6 +1,6 @@
 ghost use Rattle.std.specs.Prelude.{◌≡◌, ◌≢◌, ◌<◌, [], ◌∷◌, Some, None, MatchOption, MatchBool, IsTrue, ◌↔◌, drop, true, false};
 ghost use Rattle.ng_words.specs.Plain.{plain, is_blank, capital, StartsWithByte, IsOutside, AtPlain, HasNoComment};
-ghost use Rattle.ng_words.specs.Values.{behind};
+ghost use Rattle.ng_words.specs.Values.{strip_prefix};
 ghost use Rattle.ng_words.specs.Pieces.{comment_at};
 ghost use Rattle.ng_words.specs.Walks.{ClosesAt};
 
@@ -161,7 +161,7 @@ impl<'a> Cursor<'a> {
         Digits { rest: self.rest }
     }
 
-    /// Goes on behind digits that were read.
+    /// Goes on after digits that were read.
     #[inline]
     pub(crate) fn go_on(&mut self, digits: &Digits<'a>)
         ensures { self.new ≡ digits.now }
@@ -172,7 +172,7 @@ impl<'a> Cursor<'a> {
     /// Steps over a text, where it comes next; answers whether it does.
     pub(crate) fn skip(&mut self, text: &[u8]) -> bool
         requires { HasNoComment text.now }
-        ensures { MatchBool result (behind text.now self.old ≡ Some self.new) ((behind text.now self.old ≡ None) × (self.new ≡ self.old)) }
+        ensures { MatchBool result (strip_prefix text.now self.old ≡ Some self.new) ((strip_prefix text.now self.old ≡ None) × (self.new ≡ self.old)) }
     {
         let mut ahead = Cursor { rest: self.rest };
         for expected in text {

@@ -30,7 +30,7 @@ fn is_digit(byte: u8) -> bool
     b'0' <= byte && byte <= b'9'
 }
 
-/// The first byte, where it is a digit, and those behind it.
+/// The first byte, where it is a digit, and those after it.
 #[inline]
 fn first_digit(bytes: &[u8]) -> Option<(u8, &[u8])>
     ensures { MatchOption result (AtPlain bytes.now → (front_digits (plain false bytes.now) ≡ []) × (after_digits (plain false bytes.now) ≡ plain false bytes.now))

@@ -1,12 +1,12 @@
 ghost use Rattle.std.specs.Prelude.{◌≡◌, ◌<◌, ◌≤◌, ◌↔◌, ◌⊎◌, [], false, length, None, Ok, Err, MatchResult, MatchOption, OnOk, OnErr, IfOk, IfErr, IfSome, IsErrOf};
-ghost use Rattle.ng_words.specs.Grammar.{Written, IsLine, is_too_long};
+ghost use Rattle.ng_words.specs.Grammar.{ParsedLine, IsLineOf, is_too_long};
 ghost use Rattle.ng_words.specs.Reading.{read};
 ghost use Rattle.ng_words.specs.Kept.{pieces_by, written_by};
 ghost use Rattle.ng_words.specs.Items.{last_size};
 ghost use Rattle.ng_words.specs.Lines.{last_comment};
 
 use crate::cursor::Cursor;
-use crate::item::Item;
+use crate::piece_entry::PieceEntry;
 use crate::pieces::Pieces;
 use crate::reading::read_pieces;
 use crate::start::{Head, block_number, slash};
@@ -28,7 +28,7 @@ pub(crate) const BYTES: usize = 256;
 #[derive(Drop)]
 pub struct Line {
     head: Head,
-    items: ArrayVec<Item, PIECES>,
+    items: ArrayVec<PieceEntry, PIECES>,
     /// The nodes of all values, in order.
     nodes: ArrayVec<Node, NODES>,
     /// The bytes of all comments, in order.
@@ -38,13 +38,13 @@ pub struct Line {
 }
 
 impl Model for Line {
-    ghost use Rattle.ng_words.specs.Kept.{LinePlaces, IsKept};
+    ghost use Rattle.ng_words.specs.Kept.{LineModel, AreEncodedPieces};
 
-    ghost Value = { LinePlaces };
+    ghost Value = { LineModel };
 
     ghost view = { λ l. record { deletable = l.head.deletable; number = l.head.number; places = record { items = l.items.items; nodes = l.nodes.items; bytes = l.bytes.items } } };
 
-    ghost invariant = { λ l. IsKept (record { items = l.items.items; nodes = l.nodes.items; bytes = l.bytes.items }) };
+    ghost invariant = { λ l. AreEncodedPieces (record { items = l.items.items; nodes = l.nodes.items; bytes = l.bytes.items }) };
 }
 
 impl Line {
@@ -69,9 +69,9 @@ impl Line {
     /// this line. Source: NISTIR 6556, 3.3; the faults are own.
     pub fn read(&mut self, text: &[u8]) -> Result<(), Fault>
         ensures value { MatchResult result (λ _. read text.now ≡ Ok (written_by self.new)) (λ e. read text.now ≡ Err e) }
-        ensures reads { OnOk result (IsLine text.now (written_by self.new)) }
-        ensures only { OnOk result ((line : Written) → IsLine text.now line → line ≡ written_by self.new) }
-        ensures none { OnErr result ((line : Written) → IsLine text.now line → ⊥) }
+        ensures reads { OnOk result (IsLineOf text.now (written_by self.new)) }
+        ensures only { OnOk result ((line : ParsedLine) → IsLineOf text.now line → line ≡ written_by self.new) }
+        ensures none { OnErr result ((line : ParsedLine) → IsLineOf text.now line → ⊥) }
         ensures too_long { IsErrOf result Fault.LineTooLong ↔ (256 < length text.now) }
         ensures errors { IfErr result (λ e. (e ≡ Fault.LineTooLong) ⊎ (e ≡ Fault.Unreadable)) }
         ensures cleared { OnErr result (written_by self.new ≡ blank) }
@@ -153,9 +153,9 @@ pub fn is_too_long(text: &[u8]) -> bool
 /// are own.
 pub fn read_line(text: &[u8]) -> Result<Line, Fault>
     ensures value { MatchResult result (λ line. read text.now ≡ Ok (written_by line)) (λ e. read text.now ≡ Err e) }
-    ensures reads { IfOk result (λ line. IsLine text.now (written_by line)) }
-    ensures only { IfOk result (λ line. (other : Written) → IsLine text.now other → other ≡ written_by line) }
-    ensures none { OnErr result ((line : Written) → IsLine text.now line → ⊥) }
+    ensures reads { IfOk result (λ line. IsLineOf text.now (written_by line)) }
+    ensures only { IfOk result (λ line. (other : ParsedLine) → IsLineOf text.now other → other ≡ written_by line) }
+    ensures none { OnErr result ((line : ParsedLine) → IsLineOf text.now line → ⊥) }
     ensures too_long { IsErrOf result Fault.LineTooLong ↔ (256 < length text.now) }
     ensures errors { IfErr result (λ e. (e ≡ Fault.LineTooLong) ⊎ (e ≡ Fault.Unreadable)) }
 {
@@ -167,12 +167,12 @@ pub fn read_line(text: &[u8]) -> Result<Line, Fault>
 }
 
 /// How many bytes the last comment among some items has.
-fn last_length(items: &[Item]) -> Option<u16>
+fn last_length(items: &[PieceEntry]) -> Option<u16>
     ensures { result ≡ last_size items.now }
 {
     let mut last = None;
     for item in items {
-        if let Item::Comment(n) = item {
+        if let PieceEntry::Comment(n) = item {
             last = Some(*n);
         }
     }

@@ -38,7 +38,7 @@ fn whole(cursor: &mut Cursor<'_>) -> (u32, bool)
     (whole, none)
 }
 
-/// Takes the digits behind a point: the ten-millionths that the first seven give, and whether there are none.
+/// Takes the digits after a point: the ten-millionths that the first seven give, and whether there are none.
 #[inline]
 fn fraction(cursor: &mut Cursor<'_>) -> (u32, bool)
     ensures rest { cursor.new ≡ after_digits cursor.old }

@@ -3,14 +3,14 @@ ghost use Rattle.std.specs.Prelude.{◌≡◌, ◌≤◌, [], ◌∷◌, length,
 ghost use Rattle.ng_words.specs.Kept.{pieces_by, IsTree};
 ghost use Rattle.ng_words.specs.Lines.{piece_of};
 
-use crate::item::Item;
 use crate::letter::Letter;
+use crate::piece_entry::PieceEntry;
 use crate::tree::{Node, Tree};
 use std::marker::Model;
 
 /// A piece of a line (NISTIR 6556, 3.3).
 #[derive(Drop)]
-pub enum Piece<'a> {
+pub enum PieceRef<'a> {
     /// A word: its letter and its value.
     Word(Letter, Tree<'a>),
     /// A parameter setting: the parameter's index and its new value.
@@ -22,20 +22,20 @@ pub enum Piece<'a> {
 /// The pieces of a line that are left.
 #[derive(Drop)]
 pub struct Pieces<'a> {
-    pub(crate) items: &'a [Item],
+    pub(crate) items: &'a [PieceEntry],
     pub(crate) nodes: &'a [Node],
     pub(crate) bytes: &'a [u8],
 }
 
 impl<'a> Model for Pieces<'a> {
     ghost use Rattle.std.specs.Prelude.{length, ◌≤◌};
-    ghost use Rattle.ng_words.specs.Kept.{Places, IsKept};
+    ghost use Rattle.ng_words.specs.Kept.{PieceStore, AreEncodedPieces};
 
-    ghost Value = { Places };
+    ghost Value = { PieceStore };
 
     ghost view = { λ p. record { items = p.items.now; nodes = p.nodes.now; bytes = p.bytes.now } };
 
-    ghost invariant = { λ p. IsKept (record { items = p.items.now; nodes = p.nodes.now; bytes = p.bytes.now }) × (length p.nodes.now ≤ 256) };
+    ghost invariant = { λ p. AreEncodedPieces (record { items = p.items.now; nodes = p.nodes.now; bytes = p.bytes.now }) × (length p.nodes.now ≤ 256) };
 }
 
 /// The tree that the first n of some nodes are, and the other nodes.
@@ -53,29 +53,29 @@ fn split_tree(nodes: &[Node], n: u16) -> (Tree<'_>, &[Node])
 
 impl<'a> Pieces<'a> {
     /// The next piece; none at the end.
-    pub fn next(&mut self) -> Option<Piece<'a>>
+    pub fn next(&mut self) -> Option<PieceRef<'a>>
         ensures { MatchOption result ((pieces_by self.old ≡ []) × (self.new ≡ self.old)) (λ p. pieces_by self.old ≡ piece_of p ∷ pieces_by self.new) }
     {
         let (item, others) = self.items.split_first()?;
         match *item {
-            Item::Word(letter, n) => {
+            PieceEntry::Word(letter, n) => {
                 let (value, rest) = split_tree(self.nodes, n);
                 self.items = others;
                 self.nodes = rest;
-                Some(Piece::Word(letter, value))
+                Some(PieceRef::Word(letter, value))
             }
-            Item::Setting(i, n) => {
-                let (index, behind) = split_tree(self.nodes, i);
-                let (value, rest) = split_tree(behind, n);
+            PieceEntry::Setting(i, n) => {
+                let (index, after) = split_tree(self.nodes, i);
+                let (value, rest) = split_tree(after, n);
                 self.items = others;
                 self.nodes = rest;
-                Some(Piece::Setting(index, value))
+                Some(PieceRef::Setting(index, value))
             }
-            Item::Comment(n) => {
+            PieceEntry::Comment(n) => {
                 let (text, rest) = self.bytes.split_at(n as usize);
                 self.items = others;
                 self.bytes = rest;
-                Some(Piece::Comment(text))
+                Some(PieceRef::Comment(text))
             }
         }
     }

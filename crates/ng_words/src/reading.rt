@@ -3,29 +3,29 @@ ghost use Rattle.std.specs.Prelude.{◌≡◌, ◌+◌, ◌*◌, ◌<◌, ◌≤
 ghost use Rattle.ng_words.specs.Plain.{StartsWithByte};
 ghost use Rattle.ng_words.specs.Values.{value_at};
 ghost use Rattle.ng_words.specs.Pieces.{comment_at};
-ghost use Rattle.ng_words.specs.Walks.{places_of, AddsWord, setting_at, AddsSetting, AddsComment, TakesPiece, TakesPieces};
+ghost use Rattle.ng_words.specs.Walks.{store_of, AddsWord, setting_at, AddsSetting, AddsComment, TakesPiece, TakesPieces};
 
 use crate::cursor::Cursor;
-use crate::item::Item;
 use crate::letter::{Letter, letter_of};
 use crate::line::{BYTES, PIECES};
+use crate::piece_entry::PieceEntry;
 use crate::value::{Nodes, WaitingList, value};
 use arrayvec::ArrayVec;
 
 /// The items of a line.
-pub(crate) type Items = ArrayVec<Item, PIECES>;
+pub(crate) type Items = ArrayVec<PieceEntry, PIECES>;
 
 /// The bytes of a line's comments.
 pub(crate) type Bytes = ArrayVec<u8, BYTES>;
 
 /// Adds an item. (The arm of words stands apart for the prover's sake.)
 #[inline]
-fn push_item(items: &mut Items, item: Item)
+fn push_item(items: &mut Items, item: PieceEntry)
     requires { length items.old.items < 128 }
     ensures { items.new.items ≡ items.old.items ++ item ∷ [] }
 {
     match item {
-        Item::Word(letter, n) => items.push(Item::Word(letter, n)),
+        PieceEntry::Word(letter, n) => items.push(PieceEntry::Word(letter, n)),
         other => items.push(other),
     }
 }
@@ -46,7 +46,7 @@ fn word(
 {
     match value(cursor, stack, nodes) {
         Some(n) => {
-            items.push(Item::Word(letter, n));
+            items.push(PieceEntry::Word(letter, n));
             true
         }
         None => false,
@@ -74,7 +74,7 @@ fn setting(
     }
     match value(cursor, stack, nodes) {
         Some(n) => {
-            push_item(items, Item::Setting(index, n));
+            push_item(items, PieceEntry::Setting(index, n));
             true
         }
         None => false,
@@ -92,7 +92,7 @@ fn comment(cursor: &mut Cursor<'_>, items: &mut Items, bytes: &mut Bytes) -> boo
     match cursor.comment() {
         Some(text) => {
             bytes.try_extend_from_slice(text).unwrap();
-            push_item(items, Item::Comment(text.len() as u16));
+            push_item(items, PieceEntry::Comment(text.len() as u16));
             true
         }
         None => false,
@@ -110,7 +110,7 @@ fn piece(
     requires few { length items.old.items < 128 }
     requires nodes_fit { length nodes.old.items + length cursor.old ≤ 256 }
     requires bytes_fit { length bytes.old.items + length cursor.old ≤ 256 }
-    ensures piece { TakesPiece cursor.old result cursor.new (places_of items.old.items nodes.old.items bytes.old.items) (places_of items.new.items nodes.new.items bytes.new.items) }
+    ensures piece { TakesPiece cursor.old result cursor.new (store_of items.old.items nodes.old.items bytes.old.items) (store_of items.new.items nodes.new.items bytes.new.items) }
     ensures nodes_fit { IsTrue result → length nodes.new.items + length cursor.new ≤ 256 }
     ensures bytes_fit { IsTrue result → length bytes.new.items + length cursor.new ≤ 256 }
 {
@@ -143,7 +143,7 @@ fn take_pieces(
     requires no_nodes { nodes.old.items ≡ [] }
     requires no_bytes { bytes.old.items ≡ [] }
     requires short { length cursor.old ≤ 256 }
-    ensures { TakesPieces cursor.old result (places_of items.new.items nodes.new.items bytes.new.items) }
+    ensures { TakesPieces cursor.old result (store_of items.new.items nodes.new.items bytes.new.items) }
 {
     while !cursor.is_empty() {
         if !piece(cursor, items, nodes, bytes, stack) {
@@ -166,7 +166,7 @@ pub(crate) fn read_pieces(
     requires no_nodes { nodes.old.items ≡ [] }
     requires no_bytes { bytes.old.items ≡ [] }
     requires short { length cursor.old ≤ 256 }
-    ensures pieces { TakesPieces cursor.old result (places_of items.new.items nodes.new.items bytes.new.items) }
+    ensures pieces { TakesPieces cursor.old result (store_of items.new.items nodes.new.items bytes.new.items) }
     ensures cleared { MatchBool result (Unit {0}) ((items.new.items ≡ []) × (nodes.new.items ≡ []) × (bytes.new.items ≡ [])) }
 {
     if take_pieces(cursor, items, nodes, bytes, stack) {

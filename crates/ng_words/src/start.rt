@@ -55,7 +55,7 @@ pub fn is_deletable(text: &[u8]) -> bool
 
 /// What kind of line a text is, as far as the bounds of a program go.
 #[derive(Clone, Copy, Debug, PartialEq, Eq)]
-pub enum Kind {
+pub enum LineKind {
     /// Nothing stands on it but blanks.
     Blank,
     /// A percent sign alone, which begins and ends a program.
@@ -68,21 +68,21 @@ pub enum Kind {
 ///
 /// Percent signs on lines of their own bound a program (NISTIR 6556, 3.3); that blanks and tabs beside the sign,
 /// and on a blank line, don't count is own.
-pub fn kind_of(text: &[u8]) -> Kind
+pub fn kind_of(text: &[u8]) -> LineKind
     ensures { result ≡ kind_of text.now }
 {
     let mut cursor = Cursor::new(text);
     match cursor.peek() {
-        None => Kind::Blank,
+        None => LineKind::Blank,
         Some(b'%') => {
             cursor.advance();
             if cursor.is_empty() {
-                Kind::Percent
+                LineKind::Percent
             } else {
-                Kind::Other
+                LineKind::Other
             }
         }
-        Some(_) => Kind::Other,
+        Some(_) => LineKind::Other,
     }
 }
 

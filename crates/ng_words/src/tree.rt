@@ -29,7 +29,7 @@ pub enum Function {
     Sqrt,
 }
 
-/// A node of a tree. A tree is kept as the list of its nodes, each behind its parts.
+/// A node of a tree. A tree is kept as the list of its nodes, each after its parts.
 #[derive(Clone, Copy)]
 pub enum Node {
     /// A number; none where the number written is out of the range of numbers.
@@ -72,7 +72,7 @@ impl<'a> Model for Tree<'a> {
 }
 
 impl<'a> Tree<'a> {
-    /// Its nodes, each behind its parts.
+    /// Its nodes, each after its parts.
     pub fn nodes(&self) -> &[Node]
         ensures nodes { result.now ≡ self.now }
         ensures tree { IsTree self.now }

@@ -2,7 +2,7 @@
 ghost use Rattle.std.specs.Prelude.{◌≡◌, ◌+◌, ◌<◌, ◌≤◌, ◌↔◌, [], ◌∷◌, ◌++◌, false, true, length, None, Some, IsTrue, OnSome, MatchOption};
 ghost use Rattle.ng_words.specs.Grammar.{level};
 ghost use Rattle.ng_words.specs.Values.{operations, entry_at};
-ghost use Rattle.ng_words.specs.Walks.{nearest, is_index, operation_within, closing, IsOpening, IsFunction, TakesValue, GoesOn, Settles, Gathers, Closes, BeginsNumber};
+ghost use Rattle.ng_words.specs.Walks.{nearest, is_index, operation_within, closing, IsOpening, IsFunction, TakesValue, WalkStepSpec, Settles, Gathers, ClosesBrackets, BeginsNumber};
 
 use crate::cursor::Cursor;
 use crate::number::number;
@@ -207,7 +207,7 @@ fn gather(most: u8, stack: &mut WaitingList, nodes: &mut Nodes)
 /// Closes the brackets that wait for the chain at the end of the nodes; answers whether there are some.
 fn close(stack: &mut WaitingList, nodes: &mut Nodes) -> bool
     requires { length stack.old.items + length nodes.old.items ≤ 256 }
-    ensures closes { Closes stack.old.items nodes.old.items result stack.new.items nodes.new.items }
+    ensures closes { ClosesBrackets stack.old.items nodes.old.items result stack.new.items nodes.new.items }
     ensures room { length stack.new.items + length nodes.new.items ≡ length stack.old.items + length nodes.old.items }
 {
     match closing(nearest(stack)) {
@@ -224,7 +224,7 @@ fn close(stack: &mut WaitingList, nodes: &mut Nodes) -> bool
 /// A step where no value stands right before: what opens one, or a number. Answers whether a value stands there then.
 fn begin(cursor: &mut Cursor<'_>, stack: &mut WaitingList, nodes: &mut Nodes) -> Option<bool>
     requires { length stack.old.items + length nodes.old.items + length cursor.old ≤ 256 }
-    ensures steps { GoesOn false cursor.old stack.old.items nodes.old.items result cursor.new stack.new.items nodes.new.items }
+    ensures steps { WalkStepSpec false cursor.old stack.old.items nodes.old.items result cursor.new stack.new.items nodes.new.items }
     ensures room { OnSome result (length stack.new.items + length nodes.new.items + length cursor.new ≤ length stack.old.items + length nodes.old.items + length cursor.old) }
 {
     match opening(cursor) {
@@ -241,10 +241,10 @@ fn begin(cursor: &mut Cursor<'_>, stack: &mut WaitingList, nodes: &mut Nodes) ->
     }
 }
 
-/// A step behind a value: a bracket that closes, or an operation. Answers whether a value stands there then.
+/// A step after a value: a bracket that closes, or an operation. Answers whether a value stands there then.
 fn go_on(cursor: &mut Cursor<'_>, stack: &mut WaitingList, nodes: &mut Nodes) -> Option<bool>
     requires { length stack.old.items + length nodes.old.items + length cursor.old ≤ 256 }
-    ensures steps { GoesOn true cursor.old stack.old.items nodes.old.items result cursor.new stack.new.items nodes.new.items }
+    ensures steps { WalkStepSpec true cursor.old stack.old.items nodes.old.items result cursor.new stack.new.items nodes.new.items }
     ensures room { OnSome result (length stack.new.items + length nodes.new.items + length cursor.new ≤ length stack.old.items + length nodes.old.items + length cursor.old) }
 {
     if cursor.skip(b"]") {
@@ -267,16 +267,16 @@ fn go_on(cursor: &mut Cursor<'_>, stack: &mut WaitingList, nodes: &mut Nodes) ->
 
 /// A step of the walk. Answers whether a value stands right before then.
 fn step(
-    behind: bool,
+    after_value: bool,
     cursor: &mut Cursor<'_>,
     stack: &mut WaitingList,
     nodes: &mut Nodes,
 ) -> Option<bool>
     requires { length stack.old.items + length nodes.old.items + length cursor.old ≤ 256 }
-    ensures steps { GoesOn behind cursor.old stack.old.items nodes.old.items result cursor.new stack.new.items nodes.new.items }
+    ensures steps { WalkStepSpec after_value cursor.old stack.old.items nodes.old.items result cursor.new stack.new.items nodes.new.items }
     ensures room { OnSome result (length stack.new.items + length nodes.new.items + length cursor.new ≤ length stack.old.items + length nodes.old.items + length cursor.old) }
 {
-    if behind {
+    if after_value {
         go_on(cursor, stack, nodes)
     } else {
         begin(cursor, stack, nodes)
@@ -285,10 +285,10 @@ fn step(
 
 /// Whether the walk has ended: a value stands right before, and nothing waits.
 #[inline]
-fn has_ended(behind: bool, stack: &WaitingList) -> bool
-    ensures { IsTrue result ↔ ((behind ≡ true) × (stack.now.items ≡ [])) }
+fn has_ended(after_value: bool, stack: &WaitingList) -> bool
+    ensures { IsTrue result ↔ ((after_value ≡ true) × (stack.now.items ≡ [])) }
 {
-    behind && stack.is_empty()
+    after_value && stack.is_empty()
 }
 
 /// Takes a value of any form: pushes its nodes, and answers how many they are.
@@ -299,10 +299,10 @@ fn walk(cursor: &mut Cursor<'_>, stack: &mut WaitingList, nodes: &mut Nodes) -> 
 {
     stack.clear();
     let start = nodes.len();
-    let mut behind = false;
-    while !has_ended(behind, stack) {
-        match step(behind, cursor, stack, nodes) {
-            Some(after) => behind = after,
+    let mut after_value = false;
+    while !has_ended(after_value, stack) {
+        match step(after_value, cursor, stack, nodes) {
+            Some(after) => after_value = after,
             None => return None,
         }
     }

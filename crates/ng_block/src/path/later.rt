@@ -1,32 +1,32 @@
 //! The later segments of a path, and how the machine stands before them. Those of a cycle aren't walked.
 ghost use Rattle.std.specs.Prelude.{◌≡◌, length, take, drop};
-ghost use Rattle.ng_cycles.specs.Segments.{behind, stand_after};
+ghost use Rattle.ng_cycles.specs.Segments.{after_segments, after_segment};
 ghost use Rattle.ng_block.specs.Paths.{path_segments};
 
-use crate::path::{Moves, Path, traverse};
+use crate::path::{Path, PathSegments, traverse};
 use ng_canon::Segment;
-use ng_cycles::{Cycle, Standing};
+use ng_cycles::{Cycle, MotionState};
 use ng_num::Point;
 
 /// The same outputs at another point.
-fn moved(before: Standing, point: Point) -> Standing
+fn moved(before: MotionState, point: Point) -> MotionState
     ensures { result ≡ record before { point = point } }
 {
-    Standing {
+    MotionState {
         point,
         outputs: before.outputs,
     }
 }
 
-/// How the machine stands behind a segment.
-pub fn stand_after(before: Standing, segment: &Segment) -> Standing
-    ensures { result ≡ stand_after before segment.now }
+/// How the machine stands after a segment.
+pub fn after_segment(before: MotionState, segment: &Segment) -> MotionState
+    ensures { result ≡ after_segment before segment.now }
 {
     match segment {
         Segment::Line(line) => moved(before, line.end),
         Segment::Arc(arc) => moved(before, arc.end),
         Segment::Dwell(_) => before,
-        Segment::Switch(outputs) => Standing {
+        Segment::Switch(outputs) => MotionState {
             point: before.point,
             outputs: *outputs,
         },
@@ -48,10 +48,10 @@ impl Path {
         }
     }
 
-    /// How the machine stands behind so many of its segments, or behind them all, from how it stood before them.
+    /// How the machine stands after so many of its segments, or after them all, from how it stood before them.
     #[tactic(auto, using(crate::proofs::LaterLemmas::one_taken, crate::proofs::LaterLemmas::two_taken))]
-    pub fn standing_behind(&self, before: Standing, n: u64) -> Standing
-        ensures { result ≡ behind before (take n (path_segments self.now)) }
+    pub fn motion_state_after(&self, before: MotionState, n: u64) -> MotionState
+        ensures { result ≡ after_segments before (take n (path_segments self.now)) }
     {
         if n == 0 {
             return before;
@@ -62,33 +62,33 @@ impl Path {
             Path::Straight(line) => moved(before, line.end),
             Path::Round(arc) => moved(before, arc.end),
             Path::Homing(way) => moved(before, if n == 1 { way.between } else { way.home }),
-            Path::Cycle(canned) => canned.standing_behind(before, n),
+            Path::Cycle(canned) => canned.motion_state_after(before, n),
         }
     }
 }
 
-impl Moves {
-    /// The segments of a path behind its first n.
+impl PathSegments {
+    /// The segments of a path after its first n.
     #[tactic(auto, using(crate::proofs::LaterLemmas::one_dropped, crate::proofs::LaterLemmas::two_dropped))]
-    pub fn later(path: &Path, n: u64) -> Moves
+    pub fn later(path: &Path, n: u64) -> PathSegments
         ensures { result ≡ drop n (path_segments path.now) }
     {
         if n == 0 {
-            return Moves::of(path);
+            return PathSegments::of(path);
         }
         match path {
-            Path::Still => Moves::none(),
-            Path::WithoutFeed => Moves::none(),
-            Path::Straight(_) => Moves::none(),
-            Path::Round(_) => Moves::none(),
+            Path::Still => PathSegments::none(),
+            Path::WithoutFeed => PathSegments::none(),
+            Path::Straight(_) => PathSegments::none(),
+            Path::Round(_) => PathSegments::none(),
             Path::Homing(way) => if n == 1 {
-                Moves::one(Segment::Line(traverse(way.between, way.home)))
+                PathSegments::one(Segment::Line(traverse(way.between, way.home)))
             } else {
-                Moves::none()
+                PathSegments::none()
             },
-            Path::Cycle(canned) => Moves {
+            Path::Cycle(canned) => PathSegments {
                 next: None,
-                behind: None,
+                after_next: None,
                 cycle: Some(Cycle::from(canned, n)),
             },
         }

@@ -1,4 +1,4 @@
-ghost use Rattle.ng_rig.specs.Life.{Began};
+ghost use Rattle.ng_rig.specs.Trace.{Began};
 ghost use Rattle.std.specs.Prelude.{[]};
 
 use ng_canon::Item;
@@ -17,7 +17,7 @@ impl Worn {
 }
 
 impl Rig for Worn {
-    ghost life = { λ _. Began (λ _. []) };
+    ghost trace = { λ _. Began (λ _. []) };
 
     ghost honest = { λ _. ⊥ };
 

@@ -33,7 +33,7 @@ impl<R> Counting<R> {
 }
 
 impl<R: Rig> Rig for Counting<R> {
-    ghost life = { λ counting. R.life counting.rig };
+    ghost trace = { λ counting. R.trace counting.rig };
 
     ghost honest = { λ counting. R.honest counting.rig };
 

@@ -182,8 +182,8 @@ fn records_with_a_number_changed(rt: HostRuntime) -> Result<(), Fail> {
     Ok(())
 }
 
-/// Lays so many records of one part, each of which counts an entry more, and behind them one of two parts, by which parameter 49 is 1; all
-/// into a device with two sectors behind the log.
+/// Lays so many records of one part, each of which counts an entry more, and after them one of two parts, by which parameter 49 is 1; all
+/// into a device with two sectors after the log.
 fn lay_to_the_end<R: Rig>(rig: &mut R, records: usize) -> bool {
     let mut is_laid = true;
     let mut number = 0;
@@ -210,7 +210,7 @@ fn found_to_the_end(alloc: Global, records: usize) -> Result<Found, Fail> {
     Ok(found(alloc, rig))
 }
 
-/// How many records of one part there are, and what power on finds with one of two parts behind them: that counts where it ends within
+/// How many records of one part there are, and what power on finds with one of two parts after them: that counts where it ends within
 /// sector 1709, the log's last.
 const ENDS: &[(usize, Found)] = &[
     (1_021, (Ok((1_021, 1_000_000)), 90)),

@@ -1,13 +1,13 @@
 //! The journal beside a plain one, which writes a whole snapshot for each entry and each opened segment: what both devices stand for.
 ghost use Rattle.std.specs.Prelude.{◌≡◌, IsSome, IsNone, IfSome};
 ghost use Rattle.std.proofs.Props.{props};
-ghost use Rattle.ng_layout.specs.Storable.{CanWait, IsStorable};
+ghost use Rattle.ng_layout.specs.Storable.{IsStorableHalf, IsStorable};
 
 use crate::images::store;
 use crate::journal::formatted;
 use crate::log::{Mill, set_all};
 use ng_journal::{ProgramLine, recover};
-use ng_layout::{Half, Header, Opened, Source, Stored, text_of, text_sector};
+use ng_layout::{Half, Header, Opened, Source, Stored, text_from, text_sector};
 use ng_num::{Fault, Len, Point};
 use ng_rig::{MemoryRig, Rig};
 use std::alloc::{AllocError, Global};
@@ -41,11 +41,11 @@ fn point_at(x: i64) -> Point {
 /// A line of the operator's that is half-done before this segment, or within it where something is open.
 fn half_of(index: u64, at: Option<Point>, opened: Option<Opened>) -> Half
     requires { IsSome opened → IsNone at }
-    ensures waits { CanWait result }
+    ensures waits { IsStorableHalf result }
     ensures opened { result.opened ≡ opened }
 {
     Half {
-        text: text_of(b"G0 X5"),
+        text: text_from(b"G0 X5"),
         source: Source::Mdi,
         index,
         at,
@@ -56,7 +56,7 @@ fn half_of(index: u64, at: Option<Point>, opened: Option<Opened>) -> Half
 /// Makes an entry of what is stored.
 fn enter(stored: &mut Stored<Global>, entry: (i64, i64, i64, i64, u64), half: Option<Half>)
     requires storable { IsStorable stored.old }
-    requires waits { IfSome half CanWait }
+    requires waits { IfSome half IsStorableHalf }
     ensures storable { IsStorable stored.new }
     ensures program { stored.new.length ≡ stored.old.length }
 {
@@ -159,7 +159,7 @@ impl Plain {
 impl Mill<MemoryRig<Global>> {
     /// Stores that something is open.
     fn open(self, half: Half) -> Result<Self, Fault>
-        requires waits { CanWait half }
+        requires waits { IsStorableHalf half }
         requires is_open { IsSome half.opened }
     {
         let Mill {
@@ -255,7 +255,7 @@ const DEEDS: &[Deed] = &[
     Deed::Entry(2, 1, 14, 2, 0),
 ];
 
-/// The device that the journal leaves behind these deeds.
+/// The device that the journal leaves after these deeds.
 fn logged(alloc: Global, deeds: &[Deed]) -> Result<MemoryRig<Global>, Fail> {
     let mut mill = Mill::on(alloc, formatted(alloc)?)?;
     for deed in deeds {
@@ -344,7 +344,7 @@ fn are_lines_alike(one: &Option<ProgramLine>, other: &Option<ProgramLine>) -> bo
     }
 }
 
-/// Whether both journals stand for what is stored, and for the same lines of the program, behind these deeds.
+/// Whether both journals stand for what is stored, and for the same lines of the program, after these deeds.
 fn stand_for_the_same(alloc: Global, deeds: &[Deed]) -> Result<bool, Fail> {
     let (rig, stored) = snapshotted(alloc, deeds)?;
     let (wanted, wanted_lines) = found(alloc, &rig)?;

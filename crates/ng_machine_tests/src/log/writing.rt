@@ -80,7 +80,7 @@ const PARTS: &[(usize, Label, i64, i64)] = &[
     (701, (2, 6, 1, 2, 34), 267, 34),
 ];
 
-/// The device behind those entries.
+/// The device after those entries.
 fn grouped(alloc: Global) -> Result<MemoryRig<Global>, Fail> {
     let mut mill = Mill::on(alloc, formatted(alloc)?)?;
     let mut first: i64 = 1;

@@ -1,5 +1,5 @@
 use super::{len, point, steps_of};
-use ng_canon::{Arc, Geometry, InverseTime, Item, Pace, Plane, Segment, Step, Turn};
+use ng_canon::{Arc, ArcDirection, AxisStep, Geometry, InverseTime, Item, Pace, Plane, Segment};
 use ng_num::{Num, Point};
 use ng_step::Stepper;
 use std::test::Fail;
@@ -12,10 +12,10 @@ fn thousand(stepper: &mut Stepper) -> (u64, u64, u64) {
         let Some(Item::Pulse(pulse)) = stepper.next() else {
             return (0, 0, 0);
         };
-        if matches!(pulse.x, Step::Backward) && x < 1_000 {
+        if matches!(pulse.x, AxisStep::Backward) && x < 1_000 {
             x += 1;
         }
-        if matches!(pulse.y, Step::Forward) && y < 1_000 {
+        if matches!(pulse.y, AxisStep::Forward) && y < 1_000 {
             y += 1;
         }
         if k > 0 && pulse.period_us != period_us {
@@ -30,7 +30,7 @@ fn thousand(stepper: &mut Stepper) -> (u64, u64, u64) {
 fn round(end: Point, pace: Pace) -> Segment {
     Segment::Arc(Arc {
         plane: Plane::Xy,
-        turn: Turn::Counterclockwise,
+        turn: ArcDirection::Counterclockwise,
         start: point(10_000_000_000, 0, 0),
         end,
         centre_a: len(0),

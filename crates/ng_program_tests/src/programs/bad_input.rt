@@ -1,8 +1,10 @@
 //! Lines that nobody would write: each is answered by a fault, or read, at once.
 use super::dry_text;
-use ng_block::{Ended, State, Tools, execute};
+use ng_block::{Tools, execute};
 use ng_canon::Geometry;
+use ng_dry::Ended;
 use ng_num::Fault;
+use ng_state::State;
 use std::alloc::Global;
 use std::test::Fail;
 

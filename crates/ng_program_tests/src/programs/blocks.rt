@@ -1,11 +1,12 @@
 //! What single lines do in a state, field by field. The values are worked out by hand from the language.
-use ng_block::{Effect, Motion, State, Stop, Tools, execute};
-use ng_canon::{Canon, Command, Geometry, Outputs, Plane, Segment};
+use ng_block::{Effect, ProgramFlow, Tools, execute};
+use ng_canon::{Canon, CanonicalCommand, Geometry, Outputs, Plane, Segment};
 use ng_num::{Len, Point, Unit};
+use ng_state::{Motion, State};
 use std::test::Fail;
 
 /// Whether an effect has just these commands.
-fn has_commands(effect: &Effect, wanted: &[Command]) -> bool {
+fn has_commands(effect: &Effect, wanted: &[CanonicalCommand]) -> bool {
     let mut commands = effect.commands();
     for command in wanted {
         match commands.next() {
@@ -40,18 +41,21 @@ fn a_line_changes_its_fields_and_no_others(rt: HostRuntime) -> Result<(), Fail> 
     assert_eq!(rt; machine.modes.motion, Motion::Feed);
     assert_eq!(rt; machine.modes.unit, Unit::Inches);
     assert_eq!(rt; (point.x.nm(), point.y.nm()), (25_400_000, 0));
-    assert_eq!(rt; (effect.changes.len(), effect.stop), (0, Stop::GoesOn));
+    assert_eq!(rt;
+        (effect.changes.len(), effect.stop),
+        (0, ProgramFlow::GoesOn)
+    );
     let printed = [
-        Command::FeedRate(feed),
-        Command::LengthUnits(Unit::Inches),
-        Command::Feed(point),
+        CanonicalCommand::FeedRate(feed),
+        CanonicalCommand::LengthUnits(Unit::Inches),
+        CanonicalCommand::Feed(point),
     ];
     assert!(rt; has_commands(&effect, &printed));
     let mut segments = effect.segments();
     assert!(rt; matches!(segments.next(), Some(Segment::Line(_))));
     assert_eq!(rt; segments.next(), None);
     assert_eq!(rt; segments.outputs(), state.machine.outputs);
-    state.apply(&effect);
+    state.take_over(effect.machine, effect.changes.as_slice());
     assert_eq!(rt; state.machine, machine);
     Ok(())
 }
@@ -60,20 +64,20 @@ fn a_line_changes_its_fields_and_no_others(rt: HostRuntime) -> Result<(), Fail> 
 fn a_program_end_selects_the_first_system(rt: HostRuntime) -> Result<(), Fail> {
     let mut state = State::fresh(rt.alloc())?;
     let effect = execute(&state, b"M30", &Tools::new(), &Geometry::standard())?;
-    assert_eq!(rt; (effect.changes.len(), effect.stop), (1, Stop::Ends));
+    assert_eq!(rt; (effect.changes.len(), effect.stop), (1, ProgramFlow::Ends));
     let printed = [
-        Command::OriginOffsets(Point::zero()),
-        Command::SelectPlane(Plane::Xy),
-        Command::StopSpindle,
-        Command::MistOff,
-        Command::FloodOff,
-        Command::PalletShuttle,
-        Command::ProgramEnd,
+        CanonicalCommand::OriginOffsets(Point::zero()),
+        CanonicalCommand::SelectPlane(Plane::Xy),
+        CanonicalCommand::StopSpindle,
+        CanonicalCommand::MistOff,
+        CanonicalCommand::FloodOff,
+        CanonicalCommand::PalletShuttle,
+        CanonicalCommand::ProgramEnd,
     ];
     assert!(rt; has_commands(&effect, &printed));
     let switches = [Segment::Switch(Outputs::fresh())];
     assert!(rt; has_segments(&effect, &switches));
-    state.apply(&effect);
+    state.take_over(effect.machine, effect.changes.as_slice());
     assert_eq!(rt; state.machine.modes.motion, Motion::Feed);
     assert_eq!(rt; state.copy()?.machine, state.machine);
     Ok(())

@@ -2,8 +2,8 @@
 use super::cuts::{CUTS, CUTS_TEXT};
 use super::dry_run;
 use linked_list_allocator::LocalHeap;
-use ng_block::{DryFault, Ended, put_canon};
-use ng_canon::{Canon, Command};
+use ng_canon::{Canon, CanonicalCommand};
+use ng_dry::{DryFault, Ended, put_canon};
 use ng_num::Point;
 use std::alloc::Global;
 use std::io;
@@ -71,7 +71,7 @@ fn runs_in_flat_memory_and_writes_a_beginning_without_it(rt: HostRuntime) -> Res
     let heap = LocalHeap::new(rt.alloc(), 40_000)?;
     let mut text = Vec::new(&heap);
     let mut writer = Counted::new(usize::MAX);
-    let traverse = Canon::Command(Command::Traverse(Point::zero()));
+    let traverse = Canon::Command(CanonicalCommand::Traverse(Point::zero()));
     for n in 0..1_000_000 {
         assert!(rt; put_canon(&mut text, &mut writer, &traverse).is_ok(), "{n}");
     }

@@ -1,9 +1,10 @@
 //! Modal groups: a line's segments in the order of the steps. All of it is worked out by hand
 //! from the language.
 use super::dry_text;
-use ng_block::{State, Stop, Tools, execute};
+use ng_block::{ProgramFlow, Tools, execute};
 use ng_canon::{Geometry, Outputs, Segment, Spindle};
 use ng_num::{Len, Num};
+use ng_state::State;
 use std::test::Fail;
 
 #[test]
@@ -59,14 +60,14 @@ fn a_whole_line_has_its_segments_in_the_order_of_the_steps(rt: HostRuntime) -> R
     Ok(())
 }
 
-/// Lines, one behind the other: whether mist and flood are then on, and how the line stops.
-const COOLANTS: &[(&[u8], bool, bool, Stop)] = &[
-    (b"M7", true, false, Stop::GoesOn),
-    (b"M8 M0", true, true, Stop::Stops),
-    (b"M7 M60", true, true, Stop::Stops),
-    (b"M9 M1", false, false, Stop::StopsIfWanted),
-    (b"M8", false, true, Stop::GoesOn),
-    (b"M7 M30", false, false, Stop::Ends),
+/// Lines, one after the other: whether mist and flood are then on, and how the line stops.
+const COOLANTS: &[(&[u8], bool, bool, ProgramFlow)] = &[
+    (b"M7", true, false, ProgramFlow::GoesOn),
+    (b"M8 M0", true, true, ProgramFlow::Stops),
+    (b"M7 M60", true, true, ProgramFlow::Stops),
+    (b"M9 M1", false, false, ProgramFlow::StopsIfWanted),
+    (b"M8", false, true, ProgramFlow::GoesOn),
+    (b"M7 M30", false, false, ProgramFlow::Ends),
 ];
 
 #[test]
@@ -77,7 +78,7 @@ fn coolants_add_up_and_stops_are_told_apart(rt: HostRuntime) -> Result<(), Fail>
         assert_eq!(rt; effect.machine.outputs.mist, *mist);
         assert_eq!(rt; effect.machine.outputs.flood, *flood);
         assert_eq!(rt; effect.stop, *stop);
-        state.apply(&effect);
+        state.take_over(effect.machine, effect.changes.as_slice());
     }
     Ok(())
 }

@@ -1,7 +1,8 @@
 //! Homes: where they leave the machine, worked out by hand from the language.
-use ng_block::{State, Tools, execute};
+use ng_block::{Tools, execute};
 use ng_canon::{Geometry, Pace, Segment, StraightMove};
 use ng_num::{Len, Point};
+use ng_state::State;
 use std::test::Fail;
 
 /// A length of whole millimetres.

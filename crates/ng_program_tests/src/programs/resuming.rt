@@ -1,14 +1,15 @@
 //! Blocks that go on at one of their segments: where the machine stands then, how its spindle turns, and the segment that comes.
 //! Worked out by hand from the language.
-use ng_block::{Resumed, State, Tools, execute};
+use ng_block::{Resumed, Tools, execute};
 use ng_canon::{Geometry, Pace, Segment, Spindle};
 use ng_num::{Len, Point};
+use ng_state::State;
 use std::alloc::Global;
 use std::test::Fail;
 
 type Text = Result<String<Global>, Fail>;
 
-/// A line, a number of segments that are done of it, and what holds behind them: the machine point, the spindle, and the segment
+/// A line, a number of segments that are done of it, and what holds after them: the machine point, the spindle, and the segment
 /// that comes with where it ends. Lengths are in nanometres, dwells in millionths of a second. The line begins 5 mm above the zero
 /// point, while the spindle turns clockwise.
 const ROWS: &[(&str, u64, &str)] = &[
@@ -49,7 +50,7 @@ const ROWS: &[(&str, u64, &str)] = &[
         "0 5000000 5000000 clockwise, traverse 7000000 0 0",
     ),
     ("#5161=7 G28 Y5", 2, "7000000 0 0 clockwise, nothing"),
-    // a switch and a dwell before the move, and the end's switch behind it
+    // a switch and a dwell before the move, and the end's switch after it
     (
         "M4 G4 P1 G1 X1 F100 M30",
         1,
@@ -106,7 +107,7 @@ const ROWS: &[(&str, u64, &str)] = &[
         14,
         "1000000 0 5000000 clockwise, nothing",
     ),
-    // and behind a switch of its own line
+    // and after a switch of its own line
     (
         "M4 G86 X1 Z1 R2 F100 M30",
         1,
@@ -164,7 +165,7 @@ const ROWS: &[(&str, u64, &str)] = &[
         2_999_999_999,
         "0 0 -999745999 clockwise, feed 0 0 -1000000000",
     ),
-    // behind 9,000,000 holes of 10,000,000 pecks each
+    // after 9,000,000 holes of 10,000,000 pecks each
     (
         "G91 G83 X0.0001 Z-1000 R0 Q0.0001 L9999999 F100",
         270_000_000_000_000,
@@ -210,20 +211,20 @@ fn push_segment(text: &mut String<Global>, alloc: Global, segment: &Segment) -> 
 /// What holds where a block goes on.
 fn resumed_text(alloc: Global, resumed: Resumed) -> Text {
     let standing = resumed.standing;
-    let mut course = resumed.course;
+    let mut block_segments = resumed.block_segments;
     let mut text = String::new(alloc);
     push_point(&mut text, alloc, &standing.point)?;
     text.push_str(" ")?;
     text.push_str(spindle_text(standing.outputs.spindle))?;
     text.push_str(", ")?;
-    match course.next() {
+    match block_segments.next() {
         Some(segment) => push_segment(&mut text, alloc, &segment)?,
         None => text.push_str("nothing")?,
     }
     Ok(text)
 }
 
-/// What holds behind so many segments of a line.
+/// What holds after so many segments of a line.
 fn resumed(alloc: Global, line: &str, n: u64) -> Text {
     let start = Point {
         x: Len::zero(),
@@ -239,7 +240,7 @@ fn resumed(alloc: Global, line: &str, n: u64) -> Text {
         &Tools::new(),
         &Geometry::standard(),
     )?;
-    resumed_text(alloc, effect.course_from(start, n))
+    resumed_text(alloc, effect.block_segments_from(start, n))
 }
 
 #[test]

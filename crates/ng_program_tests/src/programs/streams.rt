@@ -1,7 +1,7 @@
 //! Readers that give little, and readers and writers that fail.
 use super::cuts::{CUTS, CUTS_TEXT, PROGRAM_END};
 use super::dry_run;
-use ng_block::{DryFault, Ended};
+use ng_dry::{DryFault, Ended};
 use std::io;
 use std::io::{ErrorKind, Read, Write};
 use std::test::Fail;

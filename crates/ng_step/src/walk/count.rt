@@ -1,9 +1,10 @@
-//! How many steps an arc has: its passages through the quadrants put together, none of them walked.
+//! How many steps an arc has: its sweeps through the quadrants put together, none of them walked.
 
-use crate::passage::{Ahead, Passage, Way};
-use crate::quadrant::Spot;
+use crate::quadrant::turned;
 use crate::rounding::whole_steps;
-use crate::walk::Walk;
+use crate::sweep::{QuadrantEnd, QuadrantSweep, SweepSteps};
+use crate::walk::ArcWalk;
+use ng_canon::PlanePoint;
 
 /// How many steps an arc has, and how far they go along each axis, in steps.
 #[derive(Clone, Copy)]
@@ -16,21 +17,21 @@ pub struct Count {
 /// A walk so many steps on.
 #[derive(Clone, Copy)]
 struct Leap {
-    walk: Walk,
+    walk: ArcWalk,
     steps: u64,
 }
 
-impl Walk {
+impl ArcWalk {
     ghost use Rattle.std.specs.Prelude.{List, length, MatchOption, IfSome, false, ◌^◌, unsigned_abs, ◌≡◌, ℕ, ◌+◌, ◌-◌, ◌*◌, ◌<◌, ◌≤◌};
     ghost use Rattle.ng_step.specs.Arcs.{stops, IsArc, net_a, net_b};
     ghost use Rattle.ng_step.specs.declared.quadrant.PlaneStep.{PlaneStep};
     ghost use Rattle.ng_step.specs.Turned.{spot_of, Walks, beyond};
-    ghost use Rattle.ng_step.specs.Passages.{inner_at, outer_at, IsLast};
-    ghost use Rattle.ng_step.specs.Leaps.{WalkLeads, Ends, PassesFrom, GoesOn, NeverStops, IsAhead, StopsAt};
+    ghost use Rattle.ng_step.specs.Sweeps.{inner_at, outer_at, IsLast};
+    ghost use Rattle.ng_step.specs.Leaps.{WalkLeads, EndsArc, PassesFrom, NeverStopsUntil, NeverStops, IsAhead, StopsAt};
 
     /// How many steps there are to the end, and how far they go. It takes one root for each quadrant, and as many
     /// as a search by halves in the last one: 60 at most.
-    pub(crate) fn count(&self, end: Spot, quadrants: u64) -> Count
+    pub(crate) fn count(&self, end: PlanePoint, quadrants: u64) -> Count
         requires walks { Walks self.now }
         requires end_a { unsigned_abs end.a < 2 ^ 50 }
         requires end_b { unsigned_abs end.b < 2 ^ 50 }
@@ -61,12 +62,12 @@ impl Walk {
         }
     }
 
-    /// Its passage through the quadrant.
-    fn passage(&self) -> Passage
+    /// Its sweep through the quadrant.
+    fn passage(&self) -> QuadrantSweep
         requires { Walks self.now }
         ensures { PassesFrom self.now result }
     {
-        Passage {
+        QuadrantSweep {
             square: self.circle.square,
             inner: self.inner,
             outer: self.outer,
@@ -76,17 +77,17 @@ impl Walk {
     }
 
     /// Across the rest of the quadrant into the next one.
-    fn across(&self, passage: Passage, last: Way) -> Leap
+    fn across(&self, passage: QuadrantSweep, last: SweepSteps) -> Leap
         requires walks { Walks self.now }
         requires from { PassesFrom self.now passage }
         requires last { IsLast passage last }
         requires room { outer_at passage last.outward ≤ beyond }
         ensures walks { Walks result.walk }
         ensures circle { result.walk.circle ≡ self.now.circle }
-        ensures leads { (e : Spot) (left : ℕ) → 0 < left → GoesOn e left self.now (inner_at passage last.inward) (outer_at passage last.outward)
+        ensures leads { (e : PlanePoint) (left : ℕ) → 0 < left → NeverStopsUntil e left self.now (inner_at passage last.inward) (outer_at passage last.outward)
             → WalkLeads e self.now left result.walk (left - 1) result.steps }
     {
-        let walk = Walk::begin(
+        let walk = ArcWalk::begin(
             self.frame,
             self.circle,
             self.quadrant.next(),
@@ -102,7 +103,7 @@ impl Walk {
     }
 
     /// To a point of the quadrant.
-    fn onward(&self, passage: Passage, way: Way) -> Leap
+    fn onward(&self, passage: QuadrantSweep, way: SweepSteps) -> Leap
         requires walks { Walks self.now }
         requires from { PassesFrom self.now passage }
         requires inside { way.inward * passage.inner_step < passage.inner }
@@ -114,7 +115,7 @@ impl Walk {
         ensures outer { result.walk.outer ≡ outer_at passage way.outward }
         ensures steps { result.steps ≡ way.inward + way.outward }
     {
-        let walk = Walk::begin(
+        let walk = ArcWalk::begin(
             self.frame,
             self.circle,
             self.quadrant,
@@ -130,13 +131,13 @@ impl Walk {
     }
 
     /// To the end of an arc that has at most the present quadrant left.
-    fn to_end(&self, end: Spot, left: u64) -> Leap
+    fn to_end(&self, end: PlanePoint, left: u64) -> Leap
         requires walks { Walks self.now }
         requires end_a { unsigned_abs end.a < 2 ^ 50 }
         requires end_b { unsigned_abs end.b < 2 ^ 50 }
         requires last { left ≤ 1 }
         ensures walks { Walks result.walk }
-        ensures ends { Ends self.now.circle end self.now.quadrant self.now.inner self.now.outer left (spot_of result.walk) result.steps }
+        ensures ends { EndsArc self.now.circle end self.now.quadrant self.now.inner self.now.outer left (spot_of result.walk) result.steps }
     {
         if self.stops(end, left) {
             return Leap {
@@ -153,7 +154,7 @@ impl Walk {
     }
 
     /// The first point of the quadrant at which an arc stops; none where it goes on to the next quadrant.
-    fn stop(&self, passage: Passage, last: Way, end: Spot) -> Option<Way>
+    fn stop(&self, passage: QuadrantSweep, last: SweepSteps, end: PlanePoint) -> Option<SweepSteps>
         requires walks { Walks self.now }
         requires from { PassesFrom self.now passage }
         requires last { IsLast passage last }
@@ -162,7 +163,7 @@ impl Walk {
         requires end_b { unsigned_abs end.b < 2 ^ 50 }
         requires before { stops end 1 (spot_of self.now) ≡ false }
         ensures stop { MatchOption result
-            (GoesOn end 1 self.now (inner_at passage last.inward) (outer_at passage last.outward))
+            (NeverStopsUntil end 1 self.now (inner_at passage last.inward) (outer_at passage last.outward))
             (λ way. StopsAt end self.now passage way) }
         ensures inside { IfSome result (λ way. way.inward * passage.inner_step < passage.inner) }
         ensures room { IfSome result (λ way. outer_at passage way.outward ≤ beyond) }
@@ -176,18 +177,18 @@ impl Walk {
     }
 
     /// An end by its coordinates in the quadrant; none where the arc doesn't stop there.
-    fn ahead(&self, end: Spot) -> Option<Ahead>
+    fn ahead(&self, end: PlanePoint) -> Option<QuadrantEnd>
         requires walks { Walks self.now }
         requires end_a { unsigned_abs end.a < 2 ^ 50 }
         requires end_b { unsigned_abs end.b < 2 ^ 50 }
         requires before { stops end 1 (spot_of self.now) ≡ false }
         ensures { MatchOption result (NeverStops end self.now) (λ ahead. IsAhead self.now.quadrant end ahead) }
     {
-        let end = end.turned(self.quadrant);
+        let end = turned(end, self.quadrant);
         if end.a <= 0 {
             return None;
         }
-        Some(Ahead {
+        Some(QuadrantEnd {
             inner: end.a.unsigned_abs(),
             outer: end.b.unsigned_abs(),
         })

@@ -121,7 +121,7 @@ def tell(device):
     for sector, header in enumerate(device.headers):
         said = "epoch {}, program area {}, {} bytes".format(*header) if header else "none that is valid"
         print(f"header in sector {sector}: {said}{', in force' if header and header[0] == device.epoch else ''}")
-    print(f"log: {device.records} records; it ends {f'at sector {device.end}' if device.end < 1710 else 'behind sector 1709: it is full'}")
+    print(f"log: {device.records} records; it ends {f'at sector {device.end}' if device.end < 1710 else 'after sector 1709: it is full'}")
     if device.torn:
         print("log: parts of a record that isn't complete in sectors", *device.torn)
     for name, numbers in device.fields().items():

@@ -1,6 +1,6 @@
 use Rattle.std.proofs.Common.{◌∙◌, ap, sym}
-use Rattle.ng_modal.specs.declared.modes.Motion.{Motion}
-use Rattle.ng_modal.specs.declared.modes.Modes.{Modes}
+use Rattle.ng_state.specs.declared.modes.Motion.{Motion}
+use Rattle.ng_state.specs.declared.modes.Modes.{Modes}
 use Rattle.ng_block.proofs.ModeLemmas.{modes_after-kept}
 use Rattle.ng_block.proofs.after.put_modes_after.Goals as goal
 

@@ -1,4 +1,4 @@
-use Rattle.ng_commands.proofs.Parted.{blank_behind, first_blank, none_among}
+use Rattle.ng_commands.proofs.Parted.{blank_after, first_blank, none_among}
 use Rattle.ng_commands.proofs.lengths.parted.Goals as goal
 
 pub loop-n-init : goal.loop-n-init
@@ -8,7 +8,7 @@ pub returns-then-byte-eq32 : goal.returns-then-byte-eq32
 returns-then-byte-eq32 c = (first_blank _ _ c.loop-n-test.true c.if-byte-eq32.true, c.loop-n.invariant)
 
 pub loop-n-preserved : goal.loop-n-preserved
-loop-n-preserved c = blank_behind _ _ c.loop-n-test.true c.if-byte-eq32.false c.loop-n.invariant
+loop-n-preserved c = blank_after _ _ c.loop-n-test.true c.if-byte-eq32.false c.loop-n.invariant
 
 pub returns : goal.returns
 returns c = none_among _ _ c.loop-n-test.false c.loop-n.invariant

@@ -1,29 +1,30 @@
-use Rattle.std.proofs.Common.{◌≡◌, ℕ, Option, Some, None, Ok, ◌∙◌, ap, subst}
+use Rattle.std.proofs.Common.{◌≡◌, ℕ, Option, Some, None, Ok, ◌∙◌, ap, subst, sym}
 use Rattle.std.proofs.lemmas.Result.{err_from_is_err_and}
 use Rattle.ng_num.specs.declared.fault.Fault.{Fault}
 use Rattle.ng_rig.proofs.Promise.{meaning}
-use Rattle.ng_layout.specs.Programs.{Line}
+use Rattle.ng_text.specs.Programs.{ProgramLineModel}
 use Rattle.ng_core.proofs.Beginning.{Reading}
-use Rattle.ng_core.proofs.Resuming.{finds_next, after_found, after_end}
+use Rattle.ng_core.proofs.Resuming.{finds_next}
+use Rattle.ng_text.proofs.PlaceLemmas.{line_next, after_end}
 use Rattle.ng_core.proofs.half_done.next_line.Goals as goal
 
 pub returns-in-Some-clause-next : goal.returns-in-Some-clause-next
 returns-in-Some-clause-next g c =
     let place = c.place-place.result in
     let at : place ≡ c.args.session.now.stored.place = c.place-place.ensures.value in
-    let reading = subst (λ (n : ℕ). Reading {E = Fault} g.R.Rig.honest g.R.Rig.life (Ok (Some c.in-Some.line)) n c.args.journal.now c.program_line.new.self) at
-    (subst (λ (l : Option Line). Reading {E = Fault} g.R.Rig.honest g.R.Rig.life (Ok l) place c.args.journal.now c.program_line.new.self) c.in-Some.is c.in_ok-line.ensures.line) in
-    finds_next {E = Fault} {F = Fault} g.R.Rig.honest g.R.Rig.life (Some c.in-Some.line) c.line.inside.next c.args.session.now c.args.journal.now c.program_line.new.self
+    let reading = subst (λ (n : ℕ). Reading {E = Fault} g.R.Rig.honest g.R.Rig.trace (Ok (Some c.in-Some.line)) n c.args.journal.now c.program_line.new.self) at
+    (subst (λ (l : Option ProgramLineModel). Reading {E = Fault} g.R.Rig.honest g.R.Rig.trace (Ok l) place c.args.journal.now c.program_line.new.self) c.in-Some.is c.in_ok-line.ensures.line) in
+    finds_next {E = Fault} {F = Fault} g.R.Rig.honest g.R.Rig.trace (Some c.in-Some.line) c.line.inside.next c.args.session.now c.args.journal.now c.program_line.new.self
     (c.is_programs_line.ensures.yes c.if-not-is_programs_line.false)
-    (λ program found. ap (λ (l : Line). l.next) c.line.view_is ∙ after_found program c.args.session.now.stored.place c.in-Some.line found) reading
+    (λ program found. ap (λ (l : ProgramLineModel). l.next) c.line.view_is ∙ line_next program c.args.session.now.stored.place c.in-Some.line (sym found)) reading
 
 pub returns-in-None-clause-next : goal.returns-in-None-clause-next
 returns-in-None-clause-next g c =
     let place = c.place-place.result in
     let at : place ≡ c.args.session.now.stored.place = c.place-place.ensures.value in
-    let reading = subst (λ (n : ℕ). Reading {E = Fault} g.R.Rig.honest g.R.Rig.life (Ok None) n c.args.journal.now c.program_line.new.self) at
-    (subst (λ (l : Option Line). Reading {E = Fault} g.R.Rig.honest g.R.Rig.life (Ok l) place c.args.journal.now c.program_line.new.self) c.in-None.is c.in_ok-line.ensures.line) in
-    finds_next {E = Fault} {F = Fault} g.R.Rig.honest g.R.Rig.life None place c.args.session.now c.args.journal.now c.program_line.new.self
+    let reading = subst (λ (n : ℕ). Reading {E = Fault} g.R.Rig.honest g.R.Rig.trace (Ok None) n c.args.journal.now c.program_line.new.self) at
+    (subst (λ (l : Option ProgramLineModel). Reading {E = Fault} g.R.Rig.honest g.R.Rig.trace (Ok l) place c.args.journal.now c.program_line.new.self) c.in-None.is c.in_ok-line.ensures.line) in
+    finds_next {E = Fault} {F = Fault} g.R.Rig.honest g.R.Rig.trace None place c.args.session.now c.args.journal.now c.program_line.new.self
     (c.is_programs_line.ensures.yes c.if-not-is_programs_line.false)
     (λ program end. at ∙ after_end program c.args.session.now.stored.place end) reading
 

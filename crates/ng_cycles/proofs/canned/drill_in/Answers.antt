@@ -1,10 +1,12 @@
-use Rattle.std.proofs.Common.{arith, ◌≤ℤ◌, ◌∷◌, []}
+use Rattle.std.proofs.Common.{arith, ◌≤ℤ◌, ◌∷◌, [], sym}
 use Rattle.std.specs.Option.{is_none}
 use Rattle.std.proofs.lemmas.Int.{ints}
+use Rattle.ng_num.proofs.FirstFault.{unless_err}
 use Rattle.ng_num.specs.declared.fault.Fault.TheVariants.{NoFeed}
 use Rattle.ng_canon.specs.Rates.{above_zero}
-use Rattle.ng_cycles.specs.Faults.{work_of, work_causes, drill_by, first_fault}
-use Rattle.ng_cycles.proofs.Causes.{hole_err, unless_err}
+use Rattle.ng_num.specs.Causes.{first_fault}
+use Rattle.ng_cycles.specs.Faults.{work_of, work_causes, drill_by}
+use Rattle.ng_cycles.proofs.Causes.{hole_err}
 use Rattle.ng_cycles.proofs.HasWords.{not_below, clear_above, clear_below}
 use Rattle.ng_cycles.proofs.canned.drill_in.Goals as goal
 
@@ -16,7 +18,7 @@ returns-in-Err-clause-drill c =
     let l = c.args.lengths.now in
     let above : l.z ≤ℤ l.r = omega (arith, ints) in
     hole_err _ s.is_inverse_time (work_causes w.kind words s.outputs.spindle) ((is_none (above_zero s.feed_per_min), NoFeed) ∷ []) c.in-Err.fault (drill_by w s words l)
-    (not_below l.r l.z above) c.if-setting.false (unless_err (first_fault (work_causes w.kind words s.outputs.spindle)) (work_of w.kind words) c.in-Err.fault c.in-Err.ensures.work)
+    (not_below l.r l.z above) c.if-setting.false (unless_err (first_fault (work_causes w.kind words s.outputs.spindle)) (work_of w.kind words) c.in-Err.fault (sym c.in-Err.ensures.work))
 
 pub returns-in-Some-clause-made : goal.returns-in-Some-clause-made
 returns-in-Some-clause-made c =

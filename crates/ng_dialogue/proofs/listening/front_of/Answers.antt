@@ -1,5 +1,5 @@
 use Rattle.std.proofs.Common.{arith, drop, suc}
-use Rattle.ng_block.proofs.LineLemmas.{HasNoNewline-take, HasNoNewline-all, parted}
+use Rattle.ng_text.proofs.LineLemmas.{HasNoNewline-take, HasNoNewline-all, parted}
 use Rattle.ng_dialogue.proofs.listening.front_of.Goals as goal
 
 pub returns-in-Some : goal.returns-in-Some

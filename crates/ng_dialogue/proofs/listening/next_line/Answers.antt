@@ -1,7 +1,7 @@
 use Rattle.std.proofs.Common.{rules, ◌≡◌, ◌∷◌, ◌++◌, ◌+◌, ◌∙◌, true, false, refl, sym, ap, take, drop, length}
-use Rattle.ng_block.proofs.LineLemmas.{HasNoNewline-append}
+use Rattle.ng_text.proofs.LineLemmas.{HasNoNewline-append}
 use Rattle.ng_dialogue.specs.Waiting.{text_left}
-use Rattle.ng_dialogue.proofs.Ranges.{all_taken, behind_newline, cut_on, some_passed}
+use Rattle.ng_dialogue.proofs.Ranges.{all_taken, after_newline, cut_on, some_passed}
 use Rattle.ng_dialogue.proofs.Taking.{ended_for_good, ended_still, holds_on, last_line, left_bytes, left_on, line_ends, step_on, text_over}
 use Rattle.ng_dialogue.proofs.listening.next_line.Goals as goal
 
@@ -26,7 +26,7 @@ returns-in-Some-clause-some g c =
     let going : c.in_ok-fill.field-0 ≡ true = search rules in
     let on : c.fill.new.self.ended ≡ false = (c.in_ok-fill.ensures.some going).1 in
     let parts : c.fill.new.self.bytes ≡ front ++ 10 ∷ rest = sym c.waiting-waiting.ensures ∙ c.in-Some.ensures.1.1 in
-    let left : c.consume.new.self.bytes ≡ rest = left_bytes c.fill.new.self c.consume.new.self (length front + 1) c.consume.ensures ∙ ap (drop (length front + 1)) parts ∙ behind_newline front rest (length front + 1) refl in
+    let left : c.consume.new.self.bytes ≡ rest = left_bytes c.fill.new.self c.consume.new.self (length front + 1) c.consume.ensures ∙ ap (drop (length front + 1)) parts ∙ after_newline front rest (length front + 1) refl in
     λ more. line_ends old now (g.R.Read.remaining c.fill.new.reader) 301 so_far.0 front rest c.keep.new.line.items c.fill.new.self c.consume.new.self so_far.3 c.fill.ensures.keeps on
     (left_on c.fill.new.self c.consume.new.self (length front + 1) c.consume.ensures on) so_far.1 c.in-Some.ensures.0 parts left (c.keep.ensures ∙ ap (λ l. take 301 (l ++ front)) so_far.2 ∙ cut_on 301 so_far.0 front)
 

@@ -19,7 +19,7 @@ pub returns-in_err-sync-clause-stops : goal.returns-in_err-sync-clause-stops
 returns-in_err-sync-clause-stops g c =
     let p = err_from_is_err_and c.from_residual-in_err-sync.result c.from_residual-in_err-sync.ensures.1 in
     let area = c.write_snapshot.ensures.area in
-    let sync = c.in_err-sync.ensures.life in
+    let sync = c.in_err-sync.ensures.trace in
     rw p.1 (record {
       keeps = λ h. sync.keeps (area.keeps h);
       back = λ h. area.back (sync.back h);
@@ -30,8 +30,8 @@ pub returns-in_err-write-clause-stops : goal.returns-in_err-write-clause-stops
 returns-in_err-write-clause-stops g c =
     let p = err_from_is_err_and c.from_residual-in_err-write.result c.from_residual-in_err-write.ensures.1 in
     let area = c.in_ok-write_snapshot.ensures.area in
-    let sync = c.in_ok-sync.ensures.life in
-    let write = c.write.ensures.life in
+    let sync = c.in_ok-sync.ensures.trace in
+    let write = c.write.ensures.trace in
     let stored = c.args.stored.now in
     let new = c.args.next in
     rw p.1 (record {
@@ -45,9 +45,9 @@ returns-in_err-write-clause-stops g c =
 pub returns-clause-stops : goal.returns-clause-stops
 returns-clause-stops g c =
     let area = c.in_ok-write_snapshot.ensures.area in
-    let sync = c.in_ok-sync.ensures.life in
-    let write = c.in_ok-write.ensures.life in
-    let last = c.sync-2.ensures.life in
+    let sync = c.in_ok-sync.ensures.trace in
+    let write = c.in_ok-write.ensures.trace in
+    let last = c.sync-2.ensures.trace in
     let stored = c.args.stored.now in
     let new = c.args.next in
     record {
@@ -73,7 +73,7 @@ returns-in_err-sync-clause-stores g c =
     let p = err_from_is_err_and c.from_residual-in_err-sync.result c.from_residual-in_err-sync.ensures.1 in
     let new = c.args.next in
     let area = c.write_snapshot.ensures.area in
-    let sync = c.sync.ensures.life in
+    let sync = c.sync.ensures.trace in
     rw p.1 (record {
       keeps = λ h. sync.keeps (area.keeps h);
       back = λ h. area.back (sync.back h);
@@ -87,8 +87,8 @@ returns-in_err-write-clause-stores g c =
     let p = err_from_is_err_and c.from_residual-in_err-write.result c.from_residual-in_err-write.ensures.1 in
     let new = c.args.next in
     let area = c.write_snapshot.ensures.area in
-    let sync = c.sync.ensures.life in
-    let write = c.write.ensures.life in
+    let sync = c.sync.ensures.trace in
+    let write = c.write.ensures.trace in
     rw p.1 (record {
       keeps = λ h. write.keeps (sync.keeps (area.keeps h));
       back = λ h. area.back (sync.back (write.back h));
@@ -103,9 +103,9 @@ returns-clause-stores g c =
     let new = c.args.next in
     let held = c.header_sector.ensures.holds in
     let area = c.write_snapshot.ensures.area in
-    let sync = c.sync.ensures.life in
-    let write = c.write.ensures.life in
-    let last = c.sync-2.ensures.life in
+    let sync = c.sync.ensures.trace in
+    let write = c.write.ensures.trace in
+    let last = c.sync-2.ensures.trace in
     record {
       keeps = λ h. last.keeps (write.keeps (sync.keeps (area.keeps h)));
       back = λ h. area.back (sync.back (write.back (last.back h)));
@@ -114,8 +114,8 @@ returns-clause-stores g c =
           let two = state_sync c.sync.result new c.args.stored.now _ _ _ one (sync.holds (area.keeps h)) in
           let three = state_header c.write.result new c.args.stored.now c.header_sector.result _ _ _ held two (write.holds (sync.keeps (area.keeps h))) in
           let done = c.in_ok-write_snapshot.ensures.area in
-          let on = c.in_ok-sync.ensures.life in
-          let put = c.in_ok-write.ensures.life in
+          let on = c.in_ok-sync.ensures.trace in
+          let put = c.in_ok-write.ensures.trace in
           let end = last.holds (write.keeps (sync.keeps (area.keeps h))) in
           record {
             writes = state_sync c.sync-2.result new c.args.stored.now _ _ _ three end;

@@ -7,7 +7,7 @@ pub returns-in_err-write-clause-area : goal.returns-in_err-write-clause-area
 returns-in_err-write-clause-area g c =
     let p = err_from_is_err_and c.from_residual.result c.from_residual.ensures.1 in
     let before = c.loop-part.invariant.area in
-    let write = c.write.ensures.life in
+    let write = c.write.ensures.trace in
     rw p.1 (record {
       keeps = λ h. write.keeps (before.keeps h);
       back = λ h. before.back (write.back h);
@@ -17,7 +17,7 @@ returns-in_err-write-clause-area g c =
 pub loop-part-preserved : goal.loop-part-preserved
 loop-part-preserved g c =
     let before = c.loop-part.invariant.area in
-    let write = c.in_ok-write.ensures.life in
+    let write = c.in_ok-write.ensures.trace in
     record {
       area = record {
         keeps = λ h. write.keeps (before.keeps h);

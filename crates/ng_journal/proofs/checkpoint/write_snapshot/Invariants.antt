@@ -1,11 +1,11 @@
 use Rattle.std.proofs.Common.{◌≡◌}
-use Rattle.ng_rig.specs.Calls.{Promises}
-use Rattle.ng_journal.specs.Area.{AreaTo}
+use Rattle.ng_rig.specs.Calls.{IfHonest}
+use Rattle.ng_journal.specs.Private.CheckpointSteps.{AreaTo}
 use Rattle.ng_journal.proofs.checkpoint.write_snapshot.Given as goal
 
 abbrev pub invariant-loop-part : goal.invariant-loop-part
 invariant-loop-part g l = record {
-  area : Promises (g.R.Rig.honest l.initial.rig) (g.R.Rig.honest l.rig) (AreaTo l.part l.first l.stored (g.R.Rig.life l.initial.rig) (g.R.Rig.life l.rig));
+  area : IfHonest (g.R.Rig.honest l.initial.rig) (g.R.Rig.honest l.rig) (AreaTo l.part l.first l.stored (g.R.Rig.trace l.initial.rig) (g.R.Rig.trace l.rig));
   size : g.R.Rig.sectors l.rig ≡ g.R.Rig.sectors l.initial.rig;
   failures : g.R.Rig.failed l.rig ≡ g.R.Rig.failed l.initial.rig;
 }

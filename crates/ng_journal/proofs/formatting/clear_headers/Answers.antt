@@ -8,7 +8,7 @@ pub returns-in_err-write-clause-clears : goal.returns-in_err-write-clause-clears
 returns-in_err-write-clause-clears g c =
     let p = err_from_is_err_and c.from_residual.result c.from_residual.ensures.1 in
     let before = c.loop-k.invariant.writes in
-    let write = c.write.ensures.life in
+    let write = c.write.ensures.trace in
     rw p.1 (record {
       keeps = λ h. write.keeps (before.keeps h);
       back = λ h. before.back (write.back h);
@@ -19,8 +19,8 @@ pub returns-in_err-sync-clause-clears : goal.returns-in_err-sync-clause-clears
 returns-in_err-sync-clause-clears g c =
     let p = err_from_is_err_and c.from_residual-in_err-sync.result c.from_residual-in_err-sync.ensures.1 in
     let before = c.loop-k.invariant.writes in
-    let write = c.in_ok-write.ensures.life in
-    let sync = c.in_err-sync.ensures.life in
+    let write = c.in_ok-write.ensures.trace in
+    let sync = c.in_err-sync.ensures.trace in
     rw p.1 (record {
       keeps = λ h. sync.keeps (write.keeps (before.keeps h));
       back = λ h. before.back (write.back (sync.back h));
@@ -33,8 +33,8 @@ returns-in_err-sync-clause-clears g c =
 pub loop-k-preserved : goal.loop-k-preserved
 loop-k-preserved g c =
     let before = c.loop-k.invariant.writes in
-    let write = c.in_ok-write.ensures.life in
-    let sync = c.in_ok-sync.ensures.life in
+    let write = c.in_ok-write.ensures.trace in
+    let sync = c.in_ok-sync.ensures.trace in
     record {
       writes = record {
         keeps = λ h. sync.keeps (write.keeps (before.keeps h));

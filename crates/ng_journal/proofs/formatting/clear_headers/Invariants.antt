@@ -1,11 +1,12 @@
 use Rattle.std.proofs.Common.{◌≡◌}
-use Rattle.ng_rig.specs.Calls.{Promises}
-use Rattle.ng_journal.specs.Formats.{OverwritesTo, IsEmpty}
+use Rattle.ng_rig.specs.Calls.{IfHonest}
+use Rattle.ng_journal.specs.Private.Overwrites.{OverwritesTo}
+use Rattle.ng_journal.specs.Formats.{IsEmpty}
 use Rattle.ng_journal.proofs.formatting.clear_headers.Given as goal
 
 abbrev pub invariant-loop-k : goal.invariant-loop-k
 invariant-loop-k g l = record {
-  writes : Promises (g.R.Rig.honest l.initial.rig) (g.R.Rig.honest l.rig) (OverwritesTo l.k 0 2 IsEmpty (g.R.Rig.life l.initial.rig) (g.R.Rig.life l.rig));
+  writes : IfHonest (g.R.Rig.honest l.initial.rig) (g.R.Rig.honest l.rig) (OverwritesTo l.k 0 2 IsEmpty (g.R.Rig.trace l.initial.rig) (g.R.Rig.trace l.rig));
   size : g.R.Rig.sectors l.rig ≡ g.R.Rig.sectors l.initial.rig;
   failures : g.R.Rig.failed l.rig ≡ g.R.Rig.failed l.initial.rig;
 }

@@ -9,7 +9,7 @@ pub returns-in_err-write-clause-clears : goal.returns-in_err-write-clause-clears
 returns-in_err-write-clause-clears g c =
     let p = err_from_is_err_and c.from_residual.result c.from_residual.ensures.1 in
     let before = c.loop-n.invariant.writes in
-    let write = c.write.ensures.life in
+    let write = c.write.ensures.trace in
     rw p.1 (record {
       keeps = λ h. write.keeps (before.keeps h);
       back = λ h. before.back (write.back h);
@@ -19,7 +19,7 @@ returns-in_err-write-clause-clears g c =
 pub loop-n-preserved : goal.loop-n-preserved
 loop-n-preserved g c =
     let before = c.loop-n.invariant.writes in
-    let write = c.in_ok-write.ensures.life in
+    let write = c.in_ok-write.ensures.trace in
     record {
       writes = record {
         keeps = λ h. write.keeps (before.keeps h);

@@ -1,14 +1,14 @@
 use Rattle.std.proofs.Common.{◌≡◌}
-use Rattle.ng_rig.specs.Calls.{Promises}
+use Rattle.ng_rig.specs.Calls.{IfHonest}
 use Rattle.ng_layout.specs.Snapshot.{HoldsPart}
 use Rattle.ng_layout.specs.Areas.{snapshot_size}
-use Rattle.ng_layout.specs.Stored.{fresh}
-use Rattle.ng_journal.specs.Formats.{OverwritesTo}
+use Rattle.ng_layout.specs.Stored.{fresh_stored}
+use Rattle.ng_journal.specs.Private.Overwrites.{OverwritesTo}
 use Rattle.ng_journal.proofs.formatting.write_fresh_snapshot.Given as goal
 
 abbrev pub invariant-loop-part : goal.invariant-loop-part
 invariant-loop-part g l = record {
-  writes : Promises (g.R.Rig.honest l.initial.rig) (g.R.Rig.honest l.rig) (OverwritesTo l.part l.first snapshot_size (HoldsPart fresh) (g.R.Rig.life l.initial.rig) (g.R.Rig.life l.rig));
+  writes : IfHonest (g.R.Rig.honest l.initial.rig) (g.R.Rig.honest l.rig) (OverwritesTo l.part l.first snapshot_size (HoldsPart fresh_stored) (g.R.Rig.trace l.initial.rig) (g.R.Rig.trace l.rig));
   size : g.R.Rig.sectors l.rig ≡ g.R.Rig.sectors l.initial.rig;
   failures : g.R.Rig.failed l.rig ≡ g.R.Rig.failed l.initial.rig;
 }

@@ -3,6 +3,6 @@ use Rattle.ng_journal.proofs.laws.rest.Goals as goal
 
 pub returns : goal.returns
 returns c = record {
-  alone = λ life header standing image handed at since. rests_alone life header standing image handed at since;
-  at_end = λ life header standing end at. at_rest life header standing at;
+  alone = λ trace header standing image handed at since. rests_alone trace header standing image handed at since;
+  at_end = λ trace header standing end at. at_rest trace header standing at;
 }

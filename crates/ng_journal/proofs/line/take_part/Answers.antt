@@ -1,5 +1,5 @@
 use Rattle.std.proofs.Common.{arith}
-use Rattle.ng_block.proofs.LineLemmas.{HasNoNewline-take, HasNoNewline-all}
+use Rattle.ng_text.proofs.LineLemmas.{HasNoNewline-take, HasNoNewline-all}
 use Rattle.ng_journal.proofs.LinesRead.{is_newline}
 use Rattle.ng_journal.proofs.line.take_part.Goals as goal
 

@@ -1,15 +1,15 @@
 use Rattle.std.proofs.Common.{◌≡◌, ◌*◌, take}
-use Rattle.ng_rig.specs.Life.{reads}
-use Rattle.ng_rig.specs.Calls.{Promises}
-use Rattle.ng_layout.specs.Sectors.{text_of}
+use Rattle.ng_rig.specs.Trace.{reads}
+use Rattle.ng_rig.specs.Calls.{IfHonest}
+use Rattle.ng_layout.specs.Sectors.{program_text}
 use Rattle.ng_layout.specs.Areas.{program_size, program_first}
 use Rattle.ng_layout.specs.Stands.{stretch}
-use Rattle.ng_journal.specs.FirstLines.{Tells}
+use Rattle.ng_text.specs.FirstLines.{DecidesFirstLine}
 use Rattle.ng_journal.proofs.lines_before.read_first_kind.Given as goal
 
 abbrev pub invariant-loop-n : goal.invariant-loop-n
 invariant-loop-n g l = record {
-  read : Promises (g.R.Rig.honest l.initial.rig) (g.R.Rig.honest l.rig) ((g.R.Rig.life l.rig ≡ g.R.Rig.life l.initial.rig) × Tells (take (512 * l.n) (text_of l.place (stretch (program_first l.area) (program_size l.area) (reads (g.R.Rig.life l.initial.rig))))) l.seen);
+  read : IfHonest (g.R.Rig.honest l.initial.rig) (g.R.Rig.honest l.rig) ((g.R.Rig.trace l.rig ≡ g.R.Rig.trace l.initial.rig) × DecidesFirstLine (take (512 * l.n) (program_text l.place (stretch (program_first l.area) (program_size l.area) (reads (g.R.Rig.trace l.initial.rig))))) l.seen);
   size : g.R.Rig.sectors l.rig ≡ g.R.Rig.sectors l.initial.rig;
   failures : g.R.Rig.failed l.rig ≡ g.R.Rig.failed l.initial.rig;
 }

@@ -4,7 +4,7 @@ use Rattle.ng_journal.proofs.Framing.{among_text, load_text, load_sync, load_sta
 use Rattle.ng_layout.specs.Areas.{spare_area}
 use Rattle.ng_layout.specs.Limits.{longest_program}
 use Rattle.ng_layout.specs.declared.header.Header.{Header}
-use Rattle.ng_layout.specs.Stored.{Standing}
+use Rattle.ng_layout.specs.Stored.{DurableState}
 use Rattle.ng_journal.specs.AtRest.{next_header}
 use Rattle.ng_journal.proofs.Overwriting.{own_again, exit_text, exit_sync, loaded_all}
 use Rattle.ng_journal.proofs.loading.load.Goals as goal
@@ -23,7 +23,7 @@ pub returns-in_err-sync-clause-stops : goal.returns-in_err-sync-clause-stops
 returns-in_err-sync-clause-stops g c =
     let p = err_from_is_err_and c.from_residual-in_err-sync.result c.from_residual-in_err-sync.ensures.1 in
     let text = c.write_program.ensures.text in
-    let sync = c.in_err-sync.ensures.life in
+    let sync = c.in_err-sync.ensures.trace in
     rw p.1 (record {
       keeps = λ h. sync.keeps (text.keeps h);
       back = λ h. text.back (sync.back h);
@@ -33,7 +33,7 @@ returns-in_err-sync-clause-stops g c =
 pub returns-clause-stops : goal.returns-clause-stops
 returns-clause-stops g c =
     let text = c.in_ok-write_program.ensures.text in
-    let sync = c.in_ok-sync.ensures.life in
+    let sync = c.in_ok-sync.ensures.trace in
     let last = c.checkpoint.ensures.stops in
     let short : length c.args.text.now ≤ longest_program = omega (arith, c.requires.storable.program, c.requires.long) in
     record {
@@ -52,7 +52,7 @@ pub returns-in_err-write_program-clause-stores : goal.returns-in_err-write_progr
 returns-in_err-write_program-clause-stores g c =
     let p = err_from_is_err_and c.from_residual.result c.from_residual.ensures.1 in
     let text = c.write_program.ensures.text in
-    let loaded : Standing = record { saved = c.args.stored.now; program = c.args.text.now } in
+    let loaded : DurableState = record { saved = c.args.stored.now; program = c.args.text.now } in
     rw p.1 (record {
       keeps = text.keeps;
       back = text.back;
@@ -63,8 +63,8 @@ pub returns-in_err-sync-clause-stores : goal.returns-in_err-sync-clause-stores
 returns-in_err-sync-clause-stores g c =
     let p = err_from_is_err_and c.from_residual-in_err-sync.result c.from_residual-in_err-sync.ensures.1 in
     let text = c.write_program.ensures.text in
-    let loaded : Standing = record { saved = c.args.stored.now; program = c.args.text.now } in
-    let sync = c.sync.ensures.life in
+    let loaded : DurableState = record { saved = c.args.stored.now; program = c.args.text.now } in
+    let sync = c.sync.ensures.trace in
     rw p.1 (record {
       keeps = λ h. sync.keeps (text.keeps h);
       back = λ h. text.back (sync.back h);
@@ -76,8 +76,8 @@ returns-in_err-sync-clause-stores g c =
 pub returns-clause-stores : goal.returns-clause-stores
 returns-clause-stores g c =
     let text = c.write_program.ensures.text in
-    let loaded : Standing = record { saved = c.args.stored.now; program = c.args.text.now } in
-    let sync = c.sync.ensures.life in
+    let loaded : DurableState = record { saved = c.args.stored.now; program = c.args.text.now } in
+    let sync = c.sync.ensures.trace in
     let last = c.checkpoint.ensures.stores in
     record {
       keeps = λ h. last.keeps (sync.keeps (text.keeps h));
@@ -86,7 +86,7 @@ returns-clause-stores g c =
           let one = load_text c.write_program.result c.spare_area-area.result c.args.header loaded _ _ c.spare_area-area.ensures (text.holds h) in
           let two = load_sync c.sync.result c.args.header loaded _ _ _ one (sync.holds (text.keeps h)) in
           let done = c.in_ok-write_program.ensures.text in
-          let on = c.in_ok-sync.ensures.life in
+          let on = c.in_ok-sync.ensures.trace in
           let next_is = c.next_header.ensures ∙ (λ i. next_header c.args.header (c.spare_area-area.ensures i) (c.stored.view_is i).length) in
           let stored = state_under c.checkpoint.result c.next_header.result (next_header c.args.header (spare_area c.args.header.area) c.args.stored.now.length) c.args.stored.now _ _ next_is (last.holds (sync.keeps (text.keeps h))) in
           record {

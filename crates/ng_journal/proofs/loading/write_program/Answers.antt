@@ -8,7 +8,7 @@ pub returns-in_err-write-clause-text : goal.returns-in_err-write-clause-text
 returns-in_err-write-clause-text g c =
     let p = err_from_is_err_and c.from_residual.result c.from_residual.ensures.1 in
     let before = c.loop-n.invariant.text in
-    let write = c.write.ensures.life in
+    let write = c.write.ensures.trace in
     let lt : c.loop-n.n < program_size c.args.area = omega (arith, c.loop-n-test.true, c.div_ceil-n-end.ensures, c.requires.short) in
     rw p.1 (record {
       keeps = λ h. write.keeps (before.keeps h);
@@ -19,7 +19,7 @@ returns-in_err-write-clause-text g c =
 pub loop-n-preserved : goal.loop-n-preserved
 loop-n-preserved g c =
     let before = c.loop-n.invariant.text in
-    let write = c.in_ok-write.ensures.life in
+    let write = c.in_ok-write.ensures.trace in
     let lt : c.loop-n.n < program_size c.args.area = omega (arith, c.loop-n-test.true, c.div_ceil-n-end.ensures, c.requires.short) in
     record {
       text = record {

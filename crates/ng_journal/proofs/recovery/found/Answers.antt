@@ -1,9 +1,9 @@
 use Rattle.std.proofs.Common.{◌≡◌, ◌∙◌, subst}
-use Rattle.ng_rig.specs.Life.{Life, reads}
+use Rattle.ng_rig.specs.Trace.{Trace, reads}
 use Rattle.ng_rig.proofs.Promise.{onto, meaning}
 use Rattle.ng_layout.specs.Areas.{snapshot_first}
 use Rattle.ng_log.specs.Reading.{IsRunOf}
-use Rattle.ng_journal.specs.Reading.{IsSnapshotOf}
+use Rattle.ng_journal.specs.Private.SnapshotRead.{IsSnapshotOf}
 use Rattle.ng_journal.proofs.Finding.{none_found, damage_found, Snapped, snapped, log_damaged, all_found}
 use Rattle.ng_journal.proofs.recovery.found.Goals as goal
 
@@ -12,43 +12,43 @@ returns-in-None-clause-read g c = meaning c.in_ok-header_in_force.ensures.read (
 
 pub returns-then-not-is_whole-clause-read : goal.returns-then-not-is_whole-clause-read
 returns-then-not-is_whole-clause-read g c =
-    let old = g.R.Rig.life c.args.rig.now in
+    let old = g.R.Rig.trace c.args.rig.now in
     let header = c.in-Some.header in
     let whole = c.in_ok-is_whole-in-Some.is_whole in
     let snap = c.read_snapshot.new.stored in
     onto _ c.in_ok-header_in_force.ensures.read c.in_ok-is_whole-in-Some.ensures.read (λ p q.
-    let here = subst (λ (l : Life). IsSnapshotOf (snapshot_first header.epoch) header.length snap (reads l) whole) p.same q.right in
+    let here = subst (λ (l : Trace). IsSnapshotOf (snapshot_first header.epoch) header.length snap (reads l) whole) p.same q.right in
     record { same = q.same ∙ p.same; right = damage_found (reads old) c.in_ok-header_in_force.field-0 header whole snap p.right c.in-Some.is here c.if-not-is_whole.true })
 
 pub returns-in-None-2-clause-read : goal.returns-in-None-2-clause-read
 returns-in-None-2-clause-read g c =
-    let old = g.R.Rig.life c.args.rig.now in
+    let old = g.R.Rig.trace c.args.rig.now in
     let header = c.in-Some.header in
     let whole = c.in_ok-is_whole-in-Some.is_whole in
     let snap = c.read_snapshot.new.stored in
     let saved = c.read_log.new.stored in
     let answer = c.in_ok-read_log-in-Some.field-0 in
-    let Heads = (g.R.Rig.life c.read_snapshot.new.rig ≡ old) × Snapped (reads old) header snap in
+    let Heads = (g.R.Rig.trace c.read_snapshot.new.rig ≡ old) × Snapped (reads old) header snap in
     let heads = onto Heads c.in_ok-header_in_force.ensures.read c.in_ok-is_whole-in-Some.ensures.read (λ p q.
-    let here = subst (λ (l : Life). IsSnapshotOf (snapshot_first header.epoch) header.length snap (reads l) whole) p.same q.right in
+    let here = subst (λ (l : Trace). IsSnapshotOf (snapshot_first header.epoch) header.length snap (reads l) whole) p.same q.right in
     (q.same ∙ p.same, snapped (reads old) c.in_ok-header_in_force.field-0 header whole snap p.right c.in-Some.is here c.if-not-is_whole.false)) in
     onto _ heads c.in_ok-read_log-in-Some.ensures.read (λ p r.
-    let run = subst (λ (l : Life). IsRunOf header snap saved (reads l) answer) p.0 r.right in
+    let run = subst (λ (l : Trace). IsRunOf header snap saved (reads l) answer) p.0 r.right in
     record { same = r.same ∙ p.0; right = log_damaged (reads old) header snap saved answer p.1 c.in-None-2.is run })
 
 pub returns-in-Some-2-clause-read : goal.returns-in-Some-2-clause-read
 returns-in-Some-2-clause-read g c =
-    let old = g.R.Rig.life c.args.rig.now in
+    let old = g.R.Rig.trace c.args.rig.now in
     let header = c.in-Some.header in
     let whole = c.in_ok-is_whole-in-Some.is_whole in
     let snap = c.read_snapshot.new.stored in
     let saved = c.read_log.new.stored in
     let answer = c.in_ok-read_log-in-Some.field-0 in
     let room = rw c.in-Some-2.is at c.in_ok-read_log-in-Some.ensures.room in
-    let Heads = (g.R.Rig.life c.read_snapshot.new.rig ≡ old) × Snapped (reads old) header snap in
+    let Heads = (g.R.Rig.trace c.read_snapshot.new.rig ≡ old) × Snapped (reads old) header snap in
     let heads = onto Heads c.in_ok-header_in_force.ensures.read c.in_ok-is_whole-in-Some.ensures.read (λ p q.
-    let here = subst (λ (l : Life). IsSnapshotOf (snapshot_first header.epoch) header.length snap (reads l) whole) p.same q.right in
+    let here = subst (λ (l : Trace). IsSnapshotOf (snapshot_first header.epoch) header.length snap (reads l) whole) p.same q.right in
     (q.same ∙ p.same, snapped (reads old) c.in_ok-header_in_force.field-0 header whole snap p.right c.in-Some.is here c.if-not-is_whole.false)) in
     onto _ heads c.in_ok-read_log-in-Some.ensures.read (λ p r.
-    let run = subst (λ (l : Life). IsRunOf header snap saved (reads l) answer) p.0 r.right in
+    let run = subst (λ (l : Trace). IsRunOf header snap saved (reads l) answer) p.0 r.right in
     record { same = r.same ∙ p.0; right = all_found (reads old) header snap saved answer c.in-Some-2.field-0 p.1 c.in-Some-2.is room run })

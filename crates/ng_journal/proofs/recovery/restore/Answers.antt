@@ -6,7 +6,7 @@ use Rattle.ng_journal.proofs.recovery.restore.Goals as goal
 pub returns-in_err-fault-clause-restores : goal.returns-in_err-fault-clause-restores
 returns-in_err-fault-clause-restores g c =
     let p = err_from_is_err_and c.from_residual-in_err-fault.result c.from_residual-in_err-fault.ensures.1 in
-    let sync = c.in_ok-sync.ensures.life in
+    let sync = c.in_ok-sync.ensures.trace in
     let found = c.in_err-fault.ensures.read in
     rw p.1 (record {
       keeps = λ h. found.keeps (sync.keeps h);
@@ -16,7 +16,7 @@ returns-in_err-fault-clause-restores g c =
 
 pub returns-in-Err-clause-restores : goal.returns-in-Err-clause-restores
 returns-in-Err-clause-restores g c =
-    let sync = c.in_ok-sync.ensures.life in
+    let sync = c.in_ok-sync.ensures.trace in
     let found = c.in_ok-fault.ensures.read in
     record {
       keeps = λ h. found.keeps (sync.keeps h);
@@ -26,7 +26,7 @@ returns-in-Err-clause-restores g c =
 
 pub returns-then-header-ge-GREATEST_COUNT-clause-restores : goal.returns-then-header-ge-GREATEST_COUNT-clause-restores
 returns-then-header-ge-GREATEST_COUNT-clause-restores g c =
-    let sync = c.in_ok-sync.ensures.life in
+    let sync = c.in_ok-sync.ensures.trace in
     let found = c.in_ok-fault.ensures.read in
     record {
       keeps = λ h. found.keeps (sync.keeps h);
@@ -37,7 +37,7 @@ returns-then-header-ge-GREATEST_COUNT-clause-restores g c =
 pub returns-in_err-checkpoint-in-Ok-clause-restores : goal.returns-in_err-checkpoint-in-Ok-clause-restores
 returns-in_err-checkpoint-in-Ok-clause-restores g c =
     let p = err_from_is_err_and c.from_residual-in_err-checkpoint-in-Ok.result c.from_residual-in_err-checkpoint-in-Ok.ensures.1 in
-    let sync = c.in_ok-sync.ensures.life in
+    let sync = c.in_ok-sync.ensures.trace in
     let found = c.in_ok-fault.ensures.read in
     let last = c.checkpoint.ensures.stops in
     let stores = c.checkpoint.ensures.stores in
@@ -49,7 +49,7 @@ returns-in_err-checkpoint-in-Ok-clause-restores g c =
 
 pub returns-in_ok-checkpoint-in-Ok-clause-restores : goal.returns-in_ok-checkpoint-in-Ok-clause-restores
 returns-in_ok-checkpoint-in-Ok-clause-restores g c =
-    let sync = c.in_ok-sync.ensures.life in
+    let sync = c.in_ok-sync.ensures.trace in
     let found = c.in_ok-fault.ensures.read in
     let last = c.in_ok-checkpoint-in-Ok.ensures.stops in
     let stores = c.in_ok-checkpoint-in-Ok.ensures.stores in

@@ -1,8 +1,8 @@
 use Rattle.std.proofs.Common.{ap}
 use Rattle.std.proofs.lemmas.Result.{err_from_is_err_and}
 use Rattle.ng_rig.proofs.Promise.{onto, meaning}
-use Rattle.ng_layout.specs.Stored.{Saved}
-use Rattle.ng_journal.specs.Records.{ledger}
+use Rattle.ng_layout.specs.Stored.{StoredModel}
+use Rattle.ng_journal.specs.Private.Records.{ledger}
 use Rattle.ng_journal.proofs.Recording.{no_room, stored_after, not_stored, stored, has_room, same_length}
 use Rattle.ng_journal.proofs.storing.store.Goals as goal
 
@@ -26,7 +26,7 @@ pub returns-clause-stops : goal.returns-clause-stops
 returns-clause-stops g c =
     onto _ c.in_ok-tip.ensures.makes c.append_to.ensures.appends (λ f a before at is.
     let m = f before at is in
-    stored_after c.append_to.result c.in_ok-tip.tip before c.args.stored.now _ _ _ m (a before m.at (ap (λ (s : Saved). s.setup.params) is)))
+    stored_after c.append_to.result c.in_ok-tip.tip before c.args.stored.now _ _ _ m (a before m.at (ap (λ (s : StoredModel). s.setup.params) is)))
 
 pub returns-clause-stores : goal.returns-clause-stores
 returns-clause-stores g c =

@@ -1,13 +1,13 @@
 use Rattle.std.proofs.Common.{◌∙◌, Some, sym, ap, arith}
 use Rattle.std.proofs.lemmas.Result.{err_from_is_err_and}
 use Rattle.ng_rig.proofs.Promise.{onto, meaning}
-use Rattle.ng_layout.specs.Stored.{Saved}
-use Rattle.ng_journal.specs.Records.{ledger}
+use Rattle.ng_layout.specs.Stored.{StoredModel}
+use Rattle.ng_journal.specs.Private.Records.{ledger}
 use Rattle.ng_journal.proofs.Recording.{no_room, stored_after, not_stored, stored, has_room, same_length, none_changed, as_taken, recorded_as}
 use Rattle.ng_journal.proofs.storing.store_half.Goals as goal
 
 pub append_to-requires-clause-tip : goal.append_to-requires-clause-tip
-append_to-requires-clause-tip g c = same_length c.args.stored.now.length c.take_half.new.self.length c.in_ok-tip.tip (ap (λ (s : Saved). s.length) c.take_half.ensures) c.in_ok-tip.ensures.tip
+append_to-requires-clause-tip g c = same_length c.args.stored.now.length c.take_half.new.self.length c.in_ok-tip.tip (ap (λ (s : StoredModel). s.length) c.take_half.ensures) c.in_ok-tip.ensures.tip
 
 pub append_to-requires-clause-count : goal.append_to-requires-clause-count
 append_to-requires-clause-count g c = none_changed c.take_half.new.self
@@ -18,26 +18,26 @@ append_to-requires-clause-room g c = has_room c.in_ok-tip.tip (ledger c.args.tip
 pub returns-in_err-tip-clause-stops : goal.returns-in_err-tip-clause-stops
 returns-in_err-tip-clause-stops g c =
     let p = err_from_is_err_and c.from_residual.result c.from_residual.ensures.1 in
-    let opened : Saved = record c.args.stored.now { half = Some c.args.half.now } in
+    let opened : StoredModel = record c.args.stored.now { half = Some c.args.half.now } in
     rw p.1 (meaning c.make_room.ensures.makes (λ f before at is. no_room p.0 c.make_room.result before opened _ _ (f before at is)))
 
 pub returns-in_err-tip-clause-stores : goal.returns-in_err-tip-clause-stores
 returns-in_err-tip-clause-stores g c =
     let p = err_from_is_err_and c.from_residual.result c.from_residual.ensures.1 in
-    let opened : Saved = record c.args.stored.now { half = Some c.args.half.now } in
+    let opened : StoredModel = record c.args.stored.now { half = Some c.args.half.now } in
     rw p.1 (meaning c.make_room.ensures.stores (λ s. not_stored p.0 c.make_room.result (ledger c.args.tip c.args.stored.now) 0 opened _ _ (none_changed c.args.stored.now) s))
 
 pub returns-clause-stops : goal.returns-clause-stops
 returns-clause-stops g c =
-    let opened : Saved = record c.args.stored.now { half = Some c.args.half.now } in
+    let opened : StoredModel = record c.args.stored.now { half = Some c.args.half.now } in
     onto _ c.in_ok-tip.ensures.makes c.append_to.ensures.appends (λ f a before at is.
     let m = f before at is in
-    let params_are = ap (λ (s : Saved). s.setup.params) is ∙ sym (ap (λ (s : Saved). s.setup.params) c.take_half.ensures) in
+    let params_are = ap (λ (s : StoredModel). s.setup.params) is ∙ sym (ap (λ (s : StoredModel). s.setup.params) c.take_half.ensures) in
     stored_after c.append_to.result c.in_ok-tip.tip before opened _ _ _ m (as_taken c.append_to.result before c.take_half.new.self opened _ _ c.take_half.ensures (a before m.at params_are)))
 
 pub returns-clause-stores : goal.returns-clause-stores
 returns-clause-stores g c =
-    let opened : Saved = record c.args.stored.now { half = Some c.args.half.now } in
+    let opened : StoredModel = record c.args.stored.now { half = Some c.args.half.now } in
     onto _ c.in_ok-tip.ensures.stores c.append_to.ensures.writes (λ r w.
     let at = recorded_as c.append_to.result c.in_ok-tip.tip c.take_half.new.self opened _ _ c.take_half.ensures w in
     stored c.append_to.result c.in_ok-tip.tip (ledger c.args.tip c.args.stored.now) 0 opened _ _ _ (none_changed c.args.stored.now) c.in_ok-tip.ensures.room r at)

@@ -64,7 +64,7 @@ returns c =
     let e13 = number-below 1 156 157 s13 s14 t13 (lit≤ tt) ∙ p13.written in
     let e14 = number-below 1 157 158 s14 s14 t14 (lit≤ tt) ∙ p14.written in
     record {
-      written = λ i. record { motion = e1 i; plane = e2 i; distance = e3 i; feed_mode = e4 i; unit = e5 i; retract = e6 i; system = e7 i; path = e8 i; spindle = e9 i; mist = e10 i; flood = e11 i; overrides = e12 i; place_known = e13 i; kept = e14 i };
+      written = λ i. record { motion = e1 i; plane = e2 i; distance = e3 i; feed_mode = e4 i; unit = e5 i; retract = e6 i; system = e7 i; path = e8 i; spindle = e9 i; mist = e10 i; flood = e11 i; overrides = e12 i; point_known = e13 i; kept = e14 i };
       below = below-more 144 145 s0 s1 s14 p1.below t1 (lit≤ tt);
       beyond = b14;
     }

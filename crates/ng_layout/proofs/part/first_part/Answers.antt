@@ -1,7 +1,7 @@
 use Rattle.std.proofs.Common.{drop, ◌∙◌, ap, lit≤}
 use Rattle.ng_layout.specs.Fields.{bytes_at}
 use Rattle.ng_layout.specs.Part.{label_of}
-use Rattle.ng_layout.specs.Report.{report_of}
+use Rattle.ng_layout.specs.Report.{decoded_state_of}
 use Rattle.ng_layout.proofs.Parts.{label-below, no_content}
 use Rattle.ng_layout.proofs.Places.{bytes-from}
 use Rattle.ng_layout.proofs.Rows.{bytes-zeros}
@@ -22,5 +22,5 @@ returns-clause-state g c =
         gap = p.gap ∙ ap (bytes_at 1 165) none ∙ bytes-zeros 1 165 480 (lit≤ tt);
         rest = bytes-from 24 456 456 old new p.put.beyond (lit≤ tt) ∙ ap (bytes_at 24 456) none ∙ bytes-zeros 24 456 480 (lit≤ tt);
       };
-      report = ap (report_of c.args.stored.now.length) p.put.written ∙ c.field.ensures.means;
+      report = ap (decoded_state_of c.args.stored.now.length) p.put.written ∙ c.field.ensures.means;
     }

@@ -19,7 +19,7 @@ returns c =
     let z : cast_signed w64 (cast_unsigned w64 f.z) ≡ f.z = grind (arith, to_z-of_z) in
     let p : cast_signed w64 (cast_unsigned w64 f.p) ≡ f.p = grind (arith, to_z-of_z) in
     let q : cast_signed w64 (cast_unsigned w64 f.q) ≡ f.q = grind (arith, to_z-of_z) in
-    sym (kept-all bits f _ _ _ _ c.if-bits-gt15.false
+    sym (kept-all bits f _ _ _ _ c.if-bits-gt-ALL_KEPT.false
     (ap (λ (n : ℤ). word_of (bits % 2 == 1) n) (sym r) ∙ sym c.kept_len.ensures ∙ c.in_ok-kept_len.was)
     (ap (λ (n : ℤ). word_of (bits / 2 % 2 == 1) n) (sym z) ∙ sym c.kept_len-2.ensures ∙ c.in_ok-kept_len-2.was)
     (ap (λ (n : ℤ). word_of (bits / 4 % 2 == 1) n) (sym p) ∙ sym c.kept_num.ensures ∙ c.in_ok-kept_num.was)

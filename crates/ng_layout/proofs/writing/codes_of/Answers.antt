@@ -17,7 +17,7 @@ returns-clause-is c = λ i. record {
   mist = c.code_of_truth.ensures i;
   flood = c.code_of_truth-2.ensures i;
   overrides = c.code_of_truth-3.ensures i;
-  place_known = c.code_of_truth-4.ensures i;
+  point_known = c.code_of_truth-4.ensures i;
   kept = c.kept_bits.ensures i;
 }
 

@@ -1,21 +1,21 @@
 use Rattle.std.proofs.Common.{◌+◌, refl, ◌∙◌, arith}
 use Rattle.ng_rig.proofs.Promise.{promised, onto, meaning}
-use Rattle.ng_rig.specs.Life.{reads}
+use Rattle.ng_rig.specs.Trace.{reads}
 use Rattle.ng_layout.specs.Part.{label_of}
-use Rattle.ng_log.specs.Scanning.{from_log}
+use Rattle.ng_log.specs.Private.ReadSteps.{from_log}
 use Rattle.ng_log.proofs.Scanned.{stand_none, stand_more, part_missing, sector_here}
 use Rattle.ng_log.proofs.scanning.later_parts_stand.Goals as goal
 
 pub loop-part-init : goal.loop-part-init
 loop-part-init g c = record {
-  read = promised (refl, stand_none c.args.at (label_of c.args.first) (reads (g.R.Rig.life c.args.rig.now)));
+  read = promised (refl, stand_none c.args.at (label_of c.args.first) (reads (g.R.Rig.trace c.args.rig.now)));
   size = refl;
   failures = refl;
 }
 
 pub returns-then-not-is_of-clause-read : goal.returns-then-not-is_of-clause-read
 returns-then-not-is_of-clause-read g c =
-    let old = g.R.Rig.life c.args.rig.now in
+    let old = g.R.Rig.trace c.args.rig.now in
     onto _ c.loop-part.invariant.read c.in_ok-sector.ensures.read (λ p q. record {
       same = q.same ∙ p.0;
       right =
@@ -25,7 +25,7 @@ returns-then-not-is_of-clause-read g c =
 
 pub loop-part-preserved : goal.loop-part-preserved
 loop-part-preserved g c =
-    let old = g.R.Rig.life c.args.rig.now in
+    let old = g.R.Rig.trace c.args.rig.now in
     let inv = c.loop-part.invariant in
     record {
       read = onto _ inv.read c.in_ok-sector.ensures.read (λ p q. (

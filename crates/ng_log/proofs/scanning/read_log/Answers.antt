@@ -1,17 +1,17 @@
 use Rattle.std.proofs.Common.{◌≡◌, ◌≤◌, ◌∙◌, arith}
 use Rattle.ng_rig.proofs.Promise.{onto, meaning}
-use Rattle.ng_rig.specs.Life.{reads}
+use Rattle.ng_rig.specs.Trace.{reads}
 use Rattle.ng_layout.specs.Areas.{log_size_of}
 use Rattle.ng_layout.specs.Storable.{IsStorable}
-use Rattle.ng_log.specs.declared.scanning.Next.TheVariants.{Damaged, Behind}
-use Rattle.ng_log.specs.AtEnd.{place_of}
+use Rattle.ng_log.specs.declared.scanning.Next.TheVariants.{Damaged, After}
+use Rattle.ng_log.specs.AtEnd.{position_of}
 use Rattle.ng_log.specs.Runs.{log_of}
 use Rattle.ng_log.proofs.NextRead.{none_at_end, runs_damaged, runs_more, runs_end, next_is, on_is, goes_on}
 use Rattle.ng_log.proofs.scanning.read_log.Goals as goal
 
 pub returns-in-Damaged-clause-read : goal.returns-in-Damaged-clause-read
 returns-in-Damaged-clause-read g c =
-    let old = g.R.Rig.life c.args.rig.now in
+    let old = g.R.Rig.trace c.args.rig.now in
     let h = c.args.header in
     onto _ c.records.invariant.run c.in_ok-next_record.ensures.read (λ p q. record {
       same = q.same ∙ p.0;
@@ -20,24 +20,24 @@ returns-in-Damaged-clause-read g c =
 
 pub records-preserved : goal.records-preserved
 records-preserved g c =
-    let old = g.R.Rig.life c.args.rig.now in
+    let old = g.R.Rig.trace c.args.rig.now in
     let h = c.args.header in
     let inv = c.records.invariant in
     let e = c.in_ok-next_record.ensures in
-    let after = c.in-Behind.end in
-    let f = on_is h c.records.reached c.in_ok-next_record.field-0 (Behind after) c.in-Behind.is e.on in
+    let after = c.in-After.end in
+    let f = on_is h c.records.reached c.in_ok-next_record.field-0 (After after) c.in-After.is e.on in
     let on = f.on in
     let counter = inv.on in
     record {
       room = f.room;
       on = omega arith;
       number = f.number;
-      storable = goes_on c.in_ok-next_record.field-0 after (IsStorable c.next_record.new.stored) c.in-Behind.is e.storable;
-      count = goes_on c.in_ok-next_record.field-0 after (c.next_record.new.stored.entries ≤ 1_000_000_000_000) c.in-Behind.is e.count;
-      long = goes_on c.in_ok-next_record.field-0 after (c.next_record.new.stored.length ≡ h.length) c.in-Behind.is e.long;
+      storable = goes_on c.in_ok-next_record.field-0 after (IsStorable c.next_record.new.stored) c.in-After.is e.storable;
+      count = goes_on c.in_ok-next_record.field-0 after (c.next_record.new.stored.entries ≤ 1_000_000_000_000) c.in-After.is e.count;
+      long = goes_on c.in_ok-next_record.field-0 after (c.next_record.new.stored.length ≡ h.length) c.in-After.is e.long;
       run = onto _ inv.run e.read (λ p q. (
         q.same ∙ p.0,
-        runs_more (log_size_of h) h.length (log_of h (reads old)) h.epoch _ _ (place_of after c.next_record.new.stored) p.1 (next_is h c.records.reached c.records.stored c.next_record.new.stored old _ c.in_ok-next_record.field-0 (Behind after) p.0 c.in-Behind.is q.right).0,
+        runs_more (log_size_of h) h.length (log_of h (reads old)) h.epoch _ _ (position_of after c.next_record.new.stored) p.1 (next_is h c.records.reached c.records.stored c.next_record.new.stored old _ c.in_ok-next_record.field-0 (After after) p.0 c.in-After.is q.right).0,
       ));
       size = e.size ∙ inv.size;
       failures = e.failures ∙ inv.failures;
@@ -45,7 +45,7 @@ records-preserved g c =
 
 pub returns-clause-read : goal.returns-clause-read
 returns-clause-read g c =
-    let old = g.R.Rig.life c.args.rig.now in
+    let old = g.R.Rig.trace c.args.rig.now in
     let h = c.args.header in
     let inv = c.records.invariant in
     let room = inv.room in

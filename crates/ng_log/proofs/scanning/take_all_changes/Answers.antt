@@ -1,13 +1,13 @@
 use Rattle.std.proofs.Common.{◌+◌, ◌*◌, ◌<◌, length, ap, refl, ◌∙◌, arith}
 use Rattle.ng_rig.proofs.Promise.{promised, onto}
-use Rattle.ng_rig.specs.Life.{reads}
-use Rattle.ng_log.specs.Scanning.{from_log}
+use Rattle.ng_rig.specs.Trace.{reads}
+use Rattle.ng_log.specs.Private.ReadSteps.{from_log}
 use Rattle.ng_log.proofs.Scanned.{makes_no_changes, makes_part, damaged_part, sector_here, with_long}
 use Rattle.ng_log.proofs.scanning.take_all_changes.Goals as goal
 
 pub loop-i-init : goal.loop-i-init
 loop-i-init g c = record {
-  read = promised (refl, makes_no_changes (from_log (reads (g.R.Rig.life c.args.rig.now))) c.args.at c.args.changes c.args.table.now);
+  read = promised (refl, makes_no_changes (from_log (reads (g.R.Rig.trace c.args.rig.now))) c.args.at c.args.changes c.args.table.now);
   long = c.requires.long;
   size = refl;
   failures = refl;
@@ -15,7 +15,7 @@ loop-i-init g c = record {
 
 pub returns-then-not-take_changes-clause-read : goal.returns-then-not-take_changes-clause-read
 returns-then-not-take_changes-clause-read g c =
-    let old = g.R.Rig.life c.args.rig.now in
+    let old = g.R.Rig.trace c.args.rig.now in
     let few : 48 * c.loop-i.i < c.args.changes = omega (arith, c.loop-i-test.true, c.parts_for-i-end.ensures.value) in
     onto _ c.loop-i.invariant.read c.in_ok-sector.ensures.read (λ p q. record {
       same = q.same ∙ p.0;
@@ -26,7 +26,7 @@ returns-then-not-take_changes-clause-read g c =
 
 pub loop-i-preserved : goal.loop-i-preserved
 loop-i-preserved g c =
-    let old = g.R.Rig.life c.args.rig.now in
+    let old = g.R.Rig.trace c.args.rig.now in
     let inv = c.loop-i.invariant in
     let few : 48 * c.loop-i.i < c.args.changes = omega (arith, c.loop-i-test.true, c.parts_for-i-end.ensures.value) in
     let m = c.if-not-take_changes.ensures in

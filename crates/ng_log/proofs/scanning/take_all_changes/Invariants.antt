@@ -1,12 +1,12 @@
 use Rattle.std.proofs.Common.{◌≡◌, ◌*◌, min, length}
-use Rattle.ng_rig.specs.Calls.{Promises}
-use Rattle.ng_rig.specs.Life.{reads}
-use Rattle.ng_log.specs.Scanning.{from_log, MakesAll}
+use Rattle.ng_rig.specs.Calls.{IfHonest}
+use Rattle.ng_rig.specs.Trace.{reads}
+use Rattle.ng_log.specs.Private.ReadSteps.{from_log, MakesAll}
 use Rattle.ng_log.proofs.scanning.take_all_changes.Given as goal
 
 abbrev pub invariant-loop-i : goal.invariant-loop-i
 invariant-loop-i g l = record {
-  read : Promises (g.R.Rig.honest l.initial.rig) (g.R.Rig.honest l.rig) ((g.R.Rig.life l.rig ≡ g.R.Rig.life l.initial.rig) × MakesAll (from_log (reads (g.R.Rig.life l.initial.rig))) l.at (min (48 * l.i) l.changes) l.initial.table l.table);
+  read : IfHonest (g.R.Rig.honest l.initial.rig) (g.R.Rig.honest l.rig) ((g.R.Rig.trace l.rig ≡ g.R.Rig.trace l.initial.rig) × MakesAll (from_log (reads (g.R.Rig.trace l.initial.rig))) l.at (min (48 * l.i) l.changes) l.initial.table l.table);
   long : length l.table ≡ 5399;
   size : g.R.Rig.sectors l.rig ≡ g.R.Rig.sectors l.initial.rig;
   failures : g.R.Rig.failed l.rig ≡ g.R.Rig.failed l.initial.rig;

@@ -1,7 +1,7 @@
 use Rattle.std.proofs.Common.{ap, refl, ◌∙◌}
 use Rattle.ng_rig.proofs.Promise.{promised, meaning}
-use Rattle.ng_rig.specs.Life.{reads}
-use Rattle.ng_layout.specs.Stored.{Saved}
+use Rattle.ng_rig.specs.Trace.{reads}
+use Rattle.ng_layout.specs.Stored.{StoredModel}
 use Rattle.ng_log.proofs.Scanned.{no_report, exit_all}
 use Rattle.ng_log.proofs.scanning.take_record.Goals as goal
 
@@ -9,13 +9,13 @@ pub returns-in-None-clause-read : goal.returns-in-None-clause-read
 returns-in-None-clause-read g c =
     promised (record {
       same = refl;
-      right = λ there. no_report c.args.program c.args.at c.args.changes c.args.stored.now c.args.stored.now (reads (g.R.Rig.life c.args.rig.now)) c.args.first.now c.report_of_part.result there c.report_of_part.ensures.value c.in-None.is;
+      right = λ there. no_report c.args.program c.args.at c.args.changes c.args.stored.now c.args.stored.now (reads (g.R.Rig.trace c.args.rig.now)) c.args.first.now c.decoded_state_of_part.result there c.decoded_state_of_part.ensures.value c.in-None.is;
     })
 
 pub returns-then-is_whole-clause-read : goal.returns-then-is_whole-clause-read
 returns-then-is_whole-clause-read g c =
-    let params_are = ap (λ s. s.state.params) c.stored-inside.view_is ∙ ap (λ (s : Saved). s.setup.params) c.stored.view_is in
+    let params_are = ap (λ s. s.state.params) c.stored-inside.view_is ∙ ap (λ (s : StoredModel). s.setup.params) c.stored.view_is in
     meaning c.in_ok-is_whole-in-Some.ensures.read (λ q. record {
       same = q.same;
-      right = λ there. exit_all c.args.program c.args.at c.args.changes c.args.stored.now c.take_report.new.self (reads (g.R.Rig.life c.args.rig.now)) c.args.first.now c.report_of_part.result there c.report_of_part.ensures.value c.in-Some.report c.in-Some.is _ c.take_all_changes.new.table c.in_ok-is_whole-in-Some.is_whole c.if-is_whole.true params_are q.right c.take_report.ensures;
+      right = λ there. exit_all c.args.program c.args.at c.args.changes c.args.stored.now c.take_decoded_state.new.self (reads (g.R.Rig.trace c.args.rig.now)) c.args.first.now c.decoded_state_of_part.result there c.decoded_state_of_part.ensures.value c.in-Some.report c.in-Some.is _ c.take_all_changes.new.table c.in_ok-is_whole-in-Some.is_whole c.if-is_whole.true params_are q.right c.take_decoded_state.ensures;
     })

@@ -2,8 +2,8 @@ use Rattle.std.proofs.Common.{◌≡◌, ◌∙◌, ◌+◌, length, ap}
 use Rattle.std.proofs.lemmas.Result.{err_from_is_err_and}
 use Rattle.ng_rig.proofs.Promise.{onto, meaning}
 use Rattle.ng_log.specs.declared.log_end.LogEnd.{LogEnd}
-use Rattle.ng_log.specs.AtEnd.{end_behind}
-use Rattle.ng_log.specs.Differences.{differences}
+use Rattle.ng_log.specs.AtEnd.{end_after}
+use Rattle.ng_params.specs.Differences.{differences}
 use Rattle.ng_log.specs.Records.{record_from}
 use Rattle.ng_log.proofs.Appending.{next_of, record_cut, record_unsynced, record_synced, exit_parts, exit_sync, finished}
 use Rattle.ng_log.proofs.writing.append.Goals as goal
@@ -22,7 +22,7 @@ returns-in_err-sync-clause-appends g c =
     let p = err_from_is_err_and c.from_residual-in_err-sync.result c.from_residual-in_err-sync.ensures.1 in
     let r = c.requires in
     let stored = c.args.stored.now in
-    rw p.1 (onto _ c.write_parts.ensures.writes c.in_err-sync.ensures.life (λ w sync before at table.
+    rw p.1 (onto _ c.write_parts.ensures.writes c.in_err-sync.ensures.trace (λ w sync before at table.
     let next = next_of _ c.args.header before c.args.end c.args.old.now stored c.args.count at.image table r.table r.storable.table r.count r.room r.long in
     exit_sync _ c.args.header before c.args.end stored (differences c.args.old.now stored.setup.params) at next p.0 c.write_parts.result _ _ w sync))
 
@@ -32,8 +32,8 @@ returns-clause-appends g c =
     let stored = c.args.stored.now in
     let made = differences c.args.old.now stored.setup.params in
     let after : LogEnd = record { sector = c.args.end.sector + c.parts_for.result; number = c.args.end.number + 1 } in
-    let after_is : after ≡ end_behind c.args.end (length made) = (λ i. record { sector = c.args.end.sector + c.parts_for.ensures.value i; number = c.args.end.number + 1 }) ∙ ap (end_behind c.args.end) r.count in
-    onto _ c.in_ok-write_parts.ensures.writes c.in_ok-sync.ensures.life (λ w sync before at table.
+    let after_is : after ≡ end_after c.args.end (length made) = (λ i. record { sector = c.args.end.sector + c.parts_for.ensures.value i; number = c.args.end.number + 1 }) ∙ ap (end_after c.args.end) r.count in
+    onto _ c.in_ok-write_parts.ensures.writes c.in_ok-sync.ensures.trace (λ w sync before at table.
     let next = next_of _ c.args.header before c.args.end c.args.old.now stored c.args.count at.image table r.table r.storable.table r.count r.room r.long in
     finished _ c.args.header before c.args.end stored made at next _ after _ _ after_is w sync)
 
@@ -47,9 +47,9 @@ pub returns-in_err-sync-clause-writes : goal.returns-in_err-sync-clause-writes
 returns-in_err-sync-clause-writes g c =
     let p = err_from_is_err_and c.from_residual-in_err-sync.result c.from_residual-in_err-sync.ensures.1 in
     let e = record_from c.args.header.epoch c.args.end c.args.old.now c.args.stored.now in
-    rw p.1 (onto _ c.write_parts.ensures.writes c.in_err-sync.ensures.life (λ w sync. record_unsynced p.0 c.write_parts.result e _ _ _ w sync))
+    rw p.1 (onto _ c.write_parts.ensures.writes c.in_err-sync.ensures.trace (λ w sync. record_unsynced p.0 c.write_parts.result e _ _ _ w sync))
 
 pub returns-clause-writes : goal.returns-clause-writes
 returns-clause-writes g c =
     let e = record_from c.args.header.epoch c.args.end c.args.old.now c.args.stored.now in
-    onto _ c.in_ok-write_parts.ensures.writes c.in_ok-sync.ensures.life (λ w sync. record_synced _ _ e _ _ _ w sync)
+    onto _ c.in_ok-write_parts.ensures.writes c.in_ok-sync.ensures.trace (λ w sync. record_synced _ _ e _ _ _ w sync)

@@ -1,13 +1,13 @@
 use Rattle.std.proofs.Common.{◌≡◌, ◌≤◌, ◌-◌, ◌*◌, min, length}
-use Rattle.ng_rig.specs.Calls.{Promises}
-use Rattle.ng_log.specs.Differences.{differences_to}
+use Rattle.ng_rig.specs.Calls.{IfHonest}
+use Rattle.ng_params.specs.Differences.{differences_to}
 use Rattle.ng_log.specs.Records.{record_from}
 use Rattle.ng_log.proofs.Appending.{RecordTo}
 use Rattle.ng_log.proofs.writing.write_parts.Given as goal
 
 abbrev pub invariant-loop-part : goal.invariant-loop-part
 invariant-loop-part g l = record {
-  parts : Promises (g.R.Rig.honest l.fn.rig) (g.R.Rig.honest l.rig) (RecordTo l.part (record_from l.epoch l.end l.old l.stored) (g.R.Rig.life l.fn.rig) (g.R.Rig.life l.rig));
+  parts : IfHonest (g.R.Rig.honest l.fn.rig) (g.R.Rig.honest l.rig) (RecordTo l.part (record_from l.epoch l.end l.old l.stored) (g.R.Rig.trace l.fn.rig) (g.R.Rig.trace l.rig));
   from : length (differences_to l.from l.old l.stored.setup.params) ≡ min (48 * (l.part - 1)) l.count;
   within : l.from ≤ 5399;
   size : g.R.Rig.sectors l.rig ≡ g.R.Rig.sectors l.fn.rig;

@@ -4,7 +4,7 @@ use Rattle.ng_rig.proofs.Since.{since-between, between-since}
 use Rattle.ng_rig.proofs.laws.stops.Goals as goal
 
 pub returns-clause-reads : goal.returns-clause-reads
-returns-clause-reads c = λ life. (may_hold-reads life, refl)
+returns-clause-reads c = λ trace. (may_hold-reads trace, refl)
 
 pub returns-clause-since : goal.returns-clause-since
-returns-clause-since c = λ life t image handed le. (since-between image handed life t le, between-since image handed life t)
+returns-clause-since c = λ trace t image handed le. (since-between image handed trace t le, between-since image handed trace t)

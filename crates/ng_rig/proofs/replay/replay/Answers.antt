@@ -1,7 +1,7 @@
 use Rattle.std.proofs.Common.{length, take, sym, ◌∙◌, ap, arith}
-use Rattle.ng_rig.specs.Life.{Life, reads}
-use Rattle.ng_rig.specs.Kept.{contents, life_of}
-use Rattle.ng_rig.proofs.Lived.{life_of-next}
+use Rattle.ng_rig.specs.Trace.{Trace, reads}
+use Rattle.ng_rig.specs.Kept.{contents, trace_of_calls}
+use Rattle.ng_rig.proofs.Traces.{trace_of_calls-next}
 use Rattle.ng_rig.proofs.Replaying.{within_at, reads_write}
 use Rattle.ng_rig.proofs.replay.replay.Goals as goal
 use Rattle.ng_rig.proofs.replay.replay.Goals.{in-Write, in-Sync, in-Hand}
@@ -11,13 +11,13 @@ loop-call-preserved c =
     elim c.match-call.branch [
       | in-Write w ↦
           let at = sym c.call-item.is ∙ w.in-Write.is in
-          let next = life_of-next c.args.image.now c.args.calls.now c.loop-call.call-index _ _ c.loop-call-test.true at in
+          let next = trace_of_calls-next c.args.image.now c.args.calls.now c.loop-call.call-index _ _ c.loop-call-test.true at in
           let within = within_at (length c.args.image.now) c.args.calls.now c.loop-call.call-index _ _ _ c.requires c.loop-call-test.true at in
-          λ n. reads_write (life_of c.args.image.now (take c.loop-call.call-index c.args.calls.now)) _ _ w.in-Write.sector w.in-Write.bytes (omega arith) w.image-is c.loop-call.invariant n ∙ sym (ap (λ (l : Life). reads l n) next)
+          λ n. reads_write (trace_of_calls c.args.image.now (take c.loop-call.call-index c.args.calls.now)) _ _ w.in-Write.sector w.in-Write.bytes (omega arith) w.image-is c.loop-call.invariant n ∙ sym (ap (λ (l : Trace). reads l n) next)
       | in-Sync w ↦ λ n.
-          let next = life_of-next c.args.image.now c.args.calls.now c.loop-call.call-index _ _ c.loop-call-test.true (sym c.call-item.is ∙ w.in-Sync.is) in
-          ap (λ xs. contents xs n) w.image-is ∙ c.loop-call.invariant n ∙ sym (ap (λ (l : Life). reads l n) next)
+          let next = trace_of_calls-next c.args.image.now c.args.calls.now c.loop-call.call-index _ _ c.loop-call-test.true (sym c.call-item.is ∙ w.in-Sync.is) in
+          ap (λ xs. contents xs n) w.image-is ∙ c.loop-call.invariant n ∙ sym (ap (λ (l : Trace). reads l n) next)
       | in-Hand w ↦ λ n.
-          let next = life_of-next c.args.image.now c.args.calls.now c.loop-call.call-index _ _ c.loop-call-test.true (sym c.call-item.is ∙ w.in-Hand.is) in
-          ap (λ xs. contents xs n) w.image-is ∙ c.loop-call.invariant n ∙ sym (ap (λ (l : Life). reads l n) next)
+          let next = trace_of_calls-next c.args.image.now c.args.calls.now c.loop-call.call-index _ _ c.loop-call-test.true (sym c.call-item.is ∙ w.in-Hand.is) in
+          ap (λ xs. contents xs n) w.image-is ∙ c.loop-call.invariant n ∙ sym (ap (λ (l : Trace). reads l n) next)
     ]

@@ -1,6 +1,6 @@
 use Rattle.std.proofs.Common.{length, take, sym, ◌∙◌, ap, arith, slice_index}
-use Rattle.ng_rig.specs.Kept.{contents, life_of}
-use Rattle.ng_rig.proofs.Lived.{life_of-next}
+use Rattle.ng_rig.specs.Kept.{contents, trace_of_calls}
+use Rattle.ng_rig.proofs.Traces.{trace_of_calls-next}
 use Rattle.ng_rig.specs.declared.call.Call.TheVariants.{Sync}
 use Rattle.ng_rig.proofs.Replaying.{default_is, within_at, kept_write, kept_passed, count_write, bound_write}
 use Rattle.ng_rig.proofs.replay.replay_kept.Goals as goal
@@ -11,22 +11,22 @@ loop-call-preserved c =
     elim c.match-call.branch [
       | in-Write w ↦
           let at = sym c.call-item.is ∙ w.in-Write.is in
-          let next = life_of-next c.args.image.now c.args.calls.now c.loop-call.call-index _ _ c.loop-call-test.true at in
+          let next = trace_of_calls-next c.args.image.now c.args.calls.now c.loop-call.call-index _ _ c.loop-call-test.true at in
           let within = within_at (length c.args.image.now) c.args.calls.now c.loop-call.call-index _ _ _ c.requires.within c.loop-call-test.true at in
           let h = c.loop-call.invariant in
-          let life = life_of c.args.image.now (take c.loop-call.call-index c.args.calls.now) in
+          let trace = trace_of_calls c.args.image.now (take c.loop-call.call-index c.args.calls.now) in
           let now = h.count w.in-Write.sector in
           rw next (record {
             image = elim w.if-before-number_at.branch [
-              | then-before-number_at w' ↦ kept_write life c.args.keep.now _ _ w.in-Write.sector w.in-Write.bytes (omega arith) (omega (arith, now, w.number_at.ensures)) (w.image-is ∙ w'.image-is) h.image
-              | else-before-number_at w' ↦ kept_passed life c.args.keep.now _ _ w.in-Write.sector w.in-Write.bytes (omega (arith, now, w.number_at.ensures)) (w.image-is ∙ w'.image-is) h.image
+              | then-before-number_at w' ↦ kept_write trace c.args.keep.now _ _ w.in-Write.sector w.in-Write.bytes (omega arith) (omega (arith, now, w.number_at.ensures)) (w.image-is ∙ w'.image-is) h.image
+              | else-before-number_at w' ↦ kept_passed trace c.args.keep.now _ _ w.in-Write.sector w.in-Write.bytes (omega (arith, now, w.number_at.ensures)) (w.image-is ∙ w'.image-is) h.image
             ];
-            count = count_write life _ _ w.in-Write.sector w.in-Write.bytes (omega arith) w.written-is h.count;
+            count = count_write trace _ _ w.in-Write.sector w.in-Write.bytes (omega arith) w.written-is h.count;
             bound = bound_write _ _ w.in-Write.sector c.loop-call.call-index (omega arith) w.written-is h.bound;
           })
       | in-Sync w ↦ absurd (c.requires.unsynced c.loop-call.call-index c.loop-call-test.true (default_is c.args.calls.now c.loop-call.call-index Sync c.call-item.result c.loop-call-test.true ∙ sym c.call-item.is ∙ w.in-Sync.is))
       | in-Hand w ↦
-          let next = life_of-next c.args.image.now c.args.calls.now c.loop-call.call-index _ _ c.loop-call-test.true (sym c.call-item.is ∙ w.in-Hand.is) in
+          let next = trace_of_calls-next c.args.image.now c.args.calls.now c.loop-call.call-index _ _ c.loop-call-test.true (sym c.call-item.is ∙ w.in-Hand.is) in
           let h = c.loop-call.invariant in
           rw next (record {
             image = λ n. ap (λ xs. contents xs n) w.image-is ∙ h.image n;

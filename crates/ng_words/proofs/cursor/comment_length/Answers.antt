@@ -1,8 +1,8 @@
-use Rattle.ng_words.proofs.Texts.{found_behind-nothing, comment_closes, comment_opens, comment_goes, comment_ends}
+use Rattle.ng_words.proofs.Texts.{found_after-nothing, comment_closes, comment_opens, comment_goes, comment_ends}
 use Rattle.ng_words.proofs.cursor.comment_length.Goals as goal
 
 pub loop-i-init : goal.loop-i-init
-loop-i-init c = found_behind-nothing _
+loop-i-init c = found_after-nothing _
 
 pub loop-i-preserved : goal.loop-i-preserved
 loop-i-preserved c = comment_goes _ _ c.loop-i-test.true c.if-byte-eq41.false c.if-byte-eq40.false c.loop-i.invariant

@@ -1,8 +1,8 @@
 use Rattle.std.proofs.Common.{arith, codes, length, ◌≤◌}
-use Rattle.ng_words.proofs.Adding.{behind_shorter}
+use Rattle.ng_words.proofs.Adding.{strip_prefix_shorter}
 use Rattle.ng_words.proofs.reading.setting.Goals as goal
 
 pub returns-in-Some-value-clause-room : goal.returns-in-Some-value-clause-room
 returns-in-Some-value-clause-room c =
-    let shorter : length c.skip.new.self ≤ length c.value.new.cursor = behind_shorter (codes "=") _ _ c.if-not-skip.ensures in
+    let shorter : length c.skip.new.self ≤ length c.value.new.cursor = strip_prefix_shorter (codes "=") _ _ c.if-not-skip.ensures in
     λ t. omega (arith, c.in-Some.ensures.room, c.in-Some-value.ensures.room)

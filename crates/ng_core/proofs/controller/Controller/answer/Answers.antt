@@ -1,7 +1,7 @@
 use Rattle.std.proofs.Common.{◌≡◌, ℕ, List, [], Ok, Err, refl, ◌∙◌, ap, subst}
 use Rattle.std.proofs.lemmas.Result.{err_from_is_err_and}
 use Rattle.ng_session.specs.Entries.{Equipment}
-use Rattle.ng_session.specs.Session.{Sitting, step, TakesMemory, AsksDevice, ReadsLine}
+use Rattle.ng_session.specs.Session.{SessionModel, step, TakesMemory, AsksDevice, NeedsProgramLine}
 use Rattle.ng_core.specs.Model.{ControllerModel}
 use Rattle.ng_core.specs.Events.{CarriesOutEvent}
 use Rattle.ng_core.proofs.Quiet.{still_step}
@@ -12,7 +12,7 @@ pub invariant_of-self-2 : goal.invariant_of-self-2
 invariant_of-self-2 g c =
     let equipment : Equipment = record { tools = c.self.inside.tools; geometry = c.self.inside.geometry } in
     let same : c.answer.new.self.stored ≡ c.self.inside.session.stored =
-    ap (λ (s : Sitting). s.stored) (c.in_ok-answer.ensures.next []) ∙ (still_step equipment [] c.self.inside.session c.args.event.now c.requires.quiet).stored_is in
+    ap (λ (s : SessionModel). s.stored) (c.in_ok-answer.ensures.next []) ∙ (still_step equipment [] c.self.inside.session c.args.event.now c.requires.quiet).stored_is in
     λ whole. same ∙ c.self.invariant whole
 
 pub returns-in_err-answer-clause-carried : goal.returns-in_err-answer-clause-carried
@@ -22,8 +22,8 @@ returns-in_err-answer-clause-carried g c =
     let old : ControllerModel g.row.R.Denot = record { journal = c.self.inside.journal; session = c.self.inside.session; lines = c.self.inside.lines; equipment = equipment } in
     let new : ControllerModel g.row.R.Denot = record { journal = c.self.inside.journal; session = c.answer.new.self; lines = c.self.inside.lines; equipment = equipment } in
     let whole = ap (λ (x : ControllerModel g.row.R.Denot). x.journal.broken) c.self.view_is ∙ c.requires.whole in
-    rw (p.1) (subst (λ (x : ControllerModel g.row.R.Denot). CarriesOutEvent g.R.Rig.honest g.R.Rig.life g.R.Rig.failed g.R.Rig.sectors c.args.event.now (Err p.0) x new) c.self.view_is
-    (carried_short g.R.Rig.honest g.R.Rig.life g.R.Rig.failed g.R.Rig.sectors (TakesMemory equipment old.session c.args.event.now) (AsksDevice equipment old.session c.args.event.now) (ReadsLine equipment old.session c.args.event.now)
+    rw (p.1) (subst (λ (x : ControllerModel g.row.R.Denot). CarriesOutEvent g.R.Rig.honest g.R.Rig.trace g.R.Rig.failed g.R.Rig.sectors c.args.event.now (Err p.0) x new) c.self.view_is
+    (carried_short g.R.Rig.honest g.R.Rig.trace g.R.Rig.failed g.R.Rig.sectors (TakesMemory equipment old.session c.args.event.now) (AsksDevice equipment old.session c.args.event.now) (NeedsProgramLine equipment old.session c.args.event.now)
     p.0 (λ (program : List ℕ). step equipment program old.session c.args.event.now) old new whole p.2 c.in_err-answer.ensures.memory refl refl refl c.in_err-answer.ensures.err))
 
 pub returns-clause-carried : goal.returns-clause-carried
@@ -32,7 +32,7 @@ returns-clause-carried g c =
     let old : ControllerModel g.row.R.Denot = record { journal = c.self.inside.journal; session = c.self.inside.session; lines = c.self.inside.lines; equipment = equipment } in
     let new : ControllerModel g.row.R.Denot = record { journal = c.self.inside.journal; session = c.answer.new.self; lines = c.self.inside.lines; equipment = equipment } in
     let whole = ap (λ (x : ControllerModel g.row.R.Denot). x.journal.broken) c.self.view_is ∙ c.requires.whole in
-    subst (λ (x : ControllerModel g.row.R.Denot). CarriesOutEvent g.R.Rig.honest g.R.Rig.life g.R.Rig.failed g.R.Rig.sectors c.args.event.now (Ok c.in_ok-answer.field-0) x new) c.self.view_is
-    (carried_still g.R.Rig.honest g.R.Rig.life g.R.Rig.failed g.R.Rig.sectors (TakesMemory equipment old.session c.args.event.now) (AsksDevice equipment old.session c.args.event.now) (ReadsLine equipment old.session c.args.event.now)
+    subst (λ (x : ControllerModel g.row.R.Denot). CarriesOutEvent g.R.Rig.honest g.R.Rig.trace g.R.Rig.failed g.R.Rig.sectors c.args.event.now (Ok c.in_ok-answer.field-0) x new) c.self.view_is
+    (carried_still g.R.Rig.honest g.R.Rig.trace g.R.Rig.failed g.R.Rig.sectors (TakesMemory equipment old.session c.args.event.now) (AsksDevice equipment old.session c.args.event.now) (NeedsProgramLine equipment old.session c.args.event.now)
     c.in_ok-answer.field-0 (λ (program : List ℕ). step equipment program old.session c.args.event.now) old new whole
     (λ program. still_step equipment program old.session c.args.event.now c.requires.quiet) refl refl refl c.in_ok-answer.ensures.reply c.in_ok-answer.ensures.next)

@@ -1,8 +1,8 @@
 use Rattle.std.proofs.Common.{◌≡◌, ℕ, true, List, Option, Ok, refl, sym, ◌∙◌, ap, subst}
 use Rattle.std.specs.Option.{is_some}
-use Rattle.ng_layout.specs.Programs.{line_at}
+use Rattle.ng_text.specs.Programs.{program_line_at}
 use Rattle.ng_session.specs.Entries.{Equipment}
-use Rattle.ng_session.specs.Session.{Underway, end, begin, is_running, is_busy, IsBetweenLines}
+use Rattle.ng_session.specs.Session.{CurrentBlockModel, end, begin, is_running, has_work, IsBetweenLines}
 use Rattle.ng_core.specs.Model.{ControllerModel}
 use Rattle.ng_core.specs.Events.{CarriesOut}
 use Rattle.ng_core.proofs.Anyway.{comes_rest}
@@ -16,8 +16,8 @@ pub returns-then-is_some : goal.returns-then-is_some
 returns-then-is_some g c =
     let old : ControllerModel g.row.R.Denot = c.args.self.now in
     let found = by_some _ _ c.after.result c.if-is_some.ensures c.after.ensures.after in
-    let block : is_some old.session.current ≡ true = sym (ap (λ (x : ControllerModel g.row.R.Denot). is_some x.session.current) c.self.view_is) ∙ ap (λ (o : Option Underway). is_some o) found.1.1 in
-    carried_to g.R.Rig.honest g.R.Rig.life g.R.Rig.failed g.R.Rig.sectors ⊥ (IsBetweenLines old.session) (Unit {0}) (is_busy old.session ≡ true) ⊥ (IsBetweenLines old.session) (λ (program : List ℕ). end old.equipment program old.session old.session.current) (λ (program : List ℕ). end old.equipment program old.session old.session.current) c.commit.result old c.commit.new.self
+    let block : is_some old.session.current ≡ true = sym (ap (λ (x : ControllerModel g.row.R.Denot). is_some x.session.current) c.self.view_is) ∙ ap (λ (o : Option CurrentBlockModel). is_some o) found.1.1 in
+    carried_to g.R.Rig.honest g.R.Rig.trace g.R.Rig.failed g.R.Rig.sectors ⊥ (IsBetweenLines old.session) (Unit {0}) (has_work old.session ≡ true) ⊥ (IsBetweenLines old.session) (λ (program : List ℕ). end old.equipment program old.session old.session.current) (λ (program : List ℕ). end old.equipment program old.session old.session.current) c.commit.result old c.commit.new.self
     (λ none. absurd none) (λ u. busy_block (is_running old.session.activity) old.session.current block) (λ none. absurd none) (λ program. refl) c.commit.ensures
 
 pub returns-then-is_running : goal.returns-then-is_running
@@ -25,8 +25,8 @@ returns-then-is_running g c =
     let old : ControllerModel g.row.R.Denot = c.args.self.now in
     let none = sym (ap (λ (x : ControllerModel g.row.R.Denot). x.session.current) c.self.view_is) ∙ by_none _ c.after.result c.if-is_some.ensures c.after.ensures.after in
     let runs = sym (ap (λ (x : ControllerModel g.row.R.Denot). is_running x.session.activity) c.self.view_is) ∙ sym c.if-is_running.ensures in
-    carried_to g.R.Rig.honest g.R.Rig.life g.R.Rig.failed g.R.Rig.sectors (Unit {0}) (IsBetweenLines old.session) (Unit {0}) (is_busy old.session ≡ true) (Unit {0}) (IsBetweenLines old.session)
-    (λ (program : List ℕ). begin old.equipment program old.session (line_at program old.session.stored.place)) (λ (program : List ℕ). end old.equipment program old.session old.session.current) c.begin.result old c.begin.new.self
+    carried_to g.R.Rig.honest g.R.Rig.trace g.R.Rig.failed g.R.Rig.sectors (Unit {0}) (IsBetweenLines old.session) (Unit {0}) (has_work old.session ≡ true) (Unit {0}) (IsBetweenLines old.session)
+    (λ (program : List ℕ). begin old.equipment program old.session (program_line_at program old.session.stored.place)) (λ (program : List ℕ). end old.equipment program old.session old.session.current) c.begin.result old c.begin.new.self
     (λ u. (none, runs)) (λ u. busy_running (is_running old.session.activity) (is_some old.session.current) runs) (λ u. (none, runs))
     (λ program. sym (begins_there old.equipment program old.session none runs)) c.begin.ensures
 
@@ -36,9 +36,9 @@ returns g c =
     let old : ControllerModel g.row.R.Denot = record { journal = c.self.inside.journal; session = c.self.inside.session; lines = c.self.inside.lines; equipment = equipment } in
     let whole = ap (λ (x : ControllerModel g.row.R.Denot). x.journal.broken) c.self.view_is ∙ c.requires in
     let none = by_none _ c.after.result c.if-is_some.ensures c.after.ensures.after in
-    subst (λ (x : ControllerModel g.row.R.Denot). CarriesOut g.R.Rig.honest g.R.Rig.life g.R.Rig.failed g.R.Rig.sectors (IsBetweenLines x.session) (is_busy x.session ≡ true) (IsBetweenLines x.session) (λ (program : List ℕ). end x.equipment program x.session x.session.current) (Ok c.rest.result) x x) c.self.view_is
+    subst (λ (x : ControllerModel g.row.R.Denot). CarriesOut g.R.Rig.honest g.R.Rig.trace g.R.Rig.failed g.R.Rig.sectors (IsBetweenLines x.session) (has_work x.session ≡ true) (IsBetweenLines x.session) (λ (program : List ℕ). end x.equipment program x.session x.session.current) (Ok c.rest.result) x x) c.self.view_is
     (record {
-      does = does_rest g.R.Rig.honest g.R.Rig.life c.rest.result old none (sym c.if-is_running.ensures) c.rest.ensures;
+      does = does_rest g.R.Rig.honest g.R.Rig.trace c.rest.result old none (sym c.if-is_running.ensures) c.rest.ensures;
       comes = comes_rest (IsBetweenLines old.session) c.rest.result old none (sym c.if-is_running.ensures) c.rest.ensures;
       hindered = tt;
       broken = whole;

@@ -4,7 +4,7 @@ use Rattle.ng_num.specs.declared.fault.Fault.{Fault}
 use Rattle.ng_num.specs.declared.fault.Fault.TheVariants.{DeviceFailed, CountersUsed}
 use Rattle.ng_journal.specs.Storing.{ledger_of}
 use Rattle.ng_session.specs.Entries.{Equipment}
-use Rattle.ng_session.specs.Session.{Sitting, load, load_unless, load_refusal}
+use Rattle.ng_session.specs.Session.{SessionModel, load, load_unless, load_refusal}
 use Rattle.ng_session.specs.declared.reply.Reply.{Reply}
 use Rattle.ng_core.specs.Model.{ControllerModel}
 use Rattle.ng_core.proofs.Answering.{does_load, does_not_load, not_too_long}
@@ -23,7 +23,7 @@ invariant_of-self g c =
 
 pub invariant_of-self-2 : goal.invariant_of-self-2
 invariant_of-self-2 g c =
-    let stored : c.load.new.self.stored ≡ c.in_ok-stored.stored = ap (λ (s : Sitting). s.stored) c.load.ensures.next in
+    let stored : c.load.new.self.stored ≡ c.in_ok-stored.stored = ap (λ (s : SessionModel). s.stored) c.load.ensures.next in
     λ whole. stored ∙ sym c.in_ok-load_program.ensures.saved
 
 pub returns-in-Some : goal.returns-in-Some
@@ -31,7 +31,7 @@ returns-in-Some g c =
     let old : ControllerModel g.row.R.Denot = c.args.self.now in
     let refused : Some c.in-Some.fault ≡ load_refusal old.session c.args.text.now =
     subst (λ (x : ControllerModel g.row.R.Denot). Some c.in-Some.fault ≡ load_refusal x.session c.args.text.now) c.self.view_is c.in-Some.ensures.value in
-    carried_refused g.R.Rig.honest g.R.Rig.life g.R.Rig.failed g.R.Rig.sectors (load_refusal old.session c.args.text.now ≡ None) (load_refusal old.session c.args.text.now ≡ None) ⊥ c.in-Some.fault
+    carried_refused g.R.Rig.honest g.R.Rig.trace g.R.Rig.failed g.R.Rig.sectors (load_refusal old.session c.args.text.now ≡ None) (load_refusal old.session c.args.text.now ≡ None) ⊥ c.in-Some.fault
     (λ (program : List ℕ). load program old.session c.args.text.now) old c.requires (λ program. ap (λ (o : Option Fault). load_unless program old.session c.args.text.now o) refused)
 
 pub returns-in_err-stored : goal.returns-in_err-stored
@@ -39,7 +39,7 @@ returns-in_err-stored g c =
     let p = err_from_is_err_and c.from_residual.result c.from_residual.ensures.1 in
     let old : ControllerModel g.row.R.Denot = c.args.self.now in
     let free : load_refusal old.session c.args.text.now ≡ None = subst (λ (x : ControllerModel g.row.R.Denot). load_refusal x.session c.args.text.now ≡ None) c.self.view_is (sym c.in_default.ensures.value) in
-    rw (p.1) (carried_short g.R.Rig.honest g.R.Rig.life g.R.Rig.failed g.R.Rig.sectors (load_refusal old.session c.args.text.now ≡ None) (load_refusal old.session c.args.text.now ≡ None) ⊥ p.0
+    rw (p.1) (carried_short g.R.Rig.honest g.R.Rig.trace g.R.Rig.failed g.R.Rig.sectors (load_refusal old.session c.args.text.now ≡ None) (load_refusal old.session c.args.text.now ≡ None) ⊥ p.0
     (λ (program : List ℕ). load program old.session c.args.text.now) old old c.requires p.2 free refl refl refl refl)
 
 pub returns-in_err-load_program : goal.returns-in_err-load_program
@@ -52,10 +52,10 @@ returns-in_err-load_program g c =
     let free : load_refusal old.session c.args.text.now ≡ None = sym c.in_default.ensures.value in
     let which : (e ≡ CountersUsed) ⊎ (e ≡ DeviceFailed) = not_too_long (Unit {0}) e (length c.args.text.now) c.in_default.ensures.none.1 c.in_err-load_program.ensures.errors c.in_err-load_program.ensures.too_long in
     let unchanged : e ≡ CountersUsed → new.journal ≡ old.journal = λ used. c.in_err-load_program.ensures.unchanged (inl (ap (λ (f : Fault). Err f) used)) in
-    rw (p.1) (carried_as g.R.Rig.honest g.R.Rig.life g.R.Rig.failed g.R.Rig.sectors (λ (x : ControllerModel g.row.R.Denot). load_refusal x.session c.args.text.now ≡ None) (λ (x : ControllerModel g.row.R.Denot). load_refusal x.session c.args.text.now ≡ None) (λ (x : ControllerModel g.row.R.Denot). ⊥) (λ (x : ControllerModel g.row.R.Denot) (program : List ℕ). load program x.session c.args.text.now) (Err p.0) c.args.self.now old new c.self.view_is
-    (carried_failed g.R.Rig.honest g.R.Rig.life g.R.Rig.failed g.R.Rig.sectors (load_refusal old.session c.args.text.now ≡ None) (load_refusal old.session c.args.text.now ≡ None) ⊥ p.0 e
+    rw (p.1) (carried_as g.R.Rig.honest g.R.Rig.trace g.R.Rig.failed g.R.Rig.sectors (λ (x : ControllerModel g.row.R.Denot). load_refusal x.session c.args.text.now ≡ None) (λ (x : ControllerModel g.row.R.Denot). load_refusal x.session c.args.text.now ≡ None) (λ (x : ControllerModel g.row.R.Denot). ⊥) (λ (x : ControllerModel g.row.R.Denot) (program : List ℕ). load program x.session c.args.text.now) (Err p.0) c.args.self.now old new c.self.view_is
+    (carried_failed g.R.Rig.honest g.R.Rig.trace g.R.Rig.failed g.R.Rig.sectors (load_refusal old.session c.args.text.now ≡ None) (load_refusal old.session c.args.text.now ≡ None) ⊥ p.0 e
     (λ (program : List ℕ). load program old.session c.args.text.now) old new p.2
-    (does_not_load g.R.Rig.honest g.R.Rig.life e e c.in_ok-stored.stored c.args.text.now old new free c.in_ok-stored.ensures.value refl which unchanged c.in_err-load_program.ensures.stops refl)
+    (does_not_load g.R.Rig.honest g.R.Rig.trace e e c.in_ok-stored.stored c.args.text.now old new free c.in_ok-stored.ensures.value refl which unchanged c.in_err-load_program.ensures.stops refl)
     which unchanged refl refl
     (hindered_load (Unit {0}) e old.session c.in_ok-stored.stored c.args.text.now (ledger_of old.journal) free c.in_default.ensures.none.1 c.in_ok-stored.ensures.value which c.in_err-load_program.ensures.used_up)
     c.in_err-load_program.ensures.broken c.in_err-load_program.ensures.size c.in_err-load_program.ensures.failures))
@@ -66,8 +66,8 @@ returns g c =
     let old : ControllerModel g.row.R.Denot = record { journal = c.self.inside.journal; session = c.self.inside.session; lines = c.self.inside.lines; equipment = equipment } in
     let new : ControllerModel g.row.R.Denot = record { journal = c.load_program.new.self; session = c.load.new.self; lines = c.none-self-inside.result; equipment = equipment } in
     let free : load_refusal old.session c.args.text.now ≡ None = sym c.in_default.ensures.value in
-    carried_as g.R.Rig.honest g.R.Rig.life g.R.Rig.failed g.R.Rig.sectors (λ (x : ControllerModel g.row.R.Denot). load_refusal x.session c.args.text.now ≡ None) (λ (x : ControllerModel g.row.R.Denot). load_refusal x.session c.args.text.now ≡ None) (λ (x : ControllerModel g.row.R.Denot). ⊥) (λ (x : ControllerModel g.row.R.Denot) (program : List ℕ). load program x.session c.args.text.now) (Ok c.load.result) c.args.self.now old new c.self.view_is (record {
-      does = does_load g.R.Rig.honest g.R.Rig.life c.in_ok-load_program.field-0 c.load.result c.in_ok-stored.stored c.args.text.now old new free c.in_ok-stored.ensures.value
+    carried_as g.R.Rig.honest g.R.Rig.trace g.R.Rig.failed g.R.Rig.sectors (λ (x : ControllerModel g.row.R.Denot). load_refusal x.session c.args.text.now ≡ None) (λ (x : ControllerModel g.row.R.Denot). load_refusal x.session c.args.text.now ≡ None) (λ (x : ControllerModel g.row.R.Denot). ⊥) (λ (x : ControllerModel g.row.R.Denot) (program : List ℕ). load program x.session c.args.text.now) (Ok c.load.result) c.args.self.now old new c.self.view_is (record {
+      does = does_load g.R.Rig.honest g.R.Rig.trace c.in_ok-load_program.field-0 c.load.result c.in_ok-stored.stored c.args.text.now old new free c.in_ok-stored.ensures.value
           c.load.ensures.reply c.load.ensures.next c.in_ok-load_program.ensures.stops (c.none-self-inside.ensures.holds c.args.text.now);
       comes = comes_load ⊥ c.load.result c.in_ok-stored.stored c.args.text.now old new free c.in_ok-stored.ensures.value c.load.ensures.reply c.load.ensures.next;
       hindered = tt;

@@ -1,11 +1,11 @@
 use Rattle.std.proofs.Common.{◌≡◌, ℕ, List, Option, None, Some, refl, sym, ◌∙◌, ap, subst}
 use Rattle.ng_num.specs.declared.fault.Fault.{Fault}
 use Rattle.ng_num.specs.declared.fault.Fault.TheVariants.{CountersUsed}
-use Rattle.ng_layout.specs.Stored.{Saved, with_report}
+use Rattle.ng_layout.specs.Stored.{StoredModel, with_decoded_state}
 use Rattle.ng_journal.specs.Storing.{ledger_of}
 use Rattle.ng_session.specs.Entries.{Equipment, Referenced, after_reference}
-use Rattle.ng_session.specs.Session.{Sitting, commits, reference, reference_unless, reference_refusal}
-use Rattle.ng_core.specs.Causes.{IsHinderedBy}
+use Rattle.ng_session.specs.Session.{SessionModel, commits, reference, reference_unless, reference_refusal}
+use Rattle.ng_core.specs.Causes.{IsCausedBy}
 use Rattle.ng_core.specs.Model.{ControllerModel}
 use Rattle.ng_core.proofs.Carrying.{carried_to, carried_refused, carried_used}
 use Rattle.ng_core.proofs.Hindering.{hindered_count, stored_reference}
@@ -17,7 +17,7 @@ returns-in-Some g c =
     let old : ControllerModel g.row.R.Denot = c.args.self.now in
     let refused : Some c.in-Some.fault ≡ reference_refusal old.equipment.geometry old.session c.args.point.now =
     subst (λ (x : ControllerModel g.row.R.Denot). Some c.in-Some.fault ≡ reference_refusal x.equipment.geometry x.session c.args.point.now) c.self.view_is c.in-Some.ensures in
-    carried_refused g.R.Rig.honest g.R.Rig.life g.R.Rig.failed g.R.Rig.sectors ⊥ (reference_refusal old.equipment.geometry old.session c.args.point.now ≡ None) ⊥ c.in-Some.fault (λ (program : List ℕ). reference old.equipment program old.session c.args.point.now) old c.requires
+    carried_refused g.R.Rig.honest g.R.Rig.trace g.R.Rig.failed g.R.Rig.sectors ⊥ (reference_refusal old.equipment.geometry old.session c.args.point.now ≡ None) ⊥ c.in-Some.fault (λ (program : List ℕ). reference old.equipment program old.session c.args.point.now) old c.requires
     (λ program. ap (λ (o : Option Fault). reference_unless program old.session c.args.point.now o) refused)
 
 pub returns-then-is_count_used_up : goal.returns-then-is_count_used_up
@@ -28,8 +28,8 @@ returns-then-is_count_used_up g c =
     let ledger = ledger_of c.self.inside.journal in
     let saved = after_reference session.stored c.args.point.now in
     let free : reference_refusal equipment.geometry session c.args.point.now ≡ None = sym c.in_default.ensures in
-    carried_used g.R.Rig.honest g.R.Rig.life g.R.Rig.failed g.R.Rig.sectors ⊥ (reference_refusal old.equipment.geometry old.session c.args.point.now ≡ None) ⊥ (λ (program : List ℕ). reference old.equipment program old.session c.args.point.now) old c.requires
-    (subst (λ (x : ControllerModel g.row.R.Denot). IsHinderedBy ⊥ (reference_refusal x.equipment.geometry x.session c.args.point.now ≡ None) (ledger_of x.journal) (λ (program : List ℕ). reference x.equipment program x.session c.args.point.now) CountersUsed) c.self.view_is
+    carried_used g.R.Rig.honest g.R.Rig.trace g.R.Rig.failed g.R.Rig.sectors ⊥ (reference_refusal old.equipment.geometry old.session c.args.point.now ≡ None) ⊥ (λ (program : List ℕ). reference old.equipment program old.session c.args.point.now) old c.requires
+    (subst (λ (x : ControllerModel g.row.R.Denot). IsCausedBy ⊥ (reference_refusal x.equipment.geometry x.session c.args.point.now ≡ None) (ledger_of x.journal) (λ (program : List ℕ). reference x.equipment program x.session c.args.point.now) CountersUsed) c.self.view_is
     (hindered_count ledger (λ program. reference equipment program session c.args.point.now) saved (reference_refusal equipment.geometry session c.args.point.now ≡ None)
     (c.counters.ensures.past ledger saved (past_referenced session.stored c.args.point.now c.if-is_count_used_up.ensures))
     (λ program. stored_reference equipment program session c.args.point.now free)))
@@ -39,10 +39,10 @@ returns g c =
     let old : ControllerModel g.row.R.Denot = c.args.self.now in
     let none : reference_refusal old.equipment.geometry old.session c.args.point.now ≡ None =
     subst (λ (x : ControllerModel g.row.R.Denot). reference_refusal x.equipment.geometry x.session c.args.point.now ≡ None) c.self.view_is (sym c.in_default.ensures) in
-    let is : with_report old.session.stored c.referenced-report.result old.session.stored.length ≡ after_reference old.session.stored c.args.point.now =
-    subst (λ (x : ControllerModel g.row.R.Denot). with_report x.session.stored c.referenced-report.result x.session.stored.length ≡ after_reference x.session.stored c.args.point.now) c.self.view_is c.referenced-report.ensures.value in
-    carried_to g.R.Rig.honest g.R.Rig.life g.R.Rig.failed g.R.Rig.sectors ⊥ ⊥ (Unit {0}) (reference_refusal old.equipment.geometry old.session c.args.point.now ≡ None) ⊥ ⊥
-    (λ (program : List ℕ). commits program (Referenced c.args.point.now) (record old.session { stored = with_report old.session.stored c.referenced-report.result old.session.stored.length })) (λ (program : List ℕ). reference old.equipment program old.session c.args.point.now)
+    let is : with_decoded_state old.session.stored c.referenced-report.result old.session.stored.length ≡ after_reference old.session.stored c.args.point.now =
+    subst (λ (x : ControllerModel g.row.R.Denot). with_decoded_state x.session.stored c.referenced-report.result x.session.stored.length ≡ after_reference x.session.stored c.args.point.now) c.self.view_is c.referenced-report.ensures.value in
+    carried_to g.R.Rig.honest g.R.Rig.trace g.R.Rig.failed g.R.Rig.sectors ⊥ ⊥ (Unit {0}) (reference_refusal old.equipment.geometry old.session c.args.point.now ≡ None) ⊥ ⊥
+    (λ (program : List ℕ). commits program (Referenced c.args.point.now) (record old.session { stored = with_decoded_state old.session.stored c.referenced-report.result old.session.stored.length })) (λ (program : List ℕ). reference old.equipment program old.session c.args.point.now)
     c.keep.result old c.keep.new.self (λ m. m) (λ u. none) (λ e. e)
-    (λ program. ap (λ (y : Saved). commits program (Referenced c.args.point.now) (let s : Sitting = record old.session { stored = y } in s)) is ∙ sym (ap (λ (o : Option Fault). reference_unless program old.session c.args.point.now o) none))
+    (λ program. ap (λ (y : StoredModel). commits program (Referenced c.args.point.now) (let s : SessionModel = record old.session { stored = y } in s)) is ∙ sym (ap (λ (o : Option Fault). reference_unless program old.session c.args.point.now o) none))
     (c.keep.ensures (Referenced c.args.point.now) (λ saved. refl))

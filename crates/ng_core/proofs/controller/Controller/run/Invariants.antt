@@ -1,6 +1,6 @@
 use Rattle.std.proofs.Common.{◌≡◌, ◌≤◌, length, take, vec_len}
 use Rattle.std.specs.Vec.{vec_capacity}
-use Rattle.ng_core.specs.Turns.{AreTurns}
+use Rattle.ng_core.specs.AnsweredEvents.{AreAnsweredEvents}
 use Rattle.ng_core.proofs.controller.Controller.run.Given as goal
 
 abbrev pub invariant-loop-event : goal.invariant-loop-event
@@ -8,5 +8,5 @@ invariant-loop-event g l = record {
   room : length l.events ≤ vec_capacity l.replies;
   count : vec_len l.replies ≡ l.event-index;
   size : g.R.Rig.sectors l.self.journal.rig ≡ g.R.Rig.sectors l.fn.self.journal.rig;
-  turns : AreTurns g.R.Rig.honest g.R.Rig.life g.R.Rig.failed g.R.Rig.sectors (take l.event-index l.events) l.replies.items l.fn.self l.self;
+  turns : AreAnsweredEvents g.R.Rig.honest g.R.Rig.trace g.R.Rig.failed g.R.Rig.sectors (take l.event-index l.events) l.replies.items l.fn.self l.self;
 }

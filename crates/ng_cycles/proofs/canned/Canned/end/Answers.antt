@@ -2,4 +2,4 @@ use Rattle.ng_cycles.proofs.Skips.{cycle_end}
 use Rattle.ng_cycles.proofs.canned.Canned.end.Goals as goal
 
 pub returns : goal.returns
-returns c = rw (c.place.ensures, c.drill-drill.ensures.value) (cycle_end c.args.self.now c.drill-drill.ensures.canned.made.some)
+returns c = rw (c.hole_at.ensures, c.drill-drill.ensures.value) (cycle_end c.args.self.now c.drill-drill.ensures.canned.made.some)

@@ -11,6 +11,6 @@ invariant_of-result g c =
       ap (λ (l : List (Call g.row.A.Denot)). length l) none ∙ sym c.requires.none,
       c.empty.ensures.parts,
       subst (λ (l : List (Call g.row.A.Denot)). NumberedFrom 0 l) (sym none) tt,
-      subst (λ (l : List (Call g.row.A.Denot)). RunsFrom g.R.Rig.honest g.R.Rig.life g.R.Rig.failed g.R.Rig.sectors g.O.Origin.start l c.args.controller) (sym none)
-          (runs_none g.R.Rig.honest g.R.Rig.life g.R.Rig.failed g.R.Rig.sectors g.O.Origin.start c.args.controller c.requires.start),
+      subst (λ (l : List (Call g.row.A.Denot)). RunsFrom g.R.Rig.honest g.R.Rig.trace g.R.Rig.failed g.R.Rig.sectors g.O.Origin.start l c.args.controller) (sym none)
+          (runs_none g.R.Rig.honest g.R.Rig.trace g.R.Rig.failed g.R.Rig.sectors g.O.Origin.start c.args.controller c.requires.start),
     )

@@ -2,7 +2,7 @@
 use Rattle.std.proofs.Common.{ap, arith, length}
 use Rattle.ng_words.specs.Kept.{pieces_by}
 use Rattle.ng_words.specs.Lines.{piece_of}
-use Rattle.ng_expr.specs.Settle.{settled, settled_of}
+use Rattle.ng_expr.specs.Settle.{settled_pieces, settled_of}
 use Rattle.ng_expr.proofs.SettleLaws.{settled_step}
 use Rattle.ng_expr.proofs.values.Values.evaluate_into.Goals as goal
 
@@ -11,6 +11,6 @@ loop-piece-preserved g c =
     let more = ap length c.in-Some.ensures in
     record {
       found = settled_step c.args.params.now (settled_of c.loop-piece.self) (settled_of c.add.new.self) (piece_of c.in-Some.piece) (pieces_by c.loop-piece.pieces)
-          (pieces_by c.next.new.self) (settled (pieces_by c.args.line.now.places) c.args.params.now) c.in-Some.ensures c.in-Ok.ensures.found c.loop-piece.invariant.found;
+          (pieces_by c.next.new.self) (settled_pieces (pieces_by c.args.line.now.places) c.args.params.now) c.in-Some.ensures c.in-Ok.ensures.found c.loop-piece.invariant.found;
       few = omega (arith, more, c.in-Ok.ensures.few, c.loop-piece.invariant.few);
     }

@@ -1,12 +1,12 @@
 use Rattle.std.proofs.Common.{◌≡◌, ◌≤◌, ◌+◌, length}
 use Rattle.ng_words.specs.Kept.{pieces_by}
-use Rattle.ng_expr.specs.Settle.{behind, settled, settled_of}
+use Rattle.ng_expr.specs.Settle.{followed_if_ok, settled_pieces, settled_of}
 use Rattle.ng_expr.proofs.values.Values.evaluate_into.Given as goal
 
 -- what is there and what the pieces left give is what the line gives; each piece adds one at most
 abbrev pub invariant-loop-piece : goal.invariant-loop-piece
 invariant-loop-piece g l = record {
-  found : behind (settled_of l.self) (settled (pieces_by l.pieces) l.params) ≡ settled (pieces_by l.line.places) l.params;
+  found : followed_if_ok (settled_of l.self) (settled_pieces (pieces_by l.pieces) l.params) ≡ settled_pieces (pieces_by l.line.places) l.params;
   few : length l.self.words.items + length l.self.settings.items + length (pieces_by l.pieces) ≤ 128;
 }
 

@@ -1,5 +1,5 @@
 use Rattle.std.proofs.Common.{◌≡◌, ◌≤◌, ◌∙◌, sym, ap, subst, arith}
-use Rattle.ng_rig.specs.Life.{Life}
+use Rattle.ng_rig.specs.Trace.{Trace}
 use Rattle.ng_rig.proofs.Promise.{meaning}
 use Rattle.ng_log.specs.AtEnd.{IsAtEnd}
 use Rattle.ng_journal.proofs.FirstLinesRead.{first_in_force}
@@ -11,6 +11,6 @@ returns-in-Ok-clause-kind g c =
     let within : c.args.place ≤ c.self.inside.tip.header.length = omega (arith, c.requires.place, long) in
     rw (← c.self.view_is) (meaning c.in-Ok.ensures.read (λ r. λ standing rest. record {
       same = r.same;
-      at = record { at = subst (λ (l : Life). IsAtEnd l c.self.inside.tip.header standing c.self.inside.tip.end) (sym r.same) rest.at; saved_is = rest.saved_is };
+      at = record { at = subst (λ (l : Trace). IsAtEnd l c.self.inside.tip.header standing c.self.inside.tip.end) (sym r.same) rest.at; saved_is = rest.saved_is };
       kind = first_in_force _ c.self.inside.tip.header standing c.args.place c.in-Ok.kind rest.at within r.right;
     }))

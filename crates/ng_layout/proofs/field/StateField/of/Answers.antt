@@ -2,8 +2,8 @@ use Rattle.std.proofs.Common.{◌≡◌, unsigned_abs, sym, ◌∙◌, ap, arith
 use Rattle.std.specs.Int.{w64, cast_signed, cast_unsigned}
 use Rattle.std.proofs.lemmas.Int.{to_z-of_z}
 use Rattle.std.specs.Option.{option_copied}
-use Rattle.ng_layout.specs.Stored.{Report}
-use Rattle.ng_layout.specs.Report.{report_of, modes_of, point_of, kept_of, half_of}
+use Rattle.ng_layout.specs.Stored.{DecodedStateModel}
+use Rattle.ng_layout.specs.Report.{decoded_state_of, modes_of, point_of, kept_of, half_of}
 use Rattle.ng_layout.specs.Writing.{kept_bits, field_of}
 use Rattle.ng_layout.proofs.SaysAgain.{IsCounted, report-back}
 use Rattle.ng_layout.proofs.field.StateField.of.Goals as goal
@@ -34,7 +34,7 @@ returns-clause-is c =
 pub returns-clause-means : goal.returns-clause-means
 returns-clause-means c = λ length within.
     let m = c.args.machine.now in
-    let r : Report = record { entries = c.args.entries; place = c.args.place; machine = m; half = option_copied c.args.half } in
+    let r : DecodedStateModel = record { entries = c.args.entries; place = c.args.place; machine = m; half = option_copied c.args.half } in
     let counted : IsCounted m = record {
       feed = c.nm.ensures.range;
       speed = c.count.ensures.range;
@@ -45,5 +45,5 @@ returns-clause-means c = λ length within.
       origin = sym (ap point_of c.triple_of-3.ensures.is) ∙ c.triple_of-3.ensures.means;
       g92 = sym (ap point_of c.triple_of-2.ensures.is) ∙ c.triple_of-2.ensures.means;
     } in
-    ap (report_of length) (returns-clause-is c)
+    ap (decoded_state_of length) (returns-clause-is c)
     ∙ report-back length r c.requires.count within c.requires.machine counted (sym (ap half_of c.half_field_of.ensures.is) ∙ c.half_field_of.ensures.means)

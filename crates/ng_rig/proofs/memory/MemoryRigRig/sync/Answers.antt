@@ -1,5 +1,5 @@
 use Rattle.std.proofs.Common.{refl, is_ok}
-use Rattle.ng_rig.proofs.Replaying.{within-maybe, reads-maybe, life-push}
+use Rattle.ng_rig.proofs.Replaying.{within-maybe, reads-maybe, trace-push}
 use Rattle.ng_rig.specs.declared.call.Call.TheVariants.{Sync}
 use Rattle.ng_rig.proofs.memory.MemoryRigRig.sync.Goals as goal
 
@@ -10,5 +10,5 @@ invariant_of-self g c = record {
   present_is = reads-maybe (is_ok c.push.result) _ _ c.args.self.now.calls.items _ Sync c.push.ensures.items refl c.args.self.now.present_is;
 }
 
-pub returns-in-Ok-clause-life : goal.returns-in-Ok-clause-life
-returns-in-Ok-clause-life g c = life-push _ _ _ Sync c.in-Ok.ensures.items
+pub returns-in-Ok-clause-trace : goal.returns-in-Ok-clause-trace
+returns-in-Ok-clause-trace g c = trace-push _ _ _ Sync c.in-Ok.ensures.items

@@ -1,6 +1,6 @@
 use Rattle.std.proofs.Common.{◌∙◌, arith, length, length-set}
 use Rattle.std.proofs.lemmas.Bool.{lt-ltb}
-use Rattle.ng_rig.proofs.Replaying.{within-push, reads-push_write, life-push}
+use Rattle.ng_rig.proofs.Replaying.{within-push, reads-push_write, trace-push}
 use Rattle.ng_rig.specs.declared.call.Call.TheVariants.{Write}
 use Rattle.ng_rig.proofs.memory.MemoryRigRig.write.Goals as goal
 
@@ -11,5 +11,5 @@ invariant_of-self g c = record {
   present_is = reads-push_write _ _ _ _ c.args.sector c.args.bytes.now c.in-Ok.ensures.items (omega (arith, c.args.self.now.same_size)) c.args.self.now.present_is;
 }
 
-pub returns-in-Ok-clause-life : goal.returns-in-Ok-clause-life
-returns-in-Ok-clause-life g c = life-push _ _ _ (Write c.args.sector c.args.bytes.now) c.in-Ok.ensures.items
+pub returns-in-Ok-clause-trace : goal.returns-in-Ok-clause-trace
+returns-in-Ok-clause-trace g c = trace-push _ _ _ (Write c.args.sector c.args.bytes.now) c.in-Ok.ensures.items

@@ -1,6 +1,6 @@
 -- The last comment's bytes are the last of all bytes.
 use Rattle.std.proofs.Common.{ap, sym, ◌∙◌, arith}
-use Rattle.ng_words.specs.Kept.{LinePlaces, pieces_by}
+use Rattle.ng_words.specs.Kept.{LineModel, pieces_by}
 use Rattle.ng_words.specs.Lines.{last_comment}
 use Rattle.ng_words.proofs.Kept.{last_within, last_text, last_none}
 use Rattle.ng_words.proofs.line.Line.last_comment.Goals as goal
@@ -12,10 +12,10 @@ overflow_sub-result c =
 
 pub returns-in-Some-clause-text : goal.returns-in-Some-clause-text
 returns-in-Some-clause-text c =
-    ap (λ (l : LinePlaces). last_comment (pieces_by l.places)) (sym c.self.view_is)
+    ap (λ (l : LineModel). last_comment (pieces_by l.places)) (sym c.self.view_is)
     ∙ last_text _ _ _ c.in-Some.n c.len.result c.as_slice-in-Some.result.now c.self.invariant c.as_slice.ensures.value c.last_length.ensures c.in-Some.is c.as_slice-in-Some.ensures.value c.len.ensures.value
 
 pub returns-in-None-clause-text : goal.returns-in-None-clause-text
 returns-in-None-clause-text c =
-    ap (λ (l : LinePlaces). last_comment (pieces_by l.places)) (sym c.self.view_is)
+    ap (λ (l : LineModel). last_comment (pieces_by l.places)) (sym c.self.view_is)
     ∙ last_none _ _ _ c.self.invariant c.as_slice.ensures.value c.last_length.ensures c.in-None.is

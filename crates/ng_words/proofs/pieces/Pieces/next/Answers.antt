@@ -1,6 +1,6 @@
 -- What comes first is taken from the places, and what is left is kept.
 use Rattle.std.proofs.Common.{ℕ, ◌≤◌, List, length, take, drop, ap, sym, subst, ◌∙◌, arith, length-drop}
-use Rattle.ng_words.specs.Kept.{IsTree, IsKept}
+use Rattle.ng_words.specs.Kept.{IsTree, AreEncodedPieces}
 use Rattle.ng_words.specs.declared.tree.Node.{Node}
 use Rattle.ng_words.proofs.Kept.{kept_word, kept_setting, kept_comment}
 use Rattle.ng_words.proofs.pieces.Pieces.next.Goals as goal
@@ -15,7 +15,7 @@ pub invariant_of-self : goal.invariant_of-self
 invariant_of-self c =
     let first = kept_word _ _ _ _ _ c.self.invariant.0 c.in_ok-item.ensures.cases.0 c.in-Word.is in
     let rest = c.split_tree-value.ensures.rest in (
-      subst (λ (nodes : List Node). IsKept (record { items = c.in_ok-item.others.now; nodes = nodes; bytes = c.self.inside.bytes.now })) (sym rest) first.kept,
+      subst (λ (nodes : List Node). AreEncodedPieces (record { items = c.in_ok-item.others.now; nodes = nodes; bytes = c.self.inside.bytes.now })) (sym rest) first.kept,
       omega (arith, c.self.invariant.1, ap length rest, length-drop c.in-Word.n c.self.inside.nodes.now),
     )
 
@@ -37,7 +37,7 @@ pub invariant_of-self-in-Setting : goal.invariant_of-self-in-Setting
 invariant_of-self-in-Setting c =
     let first = kept_setting _ _ _ _ _ c.self.invariant.0 c.in_ok-item.ensures.cases.0 c.in-Setting.is in
     let rest = c.split_tree-value-in-Setting.ensures.rest ∙ ap (drop c.in-Setting.n) c.split_tree-index.ensures.rest in (
-      subst (λ (nodes : List Node). IsKept (record { items = c.in_ok-item.others.now; nodes = nodes; bytes = c.self.inside.bytes.now })) (sym rest) first.kept,
+      subst (λ (nodes : List Node). AreEncodedPieces (record { items = c.in_ok-item.others.now; nodes = nodes; bytes = c.self.inside.bytes.now })) (sym rest) first.kept,
       omega (arith, c.self.invariant.1, ap length rest, length-drop c.in-Setting.n (drop c.in-Setting.i c.self.inside.nodes.now), length-drop c.in-Setting.i c.self.inside.nodes.now),
     )
 
@@ -46,7 +46,7 @@ split_at-requires c = (kept_comment _ _ _ _ c.self.invariant.0 c.in_ok-item.ensu
 
 pub invariant_of-self-in-Comment : goal.invariant_of-self-in-Comment
 invariant_of-self-in-Comment c = (
-  subst (λ (bytes : List ℕ). IsKept (record { items = c.in_ok-item.others.now; nodes = c.self.inside.nodes.now; bytes = bytes })) (sym c.split_at.ensures.back)
+  subst (λ (bytes : List ℕ). AreEncodedPieces (record { items = c.in_ok-item.others.now; nodes = c.self.inside.nodes.now; bytes = bytes })) (sym c.split_at.ensures.back)
       (kept_comment _ _ _ _ c.self.invariant.0 c.in_ok-item.ensures.cases.0 c.in-Comment.is).kept,
   c.self.invariant.1,
 )

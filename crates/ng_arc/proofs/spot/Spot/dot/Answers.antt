@@ -1,5 +1,0 @@
-use Rattle.ng_arc.proofs.SpotLemmas.{stored_dot}
-use Rattle.ng_arc.proofs.spot.Spot.dot.Goals as goal
-
-pub returns : goal.returns
-returns c = stored_dot c.args.self c.args.other _ _ c.requires.first c.requires.second c.product.ensures.value c.product-2.ensures.value c.product.ensures.size c.product-2.ensures.size

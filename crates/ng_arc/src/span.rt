@@ -1,0 +1,89 @@
+//! Which extremes of its circle an arc passes: those at which the quadrants begin that it comes into.
+ghost use Rattle.std.specs.Prelude.{◌≡◌, ◌^◌, ◌<◌, ◌||◌, ◌==◌, not, unsigned_abs};
+ghost use Rattle.ng_canon.specs.Planes.{square_of, cross, dot, AreBelowInSize};
+ghost use Rattle.ng_arc.specs.Extremes.{has_room, is_passed, sweep_by};
+ghost use Rattle.ng_arc.specs.Quadrants.{direction, changes, passes_toward};
+
+use ng_canon::{ArcDirection, PlanePoint, Quadrant};
+
+/// Where an arc begins, and how often it comes into the next quadrant. A clockwise arc is seen as a counterclockwise one with
+/// b negated.
+#[derive(Clone, Copy)]
+pub(crate) struct ArcSpan {
+    turn: ArcDirection,
+    from: Quadrant,
+    changes: u8,
+    /// The square of the radius.
+    square: u128,
+}
+
+/// The changes of quadrant of a full turn.
+const FULL_TURN: u8 = 4;
+
+impl ArcSpan {
+    /// The span of an arc from a start to an end, which are seen from its centre.
+    pub(crate) fn between(turn: ArcDirection, start: PlanePoint, end: PlanePoint) -> ArcSpan
+        requires start { AreBelowInSize start (2 ^ 45) }
+        requires end { AreBelowInSize end (2 ^ 45) }
+        ensures passes { (q : Quadrant) → passes_toward result q ≡ is_passed turn start end (direction q) }
+        ensures square { result.square ≡ square_of start }
+    {
+        let (from, to) = (start.mirrored(turn), end.mirrored(turn));
+        ArcSpan {
+            turn,
+            from: from.quadrant(),
+            changes: changes(from, to),
+            square: start.square(),
+        }
+    }
+
+    /// Whether it passes the direction that a quadrant begins at.
+    #[tactic(auto, unfolding(crate::specs::Quadrants::passes_toward))]
+    fn passes(self, towards: Quadrant) -> bool
+        ensures { result ≡ passes_toward self towards }
+    {
+        let entered = towards.mirrored(self.turn).number();
+        (entered + 7 - self.from.number()) % 4 < self.changes
+    }
+
+    /// Whether the extreme in the direction that a quadrant begins at isn't passed, or lies inside the travel, which goes so far
+    /// from the centre.
+    pub(crate) fn keeps(&self, towards: Quadrant, room_nm: i64) -> bool
+        requires { unsigned_abs room_nm < 2 ^ 45 }
+        ensures { result ≡ (not (passes_toward self.now towards) || has_room self.now.square room_nm) }
+    {
+        !self.passes(towards) || has_room(self.square, room_nm)
+    }
+}
+
+/// How often an arc comes into the next quadrant; an end the same way from the centre as the start is a full turn.
+#[tactic(auto, unfolding(crate::specs::Quadrants::changes))]
+fn changes(start: PlanePoint, end: PlanePoint) -> u8
+    requires start { AreBelowInSize start (2 ^ 45) }
+    requires end { AreBelowInSize end (2 ^ 45) }
+    ensures { result ≡ changes start end }
+{
+    if is_same_way(start, end) {
+        FULL_TURN
+    } else {
+        start.quadrant_changes(end)
+    }
+}
+
+/// Whether two points lie the same way from the centre, or one of them is the centre.
+fn is_same_way(first: PlanePoint, second: PlanePoint) -> bool
+    requires first { AreBelowInSize first (2 ^ 45) }
+    requires second { AreBelowInSize second (2 ^ 45) }
+    ensures { result ≡ (sweep_by (cross first second) (dot first second) == 4) }
+{
+    first.cross(second) == 0 && first.dot(second) >= 0
+}
+
+/// Whether a circle, whose radius has this square, reaches no farther from its centre than the travel.
+fn has_room(square: u128, room_nm: i64) -> bool
+    requires { unsigned_abs room_nm < 2 ^ 45 }
+    ensures { result ≡ has_room square room_nm }
+{
+    let size = room_nm.unsigned_abs() as u128;
+    room_nm >= 0 && square <= size * size
+}

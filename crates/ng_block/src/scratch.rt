@@ -1,0 +1,215 @@
+//! What a line does in a state: one way for all lines, through places that serve one after the other.
+ghost use Rattle.std.specs.Prelude.{◌≡◌, ◌≤◌, length, MatchResult, Ok, Err, IfSome};
+ghost use Rattle.std.specs.Option.{option_map};
+ghost use Rattle.ng_words.specs.Kept.{pieces_by};
+ghost use Rattle.ng_expr.specs.Settle.{settled_of};
+ghost use Rattle.ng_num.specs.Causes.{NoneHolds, IsFirstFault};
+ghost use Rattle.ng_block.specs.Causes.{causes};
+ghost use Rattle.ng_block.specs.Effects.{executed, executed_pieces, executed_values, in_state};
+ghost use Rattle.ng_block.specs.Remarks.{remark_of};
+ghost use Rattle.ng_block.specs.Program.{deleted, executed_unless_deleted, executed_after};
+
+use crate::effect::{Effect, ProgramFlow};
+use crate::faults::path_fault;
+use crate::percent::percent_at;
+use crate::terms::Terms;
+use ng_canon::Geometry;
+use ng_expr::Values;
+use ng_modal::Sorted;
+use ng_num::Fault;
+use ng_offsets::Tools;
+use ng_state::{Machine, State};
+use ng_words::{Line, LineKind, is_deletable, is_too_long};
+use std::alloc::Allocator;
+
+/// The places that a line is read into, its values are found in and its effect is put into. They serve any number of
+/// lines, one after the other, and take no memory.
+#[derive(Drop)]
+pub struct Scratch {
+    line: Line,
+    values: Values,
+    sorted: Sorted,
+    /// What the last line did that was lawful; after a fault it may hold anything, so it is handed out with an answer alone.
+    effect: Effect,
+}
+
+/// What the values of a line do in a state, put into an effect; or the first fault that refuses them.
+#[tactic(auto, unfolding(crate::specs::Effects::executed_values))]
+fn execute_values<A: Allocator + Copy + Drop>(
+    state: &State<A>,
+    comment: Option<&[u8]>,
+    values: &Values,
+    tools: &Tools,
+    geometry: &Geometry,
+    sorted: &mut Sorted,
+    effect: &mut Effect,
+) -> Result<(), Fault>
+    requires short { IfSome comment (λ text. length text.now ≤ 256) }
+    ensures { MatchResult result (λ _. executed_values state.now (remark_of (option_map (λ text. text.now) comment.entry)) (settled_of values.now) tools.now geometry.now ≡ Ok (in_state state.now effect.new)) (λ f. executed_values state.now (remark_of (option_map (λ text. text.now) comment.entry)) (settled_of values.now) tools.now geometry.now ≡ Err f) }
+{
+    sorted.check(values, &state.machine.modes, tools.slots() as u8)?;
+    let block = &sorted.block;
+    effect.find_goal(state, block, values.settings.as_slice(), tools, geometry)?;
+    if let Some(fault) = path_fault(&effect.plan.path, geometry) {
+        return Err(fault);
+    }
+    effect.take_block(state, block, comment);
+    Ok(())
+}
+
+/// What the pieces of a line do in a state, their values found in places of their own; or the first fault that refuses
+/// them.
+#[tactic(auto, unfolding(crate::specs::Effects::executed_pieces))]
+fn execute_pieces<A: Allocator + Copy + Drop>(
+    state: &State<A>,
+    line: &Line,
+    tools: &Tools,
+    geometry: &Geometry,
+    values: &mut Values,
+    sorted: &mut Sorted,
+    effect: &mut Effect,
+) -> Result<(), Fault>
+    ensures { MatchResult result (λ _. executed_pieces state.now (pieces_by line.now.places) tools.now geometry.now ≡ Ok (in_state state.now effect.new)) (λ f. executed_pieces state.now (pieces_by line.now.places) tools.now geometry.now ≡ Err f) }
+{
+    match values.evaluate_into(line, &state.params) {
+        Ok(()) => execute_values(
+            state,
+            line.last_comment(),
+            values,
+            tools,
+            geometry,
+            sorted,
+            effect,
+        ),
+        Err(fault) => Err(fault),
+    }
+}
+
+/// A deleted line does nothing; its length alone is looked at.
+fn delete<A: Allocator + Copy + Drop>(
+    state: &State<A>,
+    text: &[u8],
+    effect: &mut Effect,
+) -> Result<(), Fault>
+    ensures { MatchResult result (λ _. deleted state.now text.now ≡ Ok (in_state state.now effect.new)) (λ f. deleted state.now text.now ≡ Err f) }
+{
+    if is_too_long(text) {
+        return Err(Fault::LineTooLong);
+    }
+    effect.leave(state, ProgramFlow::GoesOn);
+    Ok(())
+}
+
+impl Scratch {
+    ghost use Rattle.ng_block.specs.Effects.{commands_by, segments_by};
+    ghost use Rattle.std.specs.Prelude.{[]};
+
+    /// Places that no line was put into, over a machine.
+    pub fn new(machine: Machine) -> Scratch
+        ensures commands { commands_by result.effect ≡ [] }
+        ensures segments { segments_by result.effect ≡ [] }
+    {
+        Scratch {
+            line: Line::new(),
+            values: Values::new(),
+            sorted: Sorted::nothing(),
+            effect: Effect::none(machine),
+        }
+    }
+
+    /// Puts what a line does in a state into the effect, or finds the first fault that refuses it.
+    #[inline]
+    #[tactic(auto, unfolding(crate::specs::Effects::executed), using(crate::proofs::CauseLemmas::first_of))]
+    fn take_line<A: Allocator + Copy + Drop>(
+        &mut self,
+        state: &State<A>,
+        text: &[u8],
+        tools: &Tools,
+        geometry: &Geometry,
+    ) -> Result<(), Fault>
+        ensures does { MatchResult result (λ _. executed state.now tools.now geometry.now text.now ≡ Ok (in_state state.now self.new.effect)) (λ f. executed state.now tools.now geometry.now text.now ≡ Err f) }
+        ensures first { MatchResult result (λ _. NoneHolds (causes state.now tools.now geometry.now text.now)) (λ f. IsFirstFault (causes state.now tools.now geometry.now text.now) f) }
+    {
+        match self.line.read(text) {
+            Ok(()) => execute_pieces(
+                state,
+                &self.line,
+                tools,
+                geometry,
+                &mut self.values,
+                &mut self.sorted,
+                &mut self.effect,
+            ),
+            Err(fault) => Err(fault),
+        }
+    }
+
+    /// What a line does in a state, or the first fault that refuses it, in the order of docs/LANGUAGE.md; the state stays
+    /// as it is. What it does lies in these places until the next line comes; after a fault there is nothing to be had.
+    /// A dry run and the controller run this for each line. Source: NISTIR 6556, 3.8, and own.
+    pub fn execute<A: Allocator + Copy + Drop>(
+        &mut self,
+        state: &State<A>,
+        text: &[u8],
+        tools: &Tools,
+        geometry: &Geometry,
+    ) -> Result<&Effect, Fault>
+        ensures does { MatchResult result (λ e. executed state.now tools.now geometry.now text.now ≡ Ok (in_state state.now e.now)) (λ f. executed state.now tools.now geometry.now text.now ≡ Err f) }
+        ensures first { MatchResult result (λ _. NoneHolds (causes state.now tools.now geometry.now text.now)) (λ f. IsFirstFault (causes state.now tools.now geometry.now text.now) f) }
+    {
+        self.take_line(state, text, tools, geometry)?;
+        Ok(&self.effect)
+    }
+
+    /// The same, unless the line is deleted.
+    pub fn execute_unless_deleted<A: Allocator + Copy + Drop>(
+        &mut self,
+        terms: &Terms<'_>,
+        state: &State<A>,
+        text: &[u8],
+    ) -> Result<&Effect, Fault>
+        ensures { MatchResult result (λ e. executed_unless_deleted terms.now state.now text.now ≡ Ok (in_state state.now e.now)) (λ f. executed_unless_deleted terms.now state.now text.now ≡ Err f) }
+    {
+        if terms.block_delete && is_deletable(text) {
+            delete(state, text, &mut self.effect)?;
+            return Ok(&self.effect);
+        }
+        self.execute(state, text, terms.tools, terms.geometry)
+    }
+
+    /// The same after lines before it, whose first that isn't blank is of a kind: it may be a percent line.
+    pub fn execute_after<A: Allocator + Copy + Drop>(
+        &mut self,
+        terms: &Terms<'_>,
+        first: LineKind,
+        state: &State<A>,
+        text: &[u8],
+    ) -> Result<&Effect, Fault>
+        ensures { MatchResult result (λ e. executed_after terms.now first state.now text.now ≡ Ok (in_state state.now e.now)) (λ f. executed_after terms.now first state.now text.now ≡ Err f) }
+    {
+        match percent_at(first, text) {
+            Some(stop) => {
+                self.effect.leave(state, stop);
+                Ok(&self.effect)
+            }
+            None => self.execute_unless_deleted(terms, state, text),
+        }
+    }
+}
+
+/// What a line does in a state, or the first fault that refuses it: `Scratch::execute`, in places of its own.
+pub fn execute<A: Allocator + Copy + Drop>(
+    state: &State<A>,
+    text: &[u8],
+    tools: &Tools,
+    geometry: &Geometry,
+) -> Result<Effect, Fault>
+    ensures does { MatchResult result (λ e. executed state.now tools.now geometry.now text.now ≡ Ok (in_state state.now e)) (λ f. executed state.now tools.now geometry.now text.now ≡ Err f) }
+    ensures first { MatchResult result (λ _. NoneHolds (causes state.now tools.now geometry.now text.now)) (λ f. IsFirstFault (causes state.now tools.now geometry.now text.now) f) }
+{
+    let mut places = Scratch::new(state.machine);
+    match places.take_line(state, text, tools, geometry) {
+        Ok(()) => Ok(places.effect),
+        Err(fault) => Err(fault),
+    }
+}

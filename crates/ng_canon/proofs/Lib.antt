@@ -1,0 +1,2 @@
+pub mod PlanePoints
+pub mod QuadrantLemmas

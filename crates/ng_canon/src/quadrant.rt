@@ -1,0 +1,59 @@
+//! Quadrants round an arc's centre.
+ghost use Rattle.std.specs.Prelude.{◌≡◌, ◌<◌};
+ghost use Rattle.ng_canon.specs.Quadrants.{quadrant_number, quadrant_after, same_quadrant, mirror_quadrant};
+
+use crate::plane::ArcDirection;
+
+/// A quadrant round an arc's centre, half open: it begins at an axis, counterclockwise.
+#[derive(Clone, Copy, Debug)]
+pub enum Quadrant {
+    First,
+    Second,
+    Third,
+    Fourth,
+}
+
+impl Quadrant {
+    /// Its number, counted from 0.
+    pub fn number(self) -> u8
+        ensures value { result ≡ quadrant_number self }
+        ensures few { result < 4 }
+    {
+        match self {
+            Quadrant::First => 0,
+            Quadrant::Second => 1,
+            Quadrant::Third => 2,
+            Quadrant::Fourth => 3,
+        }
+    }
+
+    #[tactic(auto, using(crate::proofs::QuadrantLemmas::same_numbers))]
+    pub fn is_same(self, other: Quadrant) -> bool
+        ensures { result ≡ same_quadrant self other }
+    {
+        self.number() == other.number()
+    }
+
+    /// The next one counterclockwise.
+    pub fn next(self) -> Quadrant
+        ensures { result ≡ quadrant_after self }
+    {
+        match self {
+            Quadrant::First => Quadrant::Second,
+            Quadrant::Second => Quadrant::Third,
+            Quadrant::Third => Quadrant::Fourth,
+            Quadrant::Fourth => Quadrant::First,
+        }
+    }
+
+    /// The quadrant that begins at the same direction, seen with b negated for a clockwise arc.
+    pub fn mirrored(self, direction: ArcDirection) -> Quadrant
+        ensures { result ≡ mirror_quadrant direction self }
+    {
+        match (direction, self) {
+            (ArcDirection::Clockwise, Quadrant::Second) => Quadrant::Fourth,
+            (ArcDirection::Clockwise, Quadrant::Fourth) => Quadrant::Second,
+            _ => self,
+        }
+    }
+}

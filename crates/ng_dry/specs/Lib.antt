@@ -1,0 +1,3 @@
+pub mod Dry
+pub mod Flush
+pub mod Private

@@ -1,0 +1,274 @@
+//! Writing what a run has made.
+ghost use Rattle.std.specs.Prelude.{◌≡◌, ◌++◌, ◌∷◌, [], map, OnOk, OnErr, codes};
+ghost use Rattle.std.specs.Fmt.{decimal};
+ghost use Rattle.ng_canon.specs.Text.{StaysWithin, canonical, canonical_text, command_text, numeric};
+ghost use Rattle.ng_dry.specs.Dry.{commands_text, refusal_text};
+ghost use Rattle.ng_dry.specs.Flush.{Wrote, FlushSpec};
+ghost use Rattle.ng_dry.specs.Private.Parts.{WritesOrBeginning};
+ghost use Rattle.ng_block.specs.Effects.{commands_by};
+ghost use Rattle.ng_block.specs.Order.{command_for};
+ghost use Rattle.ng_block.specs.Paths.{pace_command};
+
+use crate::ending::DryFault;
+use ng_block::{Commands, Effect};
+use ng_canon::{
+    Canon, CanonicalCommand, Pace, StraightMove, print, print_command, print_feed, print_traverse,
+};
+use ng_num::{Fault, Len, print_whole};
+use std::alloc::{AllocError, Allocator};
+use std::io::Write;
+
+/// Writes all bytes. After a fault a beginning of them is written.
+pub fn write_out<W: Write>(writer: &mut W, bytes: &[u8]) -> Result<(), DryFault>
+    ensures { WritesOrBeginning (W.contents writer.old) (W.contents writer.new) bytes.now result }
+{
+    let mut written: usize = 0;
+    while written < bytes.len() {
+        match writer.write(&bytes[written..]) {
+            Ok(0) => return Err(DryFault::Writer),
+            Ok(n) => written += n,
+            Err(_) => return Err(DryFault::Writer),
+        }
+    }
+    Ok(())
+}
+
+/// The text that waits is written once it has so many bytes.
+const FULL: usize = 8192;
+
+/// Room for all text that ever waits: what isn't long yet, and after it the text of a command or of a refusal, of which a comment's
+/// is the longest, with fewer than 300 bytes. So a run that has this room takes no memory for its text.
+pub const ROOM: usize = FULL + 512;
+
+/// Writes the text that waits.
+pub fn flush<W: Write, A: Allocator + Copy + Drop>(
+    text: &mut Vec<u8, A>,
+    writer: &mut W,
+) -> Result<(), DryFault>
+    ensures moves { FlushSpec (W.contents writer.old) (W.contents writer.new) text.old.items text.new.items result }
+    ensures empty { OnOk result (text.new.items ≡ []) }
+{
+    match write_out(writer, text.as_slice()) {
+        Ok(()) => {
+            text.clear();
+            Ok(())
+        }
+        Err(fault) => Err(fault),
+    }
+}
+
+/// Writes the text that waits where it is long.
+#[inline]
+fn relieve<W: Write, A: Allocator + Copy + Drop>(
+    text: &mut Vec<u8, A>,
+    writer: &mut W,
+) -> Result<(), DryFault>
+    ensures { FlushSpec (W.contents writer.old) (W.contents writer.new) text.old.items text.new.items result }
+{
+    if text.len() < FULL {
+        return Ok(());
+    }
+    flush(text, writer)
+}
+
+/// Writes the text that waits before a run breaks off; a fault of the writer then comes first.
+pub fn break_off<W: Write, A: Allocator + Copy + Drop>(
+    text: &mut Vec<u8, A>,
+    writer: &mut W,
+    fault: DryFault,
+) -> DryFault
+    ensures { Wrote (W.contents writer.old) (W.contents writer.new) text.old.items }
+{
+    match flush(text, writer) {
+        Ok(()) => fault,
+        Err(unwritten) => unwritten,
+    }
+}
+
+/// Prints a command after the text that waits, and writes that where it is long. Before `DryFault::Memory` what
+/// waited is written.
+pub fn put_canon<W: Write, A: Allocator + Copy + Drop>(
+    text: &mut Vec<u8, A>,
+    writer: &mut W,
+    canon: &Canon<'_>,
+) -> Result<(), DryFault>
+    ensures { FlushSpec (W.contents writer.old) (W.contents writer.new) (text.old.items ++ canonical_text (canonical canon.now)) text.new.items result }
+{
+    match print(text, canon) {
+        Ok(()) => relieve(text, writer),
+        Err(_) => Err(break_off(text, writer, DryFault::Memory)),
+    }
+}
+
+/// The same of a command whose arguments are numbers, without a copy of it.
+#[inline]
+fn put_command<W: Write, A: Allocator + Copy + Drop>(
+    text: &mut Vec<u8, A>,
+    writer: &mut W,
+    command: &CanonicalCommand,
+) -> Result<(), DryFault>
+    ensures { FlushSpec (W.contents writer.old) (W.contents writer.new) (text.old.items ++ command_text command.now) text.new.items result }
+{
+    match print_command(text, command) {
+        Ok(()) => relieve(text, writer),
+        Err(_) => Err(break_off(text, writer, DryFault::Memory)),
+    }
+}
+
+/// Prints commands as they come, likewise.
+fn put_commands<W: Write, A: Allocator + Copy + Drop>(
+    text: &mut Vec<u8, A>,
+    writer: &mut W,
+    commands: &mut Commands<'_>,
+) -> Result<(), DryFault>
+    ensures { FlushSpec (W.contents writer.old) (W.contents writer.new) (text.old.items ++ commands_text commands.old) text.new.items result }
+{
+    while let Some(canon) = commands.next() {
+        match put_canon(text, writer, &canon) {
+            Ok(()) => {}
+            Err(fault) => return Err(fault),
+        }
+    }
+    Ok(())
+}
+
+fn push_line_number<A: Allocator + Copy + Drop>(
+    text: &mut Vec<u8, A>,
+    before: &[u8],
+    number: u64,
+) -> Result<(), AllocError>
+    ensures ok { OnOk result (text.new.items ≡ text.old.items ++ (before.now ++ decimal number ++ codes ": ")) }
+    ensures err { OnErr result (StaysWithin text.old.items text.new.items) }
+{
+    text.extend_from_slice(before)?;
+    print_whole(text, number)?;
+    text.extend_from_slice(b": ")
+}
+
+fn push_line<A: Allocator + Copy + Drop>(
+    text: &mut Vec<u8, A>,
+    before: &[u8],
+    number: u64,
+    why: &[u8],
+) -> Result<(), AllocError>
+    ensures ok { OnOk result (text.new.items ≡ text.old.items ++ (before.now ++ decimal number ++ codes ": " ++ (why.now ++ codes "\n"))) }
+    ensures err { OnErr result (StaysWithin text.old.items text.new.items) }
+{
+    push_line_number(text, before, number)?;
+    text.extend_from_slice(why)?;
+    text.extend_from_slice(b"\n")
+}
+
+/// Appends the command of a straight move. A refused growth leaves the text as it was.
+#[inline]
+fn print_straight<A: Allocator + Copy + Drop>(
+    text: &mut Vec<u8, A>,
+    line: &StraightMove,
+) -> Result<(), AllocError>
+    ensures ok { OnOk result (text.new.items ≡ text.old.items ++ command_text (pace_command line.now.pace line.now.end)) }
+    ensures err { OnErr result (text.new.items ≡ text.old.items) }
+{
+    match line.pace {
+        Pace::Traverse => print_traverse(text, line.end),
+        Pace::Feed(_) => print_feed(text, line.end),
+        Pace::InverseTime(_) => print_feed(text, line.end),
+    }
+}
+
+/// Prints a straight move, likewise, without a command of it.
+#[inline]
+fn put_straight<W: Write, A: Allocator + Copy + Drop>(
+    text: &mut Vec<u8, A>,
+    writer: &mut W,
+    line: &StraightMove,
+) -> Result<(), DryFault>
+    ensures { FlushSpec (W.contents writer.old) (W.contents writer.new) (text.old.items ++ command_text (pace_command line.now.pace line.now.end)) text.new.items result }
+{
+    match print_straight(text, line) {
+        Ok(()) => relieve(text, writer),
+        Err(_) => Err(break_off(text, writer, DryFault::Memory)),
+    }
+}
+
+/// Prints the feed that a line sets, and its move, likewise.
+#[inline]
+fn put_move<W: Write, A: Allocator + Copy + Drop>(
+    text: &mut Vec<u8, A>,
+    writer: &mut W,
+    feed_per_min: Option<Len>,
+    line: &StraightMove,
+) -> Result<(), DryFault>
+    ensures { FlushSpec (W.contents writer.old) (W.contents writer.new) (text.old.items ++ commands_text (map numeric (command_for CanonicalCommand.FeedRate feed_per_min ++ pace_command line.now.pace line.now.end ∷ []))) text.new.items result }
+{
+    match feed_per_min {
+        None => put_straight(text, writer, line),
+        Some(feed_per_min) => match put_command(
+            text,
+            writer,
+            &CanonicalCommand::FeedRate(feed_per_min),
+        ) {
+            Ok(()) => put_straight(text, writer, line),
+            Err(fault) => Err(fault),
+        },
+    }
+}
+
+/// Prints all commands of a line, likewise.
+fn put_all<W: Write, A: Allocator + Copy + Drop>(
+    text: &mut Vec<u8, A>,
+    writer: &mut W,
+    effect: &Effect,
+) -> Result<(), DryFault>
+    ensures { FlushSpec (W.contents writer.old) (W.contents writer.new) (text.old.items ++ commands_text (commands_by effect.now)) text.new.items result }
+{
+    put_commands(text, writer, &mut effect.commands())
+}
+
+/// Prints what a line does, likewise; of nearly every line this is one move.
+pub fn put_effect<W: Write, A: Allocator + Copy + Drop>(
+    text: &mut Vec<u8, A>,
+    writer: &mut W,
+    effect: &Effect,
+) -> Result<(), DryFault>
+    ensures { FlushSpec (W.contents writer.old) (W.contents writer.new) (text.old.items ++ commands_text (commands_by effect.now)) text.new.items result }
+{
+    match effect.only_move() {
+        Some((feed_per_min, line)) => put_move(text, writer, feed_per_min, line),
+        None => put_all(text, writer, effect),
+    }
+}
+
+/// Prints the line that says which line is refused, and why, and writes all that waits.
+pub fn put_refusal<W: Write, A: Allocator + Copy + Drop>(
+    text: &mut Vec<u8, A>,
+    writer: &mut W,
+    number: u64,
+    fault: Fault,
+) -> Result<(), DryFault>
+    ensures drains { FlushSpec (W.contents writer.old) (W.contents writer.new) (text.old.items ++ refusal_text number fault) text.new.items result }
+    ensures empty { OnOk result (text.new.items ≡ []) }
+{
+    match print_refusal(text, number, fault) {
+        Ok(()) => flush(text, writer),
+        Err(_) => Err(break_off(text, writer, DryFault::Memory)),
+    }
+}
+
+/// Appends the line that says which line is refused, and why. A refused growth leaves the text as it was.
+fn print_refusal<A: Allocator + Copy + Drop>(
+    text: &mut Vec<u8, A>,
+    number: u64,
+    fault: Fault,
+) -> Result<(), AllocError>
+    ensures ok { OnOk result (text.new.items ≡ text.old.items ++ refusal_text number fault) }
+    ensures err { OnErr result (text.new.items ≡ text.old.items) }
+{
+    let before = text.len();
+    match push_line(text, b"REFUSED line ", number, fault.text()) {
+        Ok(()) => Ok(()),
+        Err(refused) => {
+            text.truncate(before);
+            Err(refused)
+        }
+    }
+}

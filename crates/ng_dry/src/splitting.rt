@@ -1,0 +1,136 @@
+//! The bytes of a program as they come, split into lines.
+ghost use Rattle.std.specs.Prelude.{◌≡◌, ◌+◌, ◌<◌, ◌≤◌, ◌^◌, ◌∷◌, ◌++◌, [], ℕ, List, length, MatchOption};
+ghost use Rattle.std.specs.Str.Lines.{strip_carriage_return};
+ghost use Rattle.ng_dry.specs.Dry.{Output, DryRunSpec, onto, refused};
+ghost use Rattle.ng_dry.specs.Private.Parts.{LineStepSpec, rest_of};
+ghost use Rattle.ng_text.specs.Newlines.{HasNoNewline};
+ghost use Rattle.ng_num.specs.declared.fault.Fault.TheVariants.{LineTooLong};
+
+use crate::ending::{DryFault, Ended};
+use crate::run::DryRun;
+use arrayvec::ArrayVec;
+use memchr::memchr;
+use ng_num::Fault;
+use std::alloc::Allocator;
+use std::io::Write;
+
+/// The most bytes that are kept of a line whose end hasn't come: the longest line and a carriage return.
+pub const KEPT: usize = 257;
+
+/// Splits bytes into the lines of a run, and keeps the beginning of a line whose end hasn't come.
+#[derive(Drop)]
+pub struct LineSplitter<'a, A: Allocator> {
+    pub run: DryRun<'a, A>,
+    pub kept: ArrayVec<u8, KEPT>,
+}
+
+/// A line without the carriage return at its end.
+fn without_return(line: &[u8]) -> &[u8]
+    ensures { result.now ≡ strip_carriage_return line.now }
+{
+    match line.last() {
+        Some(b'\r') => &line[..line.len() - 1],
+        _ => line,
+    }
+}
+
+/// The first line of bytes, and what stands after its newline; none where there is no newline.
+fn split_line(bytes: &[u8]) -> Option<(&[u8], &[u8])>
+    ensures { MatchOption result (HasNoNewline bytes.now) (λ x. HasNoNewline x.0.now × (bytes.now ≡ x.0.now ++ 10 ∷ x.1.now)) }
+{
+    match memchr(b'\n', bytes) {
+        Some(end) => Some((&bytes[..end], &bytes[end + 1..])),
+        None => None,
+    }
+}
+
+impl<'a, A: Allocator + Copy + Drop> LineSplitter<'a, A> {
+    /// Takes the end of a line: the bytes before its newline.
+    fn end_line<W: Write>(&mut self, writer: &mut W, line: &[u8]) -> Result<Option<Ended>, DryFault>
+        requires kept { HasNoNewline self.old.kept.items }
+        requires line { HasNoNewline line.now }
+        requires room { self.old.run.number < 2 ^ 63 }
+        ensures step { LineStepSpec (W.contents writer.old) (W.contents writer.new) (λ more. rest_of self.old.run self.old.kept.items (line.now ++ 10 ∷ more)) (λ more. rest_of self.new.run self.new.kept.items more) result }
+        ensures kept { HasNoNewline self.new.kept.items }
+        ensures number { self.new.run.number ≤ self.old.run.number + 1 }
+    {
+        if self.kept.is_empty() {
+            return self.run.execute(writer, without_return(line));
+        }
+        match self.kept.try_extend_from_slice(line) {
+            Err(_) => self.refuse_long(writer),
+            Ok(()) => {
+                let ended = self
+                    .run
+                    .execute(writer, without_return(self.kept.as_slice()));
+                self.kept.clear();
+                ended
+            }
+        }
+    }
+
+    /// Ends the run: the next line is too long.
+    fn refuse_long<W: Write>(&mut self, writer: &mut W) -> Result<Option<Ended>, DryFault>
+        ensures step { (f : List ℕ → Output) → ((more : List ℕ) → f more ≡ onto self.old.run.text (refused self.old.run.number LineTooLong)) → LineStepSpec (W.contents writer.old) (W.contents writer.new) f (λ more. rest_of self.new.run self.new.kept.items more) result }
+        ensures kept { self.new.kept ≡ self.old.kept }
+        ensures number { self.new.run.number ≡ self.old.run.number }
+    {
+        match self.run.refuse(writer, Fault::LineTooLong) {
+            Ok(end) => Ok(Some(end)),
+            Err(broken) => Err(broken),
+        }
+    }
+
+    /// Keeps the beginning of a line.
+    fn keep<W: Write>(&mut self, writer: &mut W, bytes: &[u8]) -> Result<Option<Ended>, DryFault>
+        requires kept { HasNoNewline self.old.kept.items }
+        requires bytes { HasNoNewline bytes.now }
+        ensures step { LineStepSpec (W.contents writer.old) (W.contents writer.new) (λ more. rest_of self.old.run self.old.kept.items (bytes.now ++ more)) (λ more. rest_of self.new.run self.new.kept.items more) result }
+        ensures kept { HasNoNewline self.new.kept.items }
+        ensures number { self.new.run.number ≡ self.old.run.number }
+    {
+        match self.kept.try_extend_from_slice(bytes) {
+            Ok(()) => Ok(None),
+            Err(_) => self.refuse_long(writer),
+        }
+    }
+
+    /// Takes the next bytes of the program, and writes what they give.
+    pub fn take<W: Write>(
+        &mut self,
+        writer: &mut W,
+        bytes: &[u8],
+    ) -> Result<Option<Ended>, DryFault>
+        requires kept { HasNoNewline self.old.kept.items }
+        requires room { self.old.run.number + length bytes.now < 2 ^ 63 }
+        ensures step { LineStepSpec (W.contents writer.old) (W.contents writer.new) (λ more. rest_of self.old.run self.old.kept.items (bytes.now ++ more)) (λ more. rest_of self.new.run self.new.kept.items more) result }
+        ensures kept { HasNoNewline self.new.kept.items }
+        ensures number { self.new.run.number ≤ self.old.run.number + length bytes.now }
+    {
+        let mut left = bytes;
+        while let Some((line, after)) = split_line(left) {
+            match self.end_line(writer, line) {
+                Ok(None) => left = after,
+                Ok(Some(ended)) => return Ok(Some(ended)),
+                Err(broken) => return Err(broken),
+            }
+        }
+        self.keep(writer, left)
+    }
+
+    /// Takes the end of the program, and writes what it gives.
+    pub fn close<W: Write>(&mut self, writer: &mut W) -> Result<Ended, DryFault>
+        requires kept { HasNoNewline self.old.kept.items }
+        requires room { self.old.run.number < 2 ^ 63 }
+        ensures { DryRunSpec (W.contents writer.old) (W.contents writer.new) (rest_of self.old.run self.old.kept.items []) result }
+    {
+        if self.kept.is_empty() {
+            return self.run.end_of_text(writer);
+        }
+        match self.run.execute(writer, self.kept.as_slice()) {
+            Ok(None) => self.run.end_of_text(writer),
+            Ok(Some(ended)) => Ok(ended),
+            Err(broken) => Err(broken),
+        }
+    }
+}

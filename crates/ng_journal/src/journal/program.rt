@@ -1,0 +1,72 @@
+//! What a journal reads of the program in force.
+ghost use Rattle.std.specs.Prelude.{◌≡◌, ◌≤◌, ◌<◌, false, IfOk, IfErr, IfSome};
+ghost use Rattle.ng_num.specs.declared.fault.Fault.TheVariants.{DeviceFailed};
+ghost use Rattle.ng_rig.specs.Calls.{IfHonest};
+ghost use Rattle.ng_layout.specs.Stored.{DurableState};
+ghost use Rattle.ng_journal.specs.Journal.{CountsFailure};
+ghost use Rattle.ng_journal.specs.ProgramLines.{FirstKindSpec, ProgramLineSpec};
+ghost use Rattle.ng_journal.specs.Storing.{ledger_of};
+
+use super::Journal;
+use crate::line::{ProgramLine, read_line};
+use crate::lines_before::read_first_kind;
+use ng_num::Fault;
+use ng_rig::{Failed, Rig};
+use ng_words::LineKind;
+use std::alloc::Allocator;
+
+impl<R: Rig, A: Allocator + Copy + Drop> Journal<R, A> {
+    ghost use Rattle.ng_journal.specs.Journal.{IsDurablyAt, IsBrokenBy};
+
+    /// The kind of the first line before a place of the program in force that isn't blank; blank where all are (own). It reads no
+    /// further than to that line's end.
+    ///
+    /// J1 where the device failed: the journal is broken then. Nothing is written. It takes no memory.
+    pub fn first_kind(&mut self, place: u64) -> Result<LineKind, Fault>
+        requires whole { self.old.broken ≡ false }
+        requires place { place ≤ self.old.saved.length }
+        ensures kind { IfHonest (R.honest self.old.rig) (R.honest self.new.rig) ((standing : DurableState) → IsDurablyAt (R.trace self.old.rig) self.old standing
+            → FirstKindSpec result self.new standing place (R.trace self.old.rig) (R.trace self.new.rig)) }
+        ensures ledger { ledger_of self.new ≡ ledger_of self.old }
+        ensures broken { IsBrokenBy result self.new.broken }
+        ensures errors { IfErr result (λ e. e ≡ DeviceFailed) }
+        ensures size { R.sectors self.new.rig ≡ R.sectors self.old.rig }
+        ensures failures { CountsFailure result (R.failed self.old.rig) (R.failed self.new.rig) }
+    {
+        let header = self.tip.header;
+        match read_first_kind(&mut self.rig, header.area, place as usize) {
+            Ok(kind) => Ok(kind),
+            Err(Failed) => {
+                self.broken = true;
+                Err(Fault::DeviceFailed)
+            }
+        }
+    }
+
+    /// The line of the program in force that begins at a place, and where the next one begins; none at the program's
+    /// end (own). A place in the middle of a line begins a line there.
+    ///
+    /// J1 where the device failed: the journal is broken then. Nothing is written. It takes no memory.
+    pub fn program_line(&mut self, place: u64) -> Result<Option<ProgramLine>, Fault>
+        requires whole { self.old.broken ≡ false }
+        requires place { place ≤ self.old.saved.length }
+        ensures line { IfHonest (R.honest self.old.rig) (R.honest self.new.rig) ((standing : DurableState) → IsDurablyAt (R.trace self.old.rig) self.old standing
+            → ProgramLineSpec result self.new standing place (R.trace self.old.rig) (R.trace self.new.rig)) }
+        ensures next { IfOk result (λ line. IfSome line (λ l. (place < l.next) × (l.next ≤ self.old.saved.length))) }
+        ensures ledger { ledger_of self.new ≡ ledger_of self.old }
+        ensures broken { IsBrokenBy result self.new.broken }
+        ensures errors { IfErr result (λ e. e ≡ DeviceFailed) }
+        ensures size { R.sectors self.new.rig ≡ R.sectors self.old.rig }
+        ensures failures { CountsFailure result (R.failed self.old.rig) (R.failed self.new.rig) }
+    {
+        let header = self.tip.header;
+        let program_end = header.length as usize;
+        match read_line(&mut self.rig, header.area, place as usize, program_end) {
+            Ok(line) => Ok(line),
+            Err(Failed) => {
+                self.broken = true;
+                Err(Fault::DeviceFailed)
+            }
+        }
+    }
+}

@@ -1,0 +1,48 @@
+//! How two tables of parameters differ, found with no memory.
+ghost use Rattle.std.specs.Prelude.{◌≡◌, ◌≤◌, length};
+ghost use Rattle.ng_params.specs.Differences.{differences, TakesDifferences};
+ghost use Rattle.ng_params.specs.Numbers.{parameter_count};
+
+use crate::change::Change;
+use crate::index::{Index, PARAMETER_COUNT};
+use crate::params::Params;
+use arrayvec::ArrayVec;
+use std::alloc::Allocator;
+
+/// How many parameters have other values in a table than in an older one, 0 to 5399 (own).
+pub fn difference_count<A: Allocator + Copy + Drop>(old: &Params<A>, new: &Params<A>) -> usize
+    ensures count { result ≡ length (differences old.now new.now) }
+    ensures few { result ≤ parameter_count }
+{
+    let mut count = 0;
+    for k in 0..PARAMETER_COUNT {
+        let index = Index::known(k as u16 + 1);
+        if new.get(index) != old.get(index) {
+            count += 1;
+        }
+    }
+    count
+}
+
+/// The differences after the first parameters, the first `N` of them or all that are left, and how many parameters were looked at then (own).
+pub fn next_differences<A: Allocator + Copy + Drop, const N: usize>(
+    old: &Params<A>,
+    new: &Params<A>,
+    from: usize,
+) -> (ArrayVec<Change, N>, usize)
+    requires { from ≤ parameter_count }
+    ensures { TakesDifferences N old.now new.now from result.1 result.0.items }
+{
+    let mut taken = ArrayVec::new();
+    for k in from..PARAMETER_COUNT {
+        if taken.is_full() {
+            return (taken, k);
+        }
+        let index = Index::known(k as u16 + 1);
+        let value = new.get(index);
+        if value != old.get(index) {
+            taken.push(Change { index, value });
+        }
+    }
+    (taken, PARAMETER_COUNT)
+}

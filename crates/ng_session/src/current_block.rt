@@ -1,0 +1,352 @@
+//! The block that is worked.
+ghost use Rattle.std.specs.Prelude.{◌≡◌, ◌≢◌, ◌≤◌, ◌<◌, ◌+◌, ◌^◌, length, IfOk, Some, None};
+ghost use Rattle.ng_block.specs.Effects.{in_state};
+ghost use Rattle.ng_layout.specs.Storable.{IsStorableMachine, IsStorable};
+ghost use Rattle.std.specs.Option.{option_map};
+ghost use Rattle.ng_canon.specs.declared.pace.Pace.TheVariants as pace;
+ghost use Rattle.ng_cycles.specs.Segments.{line_to};
+ghost use Rattle.ng_session.specs.Entries.{place_by, place_after, after_block, reached, placed_at, stance_before, hand_approach};
+ghost use Rattle.ng_layout.specs.Stored.{StoredModel};
+ghost use Rattle.ng_session.specs.Session.{half_open, next_opened};
+ghost use Rattle.ng_session.specs.SessionInvariant.{IsNextEntry};
+
+use crate::stage::{Approach, Stage};
+use arrayvec::ArrayVec;
+use ng_block::{BlockSegments, Effect, MotionState, ProgramFlow, Resumed};
+use ng_canon::{Geometry, Item, Pace, Segment, StraightMove};
+use ng_layout::{Half, LONGEST_TEXT, Opened, Source, Stored, text_from};
+use ng_num::Point;
+use ng_step::Stepper;
+use std::alloc::{AllocError, Allocator};
+use std::marker::Model;
+
+/// The block that is worked, as it was begun, and what is left of it (own). Contracts see a `Prepared`, whose block is an `Underway`.
+#[derive(Drop)]
+pub struct CurrentBlock<A: Allocator> {
+    pub source: Source,
+    /// Its line, without the line's end.
+    pub text: ArrayVec<u8, LONGEST_TEXT>,
+    /// Whether block delete was on when it was begun.
+    pub block_delete: bool,
+    pub stage: Stage,
+    /// The number of the segment that opens next, counted from 0, after the approach if there is one.
+    pub index: u64,
+    /// The segment that opens next.
+    pub upcoming: Option<Segment>,
+    /// The segments after that.
+    pub left: BlockSegments,
+    /// The switch of the open approach.
+    pub switch: Option<Item>,
+    /// The items of what is open, after that; none before anything is opened.
+    pub items: Option<Stepper>,
+    /// What is to be stored once nothing is left of it.
+    pub after: Stored<A>,
+    /// What is to be stored once nothing is left of its approach; none where it has none.
+    pub approached: Option<Stored<A>>,
+    /// How the program goes on then.
+    pub stop: ProgramFlow,
+}
+
+impl<A: Allocator> Model for CurrentBlock<A> {
+    ghost use Rattle.std.specs.Prelude.{[], unwrap_or};
+    ghost use Rattle.ng_session.specs.SessionInvariant.{Prepared, left_of, onto};
+
+    ghost Value = { Prepared };
+
+    ghost view = { λ c. record {
+      block = record { source = c.source; text = c.text.items; block_delete = c.block_delete; stage = c.stage; index = c.index; left = left_of c.upcoming c.left; items = onto c.switch (unwrap_or c.items []); setup = c.after.setup; place = c.after.place; stop = c.stop };
+      after = c.after;
+      approached = c.approached;
+    } };
+}
+
+/// Where a block leaves the program, whose next line begins at `next`: at the program's end at the beginning, and a line of the
+/// operator leaves it where it is.
+fn place_after(next: u64, place: u64, source: Source, stop: ProgramFlow) -> u64
+    ensures { result ≡ place_after next place source stop }
+{
+    match stop {
+        ProgramFlow::Ends => 0,
+        ProgramFlow::GoesOn | ProgramFlow::Stops | ProgramFlow::StopsIfWanted => place_by(
+            next, place, source,
+        ),
+    }
+}
+
+fn place_by(next: u64, place: u64, source: Source) -> u64
+    ensures { result ≡ place_by next place source }
+{
+    match source {
+        Source::Program => next,
+        Source::Mdi => place,
+    }
+}
+
+/// What is to be stored after a block, by its effect. `AllocError` where its table found no memory.
+#[tactic(auto, using(crate::proofs::Standing::next_storable))]
+fn after_block<A: Allocator + Copy + Drop>(
+    next: u64,
+    stored: &Stored<A>,
+    source: Source,
+    effect: &Effect,
+) -> Result<Stored<A>, AllocError>
+    requires count { stored.now.entries ≤ 1_000_000_000_001 }
+    requires storable { IsStorable stored.now }
+    requires within { next ≤ stored.now.length }
+    requires stands { IsStorableMachine effect.now.machine }
+    ensures value { IfOk result (λ x. x ≡ after_block next stored.now source (in_state stored.now.setup effect.now)) }
+    ensures next { IfOk result (λ x. IsNextEntry stored.now x) }
+{
+    let mut state = stored.state.copy()?;
+    state.take_over(effect.machine, effect.changes.as_slice());
+    Ok(Stored {
+        entries: stored.entries + 1,
+        state,
+        place: place_after(next, stored.place, source, effect.stop),
+        length: stored.length,
+        half: None,
+    })
+}
+
+/// What is to be stored after the approach of a half-done block, which ends so. `AllocError` where its table found no memory.
+#[tactic(auto, using(crate::proofs::Standing::approach_storable))]
+fn after_approach<A: Allocator + Copy + Drop>(
+    stored: &Stored<A>,
+    half: &Half,
+    to: &MotionState,
+) -> Result<Stored<A>, AllocError>
+    requires count { stored.now.entries ≤ 1_000_000_000_000 }
+    requires storable { IsStorable stored.now }
+    requires short { length half.now.text ≤ 256 }
+    ensures value { IfOk result (λ x. x ≡ reached stored.now half.now to.now.point) }
+    ensures next { IfOk result (λ x. IsNextEntry stored.now x) }
+{
+    let state = stored.state.copy()?;
+    Ok(Stored {
+        entries: stored.entries + 1,
+        state,
+        place: stored.place,
+        length: stored.length,
+        half: Some(placed_at(to.point, half)),
+    })
+}
+
+/// Where a block begins.
+fn start_of<A: Allocator + Copy + Drop>(stored: &Stored<A>) -> Point
+    ensures { result ≡ stored.now.setup.machine.point }
+{
+    stored.state.machine.point
+}
+
+/// A half-done block whose machine stands at a point.
+fn placed_at(point: Point, half: &Half) -> Half
+    ensures { result ≡ placed_at point half.now }
+{
+    Half {
+        text: text_from(half.text.as_slice()),
+        source: half.source,
+        index: half.index,
+        at: Some(point),
+        opened: None,
+    }
+}
+
+/// The item that an approach begins with: the outputs there.
+fn switch(approach: &Approach) -> Item
+    ensures { result ≡ Item.Switch approach.now.to.outputs }
+{
+    Item::Switch(approach.to.outputs)
+}
+
+/// The line of an approach, at the traverse rate.
+fn way(approach: &Approach) -> Segment
+    ensures { result ≡ line_to pace.Traverse approach.now.from approach.now.to.point }
+{
+    Segment::Line(StraightMove {
+        start: approach.from,
+        end: approach.to.point,
+        pace: Pace::Traverse,
+    })
+}
+
+impl<A: Allocator + Copy + Drop> CurrentBlock<A> {
+    ghost use Rattle.std.specs.Prelude.{[], drop, IfSome};
+    ghost use Rattle.ng_layout.specs.Storable.{IsStorableHalf};
+    ghost use Rattle.ng_session.specs.SessionInvariant.{IsReady, IsBeforeBlock};
+    ghost use Rattle.ng_session.specs.Session.{begun, begun_again, first_of, rest_of, opening_on, opened_on};
+
+    /// The block of a line, before its first segment, by its effect. `AllocError` where the state after it found no memory.
+    pub fn begun(
+        stored: &Stored<A>,
+        source: Source,
+        text: &[u8],
+        block_delete: bool,
+        next: u64,
+        effect: &Effect,
+    ) -> Result<CurrentBlock<A>, AllocError>
+        requires count { stored.now.entries ≤ 1_000_000_000_000 }
+        requires storable { IsStorable stored.now }
+        requires within { next ≤ stored.now.length }
+        requires stands { IsStorableMachine effect.now.machine }
+        requires short { length text.now ≤ 256 }
+        ensures value { IfOk result (λ p. p.block ≡ begun stored.now source text.now block_delete next (in_state stored.now.setup effect.now)) }
+        ensures ready { IfOk result (λ p. IsReady stored.now p) }
+    {
+        let after = after_block(next, stored, source, effect)?;
+        let mut left = effect.block_segments();
+        let upcoming = left.next();
+        Ok(CurrentBlock {
+            source,
+            text: text_from(text),
+            block_delete,
+            stage: Stage::OnBlock,
+            index: 0,
+            upcoming,
+            left,
+            switch: None,
+            items: None,
+            after,
+            approached: None,
+            stop: effect.stop,
+        })
+    }
+
+    /// The half-done block from its index on, before its approach from a point, by the effect of its whole line. `AllocError` where the
+    /// states after it and after the approach found no memory.
+    pub fn begun_again(
+        stored: &Stored<A>,
+        half: &Half,
+        from: Point,
+        next: u64,
+        effect: &Effect,
+    ) -> Result<CurrentBlock<A>, AllocError>
+        requires count { stored.now.entries ≤ 1_000_000_000_000 }
+        requires storable { IsStorable stored.now }
+        requires within { next ≤ stored.now.length }
+        requires stands { IsStorableMachine effect.now.machine }
+        requires short { length half.now.text ≤ 256 }
+        ensures value { IfOk result (λ p. p.block ≡ begun_again stored.now half.now from next (in_state stored.now.setup effect.now)) }
+        ensures ready { IfOk result (λ p. IsBeforeBlock stored.now p (record { from = from; to = stance_before stored.now.setup (in_state stored.now.setup effect.now) half.now.index })) }
+    {
+        let Resumed {
+            block_segments: mut left,
+            standing: to,
+        } = effect.block_segments_from(start_of(stored), half.index);
+        let between = after_approach(stored, half, &to)?;
+        let after = after_block(next, &between, half.source, effect)?;
+        let upcoming = left.next();
+        Ok(CurrentBlock {
+            source: half.source,
+            text: text_from(half.text.as_slice()),
+            block_delete: false,
+            stage: Stage::ToApproach(Approach { from, to }),
+            index: half.index,
+            upcoming,
+            left,
+            switch: None,
+            items: None,
+            after,
+            approached: Some(between),
+            stop: effect.stop,
+        })
+    }
+
+    /// How far the work on it has come.
+    pub fn stage(&self) -> Stage
+        ensures { result ≡ self.now.block.stage }
+    {
+        self.stage
+    }
+
+    /// Takes the next item of what is open.
+    #[tactic(auto, using(crate::proofs::Firsts::first_taken, crate::proofs::Firsts::rest_taken))]
+    pub fn next_item(&mut self) -> Option<Item>
+        ensures item { result ≡ first_of self.old.block.items }
+        ensures next { self.new ≡ record self.old { block = record self.old.block { items = rest_of self.old.block.items } } }
+    {
+        if let Some(switch) = self.switch {
+            self.switch = None;
+            return Some(switch);
+        }
+        let Some(items) = &mut self.items else {
+            return None;
+        };
+        items.next()
+    }
+
+    /// The half-done block that it is while its approach or its next segment is open; none where nothing is left to open.
+    pub fn opening(&self) -> Option<Half>
+        ensures half { result ≡ opening_on self.now.block self.now.block.stage }
+        ensures waits { IfSome result IsStorableHalf }
+    {
+        match self.stage {
+            Stage::ToApproach(_) => Some(self.half_open(Opened::Approach)),
+            Stage::OnApproach(_) => None,
+            Stage::OnBlock => match self.upcoming {
+                Some(_) => Some(self.half_open(Opened::Segment)),
+                None => None,
+            },
+        }
+    }
+
+    /// The half-done block that it is while something of it is open.
+    fn half_open(&self, opened: Opened) -> Half
+        ensures half { result ≡ half_open self.now.block opened }
+        ensures waits { IsStorableHalf result }
+    {
+        Half {
+            text: text_from(self.text.as_slice()),
+            source: self.source,
+            index: self.index,
+            at: None,
+            opened: Some(opened),
+        }
+    }
+
+    /// What is to be stored once nothing is left of it, or of its approach where that isn't committed.
+    pub fn next_stored(&self) -> &Stored<A>
+        ensures block { self.now.block.stage ≡ Stage.OnBlock → result.now ≡ self.now.after }
+        ensures between { (between : StoredModel) → self.now.approached ≡ Some between → (self.now.block.stage ≢ Stage.OnBlock) → result.now ≡ between }
+    {
+        match self.stage {
+            Stage::OnBlock => &self.after,
+            Stage::ToApproach(_) | Stage::OnApproach(_) => match &self.approached {
+                Some(between) => between,
+                None => &self.after,
+            },
+        }
+    }
+
+    /// Opens the approach or the next segment, where one is left.
+    pub fn open(&mut self, geometry: &Geometry)
+        ensures { self.new ≡ record self.old { block = opened_on geometry.now self.old.block self.old.block.stage } }
+    {
+        let stage = self.stage;
+        match stage {
+            Stage::ToApproach(approach) => self.open_approach(approach, geometry),
+            Stage::OnApproach(_) => {}
+            Stage::OnBlock => self.open_segment(geometry),
+        }
+    }
+
+    /// Opens the approach.
+    fn open_approach(&mut self, approach: Approach, geometry: &Geometry)
+        ensures { self.new ≡ record self.old { block = record self.old.block { stage = Stage.OnApproach approach; items = hand_approach geometry.now approach } } }
+    {
+        self.switch = Some(switch(&approach));
+        let way = way(&approach);
+        self.stage = Stage::OnApproach(approach);
+        self.items = Some(Stepper::new(&way, geometry));
+    }
+
+    /// Opens the next segment, where one is left.
+    fn open_segment(&mut self, geometry: &Geometry)
+        ensures { self.new ≡ record self.old { block = next_opened geometry.now self.old.block self.old.block.left } }
+    {
+        let Some(segment) = self.upcoming else { return };
+        self.index = self.index.saturating_add(1);
+        self.upcoming = self.left.next();
+        self.switch = None;
+        self.items = Some(Stepper::new(&segment, geometry));
+    }
+}

@@ -1,0 +1,42 @@
+//! The machine as a block finds it: all of the state but the parameter table.
+ghost use Rattle.std.specs.Prelude.{◌≡◌};
+
+use crate::kept_words::KeptWords;
+use crate::modes::Modes;
+use ng_canon::Outputs;
+use ng_num::{Len, Point};
+use ng_offsets::Offsets;
+
+/// All that a block can read or change but the parameter table.
+#[derive(Clone, Copy, Debug, PartialEq, Eq)]
+pub struct Machine {
+    pub modes: Modes,
+    pub feed_per_min: Len,
+    pub outputs: Outputs,
+    pub offsets: Offsets,
+    /// The words that the cycle of the motion mode keeps.
+    pub kept: KeptWords,
+    /// Where the machine stands, in machine coordinates.
+    pub point: Point,
+    /// Whether it is known that the machine stands there.
+    pub point_known: bool,
+}
+
+impl Machine {
+    ghost use Rattle.ng_state.specs.Fresh.{fresh_machine};
+
+    /// The machine of the fresh state (own): fresh modes, feed 0, everything off, no offsets, at point 0.
+    pub fn fresh() -> Machine
+        ensures { result ≡ fresh_machine }
+    {
+        Machine {
+            modes: Modes::fresh(),
+            feed_per_min: Len::zero(),
+            outputs: Outputs::fresh(),
+            offsets: Offsets::none(),
+            kept: KeptWords::none(),
+            point: Point::zero(),
+            point_known: true,
+        }
+    }
+}

@@ -1,6 +1,0 @@
-use Rattle.ng_step.proofs.PassageLemmas.{last_is}
-use Rattle.std.proofs.Common.{refl}
-use Rattle.ng_step.proofs.passage.Passage.last.Goals as goal
-
-pub returns-clause-last : goal.returns-clause-last
-returns-clause-last c = last_is c.args.self.now _ refl c.outward_to.ensures.leaving

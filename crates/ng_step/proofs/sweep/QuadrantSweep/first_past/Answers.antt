@@ -1,0 +1,37 @@
+use Rattle.std.proofs.Common.{arith, ℕ, ◌+◌, ◌-◌, ◌*◌, ◌<◌, ⊎_elim, sym, subst, ◌∙◌, ap}
+use Rattle.ng_step.specs.Periods.{ceil_div}
+use Rattle.ng_step.specs.Sweeps.{IsLeaving, inner_at, LeavesBefore, IsFirstPast}
+use Rattle.ng_step.proofs.PassageLemmas.{Enters, enters_at_none, enters_below, first_past_is, comes_room, room_few}
+use Rattle.ng_step.proofs.sweep.QuadrantSweep.first_past.Goals as goal
+use Rattle.ng_step.proofs.sweep.QuadrantSweep.first_past.Goals.{then-inward-eq0, else-inward-eq0}
+
+enters : (c : goal.After-ceil_div-more) → Enters c.args.self.now c.args.end c.first_level_past-inward.result c.if-inward-eq0.before
+enters c =
+    elim c.if-inward-eq0.branch [
+      | then-inward-eq0 w ↦ enters_at_none c.args.self.now c.args.end c.first_level_past-inward.result c.if-inward-eq0.before w.if-inward-eq0.true w.before-is
+      | else-inward-eq0 w ↦
+          let p = c.args.self.now in
+          let level = c.first_level_past-inward.result in
+          let some : 0 < level = omega arith in
+          let before : LeavesBefore p c.args.end (level - 1) = ⊎_elim (λ none. absurd (omega arith)) (λ before. before) c.first_level_past-inward.ensures.first in
+          enters_below p c.args.end level c.if-inward-eq0.before some c.first_level_past-inward.ensures.inside
+          (subst (λ (m : ℕ). IsLeaving p.square (inner_at p (level - 1)) p.outer p.outer_step m) (sym w.before-is) w.outward_to-before.ensures.leaving) before
+    ]
+
+first : (c : goal.After-ceil_div-more) → IsFirstPast c.args.self.now c.args.end (record { inward = c.first_level_past-inward.result; outward = c.if-inward-eq0.before + c.ceil_div-more.result })
+first c =
+    let past = first_past_is c.args.self.now c.args.end c.first_level_past-inward.result c.if-inward-eq0.before c.ceil_div-more.result (enters c) c.requires.enters c.first_level_past-inward.ensures.past
+    (c.ceil_div-more.ensures ∙ ap (λ x. ceil_div x (c.args.self.now.outer_step * c.args.end.inner)) c.saturating_sub.ensures) in
+    record { inside = c.first_level_past-inward.ensures.inside; past = past.0; comes = past.1 }
+
+pub overflow_cast-result : goal.overflow_cast-result
+overflow_cast-result c = let room = comes_room c.args.self.now c.args.end _ (first c) in let few = room_few c.args.self.now _ room in omega arith
+
+pub overflow_add-result : goal.overflow_add-result
+overflow_add-result c = let room = comes_room c.args.self.now c.args.end _ (first c) in let few = room_few c.args.self.now _ room in omega arith
+
+pub returns-clause-first : goal.returns-clause-first
+returns-clause-first c = first c
+
+pub returns-clause-room : goal.returns-clause-room
+returns-clause-room c = comes_room c.args.self.now c.args.end _ (first c)

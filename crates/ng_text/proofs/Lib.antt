@@ -1,0 +1,5 @@
+pub mod LineLemmas
+pub mod PercentLemmas
+pub mod FirstLineLemmas
+pub mod PlaceLemmas
+pub mod LinesAfter

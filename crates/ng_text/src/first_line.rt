@@ -1,0 +1,128 @@
+//! The kind of the first line of a text that isn't blank, found as its bytes come.
+ghost use Rattle.std.specs.Prelude.{◌≡◌, ◌≢◌, [], ◌∷◌, ◌++◌, List, ℕ, IfSome};
+ghost use Rattle.ng_words.specs.Plain.{is_blank};
+ghost use Rattle.ng_text.specs.declared.first_line.FirstLine.TheVariants.{Other};
+ghost use Rattle.ng_text.specs.FirstLines.{kind_in, shortest, DecidesFirstLine};
+
+use ng_words::LineKind;
+
+/// What the beginning of a text decides of its first line that isn't blank (own).
+#[derive(Clone, Copy)]
+pub enum FirstLine {
+    /// All lines are blank so far.
+    Unseen,
+    /// The same, but for a carriage return, with which the line may end.
+    Return,
+    /// It is a percent sign alone so far.
+    Sign,
+    /// The same, but for a carriage return.
+    SignReturn,
+    /// It is a percent sign alone.
+    Percent,
+    /// It is another.
+    Other,
+}
+
+/// Whether a byte is a blank or a tab.
+fn is_blank(byte: u8) -> bool
+    ensures { result ≡ is_blank byte }
+{
+    byte == b' ' || byte == b'\t'
+}
+
+impl FirstLine {
+    /// After a byte on a line that is blank so far.
+    #[tactic(auto, using(crate::proofs::FirstLineLemmas::decided_newline, crate::proofs::FirstLineLemmas::decided_return, crate::proofs::FirstLineLemmas::decided_sign, crate::proofs::FirstLineLemmas::decided_blank, crate::proofs::FirstLineLemmas::decided_other))]
+    fn on_blank(byte: u8) -> FirstLine
+        ensures { DecidesFirstLine (byte ∷ []) result }
+    {
+        if byte == b'\n' {
+            FirstLine::Unseen
+        } else if byte == b'\r' {
+            FirstLine::Return
+        } else if byte == b'%' {
+            FirstLine::Sign
+        } else if is_blank(byte) {
+            FirstLine::Unseen
+        } else {
+            FirstLine::Other
+        }
+    }
+
+    /// After a byte on a line that is a percent sign so far.
+    #[tactic(auto, using(crate::proofs::FirstLineLemmas::sign_decided_newline, crate::proofs::FirstLineLemmas::sign_decided_return, crate::proofs::FirstLineLemmas::sign_decided_blank, crate::proofs::FirstLineLemmas::sign_decided_other))]
+    fn on_sign(byte: u8) -> FirstLine
+        ensures { DecidesFirstLine (37 ∷ (byte ∷ [])) result }
+    {
+        if byte == b'\n' {
+            FirstLine::Percent
+        } else if byte == b'\r' {
+            FirstLine::SignReturn
+        } else if is_blank(byte) {
+            FirstLine::Sign
+        } else {
+            FirstLine::Other
+        }
+    }
+
+    /// After a byte on a line that a carriage return may end: then it is this, else it is another.
+    fn on_return(byte: u8, ended: FirstLine) -> FirstLine
+        ensures ended { byte ≡ 10 → result ≡ ended }
+        ensures other { byte ≢ 10 → result ≡ Other }
+    {
+        if byte == b'\n' {
+            ended
+        } else {
+            FirstLine::Other
+        }
+    }
+
+    /// After one byte more.
+    #[tactic(auto, using(crate::proofs::FirstLineLemmas::return_decided, crate::proofs::FirstLineLemmas::sign_return_decided, crate::proofs::FirstLineLemmas::percent_decided, crate::proofs::FirstLineLemmas::other_decided))]
+    fn after(self, byte: u8) -> FirstLine
+        ensures { DecidesFirstLine (shortest self ++ byte ∷ []) result }
+    {
+        match self {
+            FirstLine::Unseen => FirstLine::on_blank(byte),
+            FirstLine::Return => FirstLine::on_return(byte, FirstLine::Unseen),
+            FirstLine::Sign => FirstLine::on_sign(byte),
+            FirstLine::SignReturn => FirstLine::on_return(byte, FirstLine::Percent),
+            FirstLine::Percent => FirstLine::Percent,
+            FirstLine::Other => FirstLine::Other,
+        }
+    }
+
+    /// After some bytes more.
+    pub fn after_all(self, bytes: &[u8]) -> FirstLine
+        ensures { DecidesFirstLine (shortest self ++ bytes.now) result }
+    {
+        let mut seen = self;
+        for byte in bytes {
+            seen = seen.after(*byte);
+        }
+        seen
+    }
+
+    /// The kind, where nothing follows.
+    pub fn kind(self) -> LineKind
+        ensures { result ≡ kind_in (shortest self) }
+    {
+        match self {
+            FirstLine::Unseen => LineKind::Blank,
+            FirstLine::Sign | FirstLine::Percent => LineKind::Percent,
+            FirstLine::Return | FirstLine::SignReturn | FirstLine::Other => LineKind::Other,
+        }
+    }
+
+    /// The kind, where it is the same whatever follows.
+    #[tactic(auto, using(crate::proofs::FirstLineLemmas::sign_newline, crate::proofs::FirstLineLemmas::known_other))]
+    pub fn known(self) -> Option<LineKind>
+        ensures { IfSome result (λ kind. (more : List ℕ) → kind_in (shortest self ++ more) ≡ kind) }
+    {
+        match self {
+            FirstLine::Percent => Some(LineKind::Percent),
+            FirstLine::Other => Some(LineKind::Other),
+            FirstLine::Unseen | FirstLine::Return | FirstLine::Sign | FirstLine::SignReturn => None,
+        }
+    }
+}

@@ -1,0 +1,63 @@
+//! What is known of the lines before a place of a program.
+ghost use Rattle.std.specs.Prelude.{◌≡◌, ◌≤◌, ℕ, List, Some, None, IfSome, length, if◌then◌else◌, ◌==◌};
+ghost use Rattle.ng_words.specs.Kinds.{kind_of};
+ghost use Rattle.ng_text.specs.Percent.{first_kind, kind_before};
+ghost use Rattle.ng_text.specs.Programs.{lines_before};
+ghost use Rattle.ng_text.specs.declared.lines_before.LinesBefore.{LinesBefore};
+
+use crate::percent::first_kind;
+use ng_words::LineKind;
+
+/// What is known of a program's lines before a place: that a line begins there, and perhaps the kind of the first of them that
+/// isn't blank. So this isn't looked up for each line (own).
+#[derive(Clone, Copy)]
+pub struct LinesBefore {
+    /// A byte of the program.
+    pub place: u64,
+    /// The kind of the first line before it that isn't blank, where that is known.
+    pub first: Option<LineKind>,
+}
+
+impl LinesBefore {
+    ghost use Rattle.ng_text.specs.LinesBefore.{IsTrueOf, IsLineBetween};
+
+    /// What is known of every program: no line is before its beginning.
+    #[tactic(auto, using(crate::proofs::LinesAfter::none_true))]
+    pub fn none() -> LinesBefore
+        ensures value { result ≡ record { place = 0; first = Some LineKind.Blank } }
+        ensures holds { (program : List ℕ) → IsTrueOf program result }
+    {
+        LinesBefore {
+            place: 0,
+            first: Some(LineKind::Blank),
+        }
+    }
+
+    /// The kind of the first line before a place that isn't blank, where that is known.
+    pub fn first_before(&self, place: u64) -> Option<LineKind>
+        ensures value { result ≡ (if self.now.place == place then self.now.first else None) }
+        ensures holds { (program : List ℕ) → IsTrueOf program self.now → IfSome result (λ kind. kind ≡ first_kind (lines_before program place)) }
+    {
+        if self.place == place {
+            self.first
+        } else {
+            None
+        }
+    }
+
+    /// What is known after a line: the line at a place, by the kind of the first line before it that isn't blank, and the
+    /// place at which the next one begins. Nothing is known of the kind where it wasn't known that the line begins there.
+    pub fn after(&self, place: u64, first: LineKind, text: &[u8], next: u64) -> LinesBefore
+        requires { length text.now ≤ 256 }
+        ensures place { result.place ≡ next }
+        ensures first { self.now.place ≡ place → result.first ≡ Some (kind_before first (kind_of text.now)) }
+        ensures holds { (program : List ℕ) → IsTrueOf program self.now → IsLineBetween program place first text.now next → IsTrueOf program result }
+    {
+        let first = if self.place == place {
+            Some(first_kind(first, text))
+        } else {
+            None
+        };
+        LinesBefore { place: next, first }
+    }
+}
