@@ -1,4 +1,3 @@
-pub mod Streams
 pub mod LineLemmas
 pub mod TaskLemmas
 pub mod ModeLemmas

@@ -83,6 +83,7 @@ pub fn traverse(start: Point, end: Point) -> StraightMove
 }
 
 /// The next segment of a cycle.
+#[inline]
 fn next_in(cycle: &mut Option<Cycle>) -> Option<Segment>
     ensures { MatchOption result ((left_in cycle.old ≡ []) × (left_in cycle.new ≡ [])) (λ segment. left_in cycle.old ≡ segment ∷ left_in cycle.new) }
 {
@@ -158,7 +159,18 @@ impl PathSegments {
     }
 
     /// The next segment.
+    #[inline]
     pub fn next(&mut self) -> Option<Segment>
+        ensures { MatchOption result ((self.old ≡ []) × (self.new ≡ [])) (λ segment. self.old ≡ segment ∷ self.new) }
+    {
+        if self.next.is_none() && self.after_next.is_none() {
+            return next_in(&mut self.cycle);
+        }
+        self.next_outside_cycle()
+    }
+
+    /// The same where a segment is left that isn't of a cycle.
+    fn next_outside_cycle(&mut self) -> Option<Segment>
         ensures { MatchOption result ((self.old ≡ []) × (self.new ≡ [])) (λ segment. self.old ≡ segment ∷ self.new) }
     {
         let next = self.next;

@@ -147,6 +147,7 @@ impl Scratch {
     /// What a line does in a state, or the first fault that refuses it, in the order of docs/LANGUAGE.md; the state stays
     /// as it is. What it does lies in these places until the next line comes; after a fault there is nothing to be had.
     /// A dry run and the controller run this for each line. Source: NISTIR 6556, 3.8, and own.
+    #[inline(always)]
     pub fn execute<A: Allocator + Copy + Drop>(
         &mut self,
         state: &State<A>,
@@ -162,6 +163,7 @@ impl Scratch {
     }
 
     /// The same, unless the line is deleted.
+    #[inline(always)]
     pub fn execute_unless_deleted<A: Allocator + Copy + Drop>(
         &mut self,
         terms: &Terms<'_>,
@@ -178,6 +180,7 @@ impl Scratch {
     }
 
     /// The same after lines before it, whose first that isn't blank is of a kind: it may be a percent line.
+    #[inline(always)]
     pub fn execute_after<A: Allocator + Copy + Drop>(
         &mut self,
         terms: &Terms<'_>,

@@ -27,7 +27,7 @@ const REFUSED: u8 = 1;
 /// The words, a file, the settings, the device, the reader, the writer or memory kept the program from its work.
 pub(crate) const FAILED: u8 = 2;
 
-/// JobSpec what the words that the process was started with ask for, and gives the exit status.
+/// Does what the words that the process was started with ask for, and gives the exit status.
 ///
 /// Words that are not text, and memory wanting for them, print nothing and give 2; for the rest see `ngc`.
 pub fn start<R: Env + Files + AllocGlobal, I: Read, W: Write>(
@@ -58,7 +58,7 @@ fn given_words<R: Env + AllocGlobal>(rt: &R) -> io::Result<Vec<String>> {
     Ok(env::args(rt)?.collect(rt.alloc())?)
 }
 
-/// JobSpec what a line of words asks for, writes what that prints, and gives the exit status. The reader is an operator's, whom
+/// Does what a line of words asks for, writes what that prints, and gives the exit status. The reader is an operator's, whom
 /// `run` alone hears.
 ///
 /// 0: the program ran to its end, the device is fresh, or all that the operator asked is answered. 1: the program of a dry run is
@@ -90,7 +90,7 @@ where
     }
 }
 
-/// JobSpec a job, and gives the exit status.
+/// Does a job, and gives the exit status.
 fn carry_out<R: Files + AllocGlobal, I: Read, W: Write>(
     rt: &R,
     job: Job<'_>,

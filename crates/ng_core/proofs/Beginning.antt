@@ -1,8 +1,9 @@
 -- A line of the program is begun, by what the reads before it promise.
-use Rattle.std.proofs.Common.{◌≡◌, inl, ℕ, List, Option, Some, Result, Ok, Err, refl, sym, ◌∙◌, ap}
+use Rattle.std.proofs.Common.{◌≡◌, inl, ℕ, true, List, Option, Some, Result, Ok, Err, refl, sym, ◌∙◌, ap, subst}
 use Rattle.ng_num.specs.declared.fault.Fault.{Fault}
 use Rattle.ng_num.specs.declared.fault.Fault.TheVariants.{DeviceFailed, OutOfMemory}
 use Rattle.ng_words.specs.declared.start.LineKind.{LineKind}
+use Rattle.ng_words.specs.declared.start.LineKind.TheVariants.{Blank}
 use Rattle.ng_rig.specs.Trace.{Trace}
 use Rattle.ng_rig.specs.Calls.{IfHonest}
 use Rattle.ng_rig.proofs.Promise.{meaning}
@@ -12,12 +13,14 @@ use Rattle.ng_layout.specs.Stored.{DurableState}
 use Rattle.ng_journal.specs.Journal.{JournalModel, IsDurablyAt}
 use Rattle.ng_journal.specs.ProgramLines.{FirstKindSpec, ProgramLineSpec}
 use Rattle.ng_text.specs.LinesBefore.{IsTrueOf, IsLineBetween}
-use Rattle.ng_session.specs.Session.{Transition, begin, session_status}
+use Rattle.ng_journal.specs.Storing.{ledger_of}
+use Rattle.ng_session.specs.Session.{Transition, begin, is_running, session_status}
 use Rattle.ng_text.specs.declared.lines_before.LinesBefore.{LinesBefore}
 use Rattle.ng_session.specs.declared.reply.Reply.{Reply}
 use Rattle.ng_core.specs.Model.{ControllerModel, durable_state_of}
-use Rattle.ng_core.specs.Events.{IsCarriedOutIfHonest}
+use Rattle.ng_core.specs.Events.{IsAnsweredBy, IsAnsweredByLine, by_line, IsCarriedOutIfHonest}
 use Rattle.ng_core.proofs.Acting.{known_as, acts_read, acts_aside, acts_unread}
+use Rattle.ng_core.proofs.AnyLines.{has_kind}
 use Rattle.ng_core.proofs.Quiet.{still_begin}
 
 -- what `first_kind` and `program_line` promise
@@ -89,6 +92,26 @@ does_begin honest trace r first line place old new at p known replied next = rec
       (next program kind ∙ ap (λ (l : Option ProgramLineModel). (begin old.equipment program old.session l).next) there)
       quiet.items quiet.program_is quiet.stored_is;
 }
+
+-- the same of any device: a line was read, and a kind of the first line before it
+by_running : {R : Type 0} (out : List ℕ → Transition) (c : ControllerModel R) (program : List ℕ) (line : Option ProgramLineModel)
+    → is_running c.session.activity ≡ true → by_line out c program line ≡ begin c.equipment program c.session line
+by_running out c program line runs = rw runs refl
+
+pub begun_line : {R : Type 0} (r : Reply) (out : List ℕ → Transition) (first : LineKind) (line : Option ProgramLineModel) (place : ℕ) (old new : ControllerModel R)
+    → is_running old.session.activity ≡ true → place ≡ old.session.stored.place → (place ≡ 0 → first ≡ Blank)
+    → ((program : List ℕ) → first ≡ first_kind (lines_before program old.session.stored.place) → r ≡ (begin old.equipment program old.session line).reply)
+    → ((program : List ℕ) → first ≡ first_kind (lines_before program old.session.stored.place) → new.session ≡ (begin old.equipment program old.session line).next)
+    → ledger_of new.journal ≡ ledger_of old.journal → IsAnsweredByLine r out old new
+begun_line r out first line place old new runs at beginning replied next ledger =
+    let found = has_kind first place beginning in
+    let kind = found.1 ∙ ap (λ (n : ℕ). first_kind (lines_before found.0 n)) at in
+    record {
+      program = found.0;
+      line = line;
+      comes = subst (λ (o : Transition). IsAnsweredBy (Ok r) o old new) (sym (by_running out old found.0 line runs)) (replied found.0 kind, next found.0 kind);
+      ledger = ledger;
+    }
 
 -- memory was wanting for the state after the line
 pub does_begin_short : {R : Type 0} (honest : R → Type 0) (trace : R → Trace) (fault : Fault) (first : LineKind) (line : Option ProgramLineModel) (place : ℕ) (out : List ℕ → Transition) (old new : ControllerModel R)

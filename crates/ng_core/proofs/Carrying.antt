@@ -2,7 +2,7 @@
 use Rattle.std.proofs.Common.{◌≡◌, ◌⊎◌, inl, inr, ℕ, true, false, List, [], Option, Some, None, Result, Ok, Err, refl, sym, ◌∙◌, ap, subst}
 use Rattle.std.proofs.lemmas.Result.{IfErr-weaker}
 use Rattle.std.specs.Option.{is_some}
-use Rattle.std.specs.Prelude.{IfErr, MatchOption}
+use Rattle.std.specs.Prelude.{IfOk, IfErr, MatchOption}
 use Rattle.ng_num.specs.declared.fault.Fault.{Fault}
 use Rattle.ng_num.specs.declared.fault.Fault.TheVariants.{DeviceFailed, CountersUsed, OutOfMemory}
 use Rattle.ng_canon.specs.declared.item.Item.{Item}
@@ -13,12 +13,12 @@ use Rattle.ng_session.specs.Session.{CurrentBlockModel, SessionModel, Transition
 use Rattle.ng_session.specs.declared.reply.Reply.{Reply}
 use Rattle.ng_session.specs.declared.reply.Reply.TheVariants as reply
 use Rattle.ng_core.specs.Model.{ControllerModel}
-use Rattle.ng_core.specs.Events.{CarriesOut, IsCarriedOutIfHonest, handing}
+use Rattle.ng_core.specs.Events.{CarriesOut, IsAnsweredByLine, IsCarriedOutIfHonest, handing}
 use Rattle.ng_core.specs.Causes.{UsesUpCounter, IsCausedBy}
 use Rattle.ng_core.proofs.Anyway.{stays_same, unless_lost, comes_by, comes_to, comes_held, comes_item}
 use Rattle.ng_core.proofs.Choosing.{with_session, does_item}
 use Rattle.ng_core.proofs.Doing.{does_still, does_aside}
-use Rattle.ng_core.proofs.Hindering.{hindered_as, busy_block}
+use Rattle.ng_core.proofs.Hindering.{hindered_as, busy_block, busy_unread}
 use Rattle.ng_core.proofs.Quiet.{IsStill, still}
 use Rattle.ng_core.proofs.Ticks.{does_on, does_held, tick_item, tick_none}
 
@@ -32,13 +32,14 @@ module _ {R : Type 0} (honest : R → Type 0) (trace : R → Trace) (failed sect
   carried_as memory device reads out answer old mid new same c =
       subst (λ (x : ControllerModel R). CarriesOut honest trace failed sectors (memory x) (device x) (reads x) (out x) answer x new) same c
 
-  -- of an equal outcome, and where memory is taken, the device is asked and a line is read in more cases
+  -- of an equal outcome, and where memory is taken and the device is asked in more cases; a line is read in the same
   pub carried_to : (memory m device d reads e : Type 0) (out wanted : List ℕ → Transition) (answer : Result Reply Fault) (old new : ControllerModel R)
-      → (memory → m) → (device → d) → (reads → e) → ((program : List ℕ) → out program ≡ wanted program)
+      → (memory → m) → (device → d) → (reads → e) → (e → reads) → ((program : List ℕ) → out program ≡ wanted program)
       → CarriesOut honest trace failed sectors memory device reads out answer old new → CarriesOut honest trace failed sectors m d e wanted answer old new
-  carried_to memory m device d reads e out wanted answer old new f g h equal c = record {
+  carried_to memory m device d reads e out wanted answer old new f g h back equal c = record {
     does = does_on honest trace answer out wanted old old new refl equal c.does;
     comes = comes_to reads e answer out wanted old new h equal c.comes;
+    line = λ read. subst (λ (f : List ℕ → Transition). IfOk answer (λ r. IsAnsweredByLine r f old new)) (λ i program. equal program i) (c.line (back read));
     hindered = IfErr-weaker answer (IsCausedBy memory device (ledger_of old.journal) out) (IsCausedBy m d (ledger_of old.journal) wanted)
         (hindered_as {m = memory} {n = m} {d = device} {e = d} (ledger_of old.journal) out wanted f g equal) c.hindered;
     broken = c.broken;
@@ -51,13 +52,14 @@ module _ {R : Type 0} (honest : R → Type 0) (trace : R → Trace) (failed sect
 
   -- the session answered
   pub carried_still : (memory device reads : Type 0) (r : Reply) (out : List ℕ → Transition) (old new : ControllerModel R)
-      → old.journal.broken ≡ false → ((program : List ℕ) → IsStill program old.session.stored (out program))
+      → old.journal.broken ≡ false → (reads → ⊥) → ((program : List ℕ) → IsStill program old.session.stored (out program))
       → new.journal ≡ old.journal → new.lines ≡ old.lines → new.equipment ≡ old.equipment
       → ((program : List ℕ) → r ≡ (out program).reply) → ((program : List ℕ) → new.session ≡ (out program).next)
       → CarriesOut honest trace failed sectors memory device reads out (Ok r) old new
-  carried_still memory device reads r out old new whole quiet same lines equipment replied next = record {
+  carried_still memory device reads r out old new whole unread quiet same lines equipment replied next = record {
     does = does_still honest trace r out old new quiet same lines replied next;
     comes = comes_by reads r out old new replied next;
+    line = λ read. absurd (unread read);
     hindered = tt;
     broken = ap (λ (j : JournalModel R). j.broken) same ∙ whole;
     equipment = equipment;
@@ -67,11 +69,11 @@ module _ {R : Type 0} (honest : R → Type 0) (trace : R → Trace) (failed sect
 
   -- it refused
   pub carried_refused : (memory device reads : Type 0) (fault : Fault) (out : List ℕ → Transition) (c : ControllerModel R)
-      → c.journal.broken ≡ false → ((program : List ℕ) → refuses program fault c.session ≡ out program)
+      → c.journal.broken ≡ false → (reads → ⊥) → ((program : List ℕ) → refuses program fault c.session ≡ out program)
       → CarriesOut honest trace failed sectors memory device reads out (Ok (reply.Refused fault)) c c
-  carried_refused memory device reads fault out c whole equal =
-      carried_to memory memory device device reads reads (λ program. refuses program fault c.session) out (Ok (reply.Refused fault)) c c (λ m. m) (λ d. d) (λ e. e) equal
-      (carried_still memory device reads (reply.Refused fault) (λ program. refuses program fault c.session) c c whole (λ program. still refl refl refl) refl refl refl (λ program. refl) (λ program. refl))
+  carried_refused memory device reads fault out c whole unread equal =
+      carried_to memory memory device device reads reads (λ program. refuses program fault c.session) out (Ok (reply.Refused fault)) c c (λ m. m) (λ d. d) (λ e. e) (λ e. e) equal
+      (carried_still memory device reads (reply.Refused fault) (λ program. refuses program fault c.session) c c whole unread (λ program. still refl refl refl) refl refl refl (λ program. refl) (λ program. refl))
 
   -- memory was wanting
   pub carried_short : (memory device reads : Type 0) (fault : Fault) (out : List ℕ → Transition) (old new : ControllerModel R)
@@ -82,6 +84,7 @@ module _ {R : Type 0} (honest : R → Type 0) (trace : R → Trace) (failed sect
       let short : CarriesOut honest trace failed sectors memory device reads out (Err OutOfMemory) old new = record {
         does = does_aside honest trace OutOfMemory out old new (inl refl) same lines kept;
         comes = stays_same reads OutOfMemory old new kept (λ other. same);
+        line = λ read. tt;
         hindered = inl (refl, taken);
         broken = ap (λ (j : JournalModel R). j.broken) same ∙ whole;
         equipment = equipment;
@@ -97,6 +100,7 @@ module _ {R : Type 0} (honest : R → Type 0) (trace : R → Trace) (failed sect
   carried_used memory device reads out c whole hindered = record {
     does = does_aside honest trace CountersUsed out c c (inr refl) refl refl refl;
     comes = stays_same reads CountersUsed c c refl (λ other. refl);
+    line = λ read. tt;
     hindered = hindered;
     broken = whole;
     equipment = refl;
@@ -116,6 +120,7 @@ module _ {R : Type 0} (honest : R → Type 0) (trace : R → Trace) (failed sect
       let there : CarriesOut honest trace failed sectors memory device reads out (Err e) old new = record {
         does = does;
         comes = stays_same reads e old new kept (unless_lost e old.journal new.journal which unchanged);
+        line = λ read. tt;
         hindered = hindered;
         broken = broken;
         equipment = equipment;
@@ -134,6 +139,7 @@ module _ {R : Type 0} (honest : R → Type 0) (trace : R → Trace) (failed sect
       let there : CarriesOut honest trace failed sectors memory device reads out (Err e) old new = record {
         does = does;
         comes = stays_same reads e old new kept (λ other. absurd (other lost));
+        line = λ read. tt;
         hindered = inr (inr (lost, asked, unused));
         broken = broken;
         equipment = equipment;
@@ -151,6 +157,7 @@ module _ {R : Type 0} (honest : R → Type 0) (trace : R → Trace) (failed sect
   carried_read memory device reads fault out old new is taken does equipment kept ledger unread whole size failures = record {
     does = does;
     comes = record { status = ap session_status kept; session = λ other. kept; ledger = λ other. ledger; journal = λ other none. unread none };
+    line = λ read. tt;
     hindered = inl (is, taken);
     broken = subst (λ (f : Fault). IsBrokenBy {T = Reply} (Err f) new.journal.broken) (sym is) whole;
     equipment = equipment;
@@ -160,11 +167,12 @@ module _ {R : Type 0} (honest : R → Type 0) (trace : R → Trace) (failed sect
 
   -- ---- a Tick
 
-  pub carried_held : (memory device reads : Type 0) (c : ControllerModel R) → c.journal.broken ≡ false → c.session.held ≡ true
+  pub carried_held : (memory device reads : Type 0) (c : ControllerModel R) → c.journal.broken ≡ false → (reads → ⊥) → c.session.held ≡ true
       → CarriesOut honest trace failed sectors memory device reads (λ program. tick c.equipment program c.session) (Ok reply.Held) c c
-  carried_held memory device reads c whole held = record {
+  carried_held memory device reads c whole unread held = record {
     does = does_held honest trace c held;
     comes = comes_held reads c held;
+    line = λ read. absurd (unread read);
     hindered = tt;
     broken = whole;
     equipment = refl;
@@ -194,6 +202,7 @@ module _ {R : Type 0} (honest : R → Type 0) (trace : R → Trace) (failed sect
       record {
         does = does_item honest trace answer item old new taken held is next errors c.does;
         comes = comes_item ((old.session.held ≡ false) × IsBetweenLines old.session) answer item old new taken held is next errors c.comes;
+        line = λ read. absurd (busy_unread old.session (some_item old.session.current item is) read.1);
         hindered = IfErr-weaker answer (λ e. e ≡ DeviceFailed)
             (IsCausedBy ((old.session.held ≡ false) × IsBetweenLines old.session) ((old.session.held ≡ false) × (has_work old.session ≡ true)) ledger (λ program. tick old.equipment program old.session))
             (λ e lost. inr (inr (
@@ -216,7 +225,7 @@ module _ {R : Type 0} (honest : R → Type 0) (trace : R → Trace) (failed sect
       carried_to (IsBetweenLines old.session) ((old.session.held ≡ false) × IsBetweenLines old.session) (has_work old.session ≡ true) ((old.session.held ≡ false) × (has_work old.session ≡ true))
       (IsBetweenLines old.session) ((old.session.held ≡ false) × IsBetweenLines old.session)
       (λ program. open_next old.equipment program old.session (opening_of old.session.current)) (λ program. tick old.equipment program old.session) answer old new
-      (λ p. (held, p)) (λ b. (held, b)) (λ p. (held, p)) (λ program. sym (tick_none old.equipment program old.session held (sym none)))
+      (λ p. (held, p)) (λ b. (held, b)) (λ p. (held, p)) (λ read. read.1) (λ program. sym (tick_none old.equipment program old.session held (sym none)))
       (subst (λ (s : SessionModel). CarriesOut honest trace failed sectors (IsBetweenLines s) (has_work s ≡ true) (IsBetweenLines s) (λ program. open_next old.equipment program s (opening_of s.current)) answer (with_session old s) new) same c)
 
 -- what holds where there is one

@@ -14,7 +14,7 @@ use Rattle.ng_block.specs.Effects.{Done}
 use Rattle.ng_journal.specs.Storing.{Ledger, Storing, Commit, Open, Load, UsesUp}
 use Rattle.ng_num.specs.declared.point.Point.{Point}
 use Rattle.ng_session.specs.Entries.{Equipment, done_of, done_again, after_load, after_reference, after_abandon}
-use Rattle.ng_session.specs.Session.{CurrentBlockModel, SessionModel, Transition, end, begin, begin_by, load, load_unless, load_refusal, reference, reference_unless, reference_refusal, abandon, abandon_unless, abandon_refusal, refuses, resume, resume_half, resume_from, resume_by, is_at_rest, opening_of, opening_reply, entry_on, committed}
+use Rattle.ng_session.specs.Session.{CurrentBlockModel, SessionModel, Transition, end, begin, begin_by, load, load_unless, load_refusal, reference, reference_unless, reference_refusal, abandon, abandon_unless, abandon_refusal, refuses, resume, resume_half, resume_from, resume_by, is_at_rest, IsBetweenLines, opening_of, opening_reply, entry_on, committed}
 use Rattle.ng_session.specs.declared.stage.Stage.{Stage}
 use Rattle.ng_session.specs.declared.stage.Stage.TheVariants as stage
 use Rattle.ng_core.specs.Causes.{UsesUpCounter, IsCausedBy, stored_for, with_entry}
@@ -96,6 +96,10 @@ hindered_count ledger told x device used stores = inr (inl (refl, λ program. su
 pub busy_block : (b : Bool) (o : Option CurrentBlockModel) → is_some o ≡ true → (b || is_some o) ≡ true
 busy_block true o block = refl
 busy_block false o block = block
+
+-- where a block is current, no line is read
+pub busy_unread : (s : SessionModel) → is_some s.current ≡ true → IsBetweenLines s → ⊥
+busy_unread s block between = absurd (let z : false ≡ true = ap (λ (o : Option CurrentBlockModel). is_some o) (sym between.0) ∙ block in cc)
 
 pub busy_running : (b c : Bool) → b ≡ true → (b || c) ≡ true
 busy_running true c runs = refl

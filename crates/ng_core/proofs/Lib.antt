@@ -14,6 +14,8 @@ pub mod Reporting
 pub mod Resuming
 pub mod Beginning
 pub mod Choosing
+pub mod AnyLines
+pub mod Failing
 pub mod Anyway
 pub mod Hindering
 pub mod Carrying

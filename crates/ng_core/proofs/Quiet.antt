@@ -7,7 +7,7 @@ use Rattle.ng_text.specs.Programs.{ProgramLineModel}
 use Rattle.ng_layout.specs.Stored.{StoredModel}
 use Rattle.ng_layout.specs.declared.half.Source.TheVariants as source
 use Rattle.ng_session.specs.Entries.{Equipment, done_of}
-use Rattle.ng_session.specs.Session.{SessionModel, Transition, is_running, is_idle, accepts_load, refuses_mdi, start, hold, resume_held, mdi, mdi_by, begin, begin_by, step, IsQuiet}
+use Rattle.ng_session.specs.Session.{SessionModel, Transition, is_running, is_idle, accepts_load, refuses_mdi, start, hold, resume_held, mdi, mdi_by, begin, begin_by, step, IsQuiet, NeedsProgramLine}
 use Rattle.ng_session.specs.declared.event.Event.{Event}
 use Rattle.ng_session.specs.declared.event.Event.TheVariants as event
 
@@ -63,6 +63,21 @@ still_step q P s (event.OptionalStop wanted) quiet = still refl refl refl
 still_step q P s (event.BlockDelete on) quiet = still refl refl refl
 still_step q P s event.Status quiet = still refl refl refl
 still_step q P s event.Tick quiet = absurd quiet
+
+-- nor is a line read for it
+pub quiet_unread : {A : Type 0} (q : Equipment) (s : SessionModel) (e : Event A) → IsQuiet e → NeedsProgramLine q s e → ⊥
+quiet_unread q s (event.Load text) quiet read = read
+quiet_unread q s event.Start quiet read = read
+quiet_unread q s event.Hold quiet read = read
+quiet_unread q s event.Continue quiet read = read
+quiet_unread q s (event.Mdi text) quiet read = read
+quiet_unread q s (event.Reference point) quiet read = read
+quiet_unread q s event.Resume quiet read = quiet
+quiet_unread q s event.Abandon quiet read = read
+quiet_unread q s (event.OptionalStop wanted) quiet read = read
+quiet_unread q s (event.BlockDelete on) quiet read = read
+quiet_unread q s event.Status quiet read = read
+quiet_unread q s event.Tick quiet read = quiet
 
 still_begin_by : (P : List ℕ) (s : SessionModel) (line : ProgramLineModel) (done : Result Done Fault) → IsStill P s.stored (begin_by P s line done)
 still_begin_by P s line (Ok done) = still refl refl refl

@@ -1,6 +1,7 @@
 -- A half-done block goes on, by what the read before it promises.
-use Rattle.std.proofs.Common.{◌≡◌, inl, ℕ, Bool, true, false, not, if◌then◌else◌, List, Option, Some, None, Result, Ok, Err, refl, sym, ◌∙◌, ap, subst}
+use Rattle.std.proofs.Common.{◌≡◌, ◌≤◌, inl, ℕ, ◌&&◌, Bool, true, false, not, if◌then◌else◌, List, Option, Some, None, Result, Ok, Err, refl, sym, ◌∙◌, ap, subst}
 use Rattle.std.specs.Prelude.{IfSome}
+use Rattle.std.specs.Option.{is_none}
 use Rattle.std.specs.Str.Lines.{lines}
 use Rattle.ng_num.specs.declared.fault.Fault.{Fault}
 use Rattle.ng_num.specs.declared.fault.Fault.TheVariants as fault
@@ -14,15 +15,17 @@ use Rattle.ng_text.specs.Programs.{ProgramLineModel, next_line_start, program_li
 use Rattle.ng_layout.specs.Stored.{HalfModel, DurableState}
 use Rattle.ng_layout.specs.declared.half.Source.{Source}
 use Rattle.ng_journal.specs.Journal.{JournalModel, IsDurablyAt}
+use Rattle.ng_journal.specs.Storing.{ledger_of}
 use Rattle.ng_session.specs.Entries.{Equipment, done_again}
-use Rattle.ng_session.specs.Session.{SessionModel, Transition, refuses, resume, resume_half, resume_from, resume_by, resume_refusal, is_at_rest, session_status, next_place_after, IsProgramsLine}
+use Rattle.ng_session.specs.Session.{SessionModel, Transition, refuses, resume, resume_half, resume_from, resume_by, resume_refusal, waiting_refusal, is_at_rest, is_running, session_status, next_place_after, IsProgramsLine}
 use Rattle.ng_session.specs.declared.reply.Reply.{Reply}
 use Rattle.ng_session.specs.declared.reply.Reply.TheVariants as reply
 use Rattle.ng_session.proofs.Refusing.{refused_again}
 use Rattle.ng_core.specs.Model.{ControllerModel, durable_state_of}
-use Rattle.ng_core.specs.Events.{IsAnsweredAnyway, IsCarriedOutIfHonest}
+use Rattle.ng_core.specs.Events.{IsAnsweredAnyway, IsAnsweredBy, IsAnsweredByLine, by_line, IsCarriedOutIfHonest}
 use Rattle.ng_core.specs.Private.NextLines.{IsNextLineAt, NextLineSpec}
 use Rattle.ng_core.proofs.Acting.{known_as, acts_read, acts_aside, acts_unread}
+use Rattle.ng_core.proofs.AnyLines.{has_next}
 use Rattle.ng_core.proofs.Beginning.{Reading}
 use Rattle.ng_core.proofs.Quiet.{IsStill, still}
 use Rattle.ng_core.proofs.Doing.{does_still}
@@ -119,6 +122,41 @@ pub comes_resume : {R : Type 0} (r : Reply) (place : ℕ) (old new : ControllerM
 comes_resume r place old new s same free next goes =
     subst (λ (x : SessionModel). IsAnsweredAnyway ((resume_refusal old.equipment x ≡ None) × IsProgramsLine x.stored.half) (Ok r) (λ program. resume old.equipment program x) (with_session old x) new) same
     (λ read program. goes program (next (λ line. read (ap (λ (x : SessionModel). resume_refusal old.equipment x) same ∙ sym free, line)) program))
+
+-- it isn't refused, so the program doesn't run
+stopped_by : (alone runs held : Bool) (rest : Option Fault) → (if not (alone && not runs && not held) then Some fault.Busy else rest) ≡ None → runs ≡ false
+stopped_by alone false held rest free = refl
+stopped_by true true held rest free = absurd (let busy : Option Fault = Some fault.Busy in let z : busy ≡ None = free in cc)
+stopped_by false true held rest free = absurd (let busy : Option Fault = Some fault.Busy in let z : busy ≡ None = free in cc)
+
+stopped : (q : Equipment) (s : SessionModel) → resume_refusal q s ≡ None → is_running s.activity ≡ false
+stopped q s free = stopped_by (is_none s.current) (is_running s.activity) s.held (waiting_refusal q s.stored s.stored.half) free
+
+by_stopped : {R : Type 0} (out : List ℕ → Transition) (c : ControllerModel R) (program : List ℕ) (line : Option ProgramLineModel)
+    → is_running c.session.activity ≡ false → by_line out c program line ≡ out program
+by_stopped out c program line stops = rw stops refl
+
+-- where it was refused, no line was read
+pub refused_unread : (refusal : Option Fault) (fault : Fault) → Some fault ≡ refusal → refusal ≡ None → ⊥
+refused_unread refusal fault is free = absurd (let some : Option Fault = Some fault in let z : some ≡ None = is ∙ free in cc)
+
+-- whatever the device gave for the line at the place, the next line begins there in some program
+pub resumed_line : {R : Type 0} (r : Reply) (place : ℕ) (old new : ControllerModel R) (s : SessionModel)
+    → s ≡ old.session → resume_refusal old.equipment old.session ≡ None → IsProgramsLine old.session.stored.half → s.stored.place ≤ place
+    → GoesOn r new.session old s place → ledger_of new.journal ≡ ledger_of old.journal
+    → IsAnsweredByLine r (λ program. resume old.equipment program old.session) old new
+resumed_line r place old new s same free line beyond goes ledger =
+    let out : List ℕ → Transition = λ program. resume old.equipment program old.session in
+    let here : old.session.stored.place ≤ place = subst (λ (x : SessionModel). x.stored.place ≤ place) same beyond in
+    let there : GoesOn r new.session old old.session place = subst (λ (x : SessionModel). GoesOn r new.session old x place) same goes in
+    let found = has_next old.session.stored.place place here in
+    let next = next_by found.0 old.session.stored.half old.session.stored.place place line found.1 in
+    record {
+      program = found.0;
+      line = None;
+      comes = subst (λ (o : Transition). IsAnsweredBy (Ok r) o old new) (sym (by_stopped out old found.0 None (stopped old.equipment old.session free))) (there found.0 next);
+      ledger = ledger;
+    }
 
 -- memory was wanting for the states after the block and after its approach
 pub does_resume_short : {R E : Type 0} (honest : R → Type 0) (trace : R → Trace) (fault : Fault) (place : ℕ) (s : SessionModel) (out : List ℕ → Transition) (old new : ControllerModel R)

@@ -1,5 +1,5 @@
 -- What an event does to a controller and to its device (own).
-use Rattle.std.specs.Prelude.{◌≡◌, ◌≢◌, ◌⊎◌, ℕ, List, [], ◌∷◌, ◌++◌, Result, Ok, Err, IfOk, IfErr, MatchResult}
+use Rattle.std.specs.Prelude.{◌≡◌, ◌≢◌, ◌⊎◌, ℕ, ◌+◌, ◌%◌, ◌^◌, if◌then◌else◌, List, [], ◌∷◌, ◌++◌, Option, Result, Ok, Err, IfOk, IfErr, MatchResult}
 use Rattle.ng_num.specs.declared.fault.Fault.{Fault}
 use Rattle.ng_num.specs.declared.fault.Fault.TheVariants.{DeviceFailed, Broken}
 use Rattle.ng_canon.specs.declared.item.Item.{Item}
@@ -8,7 +8,8 @@ use Rattle.ng_rig.specs.Calls.{IfHonest}
 use Rattle.ng_rig.specs.Continuation.{IsContinuation}
 use Rattle.ng_journal.specs.Journal.{StandsFor, IsBrokenBy, CountsFailure}
 use Rattle.ng_journal.specs.Storing.{ledger_of}
-use Rattle.ng_session.specs.Session.{SessionModel, Transition, session_status, TakesMemory, AsksDevice, NeedsProgramLine}
+use Rattle.ng_text.specs.Programs.{ProgramLineModel}
+use Rattle.ng_session.specs.Session.{SessionModel, Transition, begin, is_running, session_status, TakesMemory, AsksDevice, NeedsProgramLine}
 use Rattle.ng_session.specs.Runs.{ProgramSession, CrashState, crash_in, session_of_transition}
 use Rattle.ng_session.specs.declared.event.Event.{Event}
 use Rattle.ng_session.specs.declared.event.Event.TheVariants as event
@@ -43,6 +44,19 @@ pub record KeepsSession {R : Type 0} (reads : Type 0) (fault : Fault) (old new :
 abbrev pub IsAnsweredAnyway : {R : Type 0} → (reads : Type 0) → Result Reply Fault → (List ℕ → Transition) → ControllerModel R → ControllerModel R → Type 0
 IsAnsweredAnyway reads answer out old new =
     MatchResult answer (λ r. (reads → ⊥) → (program : List ℕ) → (r ≡ (out program).reply) × (new.session ≡ (out program).next)) (λ fault. KeepsSession reads fault old new)
+
+-- What an event leads to by a line that was read, or by none: a program that runs begins that line, after the lines of this program before
+-- its place; a half-done block goes on as in this program.
+abbrev pub by_line : {R : Type 0} → (List ℕ → Transition) → ControllerModel R → List ℕ → Option ProgramLineModel → Transition
+by_line out c program line = if is_running c.session.activity then begin c.equipment program c.session line else out program
+
+-- Whatever the device gave: it is answered for one line, after the lines of some program, or for none, and the session goes on as by that
+-- alone; what the journal keeps stays.
+pub record IsAnsweredByLine {R : Type 0} (r : Reply) (out : List ℕ → Transition) (old new : ControllerModel R) : Type 0 where
+  pub program : List ℕ
+  pub line : Option ProgramLineModel
+  pub comes : IsAnsweredBy (Ok r) (by_line out old program line) old new
+  pub ledger : ledger_of new.journal ≡ ledger_of old.journal
 
 -- What stands then and was handed out: of an answer what it leads to, alone; where memory or a count is wanting, the device stays.
 abbrev pub LeavesDevice : {R : Type 0} → Result Reply Fault → Transition → List ℕ → ControllerModel R → Trace → Trace → Type 0
@@ -92,12 +106,14 @@ IsCarriedOutIfHonest honest trace answer out old new =
 abbrev pub handing : Item → List ℕ → SessionModel → Transition
 handing item program s = record { reply = reply.Moved; items = item ∷ []; entries = []; program = program; next = s }
 
--- An answer to what leads to this, and what it leaves: of an honest device, and of any. An error has its cause: memory is taken, the device is
+-- An answer to what leads to this, and what it leaves: of an honest device, and of any; where a line is read for it, it is that line's. An
+-- error has its cause: memory is taken, the device is
 -- asked, and a line of the program is read, where these say so. The journal is broken, and the device counted a failure, exactly where that
 -- failed; the device keeps its size.
 pub record CarriesOut {R : Type 0} (honest : R → Type 0) (trace : R → Trace) (failed sectors : R → ℕ) (memory device reads : Type 0) (out : List ℕ → Transition) (answer : Result Reply Fault) (old new : ControllerModel R) : Type 0 where
   pub does : IsCarriedOutIfHonest honest trace answer out old new
   pub comes : IsAnsweredAnyway reads answer out old new
+  pub line : reads → IfOk answer (λ r. IsAnsweredByLine r out old new)
   pub hindered : IfErr answer (IsCausedBy memory device (ledger_of old.journal) out)
   pub broken : IsBrokenBy answer new.journal.broken
   pub equipment : new.equipment ≡ old.equipment
@@ -115,6 +131,10 @@ pub record Handles {A R : Type 0} (honest : R → Type 0) (trace : R → Trace) 
   pub answer : Result Reply Fault
   pub told_is : told ≡ reply_to answer
   pub carried : CarriesOutEvent honest trace failed sectors event answer old new
+
+-- The reply tells of a failed device exactly where that counted a failure, one.
+abbrev pub TellsFailure : Reply → ℕ → ℕ → Type 0
+TellsFailure told old new = (told ≡ reply.Refused DeviceFailed → new ≡ (old + 1) % 2 ^ 64) × ((told ≡ reply.Refused DeviceFailed → ⊥) → new ≡ old)
 
 -- Each event but Status is refused once the device failed; the status then says so.
 abbrev pub broken_status : SessionModel → Status

@@ -9,7 +9,7 @@ use Rattle.ng_layout.specs.Areas.{least_size}
 use Rattle.ng_layout.specs.Stands.{stands, IsWritten}
 use Rattle.ng_layout.specs.Storable.{IsStorable}
 use Rattle.ng_journal.specs.Journal.{CountsFailure}
-use Rattle.ng_journal.specs.Recover.{RecoverResult, RecoverSpec, recover_rig, recover_fault}
+use Rattle.ng_journal.specs.Recover.{RecoverResult, RecoverSpec, IsRecoveryFault, recover_rig, recover_fault}
 use Rattle.ng_journal.specs.Recovery.{recovered_of}
 use Rattle.ng_session.specs.Session.{resting}
 use Rattle.ng_core.specs.Model.{ControllerModel, IsAtRestWith}
@@ -48,6 +48,7 @@ pub record PowerOnSpec {R : Type 0} (honest : R → Type 0) (trace : R → Trace
   pub rests : IfOk answer (λ c. (c.journal.broken ≡ false) × (c.session ≡ resting c.journal.saved) × IsStorable c.session.stored)
   pub equipment : IfOk answer (λ c. c.equipment ≡ record { tools = settings.tools; geometry = settings.geometry })
   pub small : sectors rig < least_size → IsErrAnd answer (λ e. (e.0 ≡ NotFormatted) × (e.1 ≡ rig))
+  pub faults : IfErr answer (λ e. IsRecoveryFault e.0)
   pub memory : IfErr answer (λ e. e.0 ≡ OutOfMemory → e.1 ≡ rig)
   pub size : sectors (power_on_rig answer) ≡ sectors rig
   pub failures : CountsFailure (power_on_fault answer) (failed rig) (failed (power_on_rig answer))

@@ -38,7 +38,7 @@ impl<R: Rig, A: Allocator + Copy + Drop> Model for Controller<R, A> {
 
 impl<R: Rig, A: Allocator + Copy + Drop> Controller<R, A> {
     ghost use Rattle.ng_session.specs.Session.{load, load_refusal, IsQuiet};
-    ghost use Rattle.ng_core.specs.Events.{CarriesOut, CarriesOutEvent, Handles, reply_to, broken_answer};
+    ghost use Rattle.ng_core.specs.Events.{CarriesOut, CarriesOutEvent, Handles, TellsFailure, reply_to, broken_answer};
     ghost use Rattle.ng_core.specs.Headline.{AddsToPast};
 
     /// The device as it is, with no call to it.
@@ -75,6 +75,7 @@ impl<R: Rig, A: Allocator + Copy + Drop> Controller<R, A> {
     /// interpreter, whenever power is cut.
     pub fn on(&mut self, event: Event<A>) -> Reply
         ensures serves { self.old.journal.broken ≡ false → Handles R.honest R.trace R.failed R.sectors event result self.old self.new }
+        ensures failures { self.old.journal.broken ≡ false → TellsFailure result (R.failed self.old.journal.rig) (R.failed self.new.journal.rig) }
         ensures broken { self.old.journal.broken ≡ true → (self.new ≡ self.old) × (result ≡ reply_to (broken_answer self.old.session event)) }
         ensures equipment { self.new.equipment ≡ self.old.equipment }
         ensures size { R.sectors self.new.journal.rig ≡ R.sectors self.old.journal.rig }
@@ -86,6 +87,7 @@ impl<R: Rig, A: Allocator + Copy + Drop> Controller<R, A> {
     /// Answers an event that stays the caller's as `on` does: the same is refused, and the same is left.
     pub(crate) fn reply(&mut self, event: &Event<A>) -> Reply
         ensures serves { self.old.journal.broken ≡ false → Handles R.honest R.trace R.failed R.sectors event.now result self.old self.new }
+        ensures failures { self.old.journal.broken ≡ false → TellsFailure result (R.failed self.old.journal.rig) (R.failed self.new.journal.rig) }
         ensures broken { self.old.journal.broken ≡ true → (self.new ≡ self.old) × (result ≡ reply_to (broken_answer self.old.session event.now)) }
         ensures equipment { self.new.equipment ≡ self.old.equipment }
         ensures size { R.sectors self.new.journal.rig ≡ R.sectors self.old.journal.rig }

@@ -28,6 +28,8 @@ fn next_line<R: Rig, A: Allocator + Copy + Drop>(
     ensures next { IfHonest (R.honest journal.old.rig) (R.honest journal.new.rig) ((standing : DurableState) → IsDurablyAt (R.trace journal.old.rig) journal.old standing
         → NextLineSpec result journal.new standing session.now (R.trace journal.old.rig) (R.trace journal.new.rig)) }
     ensures within { IfOk result (λ next. next ≤ session.now.stored.length) }
+    // without honesty too
+    ensures beyond { IfOk result (λ next. session.now.stored.place ≤ next) }
     ensures unread { (IsProgramsLine session.now.stored.half → ⊥) → (journal.new ≡ journal.old) × IfOk result (λ next. (program : List ℕ) → IsNextLineAt program session.now next) }
     ensures ledger { ledger_of journal.new ≡ ledger_of journal.old }
     ensures broken { IsBrokenBy result journal.new.broken }

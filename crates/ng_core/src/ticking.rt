@@ -1,6 +1,6 @@
 //! A Tick: held, or the first of these that applies. An item is handed out, an approach or a segment is opened, an entry is committed, a
 //! line is begun.
-ghost use Rattle.std.specs.Prelude.{◌≡◌, ◌≤◌, ℕ, List, true, false, IfErr, IsSome};
+ghost use Rattle.std.specs.Prelude.{◌≡◌, ◌≤◌, ℕ, List, true, false, Some, IfOk, IfErr, IfSome, IsSome};
 ghost use Rattle.ng_num.specs.declared.fault.Fault.TheVariants.{DeviceFailed};
 ghost use Rattle.ng_rig.specs.Calls.{IfHonest};
 ghost use Rattle.ng_layout.specs.Storable.{IsStorableHalf};
@@ -9,6 +9,8 @@ ghost use Rattle.ng_journal.specs.Journal.{IsDurablyAt, CountsFailure, IsBrokenB
 ghost use Rattle.ng_journal.specs.ProgramLines.{FirstKindSpec};
 ghost use Rattle.ng_journal.specs.Storing.{ledger_of};
 ghost use Rattle.ng_text.specs.LinesBefore.{IsTrueOf, IsLineBetween};
+ghost use Rattle.ng_text.specs.Percent.{first_kind};
+ghost use Rattle.ng_text.specs.Programs.{lines_before};
 
 use crate::controller::Controller;
 use ng_canon::Item;
@@ -21,6 +23,17 @@ use ng_text::LinesBefore;
 use ng_words::LineKind;
 use std::alloc::Allocator;
 
+/// The kind of the first line before a place that isn't blank, where that is known: no line is before the beginning.
+fn known_before(known: &LinesBefore, place: u64) -> Option<LineKind>
+    ensures holds { (program : List ℕ) → IsTrueOf program known.now → IfSome result (λ kind. kind ≡ first_kind (lines_before program place)) }
+    ensures beginning { place ≡ 0 → result ≡ Some LineKind.Blank }
+{
+    if place == 0 {
+        return Some(LineKind::Blank);
+    }
+    known.first_before(place)
+}
+
 /// The kind of the first line before a place of the program in force that isn't blank. Nothing is read where it is known.
 fn first_kind_before<R: Rig, A: Allocator + Copy + Drop>(
     journal: &mut Journal<R, A>,
@@ -31,13 +44,15 @@ fn first_kind_before<R: Rig, A: Allocator + Copy + Drop>(
     requires place { place ≤ journal.old.saved.length }
     ensures kind { IfHonest (R.honest journal.old.rig) (R.honest journal.new.rig) ((standing : DurableState) → IsDurablyAt (R.trace journal.old.rig) journal.old standing → IsTrueOf standing.program known.now
         → FirstKindSpec result journal.new standing place (R.trace journal.old.rig) (R.trace journal.new.rig)) }
+    // without honesty too
+    ensures beginning { place ≡ 0 → IfOk result (λ kind. kind ≡ LineKind.Blank) }
     ensures ledger { ledger_of journal.new ≡ ledger_of journal.old }
     ensures broken { IsBrokenBy result journal.new.broken }
     ensures errors { IfErr result (λ e. e ≡ DeviceFailed) }
     ensures size { R.sectors journal.new.rig ≡ R.sectors journal.old.rig }
     ensures failures { CountsFailure result (R.failed journal.old.rig) (R.failed journal.new.rig) }
 {
-    match known.first_before(place) {
+    match known_before(known, place) {
         Some(kind) => Ok(kind),
         None => journal.first_kind(place),
     }
@@ -61,7 +76,7 @@ fn lines_after(
 }
 
 impl<R: Rig, A: Allocator + Copy + Drop> Controller<R, A> {
-    ghost use Rattle.ng_session.specs.Session.{open_part_of, tick, open_next, end, begin, opening_of, has_work, IsBetweenLines};
+    ghost use Rattle.ng_session.specs.Session.{open_part_of, tick, open_next, end, begin, opening_of, has_work, is_running, IsBetweenLines};
     ghost use Rattle.ng_text.specs.Programs.{program_line_at};
     ghost use Rattle.ng_core.specs.Events.{CarriesOut, handing};
 
@@ -142,7 +157,8 @@ impl<R: Rig, A: Allocator + Copy + Drop> Controller<R, A> {
 
     /// Begins the program's line at its place, or stops the program at the end of its text.
     fn begin(&mut self) -> Result<Reply, Fault>
-        requires { self.old.journal.broken ≡ false }
+        requires whole { self.old.journal.broken ≡ false }
+        requires runs { is_running self.old.session.activity ≡ true }
         ensures { CarriesOut R.honest R.trace R.failed R.sectors (Unit {0}) (Unit {0}) (Unit {0})
             (λ program. begin self.old.equipment program self.old.session (program_line_at program self.old.session.stored.place)) result self.old self.new }
     {

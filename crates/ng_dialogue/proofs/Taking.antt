@@ -2,7 +2,7 @@
 use Rattle.std.proofs.Common.{◌≡◌, ◌≢◌, ℕ, Bool, true, false, List, [], ◌∷◌, ◌++◌, Option, None, Some, option_map, if◌then◌else◌, take, drop, refl, sym, ap, ◌∙◌, subst, append_assoc, append-nil, inl, inr}
 use Rattle.std.specs.Io.KnownBytes.{Consumes, IsAtEnd, Keeps, prepend_known}
 use Rattle.ng_text.specs.Newlines.{HasNoNewline}
-use Rattle.ng_block.proofs.Streams.{Consumes-trans}
+use Rattle.ng_text.proofs.Streams.{Consumes-trans}
 use Rattle.ng_text.proofs.LineLemmas.{HasNoNewline-append}
 use Rattle.ng_dialogue.specs.Reading.{TakesLine}
 use Rattle.ng_dialogue.specs.Waiting.{EndHolds, Waiting, text_left}

@@ -1,28 +1,17 @@
 //! Lines of a reader.
-ghost use Rattle.std.specs.Prelude.{◌≡◌, ◌∷◌, ◌++◌, ◌+◌, ◌≤◌, ℕ, List, [], take, true, false, MatchOption, IfOk};
+ghost use Rattle.std.specs.Prelude.{◌≡◌, ◌++◌, take, true, false, IfOk};
 ghost use Rattle.std.specs.Io.KnownBytes.{IsAtEnd};
-ghost use Rattle.ng_text.specs.Newlines.{HasNoNewline};
 ghost use Rattle.ng_dialogue.specs.Reading.{TakesLine};
 ghost use Rattle.ng_dialogue.specs.Waiting.{EndHolds, text_left};
 
 use crate::input::{Input, ReadError};
 use arrayvec::ArrayVec;
-use memchr::memchr;
 use ng_commands::LONGEST;
+use ng_text::split_line;
 use std::io::Read;
 
 /// The most bytes that are kept of a line: one more than a command's have.
 pub const KEPT_COMMAND: usize = 301;
-
-/// The bytes before the first newline; none where there is no newline.
-fn front_of(bytes: &[u8]) -> Option<&[u8]>
-    ensures { MatchOption result (HasNoNewline bytes.now) (λ line. HasNoNewline line.now × ((rest : List ℕ) × (bytes.now ≡ line.now ++ 10 ∷ rest))) }
-{
-    match memchr(b'\n', bytes) {
-        Some(end) => Some(&bytes[..end]),
-        None => None,
-    }
-}
 
 /// Keeps what there is room for.
 fn keep(line: &mut ArrayVec<u8, KEPT_COMMAND>, bytes: &[u8])
@@ -53,8 +42,8 @@ pub fn next_line<R: Read>(
             return Ok(!line.is_empty());
         }
         let waiting = input.waiting();
-        match front_of(waiting) {
-            Some(front) => {
+        match split_line(waiting) {
+            Some((front, _)) => {
                 let taken = front.len() + 1;
                 keep(line, front);
                 input.consume(taken);

@@ -12,7 +12,7 @@ use Rattle.ng_dry.specs.Private.Parts.{DryRunModel, outcome_by, due, Goes, Break
 use Rattle.ng_dry.specs.declared.ending.Ended.{Ended}
 use Rattle.ng_dry.specs.declared.ending.Ended.TheVariants as ended
 use Rattle.ng_dry.specs.declared.ending.DryFault.{DryFault}
-use Rattle.ng_block.proofs.Streams.{Appends-trans}
+use Rattle.ng_text.proofs.Streams.{Appends-trans}
 
 -- what a line gives
 due-line : (here start : DryRunModel) (line : List ℕ) (r : Result Done Fault) (more : List (List ℕ)) → here ≡ start → executed_after here.terms here.first here.setup line ≡ r

@@ -11,7 +11,7 @@ use Rattle.ng_dry.specs.declared.ending.Ended.{Ended}
 use Rattle.ng_dry.specs.declared.ending.DryFault.{DryFault}
 use Rattle.ng_block.proofs.LineLemmas.{executed_after-long}
 use Rattle.ng_text.proofs.LineLemmas.{lines-newline, lines-long}
-use Rattle.ng_block.proofs.Streams.{Appends-trans}
+use Rattle.ng_text.proofs.Streams.{Appends-trans}
 
 -- a part that begins elsewhere
 pub LineStepSpec-from : {X : Type 0} (a b : Option (List ℕ)) (f before g : X → Output) (r : Result (Option Ended) DryFault) → ((more : X) → before more ≡ f more) → LineStepSpec a b f g r → LineStepSpec a b before g r

@@ -160,7 +160,7 @@ fn push_line<A: Allocator + Copy + Drop>(
 }
 
 /// Appends the command of a straight move. A refused growth leaves the text as it was.
-#[inline]
+#[inline(always)]
 fn print_straight<A: Allocator + Copy + Drop>(
     text: &mut Vec<u8, A>,
     line: &StraightMove,
@@ -176,7 +176,7 @@ fn print_straight<A: Allocator + Copy + Drop>(
 }
 
 /// Prints a straight move, likewise, without a command of it.
-#[inline]
+#[inline(always)]
 fn put_straight<W: Write, A: Allocator + Copy + Drop>(
     text: &mut Vec<u8, A>,
     writer: &mut W,

@@ -117,7 +117,7 @@ impl<'a, A: Allocator + Copy + Drop> DryRun<'a, A> {
             return Err(broken);
         }
         self.state
-            .take_over(effect.machine, effect.changes.as_slice());
+            .take_over(&effect.machine, effect.changes.as_slice());
         self.first = first_kind(self.first, line);
         if is_end(effect.stop) {
             return match self.end(writer, Ended::Done) {

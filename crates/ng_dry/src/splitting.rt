@@ -1,5 +1,5 @@
 //! The bytes of a program as they come, split into lines.
-ghost use Rattle.std.specs.Prelude.{◌≡◌, ◌+◌, ◌<◌, ◌≤◌, ◌^◌, ◌∷◌, ◌++◌, [], ℕ, List, length, MatchOption};
+ghost use Rattle.std.specs.Prelude.{◌≡◌, ◌+◌, ◌<◌, ◌≤◌, ◌^◌, ◌∷◌, ◌++◌, [], ℕ, List, length};
 ghost use Rattle.std.specs.Str.Lines.{strip_carriage_return};
 ghost use Rattle.ng_dry.specs.Dry.{Output, DryRunSpec, onto, refused};
 ghost use Rattle.ng_dry.specs.Private.Parts.{LineStepSpec, rest_of};
@@ -9,8 +9,8 @@ ghost use Rattle.ng_num.specs.declared.fault.Fault.TheVariants.{LineTooLong};
 use crate::ending::{DryFault, Ended};
 use crate::run::DryRun;
 use arrayvec::ArrayVec;
-use memchr::memchr;
 use ng_num::Fault;
+use ng_text::split_line;
 use std::alloc::Allocator;
 use std::io::Write;
 
@@ -31,16 +31,6 @@ fn without_return(line: &[u8]) -> &[u8]
     match line.last() {
         Some(b'\r') => &line[..line.len() - 1],
         _ => line,
-    }
-}
-
-/// The first line of bytes, and what stands after its newline; none where there is no newline.
-fn split_line(bytes: &[u8]) -> Option<(&[u8], &[u8])>
-    ensures { MatchOption result (HasNoNewline bytes.now) (λ x. HasNoNewline x.0.now × (bytes.now ≡ x.0.now ++ 10 ∷ x.1.now)) }
-{
-    match memchr(b'\n', bytes) {
-        Some(end) => Some((&bytes[..end], &bytes[end + 1..])),
-        None => None,
     }
 }
 

@@ -1,7 +1,8 @@
 -- The line of a program at a place, from the sectors in which it lies.
-use Rattle.std.proofs.Common.{◌≡◌, ◌⊎◌, inl, inr, ℕ, zero, suc, ◌+◌, ◌-◌, ◌*◌, ◌/◌, ◌%◌, ◌<◌, ◌≤◌, ◌==◌, min, max, Bool, true, false, List, [], ◌∷◌, ◌++◌, length, take, drop, get_or, slice_index, Option, Some, None, Result, Ok, Err, if◌then◌else◌, refl, sym, ◌∙◌, ap, subst, arith, length-drop}
+use Rattle.std.proofs.Common.{◌≡◌, ◌⊎◌, inl, inr, ℕ, zero, suc, ◌+◌, ◌-◌, ◌*◌, ◌/◌, ◌%◌, ◌<◌, ◌≤◌, ◌==◌, min, max, Bool, true, false, List, [], ◌∷◌, ◌++◌, length, take, drop, get_or, slice_index, Option, Some, None, Result, Ok, Err, if◌then◌else◌, refl, sym, ◌∙◌, ap, subst, arith, length-append, length-drop}
 use Rattle.std.specs.Prelude.{IsOk, OnOk, ◌↔◌}
 use Rattle.std.proofs.lemmas.Bool.Decides.{nat_tests}
+use Rattle.std.proofs.Math.Seq.{take-append_seam}
 use Rattle.std.proofs.lemmas.List.{take_all, take-take, take-append-drop, get_or-take, get_or-drop, length-take-le}
 use Rattle.std.proofs.lemmas.List.FromFn.{fill_by_all, get_or-map-range_with_len, length-map-range_with_len}
 use Rattle.ng_rig.specs.Trace.{Trace, reads}
@@ -89,8 +90,15 @@ part_is row sector size place n from to full is place_in begins ends from_is to_
       whole = omega (arith, long, length-text size row);
     }
 
-pub is_newline : (b : ℕ) → (b == 10) ≡ true → b ≡ 10
-is_newline b is = grind (arith, nat_tests)
+newline_at : (front rest : List ℕ) → slice_index (front ++ 10 ∷ rest) (length front) ≡ 10
+newline_at [] rest = refl
+newline_at (b ∷ front) rest = newline_at front rest
+
+-- a part that goes on after its first line
+pub line_taken : (old new front rest : List ℕ) → HasNoNewline front → new ≡ take 257 (old ++ front) → TakesPart old new (front ++ 10 ∷ rest) (Some (length front))
+line_taken old new front rest plain kept =
+    let same = take-append_seam front (10 ∷ rest) in
+    (subst HasNoNewline (sym same) plain, omega (arith, length-append front (10 ∷ rest)), newline_at front rest, kept ∙ ap (λ l. take 257 (old ++ l)) (sym same))
 
 -- Parts taken one after the other.
 keep_keep : (n : ℕ) (xs ys : List ℕ) → take n (take n xs ++ ys) ≡ take n (xs ++ ys)

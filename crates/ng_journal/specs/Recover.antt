@@ -1,7 +1,7 @@
 -- What `recover` answers (own).
-use Rattle.std.specs.Prelude.{◌≡◌, ℕ, Result, Ok, Err, IfOk}
+use Rattle.std.specs.Prelude.{◌≡◌, ◌⊎◌, ℕ, Result, Ok, Err, IfOk}
 use Rattle.ng_num.specs.declared.fault.Fault.{Fault}
-use Rattle.ng_num.specs.declared.fault.Fault.TheVariants.{DeviceFailed, OutOfMemory}
+use Rattle.ng_num.specs.declared.fault.Fault.TheVariants.{NotFormatted, Damaged, CountersUsed, DeviceFailed, OutOfMemory}
 use Rattle.ng_rig.specs.Trace.{Image, Trace, Synced, reads, items}
 use Rattle.ng_rig.specs.Continuation.{IsContinuation}
 use Rattle.ng_layout.specs.Stands.{stands, IsWritten}
@@ -17,6 +17,11 @@ RecoverResult R = Result (JournalModel R × StoredModel) (Fault × R)
 abbrev pub recover_rig : {R : Type 0} → RecoverResult R → R
 recover_rig (Ok x) = x.0.rig
 recover_rig (Err e) = e.1
+
+-- what may keep a device of any content from being recovered: memory is wanting, the device failed, it isn't formatted, it is damaged, or its
+-- epochs are used up
+abbrev pub IsRecoveryFault : Fault → Type 0
+IsRecoveryFault fault = (fault ≡ OutOfMemory) ⊎ ((fault ≡ DeviceFailed) ⊎ ((fault ≡ NotFormatted) ⊎ ((fault ≡ Damaged) ⊎ (fault ≡ CountersUsed))))
 
 -- the journal goes on under the epoch after the one in force
 abbrev pub BeginsEpoch : {R : Type 0} → JournalModel R → Image → Type 0

@@ -8,7 +8,7 @@ ghost use Rattle.ng_params.specs.Numbers.{parameter_count};
 ghost use Rattle.ng_layout.specs.Storable.{IsStorableHalf, IsStorable};
 ghost use Rattle.ng_layout.specs.Stored.{DurableState};
 ghost use Rattle.ng_log.specs.AtEnd.{no_records};
-ghost use Rattle.ng_journal.specs.Recover.{RecoverSpec, recover_rig, recover_fault};
+ghost use Rattle.ng_journal.specs.Recover.{RecoverSpec, IsRecoveryFault, recover_rig, recover_fault};
 ghost use Rattle.ng_journal.specs.Journal.{CountsFailure};
 ghost use Rattle.ng_journal.specs.Loads.{StoresLoad};
 ghost use Rattle.ng_journal.specs.Storing.{Commit, Open, Load, UsesUp, IsFullFor, StoresRecord, ledger_of};
@@ -60,6 +60,7 @@ pub fn recover<R: Rig, A: Allocator + Copy + Drop>(
     ensures journal { IfOk result (λ x. (x.0.broken ≡ false) × (x.0.saved ≡ x.1) × IsStorable x.1) }
     ensures end { IfOk result (λ x. x.0.end ≡ no_records) }
     ensures small { R.sectors rig < least_size → IsErrAnd result (λ e. (e.0 ≡ NotFormatted) × (e.1 ≡ rig)) }
+    ensures faults { IfErr result (λ e. IsRecoveryFault e.0) }
     ensures memory { IfErr result (λ e. e.0 ≡ OutOfMemory → e.1 ≡ rig) }
     ensures size { let after = recover_rig result in R.sectors after ≡ R.sectors rig }
     ensures failures { let after = recover_rig result in CountsFailure (recover_fault result) (R.failed rig) (R.failed after) }

@@ -11,10 +11,10 @@ ghost use Rattle.ng_text.specs.Programs.{program_line_at};
 ghost use Rattle.ng_journal.specs.Private.LineParts.{IsPart, TakesPart, IsEnd};
 
 use arrayvec::ArrayVec;
-use memchr::memchr;
 use ng_layout::{BYTES, program_first};
 use ng_log::read_sector;
 use ng_rig::{Failed, Rig};
+use ng_text::split_line;
 use std::marker::Model;
 
 /// How many bytes of a line are kept: one more than a line may have.
@@ -51,10 +51,10 @@ fn take_part(text: &mut ArrayVec<u8, KEPT_LINE>, part: &[u8]) -> Option<usize>
     ensures found { IfSome result (λ end. end < length part.now) }
     ensures taken { TakesPart text.old.items text.new.items part.now result }
 {
-    match memchr(b'\n', part) {
-        Some(end) => {
-            keep(text, &part[..end]);
-            Some(end)
+    match split_line(part) {
+        Some((front, _)) => {
+            keep(text, front);
+            Some(front.len())
         }
         None => {
             keep(text, part);
@@ -85,7 +85,7 @@ fn drop_return(text: &mut ArrayVec<u8, KEPT_LINE>)
     }
 }
 
-/// ReadSpec the line at a place of the program in an area up to its newline, and keeps its bytes; after how many of them the
+/// Reads the line at a place of the program in an area up to its newline, and keeps its bytes; after how many of them the
 /// newline stands, where there is one.
 fn find_end<R: Rig>(
     rig: &mut R,

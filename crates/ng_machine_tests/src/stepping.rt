@@ -380,7 +380,7 @@ fn first_items(alloc: Global, effect: &Effect) -> Text {
 /// All items of a line's first segment; the state becomes that after the line.
 fn line_items(alloc: Global, state: &mut State<Global>, line: &str) -> Text {
     let effect = execute(state, line.as_bytes(), &Tools::new(), &Geometry::standard())?;
-    state.take_over(effect.machine, effect.changes.as_slice());
+    state.take_over(&effect.machine, effect.changes.as_slice());
     first_items(alloc, &effect)
 }
 

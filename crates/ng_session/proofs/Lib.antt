@@ -8,3 +8,5 @@ pub mod Keeping
 pub mod Limits
 pub mod Standing
 pub mod Refusing
+pub mod OwnFaults
+pub mod OwnReplies

@@ -98,7 +98,7 @@ fn after_block<A: Allocator + Copy + Drop>(
     ensures next { IfOk result (λ x. IsNextEntry stored.now x) }
 {
     let mut state = stored.state.copy()?;
-    state.take_over(effect.machine, effect.changes.as_slice());
+    state.take_over(&effect.machine, effect.changes.as_slice());
     Ok(Stored {
         entries: stored.entries + 1,
         state,

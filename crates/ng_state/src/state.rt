@@ -46,10 +46,11 @@ impl<A: Allocator + Copy + Drop> State<A> {
     }
 
     /// Takes over another machine, and changes of parameters in their order, in place. It takes no memory.
-    pub fn take_over(&mut self, machine: Machine, changes: &[Change])
-        ensures { self.new ≡ changed self.old machine changes.now }
+    #[inline]
+    pub fn take_over(&mut self, machine: &Machine, changes: &[Change])
+        ensures { self.new ≡ changed self.old machine.now changes.now }
     {
         self.params.apply(changes);
-        self.machine = machine;
+        self.machine = *machine;
     }
 }

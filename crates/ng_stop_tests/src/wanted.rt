@@ -162,7 +162,7 @@ impl Wanted {
         let effect = execute(&self.stored.state, text.as_bytes(), &tools, &geometry)?;
         self.stored
             .state
-            .take_over(effect.machine, effect.changes.as_slice());
+            .take_over(&effect.machine, effect.changes.as_slice());
         self.stored.place = place;
         self.half = None;
         Ok(())

@@ -1,3 +1,4 @@
+pub mod Streams
 pub mod LineLemmas
 pub mod PercentLemmas
 pub mod FirstLineLemmas

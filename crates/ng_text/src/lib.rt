@@ -12,7 +12,9 @@
 mod first_line;
 mod lines_before;
 mod percent;
+mod split;
 
 pub use first_line::FirstLine;
 pub use lines_before::LinesBefore;
 pub use percent::{PercentLine, first_kind, missing_end, percent_line_at};
+pub use split::split_line;

@@ -55,7 +55,7 @@ fn a_line_changes_its_fields_and_no_others(rt: HostRuntime) -> Result<(), Fail> 
     assert!(rt; matches!(segments.next(), Some(Segment::Line(_))));
     assert_eq!(rt; segments.next(), None);
     assert_eq!(rt; segments.outputs(), state.machine.outputs);
-    state.take_over(effect.machine, effect.changes.as_slice());
+    state.take_over(&effect.machine, effect.changes.as_slice());
     assert_eq!(rt; state.machine, machine);
     Ok(())
 }
@@ -77,7 +77,7 @@ fn a_program_end_selects_the_first_system(rt: HostRuntime) -> Result<(), Fail> {
     assert!(rt; has_commands(&effect, &printed));
     let switches = [Segment::Switch(Outputs::fresh())];
     assert!(rt; has_segments(&effect, &switches));
-    state.take_over(effect.machine, effect.changes.as_slice());
+    state.take_over(&effect.machine, effect.changes.as_slice());
     assert_eq!(rt; state.machine.modes.motion, Motion::Feed);
     assert_eq!(rt; state.copy()?.machine, state.machine);
     Ok(())

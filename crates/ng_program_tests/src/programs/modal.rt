@@ -78,7 +78,7 @@ fn coolants_add_up_and_stops_are_told_apart(rt: HostRuntime) -> Result<(), Fail>
         assert_eq!(rt; effect.machine.outputs.mist, *mist);
         assert_eq!(rt; effect.machine.outputs.flood, *flood);
         assert_eq!(rt; effect.stop, *stop);
-        state.take_over(effect.machine, effect.changes.as_slice());
+        state.take_over(&effect.machine, effect.changes.as_slice());
     }
     Ok(())
 }

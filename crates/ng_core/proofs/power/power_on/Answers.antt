@@ -1,4 +1,9 @@
-use Rattle.std.proofs.Common.{refl, sym, ◌∙◌, ap, subst}
+use Rattle.std.proofs.Common.{◌≡◌, ℕ, Ok, Err, refl, sym, ◌∙◌, ap, subst}
+use Rattle.std.specs.Result.{IsErrAnd}
+use Rattle.ng_num.specs.declared.fault.Fault.{Fault}
+use Rattle.ng_rig.specs.Trace.{Trace}
+use Rattle.ng_settings.specs.declared.standard.Settings.{Settings}
+use Rattle.ng_core.specs.Powers.{PowerOnResult, PowerOnSpec}
 use Rattle.ng_rig.proofs.Promise.{meaning}
 use Rattle.ng_layout.specs.Storable.{IsStorable}
 use Rattle.ng_session.specs.Entries.{Equipment}
@@ -18,10 +23,32 @@ returns-clause-gives g c =
       rests = (journal.0, c.new.ensures ∙ ap (λ x. resting x) (sym journal.1), subst IsStorable (sym stored) journal.2);
       equipment = refl;
       small = λ few. absurd (c.in_ok-journal.ensures.small few);
+      faults = tt;
       memory = tt;
       size = c.in_ok-journal.ensures.size;
       failures = c.in_ok-journal.ensures.failures;
     }
+
+-- what is told of a fault is told of the answer that gives it
+gave : {R : Type 0} (honest : R → Type 0) (trace : R → Trace) (failed sectors : R → ℕ) (settings : Settings) (rig : R) (e : Fault × R) (answer : PowerOnResult R)
+    → IsErrAnd answer (λ f. f ≡ e) → (let err : PowerOnResult R = Err e in PowerOnSpec honest trace failed sectors settings rig err) → PowerOnSpec honest trace failed sectors settings rig answer
+gave honest trace failed sectors settings rig e (Ok c) is spec = absurd is
+gave {R} honest trace failed sectors settings rig e (Err f) is spec =
+    subst (λ (x : Fault × R). let err : PowerOnResult R = Err x in PowerOnSpec honest trace failed sectors settings rig err) (sym is) spec
+
+pub returns-in_err-journal-clause-gives : goal.returns-in_err-journal-clause-gives
+returns-in_err-journal-clause-gives g c =
+    let told = c.in_err-journal.ensures in
+    gave g.R.Rig.honest g.R.Rig.trace g.R.Rig.failed g.R.Rig.sectors c.args.settings c.args.rig c.in_err-journal.field-0.0 c.from_residual.result c.from_residual.ensures.1 (record {
+      powers = λ room. meaning (told.recovers room) (λ r. record { recovers = r; rests = λ written. tt });
+      rests = tt;
+      equipment = tt;
+      small = told.small;
+      faults = told.faults;
+      memory = told.memory;
+      size = told.size;
+      failures = told.failures;
+    })
 
 pub returns-clause-past : goal.returns-clause-past
 returns-clause-past g c = λ room.

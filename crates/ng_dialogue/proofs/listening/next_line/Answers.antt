@@ -22,10 +22,10 @@ returns-in-Some-clause-some g c =
     let old = text_left c.args.input.now (g.R.Read.remaining c.args.reader.now) in
     let now = text_left c.loop-turn.input (g.R.Read.remaining c.loop-turn.reader) in
     let front = c.in-Some.front.now in
-    let rest = c.in-Some.ensures.1.0 in
+    let rest = c.in-Some.field-0-1.now in
     let going : c.in_ok-fill.field-0 ≡ true = search rules in
     let on : c.fill.new.self.ended ≡ false = (c.in_ok-fill.ensures.some going).1 in
-    let parts : c.fill.new.self.bytes ≡ front ++ 10 ∷ rest = sym c.waiting-waiting.ensures ∙ c.in-Some.ensures.1.1 in
+    let parts : c.fill.new.self.bytes ≡ front ++ 10 ∷ rest = sym c.waiting-waiting.ensures ∙ c.in-Some.ensures.1 in
     let left : c.consume.new.self.bytes ≡ rest = left_bytes c.fill.new.self c.consume.new.self (length front + 1) c.consume.ensures ∙ ap (drop (length front + 1)) parts ∙ after_newline front rest (length front + 1) refl in
     λ more. line_ends old now (g.R.Read.remaining c.fill.new.reader) 301 so_far.0 front rest c.keep.new.line.items c.fill.new.self c.consume.new.self so_far.3 c.fill.ensures.keeps on
     (left_on c.fill.new.self c.consume.new.self (length front + 1) c.consume.ensures on) so_far.1 c.in-Some.ensures.0 parts left (c.keep.ensures ∙ ap (λ l. take 301 (l ++ front)) so_far.2 ∙ cut_on 301 so_far.0 front)

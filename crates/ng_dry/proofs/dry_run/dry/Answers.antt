@@ -3,7 +3,7 @@ use Rattle.ng_block.specs.Program.{TermsModel}
 use Rattle.ng_dry.specs.Dry.{output_of}
 use Rattle.ng_dry.specs.Private.Parts.{DryRunModel, rest_of}
 use Rattle.ng_dry.proofs.CloseLemmas.{Consumes-none, run_end, run_breaks, run_ends, run_goes, run_stops, Goes-begun}
-use Rattle.ng_block.proofs.Streams.{Consumes-nil, Consumes-trans}
+use Rattle.ng_text.proofs.Streams.{Consumes-nil, Consumes-trans}
 use Rattle.ng_dry.proofs.dry_run.dry.Goals as goal
 
 pub returns-in-Err-read : goal.returns-in-Err-read

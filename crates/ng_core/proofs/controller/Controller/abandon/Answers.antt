@@ -27,7 +27,7 @@ pub returns-in-Some : goal.returns-in-Some
 returns-in-Some g c =
     let old : ControllerModel g.row.R.Denot = c.args.self.now in
     let refused : Some c.in-Some.fault ≡ abandon_refusal old.session = subst (λ (x : ControllerModel g.row.R.Denot). Some c.in-Some.fault ≡ abandon_refusal x.session) c.self.view_is c.in-Some.ensures in
-    carried_refused g.R.Rig.honest g.R.Rig.trace g.R.Rig.failed g.R.Rig.sectors ⊥ (abandon_refusal old.session ≡ None) ⊥ c.in-Some.fault (λ (program : List ℕ). abandon program old.session) old c.requires
+    carried_refused g.R.Rig.honest g.R.Rig.trace g.R.Rig.failed g.R.Rig.sectors ⊥ (abandon_refusal old.session ≡ None) ⊥ c.in-Some.fault (λ (program : List ℕ). abandon program old.session) old c.requires (λ none. none)
     (λ program. ap (λ (o : Option Fault). abandon_unless program old.session o) refused)
 
 pub returns-then-is_count_used_up : goal.returns-then-is_count_used_up
@@ -50,7 +50,7 @@ returns-in-Some-abandoned g c =
     subst (λ (x : ControllerModel g.row.R.Denot). with_decoded_state x.session.stored c.in-Some-abandoned.report x.session.stored.length ≡ after_abandon x.session.stored) c.self.view_is c.in-Some-abandoned.ensures.value in
     carried_to g.R.Rig.honest g.R.Rig.trace g.R.Rig.failed g.R.Rig.sectors ⊥ ⊥ (Unit {0}) (abandon_refusal old.session ≡ None) ⊥ ⊥
     (λ (program : List ℕ). commits program Abandoned (record old.session { stored = with_decoded_state old.session.stored c.in-Some-abandoned.report old.session.stored.length })) (λ (program : List ℕ). abandon program old.session)
-    c.keep.result old c.keep.new.self (λ m. m) (λ u. none) (λ e. e)
+    c.keep.result old c.keep.new.self (λ m. m) (λ u. none) (λ e. e) (λ e. e)
     (λ program. ap (λ (y : StoredModel). commits program Abandoned (let s : SessionModel = record old.session { stored = y } in s)) is ∙ sym (ap (λ (o : Option Fault). abandon_unless program old.session o) none))
     (c.keep.ensures Abandoned (λ saved. refl))
 

@@ -4,7 +4,7 @@ use Rattle.ng_session.specs.Entries.{Equipment}
 use Rattle.ng_session.specs.Session.{SessionModel, step, TakesMemory, AsksDevice, NeedsProgramLine}
 use Rattle.ng_core.specs.Model.{ControllerModel}
 use Rattle.ng_core.specs.Events.{CarriesOutEvent}
-use Rattle.ng_core.proofs.Quiet.{still_step}
+use Rattle.ng_core.proofs.Quiet.{still_step, quiet_unread}
 use Rattle.ng_core.proofs.Carrying.{carried_still, carried_short}
 use Rattle.ng_core.proofs.controller.Controller.answer.Goals as goal
 
@@ -34,5 +34,5 @@ returns-clause-carried g c =
     let whole = ap (λ (x : ControllerModel g.row.R.Denot). x.journal.broken) c.self.view_is ∙ c.requires.whole in
     subst (λ (x : ControllerModel g.row.R.Denot). CarriesOutEvent g.R.Rig.honest g.R.Rig.trace g.R.Rig.failed g.R.Rig.sectors c.args.event.now (Ok c.in_ok-answer.field-0) x new) c.self.view_is
     (carried_still g.R.Rig.honest g.R.Rig.trace g.R.Rig.failed g.R.Rig.sectors (TakesMemory equipment old.session c.args.event.now) (AsksDevice equipment old.session c.args.event.now) (NeedsProgramLine equipment old.session c.args.event.now)
-    c.in_ok-answer.field-0 (λ (program : List ℕ). step equipment program old.session c.args.event.now) old new whole
+    c.in_ok-answer.field-0 (λ (program : List ℕ). step equipment program old.session c.args.event.now) old new whole (quiet_unread equipment old.session c.args.event.now c.requires.quiet)
     (λ program. still_step equipment program old.session c.args.event.now c.requires.quiet) refl refl refl c.in_ok-answer.ensures.reply c.in_ok-answer.ensures.next)

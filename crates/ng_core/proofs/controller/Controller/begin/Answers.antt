@@ -5,23 +5,23 @@ use Rattle.ng_text.specs.Programs.{ProgramLineModel, program_line_at}
 use Rattle.ng_journal.specs.Journal.{CountsFailure}
 use Rattle.ng_journal.specs.Storing.{Ledger, ledger_of}
 use Rattle.ng_session.specs.Entries.{Equipment}
-use Rattle.ng_session.specs.Session.{SessionModel, begin}
+use Rattle.ng_session.specs.Session.{SessionModel, begin, is_running}
 use Rattle.ng_session.specs.declared.reply.Reply.{Reply}
 use Rattle.ng_core.specs.Model.{ControllerModel}
-use Rattle.ng_core.proofs.Beginning.{Reading, finding_both, does_begin, does_begin_short, does_begin_unfound, does_begin_unread, known_after}
+use Rattle.ng_core.proofs.Beginning.{Reading, finding_both, does_begin, does_begin_short, does_begin_unfound, does_begin_unread, begun_line, known_after}
 use Rattle.ng_core.proofs.Carrying.{carried_as, carried_lost, carried_read}
 use Rattle.ng_core.proofs.Hindering.{unused_begin}
 use Rattle.ng_core.proofs.controller.Controller.begin.Goals as goal
 
 pub invariant_of-self-in-Some : goal.invariant_of-self-in-Some
 invariant_of-self-in-Some g c =
-    let whole = ap (λ (x : ControllerModel g.row.R.Denot). x.journal.broken) c.self.view_is ∙ c.requires in
+    let whole = ap (λ (x : ControllerModel g.row.R.Denot). x.journal.broken) c.self.view_is ∙ c.requires.whole in
     λ _. c.in_ok-reply-in-Some.ensures.stored ∙ c.self.invariant whole ∙ sym (ap (λ (l : Ledger). l.saved) (c.in_ok-line.ensures.ledger ∙ c.in_ok-first.ensures.ledger))
 
 pub invariant_of-self-in-None : goal.invariant_of-self-in-None
 invariant_of-self-in-None g c =
     let same : c.break_off.new.self.stored ≡ c.self.inside.session.stored = ap (λ (s : SessionModel). s.stored) (c.break_off.ensures.next []) in
-    let whole = ap (λ (x : ControllerModel g.row.R.Denot). x.journal.broken) c.self.view_is ∙ c.requires in
+    let whole = ap (λ (x : ControllerModel g.row.R.Denot). x.journal.broken) c.self.view_is ∙ c.requires.whole in
     λ _. same ∙ c.self.invariant whole ∙ sym (ap (λ (l : Ledger). l.saved) (c.in_ok-line.ensures.ledger ∙ c.in_ok-first.ensures.ledger))
 
 pub returns-in_err-first : goal.returns-in_err-first
@@ -79,6 +79,8 @@ returns-in_ok-reply-in-Some g c =
           c.in_ok-first.ensures.kind reading)
           (known_after c.self.inside.lines c.lines_after-self-inside.result c.place-place.result c.in_ok-first.first line c.lines_after-self-inside.ensures) c.in_ok-reply-in-Some.ensures.reply c.in_ok-reply-in-Some.ensures.next;
       comes = λ none. absurd (none tt);
+      line = λ read. begun_line c.in_ok-reply-in-Some.reply (λ (program : List ℕ). begin equipment program old.session (program_line_at program old.session.stored.place)) c.in_ok-first.first (Some line) c.place-place.result old new (ap (λ (x : ControllerModel g.row.R.Denot). is_running x.session.activity) c.self.view_is ∙ c.requires.runs) c.place-place.ensures.value
+          c.in_ok-first.ensures.beginning c.in_ok-reply-in-Some.ensures.reply c.in_ok-reply-in-Some.ensures.next (c.in_ok-line.ensures.ledger ∙ c.in_ok-first.ensures.ledger);
       hindered = tt;
       broken = c.in_ok-line.ensures.broken;
       equipment = refl;
@@ -97,6 +99,8 @@ returns-in-None g c =
           (finding_both {E = Fault} {F = Fault} g.R.Rig.honest g.R.Rig.trace c.in_ok-first.first None c.self.inside.lines c.place-place.result c.self.inside.journal c.first_kind_before.new.journal c.program_line.new.self
           c.in_ok-first.ensures.kind reading) (λ program true_of _ _. true_of) c.break_off.ensures.reply (λ program _. c.break_off.ensures.next program);
       comes = λ none. absurd (none tt);
+      line = λ read. begun_line c.break_off.result (λ (program : List ℕ). begin equipment program old.session (program_line_at program old.session.stored.place)) c.in_ok-first.first None c.place-place.result old new (ap (λ (x : ControllerModel g.row.R.Denot). is_running x.session.activity) c.self.view_is ∙ c.requires.runs) c.place-place.ensures.value
+          c.in_ok-first.ensures.beginning c.break_off.ensures.reply (λ program kind. c.break_off.ensures.next program) (c.in_ok-line.ensures.ledger ∙ c.in_ok-first.ensures.ledger);
       hindered = tt;
       broken = c.in_ok-line.ensures.broken;
       equipment = refl;

@@ -46,6 +46,7 @@ returns g c =
       does = does_commit g.R.Rig.honest g.R.Rig.trace c.in_ok-commit.field-0 c.commit-2.result c.in-Some.after.now old new due
           (c.commit-2.ensures.reply block.0 block.1) (c.commit-2.ensures.next block.0 block.1) c.in_ok-commit.ensures.stops refl;
       comes = comes_commit ⊥ c.commit-2.result c.in-Some.after.now old new due (c.commit-2.ensures.reply block.0 block.1) (c.commit-2.ensures.next block.0 block.1);
+      line = λ none. absurd none;
       hindered = tt;
       broken = c.in_ok-commit.ensures.broken;
       equipment = refl;

@@ -1,4 +1,4 @@
-use Rattle.std.proofs.Common.{◌≡◌, ℕ, true, List, Option, Ok, refl, sym, ◌∙◌, ap, subst}
+use Rattle.std.proofs.Common.{◌≡◌, ℕ, true, false, List, Option, Ok, refl, sym, ◌∙◌, ap, subst}
 use Rattle.std.specs.Option.{is_some}
 use Rattle.ng_text.specs.Programs.{program_line_at}
 use Rattle.ng_session.specs.Entries.{Equipment}
@@ -8,7 +8,7 @@ use Rattle.ng_core.specs.Events.{CarriesOut}
 use Rattle.ng_core.proofs.Anyway.{comes_rest}
 use Rattle.ng_core.proofs.Carrying.{carried_to, by_some}
 use Rattle.ng_core.proofs.Choosing.{begins_there, by_none}
-use Rattle.ng_core.proofs.Hindering.{busy_block, busy_running}
+use Rattle.ng_core.proofs.Hindering.{busy_block, busy_unread, busy_running}
 use Rattle.ng_core.proofs.Ticks.{does_rest}
 use Rattle.ng_core.proofs.controller.Controller.end.Goals as goal
 
@@ -18,7 +18,7 @@ returns-then-is_some g c =
     let found = by_some _ _ c.after.result c.if-is_some.ensures c.after.ensures.after in
     let block : is_some old.session.current ≡ true = sym (ap (λ (x : ControllerModel g.row.R.Denot). is_some x.session.current) c.self.view_is) ∙ ap (λ (o : Option CurrentBlockModel). is_some o) found.1.1 in
     carried_to g.R.Rig.honest g.R.Rig.trace g.R.Rig.failed g.R.Rig.sectors ⊥ (IsBetweenLines old.session) (Unit {0}) (has_work old.session ≡ true) ⊥ (IsBetweenLines old.session) (λ (program : List ℕ). end old.equipment program old.session old.session.current) (λ (program : List ℕ). end old.equipment program old.session old.session.current) c.commit.result old c.commit.new.self
-    (λ none. absurd none) (λ u. busy_block (is_running old.session.activity) old.session.current block) (λ none. absurd none) (λ program. refl) c.commit.ensures
+    (λ none. absurd none) (λ u. busy_block (is_running old.session.activity) old.session.current block) (λ none. absurd none) (busy_unread old.session block) (λ program. refl) c.commit.ensures
 
 pub returns-then-is_running : goal.returns-then-is_running
 returns-then-is_running g c =
@@ -27,7 +27,7 @@ returns-then-is_running g c =
     let runs = sym (ap (λ (x : ControllerModel g.row.R.Denot). is_running x.session.activity) c.self.view_is) ∙ sym c.if-is_running.ensures in
     carried_to g.R.Rig.honest g.R.Rig.trace g.R.Rig.failed g.R.Rig.sectors (Unit {0}) (IsBetweenLines old.session) (Unit {0}) (has_work old.session ≡ true) (Unit {0}) (IsBetweenLines old.session)
     (λ (program : List ℕ). begin old.equipment program old.session (program_line_at program old.session.stored.place)) (λ (program : List ℕ). end old.equipment program old.session old.session.current) c.begin.result old c.begin.new.self
-    (λ u. (none, runs)) (λ u. busy_running (is_running old.session.activity) (is_some old.session.current) runs) (λ u. (none, runs))
+    (λ u. (none, runs)) (λ u. busy_running (is_running old.session.activity) (is_some old.session.current) runs) (λ u. (none, runs)) (λ between. tt)
     (λ program. sym (begins_there old.equipment program old.session none runs)) c.begin.ensures
 
 pub returns : goal.returns
@@ -40,6 +40,7 @@ returns g c =
     (record {
       does = does_rest g.R.Rig.honest g.R.Rig.trace c.rest.result old none (sym c.if-is_running.ensures) c.rest.ensures;
       comes = comes_rest (IsBetweenLines old.session) c.rest.result old none (sym c.if-is_running.ensures) c.rest.ensures;
+      line = λ read. absurd (let z : false ≡ true = c.if-is_running.ensures ∙ read.1 in cc);
       hindered = tt;
       broken = whole;
       equipment = refl;

@@ -29,6 +29,7 @@ returns g c =
     carried_as g.R.Rig.honest g.R.Rig.trace g.R.Rig.failed g.R.Rig.sectors (λ (x : ControllerModel g.row.R.Denot). ⊥) (λ (x : ControllerModel g.row.R.Denot). Unit {0}) (λ (x : ControllerModel g.row.R.Denot). ⊥) (λ (x : ControllerModel g.row.R.Denot) (program : List ℕ). handing c.args.item program x.session) (Ok reply.Moved) c.args.self.now old new c.self.view_is (record {
       does = hands_item g.R.Rig.honest g.R.Rig.trace c.in_ok-hand_out.field-0 c.args.item old new refl c.in_ok-hand_out.ensures.stops refl;
       comes = comes_by ⊥ reply.Moved (λ program. handing c.args.item program old.session) old new (λ program. refl) (λ program. refl);
+      line = λ none. absurd none;
       hindered = tt;
       broken = c.in_ok-hand_out.ensures.broken;
       equipment = refl;

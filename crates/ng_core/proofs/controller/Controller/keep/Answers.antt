@@ -37,6 +37,7 @@ returns-in-Ok g c = λ entry committed.
     carried_as g.R.Rig.honest g.R.Rig.trace g.R.Rig.failed g.R.Rig.sectors (λ (x : ControllerModel g.row.R.Denot). ⊥) (λ (x : ControllerModel g.row.R.Denot). Unit {0}) (λ (x : ControllerModel g.row.R.Denot). ⊥) (λ (x : ControllerModel g.row.R.Denot) (program : List ℕ). commits program entry (record x.session { stored = with_decoded_state x.session.stored c.args.report x.session.stored.length })) (Ok (reply.Done c.behind-self.inside.entries)) c.args.self.now old new c.self.view_is (record {
       does = keeps g.R.Rig.honest g.R.Rig.trace c.in-Ok.field-0 (reply.Done c.behind-self.inside.entries) c.stored-2.result.now entry next old new stored counted c.exchange-before.ensures.next c.in-Ok.ensures.stops refl;
       comes = comes_by ⊥ (reply.Done c.behind-self.inside.entries) (λ program. commits program entry next) old new (λ program. counted) (λ program. c.exchange-before.ensures.next);
+      line = λ none. absurd none;
       hindered = tt;
       broken = c.in-Ok.ensures.broken;
       equipment = refl;

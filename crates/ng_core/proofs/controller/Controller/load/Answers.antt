@@ -32,7 +32,7 @@ returns-in-Some g c =
     let refused : Some c.in-Some.fault ≡ load_refusal old.session c.args.text.now =
     subst (λ (x : ControllerModel g.row.R.Denot). Some c.in-Some.fault ≡ load_refusal x.session c.args.text.now) c.self.view_is c.in-Some.ensures.value in
     carried_refused g.R.Rig.honest g.R.Rig.trace g.R.Rig.failed g.R.Rig.sectors (load_refusal old.session c.args.text.now ≡ None) (load_refusal old.session c.args.text.now ≡ None) ⊥ c.in-Some.fault
-    (λ (program : List ℕ). load program old.session c.args.text.now) old c.requires (λ program. ap (λ (o : Option Fault). load_unless program old.session c.args.text.now o) refused)
+    (λ (program : List ℕ). load program old.session c.args.text.now) old c.requires (λ none. none) (λ program. ap (λ (o : Option Fault). load_unless program old.session c.args.text.now o) refused)
 
 pub returns-in_err-stored : goal.returns-in_err-stored
 returns-in_err-stored g c =
@@ -70,6 +70,7 @@ returns g c =
       does = does_load g.R.Rig.honest g.R.Rig.trace c.in_ok-load_program.field-0 c.load.result c.in_ok-stored.stored c.args.text.now old new free c.in_ok-stored.ensures.value
           c.load.ensures.reply c.load.ensures.next c.in_ok-load_program.ensures.stops (c.none-self-inside.ensures.holds c.args.text.now);
       comes = comes_load ⊥ c.load.result c.in_ok-stored.stored c.args.text.now old new free c.in_ok-stored.ensures.value c.load.ensures.reply c.load.ensures.next;
+      line = λ none. absurd none;
       hindered = tt;
       broken = c.in_ok-load_program.ensures.broken;
       equipment = refl;

@@ -36,6 +36,7 @@ returns g c =
     carried_as g.R.Rig.honest g.R.Rig.trace g.R.Rig.failed g.R.Rig.sectors (λ (x : ControllerModel g.row.R.Denot). ⊥) (λ (x : ControllerModel g.row.R.Denot). Unit {0}) (λ (x : ControllerModel g.row.R.Denot). ⊥) (λ (x : ControllerModel g.row.R.Denot) (program : List ℕ). opening c.args.half program x.equipment x.session) (Ok c.open.result) c.args.self.now old new c.self.view_is (record {
       does = opens g.R.Rig.honest g.R.Rig.trace c.in_ok-open_segment.field-0 c.open.result c.args.half old new c.open.ensures.reply c.open.ensures.next (c.self.invariant whole) c.in_ok-open_segment.ensures.stops refl;
       comes = comes_by ⊥ c.open.result (λ program. opening c.args.half program equipment old.session) old new (λ program. c.open.ensures.reply) (λ program. c.open.ensures.next);
+      line = λ none. absurd none;
       hindered = tt;
       broken = c.in_ok-open_segment.ensures.broken;
       equipment = refl;

@@ -1,4 +1,5 @@
 use Rattle.std.proofs.Common.{Ok, Err, refl}
+use Rattle.ng_core.proofs.Failing.{tells_failure}
 use Rattle.ng_core.proofs.controller.Controller.reply.Goals as goal
 
 pub returns-in-Ok-clause-serves : goal.returns-in-Ok-clause-serves
@@ -8,3 +9,11 @@ returns-in-Ok-clause-serves g c =
 pub returns-in-Err-clause-serves : goal.returns-in-Err-clause-serves
 returns-in-Err-clause-serves g c =
     λ whole. record { answer = Err c.in-Err.fault; told_is = refl; carried = c.in-Err.ensures.carried whole }
+
+pub returns-in-Ok-clause-failures : goal.returns-in-Ok-clause-failures
+returns-in-Ok-clause-failures g c =
+    λ whole. tells_failure g.R.Rig.honest g.R.Rig.trace g.R.Rig.failed g.R.Rig.sectors c.args.event.now (Ok c.in-Ok.reply) c.args.self.now c.handle.new.self (c.in-Ok.ensures.carried whole)
+
+pub returns-in-Err-clause-failures : goal.returns-in-Err-clause-failures
+returns-in-Err-clause-failures g c =
+    λ whole. tells_failure g.R.Rig.honest g.R.Rig.trace g.R.Rig.failed g.R.Rig.sectors c.args.event.now (Err c.in-Err.fault) c.args.self.now c.handle.new.self (c.in-Err.ensures.carried whole)

@@ -8,7 +8,7 @@ use Rattle.ng_session.specs.declared.reply.Reply.TheVariants as reply
 use Rattle.ng_core.specs.Model.{ControllerModel}
 use Rattle.ng_core.proofs.Carrying.{carried_as, carried_lost, carried_read}
 use Rattle.ng_core.proofs.Hindering.{unused_resume}
-use Rattle.ng_core.proofs.Resuming.{does_not_resume, comes_not_resumed, does_resume, comes_resume, does_resume_short, does_resume_unread}
+use Rattle.ng_core.proofs.Resuming.{does_not_resume, comes_not_resumed, does_resume, comes_resume, refused_unread, resumed_line, does_resume_short, does_resume_unread}
 use Rattle.ng_core.proofs.controller.Controller.resume.Goals as goal
 
 pub returns-in-Some : goal.returns-in-Some
@@ -20,6 +20,7 @@ returns-in-Some g c =
     carried_as g.R.Rig.honest g.R.Rig.trace g.R.Rig.failed g.R.Rig.sectors (λ (x : ControllerModel g.row.R.Denot). resume_refusal x.equipment x.session ≡ None) (λ (x : ControllerModel g.row.R.Denot). (resume_refusal x.equipment x.session ≡ None) × IsProgramsLine x.session.stored.half) (λ (x : ControllerModel g.row.R.Denot). (resume_refusal x.equipment x.session ≡ None) × IsProgramsLine x.session.stored.half) (λ (x : ControllerModel g.row.R.Denot) (program : List ℕ). resume x.equipment program x.session) (Ok (reply.Refused c.in-Some.fault)) c.args.self.now old new c.self.view_is (record {
       does = does_not_resume g.R.Rig.honest g.R.Rig.trace c.in-Some.fault old new c.in-Some.ensures.refusal refl refl c.in-Some.ensures.same;
       comes = comes_not_resumed ((resume_refusal equipment old.session ≡ None) × IsProgramsLine old.session.stored.half) c.in-Some.fault old new c.in-Some.ensures.refusal c.in-Some.ensures.same;
+      line = λ read. absurd (refused_unread (resume_refusal equipment old.session) c.in-Some.fault c.in-Some.ensures.refusal read.0);
       hindered = tt;
       broken = whole;
       equipment = refl;
@@ -65,6 +66,8 @@ returns g c =
           (λ program is. (c.in_ok-resume.ensures.reply program is, c.in_ok-resume.ensures.next program is));
       comes = comes_resume c.in_ok-resume.field-0 c.in_ok-next.next old new c.resume_refusal.new.self c.in_default.ensures.same c.in_default.ensures.refusal (λ other. (c.in_ok-next.ensures.unread other).1)
           (λ program is. (c.in_ok-resume.ensures.reply program is, c.in_ok-resume.ensures.next program is));
+      line = λ read. resumed_line c.in_ok-resume.field-0 c.in_ok-next.next old new c.resume_refusal.new.self c.in_default.ensures.same read.0 read.1 c.in_ok-next.ensures.beyond
+          (λ program is. (c.in_ok-resume.ensures.reply program is, c.in_ok-resume.ensures.next program is)) c.in_ok-next.ensures.ledger;
       hindered = tt;
       broken = c.in_ok-next.ensures.broken;
       equipment = refl;

@@ -8,8 +8,8 @@ use Rattle.ng_core.proofs.controller.Controller.tick.Goals as goal
 pub returns-then-is_held : goal.returns-then-is_held
 returns-then-is_held g c =
     let old : ControllerModel g.row.R.Denot = c.args.self.now in
-    carried_held g.R.Rig.honest g.R.Rig.trace g.R.Rig.failed g.R.Rig.sectors ((old.session.held ≡ false) × IsBetweenLines old.session) ((old.session.held ≡ false) × (has_work old.session ≡ true)) ((old.session.held ≡ false) × IsBetweenLines old.session) old c.requires
-    (sym (ap (λ (x : ControllerModel g.row.R.Denot). x.session.held) c.self.view_is) ∙ sym c.if-is_held.ensures.held)
+    let held : old.session.held ≡ true = sym (ap (λ (x : ControllerModel g.row.R.Denot). x.session.held) c.self.view_is) ∙ sym c.if-is_held.ensures.held in
+    carried_held g.R.Rig.honest g.R.Rig.trace g.R.Rig.failed g.R.Rig.sectors ((old.session.held ≡ false) × IsBetweenLines old.session) ((old.session.held ≡ false) × (has_work old.session ≡ true)) ((old.session.held ≡ false) × IsBetweenLines old.session) old c.requires (λ read. absurd (let z : false ≡ true = sym read.0 ∙ held in cc)) held
 
 pub returns-in-Some : goal.returns-in-Some
 returns-in-Some g c =

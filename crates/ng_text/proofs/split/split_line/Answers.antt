@@ -1,7 +1,7 @@
 use Rattle.std.proofs.Common.{arith, add-one}
 use Rattle.ng_text.proofs.LineLemmas.{HasNoNewline-take, HasNoNewline-all, parted}
-use Rattle.ng_block.proofs.Streams.{rest_is}
-use Rattle.ng_dry.proofs.splitting.split_line.Goals as goal
+use Rattle.ng_text.proofs.Streams.{rest_is}
+use Rattle.ng_text.proofs.split.split_line.Goals as goal
 
 pub returns-in-Some : goal.returns-in-Some
 returns-in-Some c =

@@ -1,0 +1,162 @@
+-- What a session refuses, it refuses for its own causes: its replies tell neither of memory nor of a counter or a failed device.
+use Rattle.std.proofs.Common.{◌≡◌, ◌⊎◌, inl, inr, ◌+◌, ◌%◌, ◌^◌, ◌==◌, ℕ, Bool, true, false, not, ◌&&◌, ◌||◌, if◌then◌else◌, nat_lt, List, [], length, Option, Some, None, Result, Ok, Err, refl, sym, ◌∙◌, ap, subst}
+use Rattle.std.specs.Option.{is_some, is_none}
+use Rattle.ng_num.specs.declared.fault.Fault.{Fault}
+use Rattle.ng_num.specs.declared.fault.Fault.TheVariants as fault
+use Rattle.ng_num.specs.declared.fault.Fault.TheVariants.{DeviceFailed, CountersUsed, OutOfMemory}
+use Rattle.ng_num.specs.declared.point.Point.{Point}
+use Rattle.ng_words.specs.declared.start.LineKind.{LineKind}
+use Rattle.ng_words.specs.declared.start.LineKind.TheVariants.{Blank, Percent, Other}
+use Rattle.ng_text.specs.Percent.{first_kind, missing_end}
+use Rattle.ng_text.specs.Programs.{ProgramLineModel, lines_before, program_line_at}
+use Rattle.ng_block.specs.Effects.{Done}
+use Rattle.ng_canon.specs.Inside.{is_inside}
+use Rattle.ng_canon.specs.declared.item.Item.{Item}
+use Rattle.ng_layout.specs.Limits.{longest_program}
+use Rattle.ng_layout.specs.Stored.{HalfModel, StoredModel}
+use Rattle.ng_layout.specs.declared.half.Opened.{Opened}
+use Rattle.ng_layout.specs.declared.half.Opened.TheVariants as open_part
+use Rattle.ng_layout.specs.declared.half.Source.TheVariants as source
+use Rattle.ng_session.specs.Entries.{Equipment, done_of, done_again}
+use Rattle.ng_session.specs.Session.{CurrentBlockModel, SessionModel, Transition, step, start, hold, resume_held, mdi, mdi_by, refuses_mdi, load, load_unless, load_refusal, reference, reference_unless, reference_refusal, abandon, abandon_unless, abandon_refusal, resume, resume_half, resume_from, resume_by, tick, begin, begin_by, break_off, open_part_of, opening_of, opening_reply, item_of, commit, rest, idleness, accepts_load, is_at_rest, is_idle, is_running, if_some, hand_out, refuses, answers}
+use Rattle.ng_session.specs.declared.activity.Activity.{Activity}
+use Rattle.ng_session.specs.declared.activity.Activity.TheVariants as activity
+use Rattle.ng_session.specs.declared.event.Event.{Event}
+use Rattle.ng_session.specs.declared.event.Event.TheVariants as event
+use Rattle.ng_session.specs.declared.reply.Reply.{Reply}
+use Rattle.ng_session.specs.declared.reply.Reply.TheVariants as reply
+use Rattle.ng_session.proofs.OwnFaults.{is_own, RefusesOwn, own_done, own_again}
+
+-- a reply that is no refusal, or one for a cause of the session's own
+abbrev pub TellsOwn : Reply → Type 0
+TellsOwn (reply.Refused fault) = is_own fault ≡ true
+TellsOwn _ = Unit {0}
+
+own_if : (b : Bool) (x y : Transition) → TellsOwn x.reply → TellsOwn y.reply → TellsOwn (if b then x else y).reply
+own_if true x y one other = one
+own_if false x y one other = other
+
+own_idleness : (a : Activity) → TellsOwn (idleness a)
+own_idleness activity.Idle = tt
+own_idleness activity.Running = tt
+own_idleness activity.Stopped = tt
+
+-- ---- the operator's events
+
+own_start : (program : List ℕ) (s : SessionModel) → TellsOwn (start program s).reply
+own_start program s =
+    own_if (not (accepts_load s)) _ _ refl (own_if (not s.stored.setup.machine.point_known) _ _ refl (own_if (s.stored.length == 0) _ _ refl tt))
+
+own_hold : (program : List ℕ) (s : SessionModel) → TellsOwn (hold program s).reply
+own_hold program s = own_if (is_running s.activity || is_some s.current) _ _ tt (own_idleness s.activity)
+
+own_continue : (program : List ℕ) (s : SessionModel) → TellsOwn (resume_held program s).reply
+own_continue program s =
+    own_if s.held _ _ tt (own_if (is_running s.activity || is_some s.current) _ _ refl (own_if (is_idle s.activity) _ _ refl tt))
+
+own_mdi_by : (program : List ℕ) (s : SessionModel) (text : List ℕ) (r : Result Done Fault) → RefusesOwn r → TellsOwn (mdi_by program s text r).reply
+own_mdi_by program s text (Ok done) own = tt
+own_mdi_by program s text (Err fault) own = own
+
+own_mdi : (equipment : Equipment) (program : List ℕ) (s : SessionModel) (text : List ℕ) → TellsOwn (mdi equipment program s text).reply
+own_mdi equipment program s text =
+    own_if (refuses_mdi s) _ _ refl (own_if (not s.stored.setup.machine.point_known) _ _ refl
+    (own_mdi_by program s text (done_of equipment program s.stored source.Mdi text s.block_delete) (own_done equipment program s.stored source.Mdi text s.block_delete)))
+
+-- why something is refused, if it is
+abbrev IsOwn : Option Fault → Type 0
+IsOwn None = Unit {0}
+IsOwn (Some fault) = is_own fault ≡ true
+
+own_unless : (b : Bool) (one other : Option Fault) → IsOwn one → IsOwn other → IsOwn (if b then one else other)
+own_unless true one other first second = first
+own_unless false one other first second = second
+
+own_load_unless : (program : List ℕ) (s : SessionModel) (text : List ℕ) (o : Option Fault) → IsOwn o → TellsOwn (load_unless program s text o).reply
+own_load_unless program s text None own = tt
+own_load_unless program s text (Some fault) own = own
+
+own_load : (program : List ℕ) (s : SessionModel) (text : List ℕ) → TellsOwn (load program s text).reply
+own_load program s text =
+    own_load_unless program s text (load_refusal s text) (own_unless (not (accepts_load s)) _ _ refl (own_unless (nat_lt longest_program (length text)) _ _ refl tt))
+
+own_reference_unless : (program : List ℕ) (s : SessionModel) (point : Point) (o : Option Fault) → IsOwn o → TellsOwn (reference_unless program s point o).reply
+own_reference_unless program s point None own = tt
+own_reference_unless program s point (Some fault) own = own
+
+own_reference : (equipment : Equipment) (program : List ℕ) (s : SessionModel) (point : Point) → TellsOwn (reference equipment program s point).reply
+own_reference equipment program s point =
+    own_reference_unless program s point (reference_refusal equipment.geometry s point)
+    (own_unless (not (is_at_rest s)) _ _ refl (own_unless (not (is_inside equipment.geometry point)) _ _ refl tt))
+
+own_abandon_unless : (program : List ℕ) (s : SessionModel) (o : Option Fault) → IsOwn o → TellsOwn (abandon_unless program s o).reply
+own_abandon_unless program s None own = tt
+own_abandon_unless program s (Some fault) own = own
+
+own_abandon : (program : List ℕ) (s : SessionModel) → TellsOwn (abandon program s).reply
+own_abandon program s =
+    own_abandon_unless program s (abandon_refusal s) (own_unless (not (is_at_rest s)) _ _ refl (own_unless (is_none s.stored.half) _ _ refl tt))
+
+own_resume_by : (program : List ℕ) (s : SessionModel) (half : HalfModel) (from : Point) (r : Result Done Fault) → RefusesOwn r → TellsOwn (resume_by program s half from r).reply
+own_resume_by program s half from (Ok done) own = tt
+own_resume_by program s half from (Err fault) own = own
+
+own_resume_from : (equipment : Equipment) (program : List ℕ) (s : SessionModel) (half : HalfModel) (at : Option Point) → TellsOwn (resume_from equipment program s half at).reply
+own_resume_from equipment program s half None = refl
+own_resume_from equipment program s half (Some from) = own_resume_by program s half from (done_again equipment s.stored half.text) (own_again equipment s.stored half.text)
+
+own_resume_half : (equipment : Equipment) (program : List ℕ) (s : SessionModel) (half : Option HalfModel) → TellsOwn (resume_half equipment program s half).reply
+own_resume_half equipment program s None = refl
+own_resume_half equipment program s (Some half) = own_resume_from equipment program s half half.at
+
+own_resume : (equipment : Equipment) (program : List ℕ) (s : SessionModel) → TellsOwn (resume equipment program s).reply
+own_resume equipment program s = own_if (not (is_at_rest s)) _ _ refl (own_resume_half equipment program s s.stored.half)
+
+-- ---- a Tick
+
+own_if_some : {T : Type 0} (o : Option T) (found : T → Transition) (otherwise : Transition)
+    → ((x : T) → TellsOwn (found x).reply) → TellsOwn otherwise.reply → TellsOwn (if_some o found otherwise).reply
+own_if_some None found otherwise one other = other
+own_if_some (Some x) found otherwise one other = one x
+
+own_opening : (index : ℕ) (o : Option Opened) → TellsOwn (opening_reply index o)
+own_opening index None = tt
+own_opening index (Some open_part.Segment) = tt
+own_opening index (Some open_part.Approach) = tt
+
+own_missing_end : (kind : LineKind) → is_own (missing_end kind) ≡ true
+own_missing_end Blank = refl
+own_missing_end Percent = refl
+own_missing_end Other = refl
+
+own_begin_by : (program : List ℕ) (s : SessionModel) (line : ProgramLineModel) (r : Result Done Fault) → RefusesOwn r → TellsOwn (begin_by program s line r).reply
+own_begin_by program s line (Ok done) own = tt
+own_begin_by program s line (Err fault) own = own
+
+pub own_begin : (equipment : Equipment) (program : List ℕ) (s : SessionModel) (line : Option ProgramLineModel) → TellsOwn (begin equipment program s line).reply
+own_begin equipment program s None = own_missing_end (first_kind (lines_before program s.stored.place))
+own_begin equipment program s (Some line) =
+    own_begin_by program s line (done_of equipment program s.stored source.Program line.text s.block_delete) (own_done equipment program s.stored source.Program line.text s.block_delete)
+
+own_tick : (equipment : Equipment) (program : List ℕ) (s : SessionModel) → TellsOwn (tick equipment program s).reply
+own_tick equipment program s =
+    own_if s.held _ _ tt (own_if_some (item_of s.current) (λ item. hand_out program s item) _ (λ item. tt)
+    (own_if_some (opening_of s.current) (λ half. open_part_of equipment program s half) _ (λ half. own_opening half.index half.opened)
+    (own_if_some s.current (λ c. commit program s c) _ (λ c. tt)
+    (own_if (is_running s.activity) _ _ (own_begin equipment program s (program_line_at program s.stored.place)) (own_idleness s.activity)))))
+
+-- ---- an event
+
+pub own_step : {A : Type 0} (equipment : Equipment) (program : List ℕ) (s : SessionModel) (e : Event A) → TellsOwn (step equipment program s e).reply
+own_step equipment program s (event.Load text) = own_load program s text
+own_step equipment program s event.Start = own_start program s
+own_step equipment program s event.Hold = own_hold program s
+own_step equipment program s event.Continue = own_continue program s
+own_step equipment program s (event.Mdi text) = own_mdi equipment program s text
+own_step equipment program s (event.Reference point) = own_reference equipment program s point
+own_step equipment program s event.Resume = own_resume equipment program s
+own_step equipment program s event.Abandon = own_abandon program s
+own_step equipment program s (event.OptionalStop wanted) = tt
+own_step equipment program s (event.BlockDelete on) = tt
+own_step equipment program s event.Status = tt
+own_step equipment program s event.Tick = own_tick equipment program s
