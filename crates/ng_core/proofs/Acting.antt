@@ -10,10 +10,9 @@ use Rattle.ng_rig.proofs.Running.{stays, weaker}
 use Rattle.ng_layout.specs.Stored.{DurableState}
 use Rattle.ng_journal.specs.AtRest.{IsEither}
 use Rattle.ng_journal.specs.Journal.{JournalModel, IsDurablyAt, StandsFor, CommitSpec, JournalHandOutSpec}
-use Rattle.ng_text.specs.LinesBefore.{IsTrueOf}
+use Rattle.ng_session.specs.Planned.{KnownModel, IsKnownOf}
 use Rattle.ng_session.specs.Session.{SessionModel, Transition, session_status}
 use Rattle.ng_session.specs.Runs.{crash_in, session_of_transition}
-use Rattle.ng_text.specs.declared.lines_before.LinesBefore.{LinesBefore}
 use Rattle.ng_session.specs.declared.reply.Reply.{Reply}
 use Rattle.ng_core.specs.Model.{ControllerModel, IsAtRestWith, durable_state_of}
 use Rattle.ng_core.specs.Events.{IsCrashOfEither, IsCarriedOut, TouchesNothing, program_session_of}
@@ -30,8 +29,8 @@ rests_as : {R : Type 0} (trace : Trace) (a b : JournalModel R) (s t : DurableSta
 rests_as trace a b s t journal standing rests =
     subst (λ (j : JournalModel _). IsDurablyAt trace j t) (sym journal) (subst (λ (x : DurableState). IsDurablyAt trace a x) (sym standing) rests)
 
-pub known_as : (p q : List ℕ) (k l : LinesBefore) → q ≡ p → l ≡ k → IsTrueOf p k → IsTrueOf q l
-known_as p q k l program lines known = subst (λ (x : LinesBefore). IsTrueOf q x) (sym lines) (subst (λ (x : List ℕ). IsTrueOf x k) (sym program) known)
+pub known_as : (p q : List ℕ) (k l : KnownModel) → q ≡ p → l ≡ k → IsKnownOf p k → IsKnownOf q l
+known_as p q k l program lines known = subst (λ (x : KnownModel). IsKnownOf q x) (sym lines) (subst (λ (x : List ℕ). IsKnownOf x k) (sym program) known)
 
 -- nothing was asked of the device, and what is stored stays
 pub acts_quiet : {R : Type 0} (r : Reply) (out : Transition) (program : List ℕ) (old new : ControllerModel R) (trace_old trace_new : Trace)
@@ -55,7 +54,7 @@ acts_quiet r out program old new trace_old trace_new alive rests journal lines r
 
 -- lines were read, and what is stored stays
 pub acts_read : {R : Type 0} (r : Reply) (out : Transition) (program : List ℕ) (old new : ControllerModel R) (trace_old trace_new : Trace)
-    → trace_new ≡ trace_old → IsDurablyAt trace_new new.journal (durable_state_of program old.session) → IsTrueOf out.program new.lines → r ≡ out.reply → new.session ≡ out.next
+    → trace_new ≡ trace_old → IsDurablyAt trace_new new.journal (durable_state_of program old.session) → IsKnownOf out.program new.lines → r ≡ out.reply → new.session ≡ out.next
     → out.items ≡ [] → out.program ≡ program → out.next.stored ≡ old.session.stored
     → IsCarriedOut (Ok r) out program old new trace_old trace_new
 acts_read r out program old new trace_old trace_new alive rests known replied next none same stored = record {
@@ -75,7 +74,7 @@ acts_read r out program old new trace_old trace_new alive rests known replied ne
 
 -- memory or a count was wanting, and nothing was written
 pub acts_aside : {R : Type 0} (fault : Fault) (out : Transition) (program : List ℕ) (old new : ControllerModel R) (trace_old trace_new : Trace)
-    → (fault ≡ OutOfMemory) ⊎ (fault ≡ CountersUsed) → trace_new ≡ trace_old → new.session ≡ old.session → IsDurablyAt trace_new new.journal (durable_state_of program old.session) → IsTrueOf program new.lines
+    → (fault ≡ OutOfMemory) ⊎ (fault ≡ CountersUsed) → trace_new ≡ trace_old → new.session ≡ old.session → IsDurablyAt trace_new new.journal (durable_state_of program old.session) → IsKnownOf program new.lines
     → IsCarriedOut (Err fault) out program old new trace_old trace_new
 acts_aside {R} fault out program old new trace_old trace_new which alive same rests known =
     let Goal : Fault → Type 0 = λ f. IsCarriedOut (Err f) out program old new trace_old trace_new in
@@ -115,7 +114,7 @@ moved_stops trace_old trace_new before after given more is same stops =
 -- an entry or a segment was stored, or the device failed in that
 pub acts_moved : {R T : Type 0} (r : Reply) (v : T) (out : Transition) (program : List ℕ) (old new : ControllerModel R) (trace_old trace_new : Trace)
     → CommitSpec {E = Fault} (Ok v) new.journal (durable_state_of program old.session) (durable_state_of out.program out.next) trace_old trace_new
-    → IsTrueOf out.program new.lines → r ≡ out.reply → new.session ≡ out.next → out.items ≡ [] → (TouchesNothing r → ⊥)
+    → IsKnownOf out.program new.lines → r ≡ out.reply → new.session ≡ out.next → out.items ≡ [] → (TouchesNothing r → ⊥)
     → IsCarriedOut (Ok r) out program old new trace_old trace_new
 acts_moved r v out program old new trace_old trace_new moves known replied next none touched =
     let same = left_same out (items trace_old) none in
@@ -156,7 +155,7 @@ handed_stops trace_old trace_new before after given more same stops =
 -- an item was handed out, or the device failed in that
 pub acts_handed : {R T : Type 0} (r : Reply) (v : T) (item : Item) (out : Transition) (program : List ℕ) (old new : ControllerModel R) (trace_old trace_new : Trace)
     → JournalHandOutSpec {E = Fault} (Ok v) new.journal (durable_state_of program old.session) item trace_old trace_new
-    → IsTrueOf out.program new.lines → r ≡ out.reply → new.session ≡ out.next → out.items ≡ item ∷ [] → out.program ≡ program → out.next.stored ≡ old.session.stored → (TouchesNothing r → ⊥)
+    → IsKnownOf out.program new.lines → r ≡ out.reply → new.session ≡ out.next → out.items ≡ item ∷ [] → out.program ≡ program → out.next.stored ≡ old.session.stored → (TouchesNothing r → ⊥)
     → IsCarriedOut (Ok r) out program old new trace_old trace_new
 acts_handed r v item out program old new trace_old trace_new hands known replied next one same stored touched =
     let more : items trace_old ++ out.items ≡ items trace_old ++ item ∷ [] = ap (λ (l : List Item). items trace_old ++ l) one in

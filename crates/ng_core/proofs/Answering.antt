@@ -9,7 +9,7 @@ use Rattle.ng_rig.proofs.Promise.{meaning}
 use Rattle.ng_layout.specs.Stored.{StoredModel, DurableState}
 use Rattle.ng_journal.specs.Journal.{JournalModel, IsDurablyAt, CommitSpec}
 use Rattle.ng_session.specs.Entries.{after_load}
-use Rattle.ng_text.specs.LinesBefore.{IsTrueOf}
+use Rattle.ng_session.specs.Planned.{IsKnownOf}
 use Rattle.ng_session.specs.Session.{load, load_unless, load_refusal, loaded, step, IsQuiet}
 use Rattle.ng_session.specs.declared.event.Event.{Event}
 use Rattle.ng_session.specs.declared.reply.Reply.{Reply}
@@ -45,7 +45,7 @@ storing_program honest trace result saved text old journal is p =
 
 pub does_load : {R T : Type 0} (honest : R → Type 0) (trace : R → Trace) (v : T) (r : Reply) (saved : StoredModel) (text : List ℕ) (old new : ControllerModel R)
     → load_refusal old.session text ≡ None → saved ≡ after_load old.session.stored (length text) → r ≡ reply.Done saved.entries → new.session ≡ loaded old.session saved
-    → StoresProgram honest trace (Ok v) saved text old.journal new.journal → IsTrueOf text new.lines
+    → StoresProgram honest trace (Ok v) saved text old.journal new.journal → IsKnownOf text new.lines
     → IsCarriedOutIfHonest honest trace (Ok r) (λ program. load program old.session text) old new
 does_load honest trace v r saved text old new free is replied next p known =
     does_on honest trace (Ok r) (λ program. load_unless program old.session text None) _ old old new refl (λ program. sym (ap (λ (o : Option Fault). load_unless program old.session text o) free))

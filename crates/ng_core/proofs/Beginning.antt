@@ -13,6 +13,7 @@ use Rattle.ng_layout.specs.Stored.{DurableState}
 use Rattle.ng_journal.specs.Journal.{JournalModel, IsDurablyAt}
 use Rattle.ng_journal.specs.ProgramLines.{FirstKindSpec, ProgramLineSpec}
 use Rattle.ng_text.specs.LinesBefore.{IsTrueOf, IsLineBetween}
+use Rattle.ng_session.specs.Planned.{KnownModel, IsKnownOf}
 use Rattle.ng_journal.specs.Storing.{ledger_of}
 use Rattle.ng_session.specs.Session.{Transition, begin, is_running, session_status}
 use Rattle.ng_text.specs.declared.lines_before.LinesBefore.{LinesBefore}
@@ -54,17 +55,17 @@ pub record FindsBoth {R : Type 0} (first : LineKind) (line : Option ProgramLineM
   pub first_is : first ≡ first_kind (lines_before standing.program place)
   pub line_is : line ≡ program_line_at standing.program place
 
-abbrev pub FindingBoth : {R : Type 0} → (R → Type 0) → (R → Trace) → LineKind → Option ProgramLineModel → LinesBefore → ℕ → JournalModel R → JournalModel R → Type 0
+abbrev pub FindingBoth : {R : Type 0} → (R → Type 0) → (R → Trace) → LineKind → Option ProgramLineModel → KnownModel → ℕ → JournalModel R → JournalModel R → Type 0
 FindingBoth honest trace first line known place old new =
-    IfHonest (honest old.rig) (honest new.rig) ((standing : DurableState) → IsDurablyAt (trace old.rig) old standing → IsTrueOf standing.program known → FindsBoth first line new standing place (trace old.rig) (trace new.rig))
+    IfHonest (honest old.rig) (honest new.rig) ((standing : DurableState) → IsDurablyAt (trace old.rig) old standing → IsKnownOf standing.program known → FindsBoth first line new standing place (trace old.rig) (trace new.rig))
 
-pub finding_both : {R E F : Type 0} (honest : R → Type 0) (trace : R → Trace) (first : LineKind) (line : Option ProgramLineModel) (known : LinesBefore) (place : ℕ) (old mid new : JournalModel R)
-    → Finding {E = E} honest trace (Ok first) known place old mid → Reading {E = F} honest trace (Ok line) place mid new → FindingBoth honest trace first line known place old new
+pub finding_both : {R E F : Type 0} (honest : R → Type 0) (trace : R → Trace) (first : LineKind) (line : Option ProgramLineModel) (known : KnownModel) (place : ℕ) (old mid new : JournalModel R)
+    → Finding {E = E} honest trace (Ok first) known.before place old mid → Reading {E = F} honest trace (Ok line) place mid new → FindingBoth honest trace first line known place old new
 finding_both honest trace first line known place old mid new p q = record {
   keeps = λ h. q.keeps (p.keeps h);
   back = λ h. p.back (q.back h);
   holds = λ h standing rests true_of.
-      let f = p.holds h standing rests true_of in
+      let f = p.holds h standing rests true_of.0 in
       let l = q.holds (p.keeps h) standing f.at in
       record { same = l.same ∙ f.same; at = l.at; first_is = f.kind; line_is = l.line };
 }
@@ -74,7 +75,7 @@ begins c program = begin c.equipment program c.session (program_line_at program 
 
 pub does_begin : {R : Type 0} (honest : R → Type 0) (trace : R → Trace) (r : Reply) (first : LineKind) (line : Option ProgramLineModel) (place : ℕ) (old new : ControllerModel R)
     → place ≡ old.session.stored.place → FindingBoth honest trace first line old.lines place old.journal new.journal
-    → ((program : List ℕ) → IsTrueOf program old.lines → line ≡ program_line_at program place → first ≡ first_kind (lines_before program place) → IsTrueOf program new.lines)
+    → ((program : List ℕ) → IsKnownOf program old.lines → line ≡ program_line_at program place → first ≡ first_kind (lines_before program place) → IsKnownOf program new.lines)
     → ((program : List ℕ) → first ≡ first_kind (lines_before program old.session.stored.place) → r ≡ (begin old.equipment program old.session line).reply)
     → ((program : List ℕ) → first ≡ first_kind (lines_before program old.session.stored.place) → new.session ≡ (begin old.equipment program old.session line).next)
     → IsCarriedOutIfHonest honest trace (Ok r) (λ program. begin old.equipment program old.session (program_line_at program old.session.stored.place)) old new
@@ -94,7 +95,7 @@ does_begin honest trace r first line place old new at p known replied next = rec
 }
 
 -- the same of any device: a line was read, and a kind of the first line before it
-by_running : {R : Type 0} (out : List ℕ → Transition) (c : ControllerModel R) (program : List ℕ) (line : Option ProgramLineModel)
+pub by_running : {R : Type 0} (out : List ℕ → Transition) (c : ControllerModel R) (program : List ℕ) (line : Option ProgramLineModel)
     → is_running c.session.activity ≡ true → by_line out c program line ≡ begin c.equipment program c.session line
 by_running out c program line runs = rw runs refl
 
@@ -127,30 +128,35 @@ does_begin_short honest trace fault first line place out old new p is same lines
 
 -- the device failed in the first read, or in the second
 pub does_begin_unfound : {R E : Type 0} (honest : R → Type 0) (trace : R → Trace) (fault : Fault) (e : E) (place : ℕ) (out : List ℕ → Transition) (old new : ControllerModel R)
-    → Finding honest trace (Err e) old.lines place old.journal new.journal → fault ≡ DeviceFailed → new.session ≡ old.session
+    → Finding honest trace (Err e) old.lines.before place old.journal new.journal → fault ≡ DeviceFailed → new.session ≡ old.session
     → IsCarriedOutIfHonest honest trace (Err fault) out old new
 does_begin_unfound honest trace fault e place out old new p is same = record {
   keeps = p.keeps;
   back = p.back;
   holds = λ h program rests.
-      let f = p.holds h (durable_state_of program old.session) rests.0 rests.1 in
+      let f = p.holds h (durable_state_of program old.session) rests.0 rests.1.0 in
       acts_unread fault (out program) program old new (trace old.journal.rig) (trace new.journal.rig) is f.same (ap session_status same);
 }
 
 pub does_begin_unread : {R E F : Type 0} (honest : R → Type 0) (trace : R → Trace) (fault : Fault) (first : LineKind) (e : E) (place : ℕ) (out : List ℕ → Transition) (old new : ControllerModel R) (mid : JournalModel R)
-    → Finding {E = F} honest trace (Ok first) old.lines place old.journal mid → Reading honest trace (Err e) place mid new.journal → fault ≡ DeviceFailed → new.session ≡ old.session
+    → Finding {E = F} honest trace (Ok first) old.lines.before place old.journal mid → Reading honest trace (Err e) place mid new.journal → fault ≡ DeviceFailed → new.session ≡ old.session
     → IsCarriedOutIfHonest honest trace (Err fault) out old new
 does_begin_unread honest trace fault first e place out old new mid p q is same = record {
   keeps = λ h. q.keeps (p.keeps h);
   back = λ h. p.back (q.back h);
   holds = λ h program rests.
-      let f = p.holds h (durable_state_of program old.session) rests.0 rests.1 in
+      let f = p.holds h (durable_state_of program old.session) rests.0 rests.1.0 in
       let l = q.holds (p.keeps h) (durable_state_of program old.session) f.at in
       acts_unread fault (out program) program old new (trace old.journal.rig) (trace new.journal.rig) is (l.same ∙ f.same) (ap session_status same);
 }
 
 -- what is known after a line
-pub known_after : (known later : LinesBefore) (place : ℕ) (first : LineKind) (line : ProgramLineModel)
+known_after_line : (known later : LinesBefore) (place : ℕ) (first : LineKind) (line : ProgramLineModel)
     → ((program : List ℕ) → IsTrueOf program known → IsLineBetween program place first line.text line.next → IsTrueOf program later)
     → (program : List ℕ) → IsTrueOf program known → Some line ≡ program_line_at program place → first ≡ first_kind (lines_before program place) → IsTrueOf program later
-known_after known later place first line goes program true_of at kind = goes program true_of (record { line = sym at; kind = kind })
+known_after_line known later place first line goes program true_of at kind = goes program true_of (record { line = sym at; kind = kind })
+
+pub known_after : (known : KnownModel) (later : LinesBefore) (place : ℕ) (first : LineKind) (line : ProgramLineModel)
+    → ((program : List ℕ) → IsTrueOf program known.before → IsLineBetween program place first line.text line.next → IsTrueOf program later)
+    → (program : List ℕ) → IsKnownOf program known → Some line ≡ program_line_at program place → first ≡ first_kind (lines_before program place) → IsKnownOf program (let l : KnownModel = record known { before = later } in l)
+known_after known later place first line goes program known_of at kind = (known_after_line known.before later place first line goes program known_of.0 at kind, known_of.1)

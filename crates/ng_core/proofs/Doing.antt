@@ -7,7 +7,7 @@ use Rattle.ng_rig.specs.Trace.{Trace}
 use Rattle.ng_rig.specs.Calls.{IfHonest}
 use Rattle.ng_layout.specs.Stored.{DurableState}
 use Rattle.ng_journal.specs.Journal.{JournalModel, IsDurablyAt, CommitSpec, JournalHandOutSpec}
-use Rattle.ng_text.specs.LinesBefore.{IsTrueOf}
+use Rattle.ng_session.specs.Planned.{IsKnownOf}
 use Rattle.ng_session.specs.Session.{Transition, session_status}
 use Rattle.ng_session.specs.declared.reply.Reply.{Reply}
 use Rattle.ng_core.specs.Model.{ControllerModel, IsAtRestWith, durable_state_of}
@@ -45,7 +45,7 @@ Storing honest trace result out old journal =
     → CommitSpec result journal (durable_state_of program old.session) (durable_state_of (out program).program (out program).next) (trace old.journal.rig) (trace journal.rig))
 
 pub does_moved : {R T : Type 0} (honest : R → Type 0) (trace : R → Trace) (r : Reply) (v : T) (out : List ℕ → Transition) (old new : ControllerModel R)
-    → Storing honest trace (Ok v) out old new.journal → ((program : List ℕ) → IsTrueOf program old.lines → IsTrueOf (out program).program new.lines)
+    → Storing honest trace (Ok v) out old new.journal → ((program : List ℕ) → IsKnownOf program old.lines → IsKnownOf (out program).program new.lines)
     → ((program : List ℕ) → r ≡ (out program).reply) → ((program : List ℕ) → new.session ≡ (out program).next) → ((program : List ℕ) → (out program).items ≡ []) → (TouchesNothing r → ⊥)
     → IsCarriedOutIfHonest honest trace (Ok r) out old new
 does_moved honest trace r v out old new p known replied next none touched = record {

@@ -1,5 +1,5 @@
 -- The reply tells of a failed device exactly where that counted a failure: an event that is answered is refused for no failure of the device.
-use Rattle.std.proofs.Common.{◌≡◌, ◌⊎◌, inl, inr, ℕ, ◌+◌, ◌%◌, ◌^◌, Bool, true, false, if◌then◌else◌, List, [], Option, Some, None, Result, Ok, Err, refl, sym, ◌∙◌, ap, subst}
+use Rattle.std.proofs.Common.{◌≡◌, inl, inr, ℕ, Bool, true, false, if◌then◌else◌, List, [], Option, Result, Ok, Err, sym, ◌∙◌, ap, subst}
 use Rattle.ng_num.specs.declared.fault.Fault.{Fault}
 use Rattle.ng_num.specs.declared.fault.Fault.TheVariants.{DeviceFailed, CountersUsed, OutOfMemory}
 use Rattle.ng_rig.specs.Trace.{Trace}
@@ -12,7 +12,7 @@ use Rattle.ng_session.specs.declared.reply.Reply.{Reply}
 use Rattle.ng_session.specs.declared.reply.Reply.TheVariants as reply
 use Rattle.ng_core.specs.Model.{ControllerModel}
 use Rattle.ng_core.specs.Causes.{IsCausedBy, transition_of}
-use Rattle.ng_core.specs.Events.{CarriesOutEvent, IsAnsweredAnyway, IsAnsweredByLine, TellsFailure, by_line, reply_to}
+use Rattle.ng_core.specs.Events.{CarriesOutEvent, IsAnsweredByLine, TellsFailure, by_line, reply_to}
 use Rattle.ng_session.proofs.OwnReplies.{TellsOwn, own_begin, own_step}
 
 own_if : (b : Bool) (x y : Transition) → TellsOwn x.reply → TellsOwn y.reply → TellsOwn (if b then x else y).reply

@@ -23,3 +23,4 @@ pub mod Answering
 pub mod Powering
 pub mod Living
 pub mod Stopping
+pub mod Ahead

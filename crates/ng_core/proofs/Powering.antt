@@ -5,13 +5,12 @@ use Rattle.ng_layout.specs.Stored.{StoredModel, DurableState}
 use Rattle.ng_journal.specs.Journal.{JournalModel, IsDurablyAt}
 use Rattle.ng_journal.specs.Recover.{RecoverSpec, IsJournalRecovered}
 use Rattle.ng_session.specs.Entries.{Equipment}
-use Rattle.ng_text.specs.LinesBefore.{IsTrueOf}
+use Rattle.ng_session.specs.Planned.{KnownModel, IsKnownOf}
 use Rattle.ng_session.specs.Session.{SessionModel}
-use Rattle.ng_text.specs.declared.lines_before.LinesBefore.{LinesBefore}
 use Rattle.ng_core.specs.Model.{durable_state_of}
 use Rattle.ng_core.specs.Powers.{PowerOnSpecIfHonest, IsControllerRecovered}
 
-recovered : {R : Type 0} (journal : JournalModel R) (session : SessionModel) (lines : LinesBefore) (equipment : Equipment) (old new : Trace) → session.stored ≡ journal.saved → ((program : List ℕ) → IsTrueOf program lines)
+recovered : {R : Type 0} (journal : JournalModel R) (session : SessionModel) (lines : KnownModel) (equipment : Equipment) (old new : Trace) → session.stored ≡ journal.saved → ((program : List ℕ) → IsKnownOf program lines)
     → IsJournalRecovered journal old new → IsControllerRecovered {R = R} (record { journal = journal; session = session; lines = lines; equipment = equipment }) old new
 recovered journal session lines equipment old new stored known r =
     let same : r.standing ≡ durable_state_of r.standing.program session = λ i. record { saved = (r.rests.saved_is ∙ sym stored) i; program = r.standing.program } in
@@ -21,7 +20,7 @@ recovered journal session lines equipment old new stored known r =
       is = r.is ∙ ap (λ (s : DurableState). Ok s) same;
     }
 
-pub powered : {R : Type 0} (journal : JournalModel R) (saved : StoredModel) (session : SessionModel) (lines : LinesBefore) (equipment : Equipment) (old new : Trace) → session.stored ≡ saved → journal.saved ≡ saved → ((program : List ℕ) → IsTrueOf program lines)
+pub powered : {R : Type 0} (journal : JournalModel R) (saved : StoredModel) (session : SessionModel) (lines : KnownModel) (equipment : Equipment) (old new : Trace) → session.stored ≡ saved → journal.saved ≡ saved → ((program : List ℕ) → IsKnownOf program lines)
     → RecoverSpec (Ok (journal, saved)) old new → PowerOnSpecIfHonest {R = R} (Ok (record { journal = journal; session = session; lines = lines; equipment = equipment })) old new
 powered journal saved session lines equipment old new stored held known r = record {
   recovers = subst (λ (x : StoredModel). RecoverSpec (Ok (journal, x)) old new) (sym stored) r;

@@ -11,9 +11,8 @@ use Rattle.ng_layout.specs.declared.half.Opened.{Opened}
 use Rattle.ng_layout.specs.declared.half.Opened.TheVariants as open_part
 use Rattle.ng_journal.specs.Journal.{JournalModel, IsDurablyAt, CommitSpec, JournalHandOutSpec}
 use Rattle.ng_session.specs.Entries.{Equipment}
-use Rattle.ng_text.specs.LinesBefore.{IsTrueOf}
+use Rattle.ng_session.specs.Planned.{KnownModel, IsKnownOf}
 use Rattle.ng_session.specs.Session.{CurrentBlockModel, SessionModel, Transition, answers, tick, open_next, end, item_of, handed, opening_of, opening_reply, opened, committed, is_running, rest, session_status}
-use Rattle.ng_text.specs.declared.lines_before.LinesBefore.{LinesBefore}
 use Rattle.ng_session.specs.declared.reply.Reply.{Reply}
 use Rattle.ng_session.specs.declared.reply.Reply.TheVariants as reply
 use Rattle.ng_core.specs.Model.{ControllerModel, durable_state_of}
@@ -41,7 +40,7 @@ does_held honest trace c held =
     (does_still honest trace reply.Held (λ program. answers program reply.Held c.session) c c (λ program. still refl refl refl) refl refl (λ program. refl) (λ program. refl))
 
 -- what is known of the lines stays
-pub kept : (k l : LinesBefore) → l ≡ k → (program : List ℕ) → IsTrueOf program k → IsTrueOf program l
+pub kept : (k l : KnownModel) → l ≡ k → (program : List ℕ) → IsKnownOf program k → IsKnownOf program l
 kept k l same program known = known_as program program k l refl same known
 
 -- ---- an item

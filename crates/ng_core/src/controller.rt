@@ -8,8 +8,7 @@ use ng_journal::Journal;
 use ng_num::Fault;
 use ng_offsets::Tools;
 use ng_rig::Rig;
-use ng_session::{Condition, Event, Reply, Session, Status};
-use ng_text::LinesBefore;
+use ng_session::{Condition, Event, KnownLines, Reply, Session, Status};
 use std::alloc::Allocator;
 use std::marker::Model;
 
@@ -20,24 +19,24 @@ pub struct Controller<R: Rig, A: Allocator + Copy + Drop> {
     pub(crate) journal: Journal<R, A>,
     pub(crate) session: Session<A>,
     /// What is known of the lines of the program in force.
-    pub(crate) lines: LinesBefore,
+    pub(crate) lines: KnownLines<A>,
     pub(crate) tools: Tools,
     pub(crate) geometry: Geometry,
 }
 
 impl<R: Rig, A: Allocator + Copy + Drop> Model for Controller<R, A> {
-    ghost use Rattle.std.specs.Prelude.{◌≡◌, false};
-    ghost use Rattle.ng_core.specs.Model.{ControllerModel};
+    ghost use Rattle.ng_core.specs.Model.{ControllerModel, IsControllerInvariant};
 
     ghost Value = { ControllerModel R };
 
     ghost view = { λ c. record { journal = c.journal; session = c.session; lines = c.lines; equipment = record { tools = c.tools; geometry = c.geometry } } };
 
-    ghost invariant = { λ c. c.journal.broken ≡ false → c.session.stored ≡ c.journal.saved };
+    ghost invariant = { λ c. IsControllerInvariant c.journal c.session c.lines (record { tools = c.tools; geometry = c.geometry }) };
 }
 
 impl<R: Rig, A: Allocator + Copy + Drop> Controller<R, A> {
     ghost use Rattle.ng_session.specs.Session.{load, load_refusal, IsQuiet};
+    ghost use Rattle.ng_session.specs.Planned.{drops_plan};
     ghost use Rattle.ng_core.specs.Events.{CarriesOut, CarriesOutEvent, Handles, TellsFailure, reply_to, broken_answer};
     ghost use Rattle.ng_core.specs.Headline.{AddsToPast};
 
@@ -108,6 +107,16 @@ impl<R: Rig, A: Allocator + Copy + Drop> Controller<R, A> {
         if self.broken() {
             return self.answer_broken(event);
         }
+        self.lines.forget_for(event);
+        self.carry_out(event)
+    }
+
+    /// The same of a whole device. What was read ahead is dropped already where it doesn't come any more after the event.
+    fn carry_out(&mut self, event: &Event<A>) -> Result<Reply, Fault>
+        requires whole { self.old.journal.broken ≡ false }
+        requires alone { drops_plan event.now ≡ true → self.old.lines.ahead ≡ [] }
+        ensures { CarriesOutEvent R.honest R.trace R.failed R.sectors event.now result self.old self.new }
+    {
         match event {
             Event::Load(text) => self.load(text.bytes()),
             Event::Reference(point) => self.reference(point),
@@ -149,7 +158,8 @@ impl<R: Rig, A: Allocator + Copy + Drop> Controller<R, A> {
 
     /// Loads a program, once that is stored.
     fn load(&mut self, text: &[u8]) -> Result<Reply, Fault>
-        requires { self.old.journal.broken ≡ false }
+        requires whole { self.old.journal.broken ≡ false }
+        requires alone { self.old.lines.ahead ≡ [] }
         ensures { CarriesOut R.honest R.trace R.failed R.sectors (load_refusal self.old.session text.now ≡ None) (load_refusal self.old.session text.now ≡ None) ⊥ (λ program. load program self.old.session text.now) result self.old self.new }
     {
         if let Some(fault) = self.session.load_refusal(text) {
@@ -157,7 +167,7 @@ impl<R: Rig, A: Allocator + Copy + Drop> Controller<R, A> {
         }
         let stored = self.session.loading(text)?;
         self.journal.load_program(text, &stored)?;
-        self.lines = LinesBefore::none();
+        self.lines.forget();
         Ok(self.session.load(stored))
     }
 
@@ -165,6 +175,7 @@ impl<R: Rig, A: Allocator + Copy + Drop> Controller<R, A> {
     fn answer(&mut self, event: &Event<A>) -> Result<Reply, Fault>
         requires whole { self.old.journal.broken ≡ false }
         requires quiet { IsQuiet event.now }
+        requires alone { drops_plan event.now ≡ true → self.old.lines.ahead ≡ [] }
         ensures carried { CarriesOutEvent R.honest R.trace R.failed R.sectors event.now result self.old self.new }
         ensures memory { IfErr result (λ fault. fault ≡ OutOfMemory) }
     {

@@ -48,7 +48,7 @@ fn next_line<R: Rig, A: Allocator + Copy + Drop>(
 }
 
 impl<R: Rig, A: Allocator + Copy + Drop> Controller<R, A> {
-    ghost use Rattle.std.specs.Prelude.{None};
+    ghost use Rattle.std.specs.Prelude.{None, []};
     ghost use Rattle.ng_session.specs.Session.{reference, reference_refusal, abandon, abandon_refusal, resume, resume_refusal, IsProgramsLine, commits};
     ghost use Rattle.ng_session.specs.Entries.{Entry};
     ghost use Rattle.ng_core.specs.Events.{CarriesOut};
@@ -58,6 +58,7 @@ impl<R: Rig, A: Allocator + Copy + Drop> Controller<R, A> {
     /// session is as it was then.
     fn keep(&mut self, report: DecodedState) -> Result<Reply, Fault>
         requires whole { self.old.journal.broken ≡ false }
+        requires alone { self.old.lines.ahead ≡ [] }
         requires free { self.old.session.current ≡ None }
         requires count { report.entries ≤ 1_000_000_000_000 }
         requires storable { IsStorable (with_decoded_state self.old.session.stored report self.old.session.stored.length) }
@@ -79,7 +80,8 @@ impl<R: Rig, A: Allocator + Copy + Drop> Controller<R, A> {
     /// The machine stands at a point, in nm of machine coordinates, once that is stored. K1 and X2 by the session's refusal, J4 where a
     /// counter is used up: nothing is changed then. J1 where the device failed: the journal is broken then, and the session is as it was.
     pub(crate) fn reference(&mut self, point: &Point) -> Result<Reply, Fault>
-        requires { self.old.journal.broken ≡ false }
+        requires whole { self.old.journal.broken ≡ false }
+        requires alone { self.old.lines.ahead ≡ [] }
         ensures { CarriesOut R.honest R.trace R.failed R.sectors ⊥ (reference_refusal self.old.equipment.geometry self.old.session point.now ≡ None) ⊥ (λ program. reference self.old.equipment program self.old.session point.now) result self.old self.new }
     {
         if let Some(fault) = self.session.reference_refusal(*point, &self.geometry) {
@@ -96,7 +98,8 @@ impl<R: Rig, A: Allocator + Copy + Drop> Controller<R, A> {
     /// The half-done block is given up, once that is stored. K1 and K4 by the session's refusal, J4 where a counter is used up: nothing is
     /// changed then. J1 where the device failed: the journal is broken then, and the session is as it was.
     pub(crate) fn abandon(&mut self) -> Result<Reply, Fault>
-        requires { self.old.journal.broken ≡ false }
+        requires whole { self.old.journal.broken ≡ false }
+        requires alone { self.old.lines.ahead ≡ [] }
         ensures { CarriesOut R.honest R.trace R.failed R.sectors ⊥ (abandon_refusal self.old.session ≡ None) ⊥ (λ program. abandon program self.old.session) result self.old self.new }
     {
         if let Some(fault) = self.session.abandon_refusal() {
@@ -116,7 +119,8 @@ impl<R: Rig, A: Allocator + Copy + Drop> Controller<R, A> {
     /// a line of the program, it is read at once where the next one begins: J1 where the device failed, and the journal is broken then. M1
     /// where memory is wanting. The session is as it was then.
     pub(crate) fn resume(&mut self) -> Result<Reply, Fault>
-        requires { self.old.journal.broken ≡ false }
+        requires whole { self.old.journal.broken ≡ false }
+        requires alone { self.old.lines.ahead ≡ [] }
         ensures { CarriesOut R.honest R.trace R.failed R.sectors (resume_refusal self.old.equipment self.old.session ≡ None) ((resume_refusal self.old.equipment self.old.session ≡ None) × IsProgramsLine self.old.session.stored.half) ((resume_refusal self.old.equipment self.old.session ≡ None) × IsProgramsLine self.old.session.stored.half)
             (λ program. resume self.old.equipment program self.old.session) result self.old self.new }
     {

@@ -7,11 +7,11 @@ ghost use Rattle.ng_core.specs.Powers.{PowerOnSpec, power_on_rig};
 
 use crate::controller::Controller;
 use ng_journal::recover;
+use ng_layout::LEAST_SIZE;
 use ng_num::Fault;
 use ng_rig::Rig;
-use ng_session::Session;
+use ng_session::{KnownLines, Session};
 use ng_settings::Settings;
-use ng_text::LinesBefore;
 use std::alloc::Allocator;
 
 /// Powers on (own): finds what the device stands for, writes it again with nothing open, and starts a session at rest over it, with
@@ -29,12 +29,19 @@ pub fn power_on<R: Rig, A: Allocator + Copy + Drop>(
     ensures past { let after = power_on_rig result in least_size ≤ R.sectors rig → IfHonest (R.honest rig) (R.honest after) (BeginsPast A R.honest R.trace R.failed R.sectors result (R.trace rig)) }
 {
     let Settings { geometry, tools } = settings;
+    if rig.size() < LEAST_SIZE {
+        return Err((Fault::NotFormatted, rig));
+    }
+    let lines = match KnownLines::none(alloc) {
+        Ok(lines) => lines,
+        Err(_) => return Err((Fault::OutOfMemory, rig)),
+    };
     let (journal, stored) = recover(alloc, rig)?;
     Ok(Controller {
         alloc,
         journal,
         session: Session::new(stored),
-        lines: LinesBefore::none(),
+        lines,
         tools,
         geometry,
     })

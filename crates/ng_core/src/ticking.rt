@@ -18,7 +18,7 @@ use ng_journal::Journal;
 use ng_layout::{Half, LONGEST_TEXT};
 use ng_num::Fault;
 use ng_rig::Rig;
-use ng_session::Reply;
+use ng_session::{KnownLines, Reply};
 use ng_text::LinesBefore;
 use ng_words::LineKind;
 use std::alloc::Allocator;
@@ -37,12 +37,12 @@ fn known_before(known: &LinesBefore, place: u64) -> Option<LineKind>
 /// The kind of the first line before a place of the program in force that isn't blank. Nothing is read where it is known.
 fn first_kind_before<R: Rig, A: Allocator + Copy + Drop>(
     journal: &mut Journal<R, A>,
-    known: &LinesBefore,
+    known: &KnownLines<A>,
     place: u64,
 ) -> Result<LineKind, Fault>
     requires whole { journal.old.broken ≡ false }
     requires place { place ≤ journal.old.saved.length }
-    ensures kind { IfHonest (R.honest journal.old.rig) (R.honest journal.new.rig) ((standing : DurableState) → IsDurablyAt (R.trace journal.old.rig) journal.old standing → IsTrueOf standing.program known.now
+    ensures kind { IfHonest (R.honest journal.old.rig) (R.honest journal.new.rig) ((standing : DurableState) → IsDurablyAt (R.trace journal.old.rig) journal.old standing → IsTrueOf standing.program known.now.before
         → FirstKindSpec result journal.new standing place (R.trace journal.old.rig) (R.trace journal.new.rig)) }
     // without honesty too
     ensures beginning { place ≡ 0 → IfOk result (λ kind. kind ≡ LineKind.Blank) }
@@ -52,7 +52,7 @@ fn first_kind_before<R: Rig, A: Allocator + Copy + Drop>(
     ensures size { R.sectors journal.new.rig ≡ R.sectors journal.old.rig }
     ensures failures { CountsFailure result (R.failed journal.old.rig) (R.failed journal.new.rig) }
 {
-    match known_before(known, place) {
+    match known_before(known.lines_before(), place) {
         Some(kind) => Ok(kind),
         None => journal.first_kind(place),
     }
@@ -60,25 +60,27 @@ fn first_kind_before<R: Rig, A: Allocator + Copy + Drop>(
 
 /// What is known of the lines after the line at a place, where the next one begins; no more after one that is too long, which is
 /// refused.
-fn lines_after(
-    known: &LinesBefore,
+fn lines_after<A: Allocator + Copy + Drop>(
+    known: &KnownLines<A>,
     place: u64,
     first: LineKind,
     text: &[u8],
     next: u64,
 ) -> LinesBefore
-    ensures { (program : List ℕ) → IsTrueOf program known.now → IsLineBetween program place first text.now next → IsTrueOf program result }
+    ensures { (program : List ℕ) → IsTrueOf program known.now.before → IsLineBetween program place first text.now next → IsTrueOf program result }
 {
     if text.len() > LONGEST_TEXT {
-        return *known;
+        return *known.lines_before();
     }
-    known.after(place, first, text, next)
+    known.lines_before().after(place, first, text, next)
 }
 
 impl<R: Rig, A: Allocator + Copy + Drop> Controller<R, A> {
     ghost use Rattle.ng_session.specs.Session.{open_part_of, tick, open_next, end, begin, opening_of, has_work, is_running, IsBetweenLines};
     ghost use Rattle.ng_text.specs.Programs.{program_line_at};
+    ghost use Rattle.std.specs.Prelude.{None, []};
     ghost use Rattle.ng_core.specs.Events.{CarriesOut, handing};
+    ghost use Rattle.ng_core.specs.Private.Ahead.{PlansAhead};
 
     /// Does the next thing that is to do, of those above the first that applies.
     pub(crate) fn tick(&mut self) -> Result<Reply, Fault>
@@ -117,7 +119,7 @@ impl<R: Rig, A: Allocator + Copy + Drop> Controller<R, A> {
             return self.commit();
         }
         if self.session.is_running() {
-            return self.begin();
+            return self.begin_next();
         }
         Ok(self.session.rest())
     }
@@ -135,6 +137,7 @@ impl<R: Rig, A: Allocator + Copy + Drop> Controller<R, A> {
     fn open(&mut self, half: Half) -> Result<Reply, Fault>
         requires whole { self.old.journal.broken ≡ false }
         requires half { IsStorableHalf half }
+        requires block { IsSome self.old.session.current }
         requires is_open { IsSome half.opened }
         ensures { CarriesOut R.honest R.trace R.failed R.sectors ⊥ (Unit {0}) ⊥ (λ program. open_part_of self.old.equipment program self.old.session half) result self.old self.new }
     {
@@ -155,10 +158,44 @@ impl<R: Rig, A: Allocator + Copy + Drop> Controller<R, A> {
         Ok(self.session.commit())
     }
 
-    /// Begins the program's line at its place, or stops the program at the end of its text.
+    /// Begins the program's next line, which was read ahead or is read now, or stops the program at the end of its text; where one was
+    /// begun, lines after it are read ahead. Where the device failed in that, the line is begun, which the status doesn't show.
+    fn begin_next(&mut self) -> Result<Reply, Fault>
+        requires whole { self.old.journal.broken ≡ false }
+        requires runs { is_running self.old.session.activity ≡ true }
+        requires free { self.old.session.current ≡ None }
+        ensures { CarriesOut R.honest R.trace R.failed R.sectors (Unit {0}) (Unit {0}) (Unit {0})
+            (λ program. begin self.old.equipment program self.old.session (program_line_at program self.old.session.stored.place)) result self.old self.new }
+    {
+        match self.begin()? {
+            Reply::Begun => {
+                self.plan()?;
+                self.plan()?;
+                Ok(Reply::Begun)
+            }
+            reply => Ok(reply),
+        }
+    }
+
+    /// Begins the program's line at its place, which was read ahead or is read now, or stops the program at the end of its text.
     fn begin(&mut self) -> Result<Reply, Fault>
         requires whole { self.old.journal.broken ≡ false }
         requires runs { is_running self.old.session.activity ≡ true }
+        requires free { self.old.session.current ≡ None }
+        ensures { CarriesOut R.honest R.trace R.failed R.sectors (Unit {0}) (Unit {0}) (Unit {0})
+            (λ program. begin self.old.equipment program self.old.session (program_line_at program self.old.session.stored.place)) result self.old self.new }
+    {
+        match self.session.begin_ahead(&mut self.lines) {
+            Some(reply) => Ok(reply),
+            None => self.begin_read(),
+        }
+    }
+
+    /// The same where none was read ahead.
+    fn begin_read(&mut self) -> Result<Reply, Fault>
+        requires whole { self.old.journal.broken ≡ false }
+        requires runs { is_running self.old.session.activity ≡ true }
+        requires alone { self.old.lines.ahead ≡ [] }
         ensures { CarriesOut R.honest R.trace R.failed R.sectors (Unit {0}) (Unit {0}) (Unit {0})
             (λ program. begin self.old.equipment program self.old.session (program_line_at program self.old.session.stored.place)) result self.old self.new }
     {
@@ -170,10 +207,40 @@ impl<R: Rig, A: Allocator + Copy + Drop> Controller<R, A> {
                 let reply = self
                     .session
                     .begin(text, line.next, first, &self.tools, &self.geometry)?;
-                self.lines = lines_after(&self.lines, place, first, text, line.next);
+                let before = lines_after(&self.lines, place, first, text, line.next);
+                self.lines.set_before(before);
                 Ok(reply)
             }
             None => Ok(self.session.break_off(first)),
         }
+    }
+
+    /// Reads one more line ahead and plans it, unless none can be planned. J1 where the device failed: the journal is broken then, and
+    /// nothing else is changed.
+    fn plan(&mut self) -> Result<(), Fault>
+        requires whole { self.old.journal.broken ≡ false }
+        ensures { PlansAhead R.honest R.trace R.failed R.sectors result self.old self.new }
+    {
+        let Some(place) = self.session.place_ahead(&self.lines) else {
+            return Ok(());
+        };
+        let first = first_kind_before(&mut self.journal, &self.lines, place)?;
+        match self.journal.program_line(place)? {
+            Some(line) => {
+                let text = line.text.as_slice();
+                self.session.plan(
+                    &mut self.lines,
+                    text,
+                    line.next,
+                    first,
+                    &self.tools,
+                    &self.geometry,
+                );
+                let before = lines_after(&self.lines, place, first, text, line.next);
+                self.lines.set_before(before);
+            }
+            None => self.lines.end(),
+        }
+        Ok(())
     }
 }

@@ -277,12 +277,14 @@ fn makes_no_tick_after_a_line_that_is_not_written(rt: HostRuntime) -> Result<(),
     Ok(())
 }
 
-/// Bytes of a heap; what is written and the status. Power on wants two tables of 43,192 bytes, and a program its bytes.
+/// Bytes of a heap; what is written and the status. Power on wants two tables of 43,192 bytes and room for the lines that are planned, some 47,000,
+/// and a program its bytes.
 const HEAPS: &[(usize, &str, u8)] = &[
     (1_000, "refused M1 OutOfMemory\n", 2),
     (60_000, "refused M1 OutOfMemory\n", 2),
+    (120_000, "refused M1 OutOfMemory\n", 2),
     (
-        120_000,
+        167_000,
         "refused M1 OutOfMemory\nstatus entries 0 place 0 at 0.000000 0.000000 0.000000 known half none idle\n",
         0,
     ),

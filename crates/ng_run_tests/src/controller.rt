@@ -556,15 +556,15 @@ const WANTING: &[(Order, Told)] = &[
     (Order::Tick, Told::Idle),
 ];
 
-/// Ticks in a list, and the bytes of the heap: how many replies there are. Power on takes two tables of parameters of 43,192 bytes, and a
-/// line that is begun or a load takes one more.
+/// Ticks in a list, and the bytes of the heap: how many replies there are. Power on takes two tables of parameters of 43,192 bytes and room for
+/// the lines that are planned, some 47,000; a line that is begun or a load takes one table more.
 #[test]
 fn memory_that_is_wanting(rt: HostRuntime) -> Result<(), Fail> {
     let shown = Some((0, 0, 0, true, None, Condition::Idle));
     for (ticks, heap, replies) in [
-        (0, 100_000, Ok(0)),
-        (10, 100_000, Ok(10)),
-        (1_000, 140_000, Err(Fault::OutOfMemory)),
+        (0, 150_000, Ok(0)),
+        (10, 150_000, Ok(10)),
+        (1_000, 187_000, Err(Fault::OutOfMemory)),
     ] {
         let heap = LocalHeap::new(rt.alloc(), heap)?;
         assert_eq!(rt;
@@ -677,7 +677,7 @@ fn given_up<A: Allocator + Copy + Drop, B: Allocator + Copy + Drop>(
 
 #[test]
 fn a_line_that_was_cut_finds_no_memory(rt: HostRuntime) -> Result<(), Fail> {
-    let heap = LocalHeap::new(rt.alloc(), 100_000)?;
+    let heap = LocalHeap::new(rt.alloc(), 150_000)?;
     assert_eq!(rt;
         given_up(&heap, rt.alloc()),
         Ok((None, Some((3, 0, 0, true, None, Condition::Idle))))

@@ -10,3 +10,4 @@ pub mod Standing
 pub mod Refusing
 pub mod OwnFaults
 pub mod OwnReplies
+pub mod Ahead

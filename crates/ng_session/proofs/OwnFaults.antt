@@ -1,12 +1,12 @@
 -- What a line is refused for is its own: never want of memory, a counter of the journal, or a device that failed.
-use Rattle.std.proofs.Common.{◌≡◌, ◌==◌, ◌<◌, ◌≤◌, ℕ, zero, suc, ◌*◌, ℤ, pos, negsuc, ◌+ℤ◌, ◌-ℤ◌, ◌*ℤ◌, Bool, true, false, not, ◌&&◌, ◌||◌, if◌then◌else◌, List, [], ◌∷◌, ◌++◌, length, Option, Some, None, Result, Ok, Err, refl, sym, ◌∙◌, ap, subst}
+use Rattle.std.proofs.Common.{◌≡◌, ℕ, zero, suc, ℤ, pos, negsuc, ◌+ℤ◌, ◌-ℤ◌, ◌*ℤ◌, Bool, true, false, ◌&&◌, if◌then◌else◌, List, [], ◌∷◌, ◌++◌, length, Option, Some, None, Result, Ok, Err, refl, subst}
 use Rattle.std.specs.Prelude.{unsigned_abs, nat_eq, nat_le}
 use Rattle.std.specs.Option.{ok_or, option_and_then}
 use Rattle.std.specs.Result.{result_unwrap_or}
 use Rattle.ng_params.specs.Changes.{with_changes}
 use Rattle.ng_num.specs.Arithmetic.{million, product, quotient_of, remainder_of}
 use Rattle.ng_num.specs.Rounding.{near_by}
-use Rattle.ng_num.specs.Causes.{IsFirstFault, NoneHolds}
+use Rattle.ng_num.specs.Causes.{IsFirstFault}
 use Rattle.ng_num.specs.Power.{power, power_by, power_of, times, exponent_of}
 use Rattle.ng_num.specs.Range.{greatest, in_range}
 use Rattle.ng_num.specs.Results.{and_then}
@@ -22,8 +22,8 @@ use Rattle.ng_words.specs.declared.tree.Function.{Function}
 use Rattle.ng_words.specs.declared.tree.Function.TheVariants.{Abs, Fix, Fup, Round, Sqrt}
 use Rattle.ng_words.specs.declared.tree.Operation.{Operation}
 use Rattle.ng_words.specs.declared.tree.Operation.TheVariants.{Power, Times, Over, Modulo, Plus, Minus, Or, Xor, And}
-use Rattle.ng_expr.specs.Settle.{Settled, change, given, index, one_setting, one_word}
-use Rattle.ng_expr.specs.Value.{apply, join, named, parameter_value, value, written}
+use Rattle.ng_expr.specs.Settle.{Settled, change, given, index}
+use Rattle.ng_expr.specs.Value.{apply, join, named, parameter_value, value}
 use Rattle.ng_expr.specs.declared.word.Word.{Word}
 use Rattle.ng_modal.specs.Blocks.{block_of}
 use Rattle.ng_modal.specs.Check.{faults}
@@ -37,7 +37,7 @@ use Rattle.ng_session.specs.Entries.{Equipment, done_of, done_again, terms_of}
 use Rattle.ng_block.specs.Asked.{written_on, pieces_in, values_of, move_on, Move, Stays, Goes, Turns, GoesHome, Drills}
 use Rattle.ng_block.specs.Causes.{arc_faults, causes, computes_beyond, cycle_faults, goes_outside, has_no_feed, value_cause, value_causes}
 use Rattle.ng_block.specs.Effects.{Done, executed}
-use Rattle.ng_block.specs.Program.{TermsModel, deleted, executed_in_program, executed_unless_deleted, framed, percent_at}
+use Rattle.ng_block.specs.Program.{TermsModel, deleted, executed_unless_deleted, framed, percent_at}
 use Rattle.ng_block.specs.declared.effect.ProgramFlow.{ProgramFlow}
 use Rattle.ng_block.proofs.CauseLemmas.{first_of}
 

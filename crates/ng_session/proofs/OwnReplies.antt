@@ -1,9 +1,7 @@
 -- What a session refuses, it refuses for its own causes: its replies tell neither of memory nor of a counter or a failed device.
-use Rattle.std.proofs.Common.{◌≡◌, ◌⊎◌, inl, inr, ◌+◌, ◌%◌, ◌^◌, ◌==◌, ℕ, Bool, true, false, not, ◌&&◌, ◌||◌, if◌then◌else◌, nat_lt, List, [], length, Option, Some, None, Result, Ok, Err, refl, sym, ◌∙◌, ap, subst}
+use Rattle.std.proofs.Common.{◌≡◌, ◌==◌, ℕ, Bool, true, false, not, ◌||◌, if◌then◌else◌, nat_lt, List, length, Option, Some, None, Result, Ok, Err, refl}
 use Rattle.std.specs.Option.{is_some, is_none}
 use Rattle.ng_num.specs.declared.fault.Fault.{Fault}
-use Rattle.ng_num.specs.declared.fault.Fault.TheVariants as fault
-use Rattle.ng_num.specs.declared.fault.Fault.TheVariants.{DeviceFailed, CountersUsed, OutOfMemory}
 use Rattle.ng_num.specs.declared.point.Point.{Point}
 use Rattle.ng_words.specs.declared.start.LineKind.{LineKind}
 use Rattle.ng_words.specs.declared.start.LineKind.TheVariants.{Blank, Percent, Other}
@@ -11,14 +9,13 @@ use Rattle.ng_text.specs.Percent.{first_kind, missing_end}
 use Rattle.ng_text.specs.Programs.{ProgramLineModel, lines_before, program_line_at}
 use Rattle.ng_block.specs.Effects.{Done}
 use Rattle.ng_canon.specs.Inside.{is_inside}
-use Rattle.ng_canon.specs.declared.item.Item.{Item}
 use Rattle.ng_layout.specs.Limits.{longest_program}
-use Rattle.ng_layout.specs.Stored.{HalfModel, StoredModel}
+use Rattle.ng_layout.specs.Stored.{HalfModel}
 use Rattle.ng_layout.specs.declared.half.Opened.{Opened}
 use Rattle.ng_layout.specs.declared.half.Opened.TheVariants as open_part
 use Rattle.ng_layout.specs.declared.half.Source.TheVariants as source
 use Rattle.ng_session.specs.Entries.{Equipment, done_of, done_again}
-use Rattle.ng_session.specs.Session.{CurrentBlockModel, SessionModel, Transition, step, start, hold, resume_held, mdi, mdi_by, refuses_mdi, load, load_unless, load_refusal, reference, reference_unless, reference_refusal, abandon, abandon_unless, abandon_refusal, resume, resume_half, resume_from, resume_by, tick, begin, begin_by, break_off, open_part_of, opening_of, opening_reply, item_of, commit, rest, idleness, accepts_load, is_at_rest, is_idle, is_running, if_some, hand_out, refuses, answers}
+use Rattle.ng_session.specs.Session.{SessionModel, Transition, step, start, hold, resume_held, mdi, mdi_by, refuses_mdi, load, load_unless, load_refusal, reference, reference_unless, reference_refusal, abandon, abandon_unless, abandon_refusal, resume, resume_half, resume_from, resume_by, tick, begin, begin_by, open_part_of, opening_of, opening_reply, item_of, commit, idleness, accepts_load, is_at_rest, is_idle, is_running, if_some, hand_out}
 use Rattle.ng_session.specs.declared.activity.Activity.{Activity}
 use Rattle.ng_session.specs.declared.activity.Activity.TheVariants as activity
 use Rattle.ng_session.specs.declared.event.Event.{Event}

@@ -5,3 +5,4 @@ pub mod Fold
 pub mod Runs
 pub mod Cuts
 pub mod Lives
+pub mod Planned

@@ -63,3 +63,28 @@ pub enum Event<A: Allocator> {
     /// The next thing that is to do is done.
     Tick,
 }
+
+impl<A: Allocator> Event<A> {
+    ghost use Rattle.ng_session.specs.Planned.{drops_plan};
+
+    /// Whether lines that were read ahead don't come any more as they were planned: another line comes first, or another program, or
+    /// the lines do something else.
+    pub(crate) fn drops_plan(&self) -> bool
+        ensures { result ≡ drops_plan self.now }
+    {
+        match self {
+            Event::Load(_)
+            | Event::Mdi(_)
+            | Event::Reference(_)
+            | Event::Resume
+            | Event::Abandon
+            | Event::BlockDelete(_) => true,
+            Event::Start
+            | Event::Hold
+            | Event::Continue
+            | Event::OptionalStop(_)
+            | Event::Status
+            | Event::Tick => false,
+        }
+    }
+}

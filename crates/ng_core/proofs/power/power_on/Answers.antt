@@ -19,7 +19,7 @@ returns-clause-gives g c =
     let stored = ap (λ (s : SessionModel). s.stored) c.new.ensures in
     record {
       powers = λ room. meaning (c.in_ok-journal.ensures.recovers room)
-          (λ r. powered c.in_ok-journal.journal c.in_ok-journal.stored c.new.result c.none.result equipment _ _ stored journal.1 c.none.ensures.holds r);
+          (λ r. powered c.in_ok-journal.journal c.in_ok-journal.stored c.new.result c.in-Ok.lines equipment _ _ stored journal.1 c.in-Ok.ensures.holds r);
       rests = (journal.0, c.new.ensures ∙ ap (λ x. resting x) (sym journal.1), subst IsStorable (sym stored) journal.2);
       equipment = refl;
       small = λ few. absurd (c.in_ok-journal.ensures.small few);

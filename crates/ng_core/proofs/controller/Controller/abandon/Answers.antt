@@ -27,7 +27,7 @@ pub returns-in-Some : goal.returns-in-Some
 returns-in-Some g c =
     let old : ControllerModel g.row.R.Denot = c.args.self.now in
     let refused : Some c.in-Some.fault ≡ abandon_refusal old.session = subst (λ (x : ControllerModel g.row.R.Denot). Some c.in-Some.fault ≡ abandon_refusal x.session) c.self.view_is c.in-Some.ensures in
-    carried_refused g.R.Rig.honest g.R.Rig.trace g.R.Rig.failed g.R.Rig.sectors ⊥ (abandon_refusal old.session ≡ None) ⊥ c.in-Some.fault (λ (program : List ℕ). abandon program old.session) old c.requires (λ none. none)
+    carried_refused g.R.Rig.honest g.R.Rig.trace g.R.Rig.failed g.R.Rig.sectors ⊥ (abandon_refusal old.session ≡ None) ⊥ c.in-Some.fault (λ (program : List ℕ). abandon program old.session) old c.requires.whole (λ none. none)
     (λ program. ap (λ (o : Option Fault). abandon_unless program old.session o) refused)
 
 pub returns-then-is_count_used_up : goal.returns-then-is_count_used_up
@@ -37,7 +37,7 @@ returns-then-is_count_used_up g c =
     let ledger = ledger_of c.self.inside.journal in
     let saved = after_abandon session.stored in
     let free : abandon_refusal session ≡ None = sym c.in_default.ensures in
-    carried_used g.R.Rig.honest g.R.Rig.trace g.R.Rig.failed g.R.Rig.sectors ⊥ (abandon_refusal old.session ≡ None) ⊥ (λ (program : List ℕ). abandon program old.session) old c.requires
+    carried_used g.R.Rig.honest g.R.Rig.trace g.R.Rig.failed g.R.Rig.sectors ⊥ (abandon_refusal old.session ≡ None) ⊥ (λ (program : List ℕ). abandon program old.session) old c.requires.whole
     (subst (λ (x : ControllerModel g.row.R.Denot). IsCausedBy ⊥ (abandon_refusal x.session ≡ None) (ledger_of x.journal) (λ (program : List ℕ). abandon program x.session) CountersUsed) c.self.view_is
     (hindered_count ledger (λ program. abandon program session) saved (abandon_refusal session ≡ None)
     (c.counters.ensures.past ledger saved (past_abandoned session.stored (has_half session free) c.if-is_count_used_up.ensures)) (λ program. stored_abandon program session free)))

@@ -1,6 +1,7 @@
 use Rattle.std.proofs.Common.{◌≡◌, ℕ, List, [], Ok, Err, refl, ◌∙◌, ap, subst}
 use Rattle.std.proofs.lemmas.Result.{err_from_is_err_and}
 use Rattle.ng_session.specs.Entries.{Equipment}
+use Rattle.ng_session.proofs.Ahead.{plan_answered}
 use Rattle.ng_session.specs.Session.{SessionModel, step, TakesMemory, AsksDevice, NeedsProgramLine}
 use Rattle.ng_core.specs.Model.{ControllerModel}
 use Rattle.ng_core.specs.Events.{CarriesOutEvent}
@@ -13,7 +14,11 @@ invariant_of-self-2 g c =
     let equipment : Equipment = record { tools = c.self.inside.tools; geometry = c.self.inside.geometry } in
     let same : c.answer.new.self.stored ≡ c.self.inside.session.stored =
     ap (λ (s : SessionModel). s.stored) (c.in_ok-answer.ensures.next []) ∙ (still_step equipment [] c.self.inside.session c.args.event.now c.requires.quiet).stored_is in
-    λ whole. same ∙ c.self.invariant whole
+    record {
+      saved = λ whole. same ∙ c.self.invariant.saved whole;
+      plan = plan_answered equipment [] c.self.inside.session c.answer.new.self c.args.event.now c.self.inside.lines.ahead c.requires.quiet
+          (λ drops. ap (λ (x : ControllerModel g.row.R.Denot). x.lines.ahead) c.self.view_is ∙ c.requires.alone drops) (c.in_ok-answer.ensures.next []) c.self.invariant.plan;
+    }
 
 pub returns-in_err-answer-clause-carried : goal.returns-in_err-answer-clause-carried
 returns-in_err-answer-clause-carried g c =

@@ -4,6 +4,8 @@ use Rattle.ng_num.specs.declared.fault.Fault.{Fault}
 use Rattle.ng_num.specs.declared.fault.Fault.TheVariants.{CountersUsed}
 use Rattle.ng_journal.specs.Storing.{ledger_of}
 use Rattle.ng_session.specs.Entries.{Equipment}
+use Rattle.ng_session.specs.Planned.{base_of}
+use Rattle.ng_session.proofs.Ahead.{committed_base, plan_as}
 use Rattle.ng_session.specs.Session.{SessionModel, end}
 use Rattle.ng_core.specs.Model.{ControllerModel}
 use Rattle.ng_core.proofs.Anyway.{comes_commit}
@@ -16,7 +18,11 @@ pub invariant_of-self-2 : goal.invariant_of-self-2
 invariant_of-self-2 g c =
     let block = c.in-Some.ensures.after in
     let stored : c.commit-2.new.self.stored ≡ c.in-Some.after.now = ap (λ (s : SessionModel). s.stored) (c.commit-2.ensures.next block.0 block.1) ∙ sym block.2 in
-    λ whole. stored ∙ sym c.in_ok-commit.ensures.saved
+    let same = ap base_of (c.commit-2.ensures.next block.0 block.1) ∙ committed_base c.self.inside.session block.0 block.1 in
+    record {
+      saved = λ whole. stored ∙ sym c.in_ok-commit.ensures.saved;
+      plan = plan_as _ (base_of c.self.inside.session) (base_of c.commit-2.new.self) c.self.inside.lines.ahead same c.self.invariant.plan;
+    }
 
 pub returns-in_err-commit : goal.returns-in_err-commit
 returns-in_err-commit g c =

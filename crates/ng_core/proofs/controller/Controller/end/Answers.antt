@@ -26,9 +26,9 @@ returns-then-is_running g c =
     let none = sym (ap (λ (x : ControllerModel g.row.R.Denot). x.session.current) c.self.view_is) ∙ by_none _ c.after.result c.if-is_some.ensures c.after.ensures.after in
     let runs = sym (ap (λ (x : ControllerModel g.row.R.Denot). is_running x.session.activity) c.self.view_is) ∙ sym c.if-is_running.ensures in
     carried_to g.R.Rig.honest g.R.Rig.trace g.R.Rig.failed g.R.Rig.sectors (Unit {0}) (IsBetweenLines old.session) (Unit {0}) (has_work old.session ≡ true) (Unit {0}) (IsBetweenLines old.session)
-    (λ (program : List ℕ). begin old.equipment program old.session (program_line_at program old.session.stored.place)) (λ (program : List ℕ). end old.equipment program old.session old.session.current) c.begin.result old c.begin.new.self
+    (λ (program : List ℕ). begin old.equipment program old.session (program_line_at program old.session.stored.place)) (λ (program : List ℕ). end old.equipment program old.session old.session.current) c.begin_next.result old c.begin_next.new.self
     (λ u. (none, runs)) (λ u. busy_running (is_running old.session.activity) (is_some old.session.current) runs) (λ u. (none, runs)) (λ between. tt)
-    (λ program. sym (begins_there old.equipment program old.session none runs)) c.begin.ensures
+    (λ program. sym (begins_there old.equipment program old.session none runs)) c.begin_next.ensures
 
 pub returns : goal.returns
 returns g c =

@@ -1,25 +1,17 @@
-use Rattle.std.proofs.Common.{ℕ, List, sym, ◌∙◌, ap, subst}
-use Rattle.ng_session.specs.declared.event.Event.{Event}
-use Rattle.ng_session.specs.declared.event.Event.TheVariants as event
+use Rattle.std.proofs.Common.{◌∙◌, ap, subst}
+use Rattle.ng_session.specs.Entries.{Equipment}
+use Rattle.ng_session.specs.Planned.{KnownModel}
 use Rattle.ng_core.specs.Events.{CarriesOutEvent}
+use Rattle.ng_core.specs.Model.{ControllerModel}
+use Rattle.ng_core.proofs.Ahead.{carried_forgotten, forgotten_none}
 use Rattle.ng_core.proofs.controller.Controller.handle.Goals as goal
 
-pub returns-in-Load-clause-carried : goal.returns-in-Load-clause-carried
-returns-in-Load-clause-carried g c =
-    λ whole. subst (λ (e : Event _). CarriesOutEvent g.R.Rig.honest g.R.Rig.trace g.R.Rig.failed g.R.Rig.sectors e c.load.result c.args.self.now c.load.new.self) (ap (λ (text : List ℕ). event.Load text) c.bytes.ensures ∙ sym c.in-Load.is) c.load.ensures
+pub carry_out-requires-clause-alone : goal.carry_out-requires-clause-alone
+carry_out-requires-clause-alone g c = λ drops. ap (λ (k : KnownModel). k.ahead) c.forget_for.ensures ∙ forgotten_none c.args.event.now c.self.inside.lines drops
 
-pub returns-in-Reference-clause-carried : goal.returns-in-Reference-clause-carried
-returns-in-Reference-clause-carried g c =
-    λ whole. subst (λ (e : Event _). CarriesOutEvent g.R.Rig.honest g.R.Rig.trace g.R.Rig.failed g.R.Rig.sectors e c.reference.result c.args.self.now c.reference.new.self) (sym c.in-Reference.is) c.reference.ensures
-
-pub returns-in-Resume-clause-carried : goal.returns-in-Resume-clause-carried
-returns-in-Resume-clause-carried g c =
-    λ whole. subst (λ (e : Event _). CarriesOutEvent g.R.Rig.honest g.R.Rig.trace g.R.Rig.failed g.R.Rig.sectors e c.resume.result c.args.self.now c.resume.new.self) (sym c.in-Resume.is) c.resume.ensures
-
-pub returns-in-Abandon-clause-carried : goal.returns-in-Abandon-clause-carried
-returns-in-Abandon-clause-carried g c =
-    λ whole. subst (λ (e : Event _). CarriesOutEvent g.R.Rig.honest g.R.Rig.trace g.R.Rig.failed g.R.Rig.sectors e c.abandon.result c.args.self.now c.abandon.new.self) (sym c.in-Abandon.is) c.abandon.ensures
-
-pub returns-in-Tick-clause-carried : goal.returns-in-Tick-clause-carried
-returns-in-Tick-clause-carried g c =
-    λ whole. subst (λ (e : Event _). CarriesOutEvent g.R.Rig.honest g.R.Rig.trace g.R.Rig.failed g.R.Rig.sectors e c.tick.result c.args.self.now c.tick.new.self) (sym c.in-Tick.is) c.tick.ensures
+pub returns-clause-carried : goal.returns-clause-carried
+returns-clause-carried g c = λ whole.
+    let equipment : Equipment = record { tools = c.self.inside.tools; geometry = c.self.inside.geometry } in
+    let old : ControllerModel g.row.R.Denot = record { journal = c.self.inside.journal; session = c.self.inside.session; lines = c.self.inside.lines; equipment = equipment } in
+    subst (λ (x : ControllerModel g.row.R.Denot). CarriesOutEvent g.R.Rig.honest g.R.Rig.trace g.R.Rig.failed g.R.Rig.sectors c.args.event.now c.carry_out.result x c.carry_out.new.self) c.self.view_is
+    (carried_forgotten g.R.Rig.honest g.R.Rig.trace g.R.Rig.failed g.R.Rig.sectors c.args.event.now c.carry_out.result old c.carry_out.new.self c.forget_for.new.self c.forget_for.ensures c.carry_out.ensures)

@@ -4,6 +4,7 @@ use Rattle.ng_num.specs.declared.fault.Fault.{Fault}
 use Rattle.ng_num.specs.declared.fault.Fault.TheVariants.{DeviceFailed, CountersUsed}
 use Rattle.ng_journal.specs.Storing.{ledger_of}
 use Rattle.ng_session.specs.Entries.{Equipment}
+use Rattle.ng_session.proofs.Ahead.{plan_none}
 use Rattle.ng_session.specs.Session.{SessionModel, load, load_unless, load_refusal}
 use Rattle.ng_session.specs.declared.reply.Reply.{Reply}
 use Rattle.ng_core.specs.Model.{ControllerModel}
@@ -17,14 +18,17 @@ use Rattle.ng_core.proofs.controller.Controller.load.Goals as goal
 pub invariant_of-self : goal.invariant_of-self
 invariant_of-self g c =
     let which = not_too_long (Unit {0}) c.in_err-load_program.field-0.0 (length c.args.text.now) c.in_default.ensures.none.1 c.in_err-load_program.ensures.errors c.in_err-load_program.ensures.too_long in
-    let whole = ap (λ (x : ControllerModel g.row.R.Denot). x.journal.broken) c.self.view_is ∙ c.requires in
-    kept_failed Reply c.in_err-load_program.field-0.0 c.self.inside.journal c.load_program.new.self c.self.inside.session.stored which c.in_err-load_program.ensures.broken
-    (λ used. c.in_err-load_program.ensures.unchanged (inl (ap (λ (f : Fault). Err f) used))) (c.self.invariant whole)
+    let whole = ap (λ (x : ControllerModel g.row.R.Denot). x.journal.broken) c.self.view_is ∙ c.requires.whole in
+    record {
+      saved = kept_failed Reply c.in_err-load_program.field-0.0 c.self.inside.journal c.load_program.new.self c.self.inside.session.stored which c.in_err-load_program.ensures.broken
+          (λ used. c.in_err-load_program.ensures.unchanged (inl (ap (λ (f : Fault). Err f) used))) (c.self.invariant.saved whole);
+      plan = c.self.invariant.plan;
+    }
 
 pub invariant_of-self-2 : goal.invariant_of-self-2
 invariant_of-self-2 g c =
     let stored : c.load.new.self.stored ≡ c.in_ok-stored.stored = ap (λ (s : SessionModel). s.stored) c.load.ensures.next in
-    λ whole. stored ∙ sym c.in_ok-load_program.ensures.saved
+    record { saved = λ whole. stored ∙ sym c.in_ok-load_program.ensures.saved; plan = plan_none _ _ c.forget.new.self.ahead c.forget.ensures.ahead }
 
 pub returns-in-Some : goal.returns-in-Some
 returns-in-Some g c =
@@ -32,7 +36,7 @@ returns-in-Some g c =
     let refused : Some c.in-Some.fault ≡ load_refusal old.session c.args.text.now =
     subst (λ (x : ControllerModel g.row.R.Denot). Some c.in-Some.fault ≡ load_refusal x.session c.args.text.now) c.self.view_is c.in-Some.ensures.value in
     carried_refused g.R.Rig.honest g.R.Rig.trace g.R.Rig.failed g.R.Rig.sectors (load_refusal old.session c.args.text.now ≡ None) (load_refusal old.session c.args.text.now ≡ None) ⊥ c.in-Some.fault
-    (λ (program : List ℕ). load program old.session c.args.text.now) old c.requires (λ none. none) (λ program. ap (λ (o : Option Fault). load_unless program old.session c.args.text.now o) refused)
+    (λ (program : List ℕ). load program old.session c.args.text.now) old c.requires.whole (λ none. none) (λ program. ap (λ (o : Option Fault). load_unless program old.session c.args.text.now o) refused)
 
 pub returns-in_err-stored : goal.returns-in_err-stored
 returns-in_err-stored g c =
@@ -40,7 +44,7 @@ returns-in_err-stored g c =
     let old : ControllerModel g.row.R.Denot = c.args.self.now in
     let free : load_refusal old.session c.args.text.now ≡ None = subst (λ (x : ControllerModel g.row.R.Denot). load_refusal x.session c.args.text.now ≡ None) c.self.view_is (sym c.in_default.ensures.value) in
     rw (p.1) (carried_short g.R.Rig.honest g.R.Rig.trace g.R.Rig.failed g.R.Rig.sectors (load_refusal old.session c.args.text.now ≡ None) (load_refusal old.session c.args.text.now ≡ None) ⊥ p.0
-    (λ (program : List ℕ). load program old.session c.args.text.now) old old c.requires p.2 free refl refl refl refl)
+    (λ (program : List ℕ). load program old.session c.args.text.now) old old c.requires.whole p.2 free refl refl refl refl)
 
 pub returns-in_err-load_program : goal.returns-in_err-load_program
 returns-in_err-load_program g c =
@@ -64,11 +68,11 @@ pub returns : goal.returns
 returns g c =
     let equipment : Equipment = record { tools = c.self.inside.tools; geometry = c.self.inside.geometry } in
     let old : ControllerModel g.row.R.Denot = record { journal = c.self.inside.journal; session = c.self.inside.session; lines = c.self.inside.lines; equipment = equipment } in
-    let new : ControllerModel g.row.R.Denot = record { journal = c.load_program.new.self; session = c.load.new.self; lines = c.none-self-inside.result; equipment = equipment } in
+    let new : ControllerModel g.row.R.Denot = record { journal = c.load_program.new.self; session = c.load.new.self; lines = c.forget.new.self; equipment = equipment } in
     let free : load_refusal old.session c.args.text.now ≡ None = sym c.in_default.ensures.value in
     carried_as g.R.Rig.honest g.R.Rig.trace g.R.Rig.failed g.R.Rig.sectors (λ (x : ControllerModel g.row.R.Denot). load_refusal x.session c.args.text.now ≡ None) (λ (x : ControllerModel g.row.R.Denot). load_refusal x.session c.args.text.now ≡ None) (λ (x : ControllerModel g.row.R.Denot). ⊥) (λ (x : ControllerModel g.row.R.Denot) (program : List ℕ). load program x.session c.args.text.now) (Ok c.load.result) c.args.self.now old new c.self.view_is (record {
       does = does_load g.R.Rig.honest g.R.Rig.trace c.in_ok-load_program.field-0 c.load.result c.in_ok-stored.stored c.args.text.now old new free c.in_ok-stored.ensures.value
-          c.load.ensures.reply c.load.ensures.next c.in_ok-load_program.ensures.stops (c.none-self-inside.ensures.holds c.args.text.now);
+          c.load.ensures.reply c.load.ensures.next c.in_ok-load_program.ensures.stops (c.forget.ensures.holds c.args.text.now);
       comes = comes_load ⊥ c.load.result c.in_ok-stored.stored c.args.text.now old new free c.in_ok-stored.ensures.value c.load.ensures.reply c.load.ensures.next;
       line = λ none. absurd none;
       hindered = tt;

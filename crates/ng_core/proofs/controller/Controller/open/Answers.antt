@@ -1,9 +1,15 @@
-use Rattle.std.proofs.Common.{◌≡◌, ℕ, List, Ok, Err, refl, ◌∙◌, ap}
+use Rattle.std.proofs.Common.{◌≡◌, ℕ, List, Ok, Err, Some, refl, sym, ◌∙◌, ap, subst}
 use Rattle.std.proofs.lemmas.Result.{err_from_is_err_and}
 use Rattle.ng_num.specs.declared.fault.Fault.{Fault}
 use Rattle.ng_num.specs.declared.fault.Fault.TheVariants.{CountersUsed}
 use Rattle.ng_journal.specs.Storing.{ledger_of}
+use Rattle.std.specs.Prelude.{IsSome}
+use Rattle.ng_layout.specs.Stored.{StoredModel}
 use Rattle.ng_session.specs.Entries.{Equipment}
+use Rattle.ng_session.specs.Session.{SessionModel}
+use Rattle.ng_session.specs.Planned.{base_of}
+use Rattle.ng_session.proofs.Ahead.{opened_base, plan_as}
+use Rattle.ng_core.proofs.Ahead.{some_of}
 use Rattle.ng_core.specs.Model.{ControllerModel}
 use Rattle.ng_core.proofs.Anyway.{comes_by}
 use Rattle.ng_core.proofs.Carrying.{carried_as, carried_failed}
@@ -22,7 +28,7 @@ returns-in_err-open_segment g c =
     let unchanged : e ≡ CountersUsed → new.journal ≡ old.journal = λ used. c.in_err-open_segment.ensures.unchanged (ap (λ (f : Fault). Err f) used) in
     rw (p.1) (carried_as g.R.Rig.honest g.R.Rig.trace g.R.Rig.failed g.R.Rig.sectors (λ (x : ControllerModel g.row.R.Denot). ⊥) (λ (x : ControllerModel g.row.R.Denot). Unit {0}) (λ (x : ControllerModel g.row.R.Denot). ⊥) (λ (x : ControllerModel g.row.R.Denot) (program : List ℕ). opening c.args.half program x.equipment x.session) (Err p.0) c.args.self.now old new c.self.view_is
     (carried_failed g.R.Rig.honest g.R.Rig.trace g.R.Rig.failed g.R.Rig.sectors ⊥ (Unit {0}) ⊥ p.0 e (λ (program : List ℕ). opening c.args.half program equipment old.session) old new p.2
-    (opens_none g.R.Rig.honest g.R.Rig.trace e e c.args.half old new refl (c.self.invariant whole) c.in_err-open_segment.ensures.errors unchanged c.in_err-open_segment.ensures.stops refl)
+    (opens_none g.R.Rig.honest g.R.Rig.trace e e c.args.half old new refl (c.self.invariant.saved whole) c.in_err-open_segment.ensures.errors unchanged c.in_err-open_segment.ensures.stops refl)
     c.in_err-open_segment.ensures.errors unchanged refl refl
     (hindered_opening (Unit {0}) e equipment old.session (ledger_of old.journal) c.args.half c.in_err-open_segment.ensures.errors c.in_err-open_segment.ensures.used_up)
     c.in_err-open_segment.ensures.broken c.in_err-open_segment.ensures.size c.in_err-open_segment.ensures.failures))
@@ -34,7 +40,7 @@ returns g c =
     let new : ControllerModel g.row.R.Denot = record { journal = c.open_segment.new.self; session = c.open.new.self; lines = c.self.inside.lines; equipment = equipment } in
     let whole = ap (λ (x : ControllerModel g.row.R.Denot). x.journal.broken) c.self.view_is ∙ c.requires.whole in
     carried_as g.R.Rig.honest g.R.Rig.trace g.R.Rig.failed g.R.Rig.sectors (λ (x : ControllerModel g.row.R.Denot). ⊥) (λ (x : ControllerModel g.row.R.Denot). Unit {0}) (λ (x : ControllerModel g.row.R.Denot). ⊥) (λ (x : ControllerModel g.row.R.Denot) (program : List ℕ). opening c.args.half program x.equipment x.session) (Ok c.open.result) c.args.self.now old new c.self.view_is (record {
-      does = opens g.R.Rig.honest g.R.Rig.trace c.in_ok-open_segment.field-0 c.open.result c.args.half old new c.open.ensures.reply c.open.ensures.next (c.self.invariant whole) c.in_ok-open_segment.ensures.stops refl;
+      does = opens g.R.Rig.honest g.R.Rig.trace c.in_ok-open_segment.field-0 c.open.result c.args.half old new c.open.ensures.reply c.open.ensures.next (c.self.invariant.saved whole) c.in_ok-open_segment.ensures.stops refl;
       comes = comes_by ⊥ c.open.result (λ program. opening c.args.half program equipment old.session) old new (λ program. c.open.ensures.reply) (λ program. c.open.ensures.next);
       line = λ none. absurd none;
       hindered = tt;
@@ -43,3 +49,14 @@ returns g c =
       size = c.in_ok-open_segment.ensures.size;
       failures = c.in_ok-open_segment.ensures.failures;
     })
+
+pub invariant_of-self-2 : goal.invariant_of-self-2
+invariant_of-self-2 g c =
+    let session = c.self.inside.session in
+    let block = some_of session.current (subst (λ (x : ControllerModel g.row.R.Denot). IsSome x.session.current) (sym c.self.view_is) c.requires.block) in
+    let same = ap base_of c.open.ensures.next ∙ opened_base c.self.inside.geometry session c.args.half block.0 block.1 in
+    let whole = ap (λ (x : ControllerModel g.row.R.Denot). x.journal.broken) c.self.view_is ∙ c.requires.whole in
+    record {
+      saved = λ after. ap (λ (s : SessionModel). s.stored) c.open.ensures.next ∙ ap (λ (x : StoredModel). (let y : StoredModel = record x { half = Some c.args.half } in y)) (c.self.invariant.saved whole) ∙ sym c.in_ok-open_segment.ensures.saved;
+      plan = plan_as _ (base_of session) (base_of c.open.new.self) c.self.inside.lines.ahead same c.self.invariant.plan;
+    }

@@ -17,7 +17,7 @@ returns-in-Some g c =
     let old : ControllerModel g.row.R.Denot = c.args.self.now in
     let refused : Some c.in-Some.fault ≡ reference_refusal old.equipment.geometry old.session c.args.point.now =
     subst (λ (x : ControllerModel g.row.R.Denot). Some c.in-Some.fault ≡ reference_refusal x.equipment.geometry x.session c.args.point.now) c.self.view_is c.in-Some.ensures in
-    carried_refused g.R.Rig.honest g.R.Rig.trace g.R.Rig.failed g.R.Rig.sectors ⊥ (reference_refusal old.equipment.geometry old.session c.args.point.now ≡ None) ⊥ c.in-Some.fault (λ (program : List ℕ). reference old.equipment program old.session c.args.point.now) old c.requires (λ none. none)
+    carried_refused g.R.Rig.honest g.R.Rig.trace g.R.Rig.failed g.R.Rig.sectors ⊥ (reference_refusal old.equipment.geometry old.session c.args.point.now ≡ None) ⊥ c.in-Some.fault (λ (program : List ℕ). reference old.equipment program old.session c.args.point.now) old c.requires.whole (λ none. none)
     (λ program. ap (λ (o : Option Fault). reference_unless program old.session c.args.point.now o) refused)
 
 pub returns-then-is_count_used_up : goal.returns-then-is_count_used_up
@@ -28,7 +28,7 @@ returns-then-is_count_used_up g c =
     let ledger = ledger_of c.self.inside.journal in
     let saved = after_reference session.stored c.args.point.now in
     let free : reference_refusal equipment.geometry session c.args.point.now ≡ None = sym c.in_default.ensures in
-    carried_used g.R.Rig.honest g.R.Rig.trace g.R.Rig.failed g.R.Rig.sectors ⊥ (reference_refusal old.equipment.geometry old.session c.args.point.now ≡ None) ⊥ (λ (program : List ℕ). reference old.equipment program old.session c.args.point.now) old c.requires
+    carried_used g.R.Rig.honest g.R.Rig.trace g.R.Rig.failed g.R.Rig.sectors ⊥ (reference_refusal old.equipment.geometry old.session c.args.point.now ≡ None) ⊥ (λ (program : List ℕ). reference old.equipment program old.session c.args.point.now) old c.requires.whole
     (subst (λ (x : ControllerModel g.row.R.Denot). IsCausedBy ⊥ (reference_refusal x.equipment.geometry x.session c.args.point.now ≡ None) (ledger_of x.journal) (λ (program : List ℕ). reference x.equipment program x.session c.args.point.now) CountersUsed) c.self.view_is
     (hindered_count ledger (λ program. reference equipment program session c.args.point.now) saved (reference_refusal equipment.geometry session c.args.point.now ≡ None)
     (c.counters.ensures.past ledger saved (past_referenced session.stored c.args.point.now c.if-is_count_used_up.ensures))

@@ -16,7 +16,7 @@ returns-in-Some g c =
     let equipment : Equipment = record { tools = c.self.inside.tools; geometry = c.self.inside.geometry } in
     let old : ControllerModel g.row.R.Denot = record { journal = c.self.inside.journal; session = c.self.inside.session; lines = c.self.inside.lines; equipment = equipment } in
     let new : ControllerModel g.row.R.Denot = record { journal = c.self.inside.journal; session = c.resume_refusal.new.self; lines = c.self.inside.lines; equipment = equipment } in
-    let whole = ap (λ (x : ControllerModel g.row.R.Denot). x.journal.broken) c.self.view_is ∙ c.requires in
+    let whole = ap (λ (x : ControllerModel g.row.R.Denot). x.journal.broken) c.self.view_is ∙ c.requires.whole in
     carried_as g.R.Rig.honest g.R.Rig.trace g.R.Rig.failed g.R.Rig.sectors (λ (x : ControllerModel g.row.R.Denot). resume_refusal x.equipment x.session ≡ None) (λ (x : ControllerModel g.row.R.Denot). (resume_refusal x.equipment x.session ≡ None) × IsProgramsLine x.session.stored.half) (λ (x : ControllerModel g.row.R.Denot). (resume_refusal x.equipment x.session ≡ None) × IsProgramsLine x.session.stored.half) (λ (x : ControllerModel g.row.R.Denot) (program : List ℕ). resume x.equipment program x.session) (Ok (reply.Refused c.in-Some.fault)) c.args.self.now old new c.self.view_is (record {
       does = does_not_resume g.R.Rig.honest g.R.Rig.trace c.in-Some.fault old new c.in-Some.ensures.refusal refl refl c.in-Some.ensures.same;
       comes = comes_not_resumed ((resume_refusal equipment old.session ≡ None) × IsProgramsLine old.session.stored.half) c.in-Some.fault old new c.in-Some.ensures.refusal c.in-Some.ensures.same;

@@ -1,0 +1,73 @@
+use Rattle.std.proofs.Common.{◌≡◌, ℕ, Option, Some, None, Ok, Err, refl, sym, ◌∙◌, ap, subst}
+use Rattle.std.proofs.lemmas.Result.{err_from_is_err_and}
+use Rattle.ng_num.specs.declared.fault.Fault.{Fault}
+use Rattle.ng_journal.specs.Journal.{CountsFailure}
+use Rattle.ng_text.specs.LinesBefore.{IsTrueOf, IsLineBetween}
+use Rattle.ng_text.specs.Programs.{ProgramLineModel}
+use Rattle.ng_text.specs.declared.lines_before.LinesBefore.{LinesBefore}
+use Rattle.ng_session.specs.Entries.{Equipment}
+use Rattle.ng_session.specs.Planned.{KnownModel, IsKnownOf}
+use Rattle.ng_core.specs.Model.{ControllerModel}
+use Rattle.ng_core.specs.Private.Ahead.{PlansAhead}
+use Rattle.ng_core.proofs.Ahead.{plans_found, plans_lost, unread_first, unread_line}
+use Rattle.ng_core.proofs.Beginning.{Reading, finding_both}
+use Rattle.ng_core.proofs.controller.Controller.plan.Goals as goal
+
+pub returns-in_err-first : goal.returns-in_err-first
+returns-in_err-first g c =
+    let p = err_from_is_err_and c.from_residual.result c.from_residual.ensures.1 in
+    let e = c.in_err-first.field-0.0 in
+    let equipment : Equipment = record { tools = c.self.inside.tools; geometry = c.self.inside.geometry } in
+    let old : ControllerModel g.row.R.Denot = record { journal = c.self.inside.journal; session = c.self.inside.session; lines = c.self.inside.lines; equipment = equipment } in
+    let new : ControllerModel g.row.R.Denot = record { journal = c.first_kind_before.new.journal; session = c.self.inside.session; lines = c.self.inside.lines; equipment = equipment } in
+    rw (p.1) (subst (λ (x : ControllerModel g.row.R.Denot). PlansAhead g.R.Rig.honest g.R.Rig.trace g.R.Rig.failed g.R.Rig.sectors (Err p.0) x new) c.self.view_is
+    (plans_lost g.R.Rig.honest g.R.Rig.trace g.R.Rig.failed g.R.Rig.sectors p.0 e old new p.2 (unread_first g.R.Rig.honest g.R.Rig.trace g.R.Rig.failed g.R.Rig.sectors e c.in-Some.place old new.journal c.in_err-first.ensures.kind) c.in_err-first.ensures.errors refl refl c.in_err-first.ensures.ledger
+    c.in_err-first.ensures.broken c.in_err-first.ensures.size c.in_err-first.ensures.failures))
+
+pub returns-in_err-line : goal.returns-in_err-line
+returns-in_err-line g c =
+    let p = err_from_is_err_and c.from_residual-in_err-line.result c.from_residual-in_err-line.ensures.1 in
+    let e = c.in_err-line.field-0.0 in
+    let equipment : Equipment = record { tools = c.self.inside.tools; geometry = c.self.inside.geometry } in
+    let old : ControllerModel g.row.R.Denot = record { journal = c.self.inside.journal; session = c.self.inside.session; lines = c.self.inside.lines; equipment = equipment } in
+    let new : ControllerModel g.row.R.Denot = record { journal = c.program_line.new.self; session = c.self.inside.session; lines = c.self.inside.lines; equipment = equipment } in
+    rw (p.1) (subst (λ (x : ControllerModel g.row.R.Denot). PlansAhead g.R.Rig.honest g.R.Rig.trace g.R.Rig.failed g.R.Rig.sectors (Err p.0) x new) c.self.view_is
+    (plans_lost g.R.Rig.honest g.R.Rig.trace g.R.Rig.failed g.R.Rig.sectors p.0 e old new p.2 (unread_line g.R.Rig.honest g.R.Rig.trace g.R.Rig.failed g.R.Rig.sectors c.in_ok-first.first e c.in-Some.place old c.first_kind_before.new.journal new.journal c.in_ok-first.ensures.kind c.in_err-line.ensures.line)
+    c.in_err-line.ensures.errors refl refl (c.in_err-line.ensures.ledger ∙ c.in_ok-first.ensures.ledger)
+    c.in_err-line.ensures.broken (c.in_err-line.ensures.size ∙ c.in_ok-first.ensures.size)
+    (subst (λ (n : ℕ). CountsFailure {T = Unit {0}} (Err e) n (g.R.Rig.failed c.program_line.new.self.rig)) c.in_ok-first.ensures.failures c.in_err-line.ensures.failures)))
+
+pub returns-in-Some-2 : goal.returns-in-Some-2
+returns-in-Some-2 g c =
+    let equipment : Equipment = record { tools = c.self.inside.tools; geometry = c.self.inside.geometry } in
+    let old : ControllerModel g.row.R.Denot = record { journal = c.self.inside.journal; session = c.self.inside.session; lines = c.self.inside.lines; equipment = equipment } in
+    let new : ControllerModel g.row.R.Denot = record { journal = c.program_line.new.self; session = c.plan.new.self; lines = c.set_before.new.self; equipment = equipment } in
+    let line : ProgramLineModel = record { text = c.as_slice-text.result.now; next = c.line.inside.next } in
+    let read : line ≡ c.in-Some-2.line = (λ i. record { text = c.as_slice-text.ensures.value i; next = c.line.inside.next }) ∙ c.line.view_is in
+    let reading = subst (λ (l : Option ProgramLineModel). Reading {E = Fault} g.R.Rig.honest g.R.Rig.trace (Ok l) c.in-Some.place c.first_kind_before.new.journal c.program_line.new.self)
+    (c.in-Some-2.is ∙ ap (λ (l : ProgramLineModel). Some l) (sym read)) c.in_ok-line.ensures.line in
+    subst (λ (x : ControllerModel g.row.R.Denot). PlansAhead g.R.Rig.honest g.R.Rig.trace g.R.Rig.failed g.R.Rig.sectors (Ok tt) x new) c.self.view_is
+    (plans_found g.R.Rig.honest g.R.Rig.trace g.R.Rig.failed g.R.Rig.sectors c.in_ok-first.first (Some line) c.in-Some.place old new
+    (finding_both {E = Fault} {F = Fault} g.R.Rig.honest g.R.Rig.trace c.in_ok-first.first (Some line) c.self.inside.lines c.in-Some.place c.self.inside.journal c.first_kind_before.new.journal c.program_line.new.self
+    c.in_ok-first.ensures.kind reading)
+    (λ program known at kind.
+    let between : IsLineBetween program c.in-Some.place c.in_ok-first.first line.text line.next = record { line = sym at; kind = kind } in
+    let before = c.lines_after-before.ensures program (subst (λ (k : LinesBefore). IsTrueOf program k) (sym c.plan.ensures.before) known.0) between in
+    let ahead = c.plan.ensures.holds program known.1 (subst (λ (n : ℕ). IsLineBetween program n c.in_ok-first.first line.text line.next) c.in-Some.ensures.place between) in
+    subst (λ (k : KnownModel). IsKnownOf program k) (sym c.set_before.ensures) (before, ahead))
+    c.plan.ensures.session refl (c.in_ok-line.ensures.ledger ∙ c.in_ok-first.ensures.ledger) c.in_ok-line.ensures.broken
+    (c.in_ok-line.ensures.size ∙ c.in_ok-first.ensures.size) (c.in_ok-line.ensures.failures ∙ c.in_ok-first.ensures.failures))
+
+pub returns-in-None : goal.returns-in-None
+returns-in-None g c =
+    let equipment : Equipment = record { tools = c.self.inside.tools; geometry = c.self.inside.geometry } in
+    let old : ControllerModel g.row.R.Denot = record { journal = c.self.inside.journal; session = c.self.inside.session; lines = c.self.inside.lines; equipment = equipment } in
+    let new : ControllerModel g.row.R.Denot = record { journal = c.program_line.new.self; session = c.self.inside.session; lines = c.end.new.self; equipment = equipment } in
+    let reading = subst (λ (l : Option ProgramLineModel). Reading {E = Fault} g.R.Rig.honest g.R.Rig.trace (Ok l) c.in-Some.place c.first_kind_before.new.journal c.program_line.new.self) c.in-None.is c.in_ok-line.ensures.line in
+    subst (λ (x : ControllerModel g.row.R.Denot). PlansAhead g.R.Rig.honest g.R.Rig.trace g.R.Rig.failed g.R.Rig.sectors (Ok tt) x new) c.self.view_is
+    (plans_found g.R.Rig.honest g.R.Rig.trace g.R.Rig.failed g.R.Rig.sectors c.in_ok-first.first None c.in-Some.place old new
+    (finding_both {E = Fault} {F = Fault} g.R.Rig.honest g.R.Rig.trace c.in_ok-first.first None c.self.inside.lines c.in-Some.place c.self.inside.journal c.first_kind_before.new.journal c.program_line.new.self
+    c.in_ok-first.ensures.kind reading)
+    (λ program known at kind. subst (λ (k : KnownModel). IsKnownOf program k) (sym c.end.ensures) known)
+    refl refl (c.in_ok-line.ensures.ledger ∙ c.in_ok-first.ensures.ledger) c.in_ok-line.ensures.broken
+    (c.in_ok-line.ensures.size ∙ c.in_ok-first.ensures.size) (c.in_ok-line.ensures.failures ∙ c.in_ok-first.ensures.failures))

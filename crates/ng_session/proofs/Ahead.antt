@@ -1,0 +1,283 @@
+-- Lines that are planned, one after the other.
+use Rattle.std.proofs.Common.{◌≡◌, ◌⊎◌, inl, inr, ℕ, ◌-◌, ◌==◌, length, Bor, MatchOption, arith, Bool, true, false, not, ◌||◌, if◌then◌else◌, List, [], ◌∷◌, ◌++◌, Option, None, Some, Result, Ok, refl, sym, ◌∙◌, ap, subst}
+use Rattle.std.specs.Prelude.{IfSome, slice_get}
+use Rattle.std.specs.Option.{is_some, option_map, option_copied}
+use Rattle.ng_block.specs.Program.{executed_after, is_end}
+use Rattle.ng_canon.specs.declared.geometry.Geometry.{Geometry}
+use Rattle.ng_canon.specs.declared.segment.Segment.{Segment}
+use Rattle.ng_layout.specs.Storable.{IsStorable}
+use Rattle.ng_layout.specs.Stored.{HalfModel, StoredModel}
+use Rattle.ng_words.specs.declared.start.LineKind.{LineKind}
+use Rattle.ng_words.specs.declared.start.LineKind.TheVariants.{Blank}
+use Rattle.ng_text.specs.LinesBefore.{IsLineBetween}
+use Rattle.ng_num.specs.declared.fault.Fault.{Fault}
+use Rattle.ng_block.specs.Effects.{Done}
+use Rattle.ng_text.specs.Percent.{first_kind}
+use Rattle.ng_text.specs.Programs.{ProgramLineModel, lines_before}
+use Rattle.ng_layout.specs.declared.half.Source.TheVariants as source
+use Rattle.ng_session.specs.declared.event.Event.{Event}
+use Rattle.ng_session.specs.declared.event.Event.TheVariants as event
+use Rattle.ng_session.specs.declared.reply.Reply.TheVariants as reply
+use Rattle.ng_session.specs.Entries.{Equipment, terms_of, done_of}
+use Rattle.ng_session.specs.Session.{CurrentBlockModel, SessionModel, Transition, accepts_load, is_running, is_idle, step, answers, begin, begun, begin_by, IsQuiet, after_current_block, opened_on, next_opened, opened, handed, committed_on, committed}
+use Rattle.ng_session.specs.SessionInvariant.{Prepared, block_of, IsReady, IsReadyOn, IsSessionInvariant}
+use Rattle.ng_session.specs.Planned.{PlannedModel, KnownModel, IsLineOf, AreLinesOf, Base, IsBegunAhead, base_on, base_after, base_of, base_then, base_at_end, ends_at_end, drops_plan, IsPlannedOn, IsPlan}
+use Rattle.ng_session.specs.declared.stage.Stage.{Stage}
+use Rattle.ng_session.specs.declared.stage.Stage.TheVariants as stage
+
+-- ---- one line more
+
+pub plan_more : (equipment : Equipment) (base : Base) (ps : List PlannedModel) (p : PlannedModel) → IsPlan equipment base ps → IsPlannedOn equipment (base_at_end base ps) p → IsPlan equipment base (ps ++ p ∷ [])
+plan_more equipment base [] p plan on = (on, tt)
+plan_more equipment base (q ∷ ps) p plan on = (plan.0, plan_more equipment (base_then base q) ps p plan.1 on)
+
+pub lines_more : (program : List ℕ) (ps : List PlannedModel) (p : PlannedModel) → AreLinesOf program ps → IsLineOf program p → AreLinesOf program (ps ++ p ∷ [])
+lines_more program [] p lines line = (line, tt)
+lines_more program (q ∷ ps) p lines line = (lines.0, lines_more program ps p lines.1 line)
+
+pub end_more : (base : Base) (ps : List PlannedModel) (p : PlannedModel) → (base_at_end base (ps ++ p ∷ [])).stored ≡ p.prepared.after
+end_more base [] p = refl
+end_more base (q ∷ ps) p = end_more (base_then base q) ps p
+
+pub ends_more : (ends : Bool) (ps : List PlannedModel) (p : PlannedModel) → ends_at_end ends (ps ++ p ∷ []) ≡ is_end p.prepared.block.stop
+ends_more ends [] p = refl
+ends_more ends (q ∷ ps) p = ends_more (is_end q.prepared.block.stop) ps p
+
+-- ---- what they are planned on
+
+pub end_delete : (base : Base) (ps : List PlannedModel) → (base_at_end base ps).block_delete ≡ base.block_delete
+end_delete base [] = refl
+end_delete base (p ∷ ps) = end_delete (base_then base p) ps
+
+pub end_storable : (equipment : Equipment) (base : Base) (ps : List PlannedModel) → IsPlan equipment base ps → IsStorable base.stored → IsStorable (base_at_end base ps).stored
+end_storable equipment base [] plan storable = storable
+end_storable equipment base (p ∷ ps) plan storable = end_storable equipment (base_then base p) ps plan.1 plan.0.ready.next.storable
+
+pub end_length : (equipment : Equipment) (base : Base) (ps : List PlannedModel) → IsPlan equipment base ps → (base_at_end base ps).stored.length ≡ base.stored.length
+end_length equipment base [] plan = refl
+end_length equipment base (p ∷ ps) plan = end_length equipment (base_then base p) ps plan.1 ∙ plan.0.ready.next.same
+
+-- what is held ready of the current block is what they are planned on
+ready_base : (x : StoredModel) (p : Prepared) (g : Stage) → IsReadyOn x p g → p.after ≡ base_on x p.block g
+ready_base x p (stage.ToApproach a) r = r.after_is ∙ ap (λ (y : StoredModel). after_current_block y p.block) r.between_is
+ready_base x p (stage.OnApproach a) r = r.after_is ∙ ap (λ (y : StoredModel). after_current_block y p.block) r.between_is
+ready_base x p stage.OnBlock r = r.after_is
+
+pub held_base : (x : StoredModel) (o : Option Prepared) (p : Prepared) → o ≡ Some p → IfSome o (λ p. IsReadyOn x p p.block.stage) → p.after ≡ base_after x (option_map block_of o)
+held_base x None p is ready = cc
+held_base x (Some q) p is ready = ready_base x p p.block.stage (let f : Option Prepared → Type 0 = λ o. IfSome o (λ p. IsReadyOn x p p.block.stage) in subst f is ready) ∙ sym (ap (λ (o : Option Prepared). base_after x (option_map block_of o)) is)
+
+storable_on : (x : StoredModel) (p : Prepared) (g : Stage) → IsReadyOn x p g → IsStorable p.after
+storable_on x p (stage.ToApproach a) r = r.second.storable
+storable_on x p (stage.OnApproach a) r = r.second.storable
+storable_on x p stage.OnBlock r = r.next.storable
+
+length_on : (x : StoredModel) (p : Prepared) (g : Stage) → IsReadyOn x p g → p.after.length ≡ x.length
+length_on x p (stage.ToApproach a) r = r.second.same ∙ r.first.same
+length_on x p (stage.OnApproach a) r = r.second.same ∙ r.first.same
+length_on x p stage.OnBlock r = r.next.same
+
+pub base_storable : (x : StoredModel) (o : Option Prepared) → IsSessionInvariant x o → IsStorable (base_after x (option_map block_of o))
+base_storable x None kept = kept.storable
+base_storable x (Some p) kept = subst IsStorable (ready_base x p p.block.stage kept.next) (storable_on x p p.block.stage kept.next)
+
+pub base_length : (x : StoredModel) (o : Option Prepared) → IsSessionInvariant x o → (base_after x (option_map block_of o)).length ≡ x.length
+base_length x None kept = refl
+base_length x (Some p) kept = ap (λ (y : StoredModel). y.length) (sym (ready_base x p p.block.stage kept.next)) ∙ length_on x p p.block.stage kept.next
+
+-- ---- what a Tick leaves of that
+
+pub handed_base : (s : SessionModel) → base_of (handed s) ≡ base_of s
+handed_base s = by s.current
+  where
+    by : (o : Option CurrentBlockModel) → base_of (handed (record s { current = o })) ≡ base_of (record s { current = o })
+    by None = refl
+    by (Some c) = on c.stage
+      where
+        on : (g : Stage) → base_of (handed (record s { current = Some (record c { stage = g }) })) ≡ base_of (record s { current = Some (record c { stage = g }) })
+        on (stage.ToApproach a) = refl
+        on (stage.OnApproach a) = refl
+        on stage.OnBlock = refl
+
+opened_on_base : (geometry : Geometry) (x : StoredModel) (half : HalfModel) (c : CurrentBlockModel) (g : Stage) → base_on (record x { half = Some half }) (opened_on geometry (record c { stage = g }) g) (opened_on geometry (record c { stage = g }) g).stage ≡ base_on x (record c { stage = g }) g
+opened_on_base geometry x half c (stage.ToApproach a) = refl
+opened_on_base geometry x half c (stage.OnApproach a) = refl
+opened_on_base geometry x half c stage.OnBlock = by c.left
+  where
+    by : (left : List Segment) → base_on (record x { half = Some half }) (next_opened geometry (record c { stage = stage.OnBlock }) left) (next_opened geometry (record c { stage = stage.OnBlock }) left).stage ≡ base_on x (record c { stage = stage.OnBlock }) stage.OnBlock
+    by [] = refl
+    by (segment ∷ left) = refl
+
+opened_after_base : (geometry : Geometry) (x : StoredModel) (half : HalfModel) (c : CurrentBlockModel) → base_after (record x { half = Some half }) (Some (opened_on geometry c c.stage)) ≡ base_after x (Some c)
+opened_after_base geometry x half c = opened_on_base geometry x half c c.stage
+
+pub opened_base : (geometry : Geometry) (s : SessionModel) (half : HalfModel) (c : CurrentBlockModel) → s.current ≡ Some c → base_of (opened geometry s half) ≡ base_of s
+opened_base geometry s half c is =
+    let f : Option CurrentBlockModel → SessionModel = λ o. record s { current = o } in
+    let there : base_of (opened geometry (f (Some c)) half) ≡ base_of (f (Some c)) = λ i. record { stored = opened_after_base geometry s.stored half c i; block_delete = s.block_delete } in
+    let P : Option CurrentBlockModel → Type 0 = λ o. base_of (opened geometry (f o) half) ≡ base_of (f o) in
+    subst P (sym is) there
+
+committed_on_base : (s : SessionModel) (c : CurrentBlockModel) (g : Stage) → base_of (committed_on s c g) ≡ record { stored = base_on s.stored c g; block_delete = s.block_delete }
+committed_on_base s c (stage.ToApproach a) = refl
+committed_on_base s c (stage.OnApproach a) = refl
+committed_on_base s c stage.OnBlock = refl
+
+pub committed_base : (s : SessionModel) (c : CurrentBlockModel) → s.current ≡ Some c → base_of (committed s c) ≡ base_of s
+committed_base s c is =
+    committed_on_base s c c.stage ∙ (let P : Option CurrentBlockModel → Base = λ o. record { stored = base_after s.stored o; block_delete = s.block_delete } in ap P (sym is))
+
+-- ---- what the other events leave of it
+
+chosen : (P : Transition → Type 0) (b : Bool) (x y : Transition) → P x → P y → P (if b then x else y)
+chosen P true x y p q = p
+chosen P false x y p q = q
+
+pub steady_base : {A : Type 0} (equipment : Equipment) (program : List ℕ) (s : SessionModel) (e : Event A) → IsQuiet e → drops_plan e ≡ false → base_of (step equipment program s e).next ≡ base_of s
+steady_base equipment program s (event.Load text) quiet drops = absurd quiet
+steady_base equipment program s event.Start quiet drops =
+    let P : Transition → Type 0 = λ o. base_of o.next ≡ base_of s in
+    chosen P (not (accepts_load s)) _ _ refl (chosen P (not s.stored.setup.machine.point_known) _ _ refl (chosen P (s.stored.length == 0) _ _ refl refl))
+steady_base equipment program s event.Hold quiet drops =
+    let P : Transition → Type 0 = λ o. base_of o.next ≡ base_of s in
+    chosen P (is_running s.activity || is_some s.current) _ _ refl refl
+steady_base equipment program s event.Continue quiet drops =
+    let P : Transition → Type 0 = λ o. base_of o.next ≡ base_of s in
+    chosen P s.held _ _ refl (chosen P (is_running s.activity || is_some s.current) _ _ refl (chosen P (is_idle s.activity) _ _ refl refl))
+steady_base equipment program s (event.Mdi text) quiet drops = absurd (let z : true ≡ false = drops in cc)
+steady_base equipment program s (event.Reference point) quiet drops = absurd quiet
+steady_base equipment program s event.Resume quiet drops = absurd quiet
+steady_base equipment program s event.Abandon quiet drops = absurd quiet
+steady_base equipment program s (event.OptionalStop wanted) quiet drops = refl
+steady_base equipment program s (event.BlockDelete on) quiet drops = absurd (let z : true ≡ false = drops in cc)
+steady_base equipment program s event.Status quiet drops = refl
+steady_base equipment program s event.Tick quiet drops = absurd quiet
+
+pub plan_as : (equipment : Equipment) (a b : Base) (ps : List PlannedModel) → b ≡ a → IsPlan equipment a ps → IsPlan equipment b ps
+plan_as equipment a b ps same plan = subst (λ (base : Base). IsPlan equipment base ps) (sym same) plan
+
+pub plan_none : (equipment : Equipment) (base : Base) (ps : List PlannedModel) → ps ≡ [] → IsPlan equipment base ps
+plan_none equipment base ps none = subst (λ (l : List PlannedModel). IsPlan equipment base l) (sym none) tt
+
+-- a plan that such an event doesn't drop stays one
+pub plan_answered : {A : Type 0} (equipment : Equipment) (program : List ℕ) (s t : SessionModel) (e : Event A) (ps : List PlannedModel) → IsQuiet e → (drops_plan e ≡ true → ps ≡ [])
+    → t ≡ (step equipment program s e).next → IsPlan equipment (base_of s) ps → IsPlan equipment (base_of t) ps
+plan_answered {A} equipment program s t e ps quiet dropped next plan = elim (cases_of (drops_plan e)) [
+  | inl drops ↦ plan_none equipment (base_of t) ps (dropped drops)
+  | inr keeps ↦ plan_as equipment (base_of s) (base_of t) ps (ap base_of next ∙ steady_base equipment program s e quiet keeps) plan
+]
+  where
+    cases_of : (b : Bool) → (b ≡ true) ⊎ (b ≡ false)
+    cases_of true = inl refl
+    cases_of false = inr refl
+
+-- ---- a line that was planned is begun
+
+pub planned_done : (equipment : Equipment) (program : List ℕ) (s : SessionModel) (p : PlannedModel) (on : IsPlannedOn equipment (record { stored = s.stored; block_delete = s.block_delete }) p)
+    → p.first ≡ first_kind (lines_before program s.stored.place) → done_of equipment program s.stored source.Program p.prepared.block.text s.block_delete ≡ Ok on.does
+unfolding done_of
+planned_done equipment program s p on kind = subst (λ (k : LineKind). executed_after (terms_of equipment s.block_delete) k s.stored.setup p.prepared.block.text ≡ Ok on.does) kind on.does_is
+
+pub planned_begins : (equipment : Equipment) (program : List ℕ) (s : SessionModel) (p : PlannedModel) → IsPlannedOn equipment (record { stored = s.stored; block_delete = s.block_delete }) p
+    → p.first ≡ first_kind (lines_before program s.stored.place)
+    → answers program reply.Begun (record s { current = Some p.prepared.block }) ≡ begin equipment program s (Some (record { text = p.prepared.block.text; next = p.next }))
+planned_begins equipment program s p on kind =
+    let line : ProgramLineModel = record { text = p.prepared.block.text; next = p.next } in
+    ap (λ (c : CurrentBlockModel). answers program reply.Begun (let t : SessionModel = record s { current = Some c } in t)) on.begun_is
+    ∙ sym (ap (λ (does : Result Done Fault). begin_by program s line does) (planned_done equipment program s p on kind))
+
+-- ---- the last of them
+
+last_behind : (x : PlannedModel) (xs : List PlannedModel) → MatchOption (slice_get (x ∷ xs) (length xs)) ⊥ (λ p. (ps : List PlannedModel) × (x ∷ xs ≡ ps ++ p ∷ []))
+last_behind x [] = ([], refl)
+last_behind x (y ∷ xs) = behind (slice_get (y ∷ xs) (length xs)) (last_behind y xs)
+  where
+    behind : (o : Option PlannedModel) → MatchOption o ⊥ (λ p. (ps : List PlannedModel) × (y ∷ xs ≡ ps ++ p ∷ [])) → MatchOption o ⊥ (λ p. (ps : List PlannedModel) × (x ∷ y ∷ xs ≡ ps ++ p ∷ []))
+    behind None none = none
+    behind (Some p) parts = (x ∷ parts.0, ap (λ (l : List PlannedModel). x ∷ l) parts.1)
+
+last_of : (xs : List PlannedModel) → MatchOption (slice_get xs (length xs - 1)) (xs ≡ []) (λ p. (ps : List PlannedModel) × (xs ≡ ps ++ p ∷ []))
+last_of [] = refl
+last_of (x ∷ xs) =
+    let P : Option PlannedModel → Type 0 = λ o. MatchOption o (let none : List PlannedModel = [] in x ∷ xs ≡ none) (λ p. (ps : List PlannedModel) × (x ∷ xs ≡ ps ++ p ∷ [])) in
+    let n : length xs ≡ length (x ∷ xs) - 1 = omega arith in
+    subst (λ (k : ℕ). P (slice_get (x ∷ xs) k)) n (wider (slice_get (x ∷ xs) (length xs)) (last_behind x xs))
+  where
+    wider : (o : Option PlannedModel) → MatchOption o ⊥ (λ p. (ps : List PlannedModel) × (x ∷ xs ≡ ps ++ p ∷ [])) → MatchOption o (let none : List PlannedModel = [] in x ∷ xs ≡ none) (λ p. (ps : List PlannedModel) × (x ∷ xs ≡ ps ++ p ∷ []))
+    wider None none = absurd none
+    wider (Some p) parts = parts
+
+pub last_copied : (r : Option (Bor PlannedModel)) (xs : List PlannedModel) → option_copied r ≡ slice_get xs (length xs - 1) → MatchOption r (xs ≡ []) (λ p. (ps : List PlannedModel) × (xs ≡ ps ++ p.now ∷ []))
+last_copied r xs is = by r (subst (λ (o : Option PlannedModel). MatchOption o (xs ≡ []) (λ p. (ps : List PlannedModel) × (xs ≡ ps ++ p ∷ []))) (sym is) (last_of xs))
+  where
+    by : (r : Option (Bor PlannedModel)) → MatchOption (option_copied r) (xs ≡ []) (λ p. (ps : List PlannedModel) × (xs ≡ ps ++ p ∷ [])) → MatchOption r (xs ≡ []) (λ p. (ps : List PlannedModel) × (xs ≡ ps ++ p.now ∷ []))
+    by None m = m
+    by (Some p) m = m
+
+-- ---- a line is planned
+
+pub planned_by : (equipment : Equipment) (base : Base) (p : PlannedModel) (text : List ℕ) (does : Done) → p.place ≡ base.stored.place → (base.stored.place ≡ 0 → p.first ≡ Blank)
+    → executed_after (terms_of equipment base.block_delete) p.first base.stored.setup text ≡ Ok does → p.prepared.block ≡ begun base.stored source.Program text base.block_delete p.next does
+    → IsReady base.stored p.prepared → IsPlannedOn equipment base p
+planned_by equipment base p text does place beginning does_is begun_is ready =
+    let read : text ≡ p.prepared.block.text = sym (ap (λ (c : CurrentBlockModel). c.text) begun_is) in
+    record {
+      place = place;
+      beginning = λ none. beginning (sym place ∙ none);
+      does = does;
+      does_is = subst (λ (t : List ℕ). executed_after (terms_of equipment base.block_delete) p.first base.stored.setup t ≡ Ok does) read does_is;
+      begun_is = subst (λ (t : List ℕ). p.prepared.block ≡ begun base.stored source.Program t base.block_delete p.next does) read begun_is;
+      ready = ready;
+    }
+
+-- at the end of what is planned
+pub end_base : (base : Base) (ps : List PlannedModel) (x : StoredModel) → x ≡ (base_at_end base ps).stored → base_at_end base ps ≡ record { stored = x; block_delete = base.block_delete }
+end_base base ps x is = λ i. record { stored = sym is i; block_delete = end_delete base ps i }
+
+pub plan_pushed : (equipment : Equipment) (base : Base) (ps qs : List PlannedModel) (p : PlannedModel) (x : StoredModel) → x ≡ (base_at_end base ps).stored → IsPlan equipment base ps
+    → IsPlannedOn equipment (record { stored = x; block_delete = base.block_delete }) p → (qs ≡ ps ++ p ∷ []) ⊎ (qs ≡ ps) → IsPlan equipment base qs
+plan_pushed equipment base ps qs p x is plan on (inl more) =
+    subst (λ (l : List PlannedModel). IsPlan equipment base l) (sym more)
+    (plan_more equipment base ps p plan (subst (λ (b : Base). IsPlannedOn equipment b p) (sym (end_base base ps x is)) on))
+plan_pushed equipment base ps qs p x is plan on (inr same) = subst (λ (l : List PlannedModel). IsPlan equipment base l) (sym same) plan
+
+pub lines_pushed : (program : List ℕ) (ps qs : List PlannedModel) (p : PlannedModel) (place : ℕ) (first : LineKind) (text : List ℕ) (next : ℕ) → AreLinesOf program ps → IsLineBetween program place first text next
+    → p.place ≡ place → p.first ≡ first → p.prepared.block.text ≡ text → p.next ≡ next → (qs ≡ ps ++ p ∷ []) ⊎ (qs ≡ ps) → AreLinesOf program qs
+lines_pushed program ps qs p place first text next lines line a b c d (inl more) =
+    let one : IsLineOf program p = subst (λ (n : ℕ). IsLineBetween program n p.first p.prepared.block.text p.next) (sym a)
+    (subst (λ (k : LineKind). IsLineBetween program place k p.prepared.block.text p.next) (sym b)
+    (subst (λ (t : List ℕ). IsLineBetween program place first t p.next) (sym c)
+    (subst (λ (n : ℕ). IsLineBetween program place first text n) (sym d) line))) in
+    subst (λ (l : List PlannedModel). AreLinesOf program l) (sym more) (lines_more program ps p lines one)
+lines_pushed program ps qs p place first text next lines line a b c d (inr same) = subst (λ (l : List PlannedModel). AreLinesOf program l) (sym same) lines
+
+-- ---- the first of them is begun
+
+pub plan_front : (equipment : Equipment) (base : Base) (ps qs : List PlannedModel) (p : PlannedModel) → ps ≡ p ∷ qs → IsPlan equipment base ps → IsPlannedOn equipment base p × IsPlan equipment (base_then base p) qs
+plan_front equipment base ps qs p is plan = subst (λ (l : List PlannedModel). IsPlan equipment base l) is plan
+
+-- what stands is what the first of them is planned on, and it is what the next one is planned on then
+free_base : (s : SessionModel) → s.current ≡ None → base_of s ≡ record { stored = s.stored; block_delete = s.block_delete }
+free_base s free = λ i. record { stored = base_after s.stored (free i); block_delete = s.block_delete }
+
+then_base : (s : SessionModel) (p : PlannedModel) → p.prepared.block.stage ≡ stage.OnBlock → IsReady s.stored p.prepared
+    → base_of (let t : SessionModel = record s { current = Some p.prepared.block } in t) ≡ base_then (record { stored = s.stored; block_delete = s.block_delete }) p
+then_base s p on ready = λ i. record { stored = (ap (λ (g : Stage). base_on s.stored p.prepared.block g) on ∙ sym ready.after_is) i; block_delete = s.block_delete }
+
+pub begun_ahead : (equipment : Equipment) (s t : SessionModel) (known_old known_new : KnownModel) (p : PlannedModel) → s.current ≡ None → t ≡ (let u : SessionModel = record s { current = Some p.prepared.block } in u)
+    → known_old.ahead ≡ p ∷ known_new.ahead → known_new.before ≡ known_old.before → IsPlan equipment (base_of s) known_old.ahead → IsBegunAhead equipment reply.Begun s t known_old known_new
+begun_ahead equipment s t known_old known_new p free next front before plan =
+    let here : Base = record { stored = s.stored; block_delete = s.block_delete } in
+    let split = plan_front equipment here known_old.ahead known_new.ahead p front (subst (λ (b : Base). IsPlan equipment b known_old.ahead) (free_base s free) plan) in
+    let on : IsPlannedOn equipment here p = split.0 in
+    let stage_is : p.prepared.block.stage ≡ stage.OnBlock = ap (λ (c : CurrentBlockModel). c.stage) on.begun_is in
+    record {
+      planned = p;
+      front = front;
+      before = before;
+      place = on.place;
+      beginning = on.beginning;
+      told_is = λ program kind. ap (λ (o : Transition). o.reply) (planned_begins equipment program s p on kind);
+      next = λ program kind. next ∙ ap (λ (o : Transition). o.next) (planned_begins equipment program s p on kind);
+      plan = subst (λ (b : Base). IsPlan equipment b known_new.ahead) (sym (ap base_of next ∙ then_base s p stage_is on.ready)) split.1;
+    }

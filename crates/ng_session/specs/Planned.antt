@@ -1,0 +1,129 @@
+-- Lines of the program that are executed before they are begun (own).
+use Rattle.std.specs.Prelude.{◌≡◌, ℕ, Bool, true, false, if◌then◌else◌, List, [], ◌∷◌, Option, None, Some, Ok}
+use Rattle.ng_words.specs.declared.start.LineKind.{LineKind}
+use Rattle.ng_words.specs.declared.start.LineKind.TheVariants.{Blank}
+use Rattle.ng_text.specs.LinesBefore.{IsTrueOf, IsLineBetween}
+use Rattle.ng_text.specs.Percent.{first_kind}
+use Rattle.ng_text.specs.Programs.{lines_before}
+use Rattle.ng_text.specs.declared.lines_before.LinesBefore.{LinesBefore}
+use Rattle.ng_block.specs.Effects.{Done}
+use Rattle.ng_block.specs.Program.{executed_after, is_end}
+use Rattle.ng_layout.specs.Stored.{StoredModel}
+use Rattle.ng_layout.specs.declared.half.Source.TheVariants as source
+use Rattle.ng_session.specs.Entries.{Equipment, terms_of}
+use Rattle.ng_session.specs.Session.{CurrentBlockModel, SessionModel, after_current_block, after_current_approach, begin, begun}
+use Rattle.ng_session.specs.SessionInvariant.{Prepared, IsReady}
+use Rattle.ng_session.specs.declared.event.Event.{Event}
+use Rattle.ng_session.specs.declared.event.Event.TheVariants as event
+use Rattle.ng_session.specs.declared.reply.Reply.{Reply}
+use Rattle.ng_session.specs.declared.stage.Stage.{Stage}
+use Rattle.ng_session.specs.declared.stage.Stage.TheVariants as stage
+
+-- a line that was read ahead: the places at which it and the next one begin, the kind of the first line before it that isn't blank, and its
+-- block, as it will be begun
+pub record PlannedModel : Type 0 where
+  pub place : ℕ
+  pub first : LineKind
+  pub next : ℕ
+  pub prepared : Prepared
+
+-- what is known of a program's lines: of those before a place, and those that were read ahead, in order
+pub record KnownModel : Type 0 where
+  pub before : LinesBefore
+  pub ahead : List PlannedModel
+
+-- that line is the program's
+abbrev pub IsLineOf : List ℕ → PlannedModel → Type 0
+IsLineOf program p = IsLineBetween program p.place p.first p.prepared.block.text p.next
+
+abbrev pub AreLinesOf : List ℕ → List PlannedModel → Type 0
+AreLinesOf program [] = Unit {0}
+AreLinesOf program (p ∷ ps) = IsLineOf program p × AreLinesOf program ps
+
+-- all of it is so of a program
+abbrev pub IsKnownOf : List ℕ → KnownModel → Type 0
+IsKnownOf program known = IsTrueOf program known.before × AreLinesOf program known.ahead
+
+-- what is planned doesn't come any more after such an event: another line comes first, or another program, or the lines do something else
+abbrev pub drops_plan : {A : Type 0} → Event A → Bool
+drops_plan (event.Load text) = true
+drops_plan event.Start = false
+drops_plan event.Hold = false
+drops_plan event.Continue = false
+drops_plan (event.Mdi text) = true
+drops_plan (event.Reference point) = true
+drops_plan event.Resume = true
+drops_plan event.Abandon = true
+drops_plan (event.OptionalStop wanted) = false
+drops_plan (event.BlockDelete on) = true
+drops_plan event.Status = false
+drops_plan event.Tick = false
+
+-- what is known is known without the lines that were read ahead too
+abbrev pub forgotten : KnownModel → KnownModel
+forgotten known = record known { ahead = [] }
+
+abbrev pub forgotten_for : {A : Type 0} → Event A → KnownModel → KnownModel
+forgotten_for event known = if drops_plan event then forgotten known else known
+
+-- what a line is planned on: what will be stored when it is begun, and whether block delete is on
+pub record Base : Type 0 where
+  pub stored : StoredModel
+  pub block_delete : Bool
+
+-- what will be stored once nothing is left of the current block
+abbrev pub base_on : StoredModel → CurrentBlockModel → Stage → StoredModel
+base_on x c (stage.ToApproach a) = after_current_block (after_current_approach x c a.to.point) c
+base_on x c (stage.OnApproach a) = after_current_block (after_current_approach x c a.to.point) c
+base_on x c stage.OnBlock = after_current_block x c
+
+abbrev pub base_after : StoredModel → Option CurrentBlockModel → StoredModel
+base_after x None = x
+base_after x (Some c) = base_on x c c.stage
+
+abbrev pub base_of : SessionModel → Base
+base_of s = record { stored = base_after s.stored s.current; block_delete = s.block_delete }
+
+-- what the next line is planned on
+abbrev pub base_then : Base → PlannedModel → Base
+base_then base p = record { stored = p.prepared.after; block_delete = base.block_delete }
+
+abbrev pub base_at_end : Base → List PlannedModel → Base
+base_at_end base [] = base
+base_at_end base (p ∷ ps) = base_at_end (base_then base p) ps
+
+-- whether the program ends then: by the last of them, or else by the current block
+abbrev pub ends_after : Option CurrentBlockModel → Bool
+ends_after None = false
+ends_after (Some c) = is_end c.stop
+
+abbrev pub ends_at_end : Bool → List PlannedModel → Bool
+ends_at_end ends [] = ends
+ends_at_end ends (p ∷ ps) = ends_at_end (is_end p.prepared.block.stop) ps
+
+-- The line at the place that will be stored is lawful then, and its block is what it does then; no line is before the program's beginning.
+pub record IsPlannedOn (equipment : Equipment) (base : Base) (p : PlannedModel) : Type 0 where
+  pub place : p.place ≡ base.stored.place
+  pub beginning : p.place ≡ 0 → p.first ≡ Blank
+  pub does : Done
+  pub does_is : executed_after (terms_of equipment base.block_delete) p.first base.stored.setup p.prepared.block.text ≡ Ok does
+  pub begun_is : p.prepared.block ≡ begun base.stored source.Program p.prepared.block.text base.block_delete p.next does
+  pub ready : IsReady base.stored p.prepared
+
+-- each is planned on what the one before it leaves
+abbrev pub IsPlan : Equipment → Base → List PlannedModel → Type 0
+IsPlan equipment base [] = Unit {0}
+IsPlan equipment base (p ∷ ps) = IsPlannedOn equipment base p × IsPlan equipment (base_then base p) ps
+
+-- the first of them is begun as it is when it is read then, and the others stay planned
+pub record IsBegunAhead (equipment : Equipment) (told : Reply) (old new : SessionModel) (known_old known_new : KnownModel) : Type 0 where
+  pub planned : PlannedModel
+  pub front : known_old.ahead ≡ planned ∷ known_new.ahead
+  pub before : known_new.before ≡ known_old.before
+  pub place : planned.place ≡ old.stored.place
+  pub beginning : planned.place ≡ 0 → planned.first ≡ Blank
+  pub told_is : (program : List ℕ) → planned.first ≡ first_kind (lines_before program old.stored.place)
+      → told ≡ (begin equipment program old (Some (record { text = planned.prepared.block.text; next = planned.next }))).reply
+  pub next : (program : List ℕ) → planned.first ≡ first_kind (lines_before program old.stored.place)
+      → new ≡ (begin equipment program old (Some (record { text = planned.prepared.block.text; next = planned.next }))).next
+  pub plan : IsPlan equipment (base_of new) known_new.ahead

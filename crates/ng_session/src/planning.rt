@@ -1,0 +1,188 @@
+//! How lines of the program are planned ahead, and how one that was planned is begun.
+ghost use Rattle.std.specs.Prelude.{◌≡◌, ◌≤◌, Bool, Ok, Err, MatchResult, OnOk, IfOk, IfSome, Some, None, length};
+ghost use Rattle.std.specs.Option.{option_map};
+ghost use Rattle.ng_words.specs.declared.start.LineKind.TheVariants.{Blank};
+ghost use Rattle.ng_block.specs.Program.{executed_after};
+ghost use Rattle.ng_block.specs.Effects.{in_state};
+ghost use Rattle.ng_layout.specs.Storable.{IsStorableMachine, IsStorable};
+ghost use Rattle.ng_session.specs.Entries.{equipment_of};
+ghost use Rattle.ng_session.specs.Planned.{IsPlannedOn, base_after, base_at_end, ends_after, ends_at_end};
+ghost use Rattle.ng_session.specs.SessionInvariant.{IsReadyOn, block_of};
+
+use crate::current_block::CurrentBlock;
+use crate::known_lines::KnownLines;
+use crate::planned::Planned;
+use crate::reply::Reply;
+use crate::session::Session;
+use ng_block::{Effect, ProgramFlow, Scratch, Terms, Tools};
+use ng_canon::Geometry;
+use ng_layout::{Source, Stored};
+use ng_num::Fault;
+use ng_words::LineKind;
+use std::alloc::Allocator;
+
+/// The most entries that may stand before a block that is begun.
+const MOST_ENTRIES: u64 = 1_000_000_000_000;
+
+/// What a line of the program does after lines whose first that isn't blank is of a kind, in places, or the first fault that refuses it.
+fn execute_ahead<'p, A: Allocator + Copy + Drop>(
+    places: &'p mut Scratch,
+    base: &Stored<A>,
+    first: LineKind,
+    text: &[u8],
+    terms: &Terms<'_>,
+) -> Result<&'p Effect, Fault>
+    ensures does { MatchResult result (λ e. executed_after terms.now first base.now.setup text.now ≡ Ok (in_state base.now.setup e.now)) (λ fault. executed_after terms.now first base.now.setup text.now ≡ Err fault) }
+    ensures short { OnOk result (length text.now ≤ 256) }
+    ensures stands { IfOk result (λ e. IsStorableMachine base.now.setup.machine → IsStorableMachine e.now.machine) }
+{
+    // called for its contract: a table has at most 64 slots, and no more are stored
+    let _ = terms.tools.slots();
+    match places.execute_after(terms, first, &base.state, text) {
+        Ok(effect) => Ok(effect),
+        Err(fault) => Err(fault),
+    }
+}
+
+/// The line at the place of what will be stored, as it will be begun then; none where it is refused or its state found no memory.
+fn plan_line<A: Allocator + Copy + Drop>(
+    places: &mut Scratch,
+    base: &Stored<A>,
+    first: LineKind,
+    text: &[u8],
+    next: u64,
+    terms: &Terms<'_>,
+) -> Option<Planned<A>>
+    requires count { base.now.entries ≤ 1_000_000_000_000 }
+    requires storable { IsStorable base.now }
+    requires within { next ≤ base.now.length }
+    requires beginning { base.now.place ≡ 0 → first ≡ Blank }
+    ensures planned { IfSome result (λ p. IsPlannedOn (equipment_of terms.now) (record { stored = base.now; block_delete = terms.now.block_delete }) p) }
+    ensures first { IfSome result (λ p. p.first ≡ first) }
+    ensures text { IfSome result (λ p. p.prepared.block.text ≡ text.now) }
+    ensures next { IfSome result (λ p. p.next ≡ next) }
+{
+    let effect = match execute_ahead(places, base, first, text, terms) {
+        Ok(effect) => effect,
+        Err(_) => return None,
+    };
+    let begun = CurrentBlock::begun(
+        base,
+        Source::Program,
+        text,
+        terms.block_delete,
+        next,
+        effect,
+    );
+    match begun {
+        Ok(block) => Some(Planned {
+            place: base.place,
+            first,
+            next,
+            block,
+        }),
+        Err(_) => None,
+    }
+}
+
+/// What will be stored once nothing is left of the current block and of what was read ahead.
+fn stored_at_end<'a, A: Allocator + Copy + Drop>(
+    stored: &'a Stored<A>,
+    current: &'a Option<CurrentBlock<A>>,
+    lines: &'a KnownLines<A>,
+) -> &'a Stored<A>
+    requires { IfSome current.now (λ p. IsReadyOn stored.now p p.block.stage) }
+    ensures { (block_delete : Bool) → result.now ≡ (base_at_end (record { stored = base_after stored.now (option_map block_of current.now); block_delete = block_delete }) lines.now.ahead).stored }
+{
+    if let Some(planned) = lines.last() {
+        return planned.after();
+    }
+    match current {
+        Some(block) => &block.after,
+        None => stored,
+    }
+}
+
+/// Whether the program ends by the last line that was read ahead, or else by the current block.
+fn ends_at_end<A: Allocator + Copy + Drop>(
+    current: &Option<CurrentBlock<A>>,
+    lines: &KnownLines<A>,
+) -> bool
+    ensures { result ≡ ends_at_end (ends_after (option_map block_of current.now)) lines.now.ahead }
+{
+    if let Some(planned) = lines.last() {
+        return planned.ends();
+    }
+    match current {
+        Some(block) => block.stop == ProgramFlow::Ends,
+        None => false,
+    }
+}
+
+impl<A: Allocator + Copy + Drop> Session<A> {
+    ghost use Rattle.std.specs.Prelude.{[], ℕ, List, true, MatchOption};
+    ghost use Rattle.ng_text.specs.LinesBefore.{IsLineBetween};
+    ghost use Rattle.ng_session.specs.Entries.{Equipment};
+    ghost use Rattle.ng_session.specs.Planned.{AreLinesOf, IsPlan, IsBegunAhead, base_of};
+
+    /// The byte of the program at which the next line begins that can be planned, by what is known of its lines: nothing is planned past
+    /// the program's end.
+    pub fn place_ahead(&self, lines: &KnownLines<A>) -> Option<u64>
+        requires { (equipment : Equipment) × IsPlan equipment (base_of self.now) lines.now.ahead }
+        ensures place { IfSome result (λ place. place ≡ (base_at_end (base_of self.now) lines.now.ahead).stored.place) }
+        ensures within { IfSome result (λ place. place ≤ self.now.stored.length) }
+        ensures end { ends_at_end (ends_after self.now.current) lines.now.ahead ≡ true → result ≡ None }
+    {
+        if lines.is_done() || ends_at_end(&self.current, lines) {
+            return None;
+        }
+        Some(stored_at_end(&self.stored, &self.current, lines).place)
+    }
+
+    /// Plans the line at that place, where the next one begins at `next`; `first` is the kind of the first line before it that isn't blank.
+    /// Nothing is planned where the line is refused, or where the state after it found no memory: none shows of that. The session stays as
+    /// it is.
+    pub fn plan(
+        &mut self,
+        lines: &mut KnownLines<A>,
+        text: &[u8],
+        next: u64,
+        first: LineKind,
+        tools: &Tools,
+        geometry: &Geometry,
+    )
+        requires plan { IsPlan (record { tools = tools.now; geometry = geometry.now }) (base_of self.old) lines.old.ahead }
+        requires within { next ≤ self.old.stored.length }
+        requires beginning { (base_at_end (base_of self.old) lines.old.ahead).stored.place ≡ 0 → first ≡ Blank }
+        ensures session { self.new ≡ self.old }
+        ensures before { lines.new.before ≡ lines.old.before }
+        ensures plan { IsPlan (record { tools = tools.now; geometry = geometry.now }) (base_of self.old) lines.new.ahead }
+        ensures holds { (program : List ℕ) → AreLinesOf program lines.old.ahead → IsLineBetween program (base_at_end (base_of self.old) lines.old.ahead).stored.place first text.now next → AreLinesOf program lines.new.ahead }
+    {
+        let terms = Terms {
+            block_delete: self.block_delete,
+            tools,
+            geometry,
+        };
+        let base = stored_at_end(&self.stored, &self.current, lines);
+        if base.entries > MOST_ENTRIES {
+            return;
+        }
+        match plan_line(&mut self.places, base, first, text, next, &terms) {
+            Some(planned) => lines.push(planned),
+            None => lines.end(),
+        }
+    }
+
+    /// Begins the first line that was read ahead; none where none was: then nothing is changed.
+    pub fn begin_ahead(&mut self, lines: &mut KnownLines<A>) -> Option<Reply>
+        requires plan { (equipment : Equipment) × IsPlan equipment (base_of self.old) lines.old.ahead }
+        requires free { self.old.current ≡ None }
+        ensures none { result ≡ None → (self.new ≡ self.old) × (lines.new ≡ lines.old) × (lines.new.ahead ≡ []) }
+        ensures begun { (equipment : Equipment) → IsPlan equipment (base_of self.old) lines.old.ahead → IfSome result (λ reply. IsBegunAhead equipment reply self.old self.new lines.old lines.new) }
+    {
+        let planned = lines.take_front()?;
+        self.current = Some(planned.block);
+        Some(Reply::Begun)
+    }
+}
