@@ -6,9 +6,9 @@ use crate::axis_data::unit_after;
 use crate::goal::{end_of, feed_mode_after, pace_by};
 use crate::path::Path;
 use ng_arc::{AskedArc, CentreOffsets, NamedAxes, check_arc};
-use ng_canon::{ArcDirection, Pace};
+use ng_canon::{ArcDirection, Feed, Pace};
 use ng_modal::{Block, ByLetter};
-use ng_num::{Fault, Len, Point};
+use ng_num::{Fault, Point};
 use ng_offsets::{Named, Offsets};
 use ng_state::{Machine, Modes, Motion};
 
@@ -102,7 +102,7 @@ pub fn path_along_arc(
     block: &Block,
     machine: &Machine,
     offsets: &Offsets,
-    feed_per_min: Len,
+    feed_per_min: Feed,
 ) -> Result<Path, Fault>
     ensures { result ≡ path_along_arc block.now machine.now offsets.now feed_per_min }
 {

@@ -13,9 +13,9 @@ use crate::goal::{
 };
 use crate::path::Path;
 use crate::shifts::{keeps_offsets, shift_of};
-use ng_canon::{Geometry, Pace, StraightMove};
+use ng_canon::{Feed, Geometry, Pace, StraightMove};
 use ng_modal::Block;
-use ng_num::{Fault, Len, Point};
+use ng_num::{Fault, Point};
 use ng_offsets::{Offsets, Tools};
 use ng_params::{Change, Params, System};
 use ng_state::State;
@@ -97,7 +97,7 @@ impl Effect {
         block: &Block,
         settings: &[Change],
         tools: &Tools,
-        feed_per_min: Len,
+        feed_per_min: Feed,
         geometry: &Geometry,
     ) -> Result<(), Fault>
         requires short { length settings.now ≤ 128 }
@@ -121,7 +121,7 @@ impl Effect {
         block: &Block,
         settings: &[Change],
         tools: &Tools,
-        feed_per_min: Len,
+        feed_per_min: Feed,
         geometry: &Geometry,
     ) -> Result<(), Fault>
         requires short { length settings.now ≤ 128 }

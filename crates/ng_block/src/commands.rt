@@ -13,9 +13,9 @@ use crate::shifts::Shown;
 use crate::steps::{BlockStep, ORDER};
 use crate::tasks::Tasks;
 use arrayvec::ArrayVec;
-use ng_canon::{Canon, CanonicalCommand, Plane};
+use ng_canon::{Canon, CanonicalCommand, Feed, Plane};
 use ng_modal::{Coolant, StopWord};
-use ng_num::{Len, Point};
+use ng_num::Point;
 use std::marker::Model;
 
 /// The most commands of a step but the motion.
@@ -23,7 +23,7 @@ const MOST: usize = 8;
 
 type OfStep = ArrayVec<CanonicalCommand, MOST>;
 
-fn put_feed(feed_per_min: Option<Len>, commands: &mut OfStep)
+fn put_feed(feed_per_min: Option<Feed>, commands: &mut OfStep)
     requires { commands.old.items ≡ [] }
     ensures { commands.new.items ≡ command_for CanonicalCommand.FeedRate feed_per_min }
 {

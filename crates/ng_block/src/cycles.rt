@@ -9,7 +9,7 @@ use crate::goal::{feed_mode_after, is_inverse};
 use crate::path::Path;
 use crate::switches::outputs_before_motion;
 use crate::tasks::Tasks;
-use ng_canon::{Geometry, Outputs};
+use ng_canon::{Feed, Geometry, Outputs};
 use ng_cycles::{Canned, CycleKind, CycleWords, Setting};
 use ng_modal::Block;
 use ng_num::{Fault, Len, Num, Unit, nm_of};
@@ -165,7 +165,7 @@ fn setting_of(
     block: &Block,
     machine: &Machine,
     offsets: &Offsets,
-    feed_per_min: Len,
+    feed_per_min: Feed,
     kept: KeptWords,
 ) -> Setting
     ensures { result ≡ setting_of block.now machine.now offsets.now feed_per_min kept }
@@ -192,7 +192,7 @@ pub fn cycle_path(
     block: &Block,
     machine: &Machine,
     offsets: &Offsets,
-    feed_per_min: Len,
+    feed_per_min: Feed,
     geometry: &Geometry,
 ) -> Result<Path, Fault>
     ensures { result ≡ cycle_path block.now machine.now offsets.now feed_per_min geometry.now }

@@ -20,9 +20,8 @@ use crate::remark::Remark;
 use crate::switches::put_outputs_after;
 use crate::tasks::{feed_set, put_tasks};
 use arrayvec::ArrayVec;
-use ng_canon::{CanonicalCommand, StraightMove};
+use ng_canon::{CanonicalCommand, Feed, StraightMove};
 use ng_modal::Block;
-use ng_num::Len;
 use ng_params::Change;
 use ng_state::{Machine, State};
 use std::alloc::Allocator;
@@ -83,7 +82,7 @@ impl Effect {
     /// The one move of a block that only goes straight, after the feed that it sets, if any; none of any other block. So the
     /// commands of nearly every line are had without a cursor.
     #[inline]
-    pub fn only_move(&self) -> Option<(Option<Len>, &StraightMove)>
+    pub fn only_move(&self) -> Option<(Option<Feed>, &StraightMove)>
         ensures { IfSome result (λ x. commands_by self.now ≡ map numeric (command_for CanonicalCommand.FeedRate x.0 ++ pace_command x.1.now.pace x.1.now.end ∷ [])) }
     {
         let plan = &self.plan;

@@ -12,7 +12,7 @@ use crate::axis_data::{named_on, unit_after};
 use crate::cycles::{cycle_path, kind_of};
 use crate::homes::{home_on, home_path};
 use crate::path::Path;
-use ng_canon::{Geometry, InverseTime, Pace, Rate};
+use ng_canon::{Feed, Geometry, InverseTime, Pace, Rate};
 use ng_modal::{Block, NonModal};
 use ng_num::{Fault, Len, Num, Point, Unit, nm_of};
 use ng_offsets::{Offsets, Shift};
@@ -80,17 +80,17 @@ pub fn time_word(mode: FeedMode, motion: Option<Motion>, word: Option<Num>) -> O
 
 /// The feed after a line.
 #[inline]
-pub fn feed_of(block: &Block, machine: &Machine) -> Result<Len, Fault>
+pub fn feed_of(block: &Block, machine: &Machine) -> Result<Feed, Fault>
     ensures { result ≡ feed_of block.now machine.now }
 {
     match feed_word(feed_mode_after(block, &machine.modes), block.values.f) {
         None => Ok(machine.feed_per_min),
-        Some(feed) => nm_of(feed, machine.modes.unit),
+        Some(feed) => Ok(Feed::of(nm_of(feed, machine.modes.unit)?)),
     }
 }
 
 /// The pace of a move at a feed or in a time.
-fn fed_pace(mode: FeedMode, feed_per_min: Len, word: Option<Num>) -> Option<Pace>
+fn fed_pace(mode: FeedMode, feed_per_min: Feed, word: Option<Num>) -> Option<Pace>
     ensures { result ≡ fed_pace mode feed_per_min word }
 {
     match mode {
@@ -113,7 +113,7 @@ fn fed_pace(mode: FeedMode, feed_per_min: Len, word: Option<Num>) -> Option<Pace
 pub fn pace_by(
     motion: Option<Motion>,
     mode: FeedMode,
-    feed_per_min: Len,
+    feed_per_min: Feed,
     word: Option<Num>,
 ) -> Option<Pace>
     ensures { result ≡ pace_by motion mode feed_per_min word }
@@ -233,7 +233,7 @@ fn is_arc(motion: Option<Motion>) -> bool
 
 /// A straight path to a point, with the feed after the line.
 #[inline]
-fn straight_to(block: &Block, machine: &Machine, feed_per_min: Len, end: Point) -> Path
+fn straight_to(block: &Block, machine: &Machine, feed_per_min: Feed, end: Point) -> Path
     ensures { result ≡ straight_to block.now machine.now feed_per_min end }
 {
     let mode = feed_mode_after(block, &machine.modes);
@@ -247,7 +247,7 @@ fn straight_to(block: &Block, machine: &Machine, feed_per_min: Len, end: Point) 
 pub fn turning_path_of(
     block: &Block,
     machine: &Machine,
-    feed_per_min: Len,
+    feed_per_min: Feed,
     geometry: &Geometry,
 ) -> Result<Path, Fault>
     ensures { result ≡ turning_path_of block.now machine.now feed_per_min geometry.now }
@@ -268,7 +268,7 @@ pub fn path_of<A: Allocator + Copy + Drop>(
     state: &State<A>,
     settings: &[Change],
     offsets: &Offsets,
-    feed_per_min: Len,
+    feed_per_min: Feed,
     geometry: &Geometry,
 ) -> Result<Path, Fault>
     ensures { result ≡ path_of block.now state.now.machine offsets.now (with_changes state.now.params settings.now) feed_per_min geometry.now }

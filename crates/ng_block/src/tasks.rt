@@ -4,9 +4,9 @@ ghost use Rattle.std.specs.Prelude.{◌≡◌};
 ghost use Rattle.ng_block.specs.Tasks.{feed_set, tasks_of, tasks_in, gives_nothing};
 
 use crate::goal::{feed_word, is_inverse, time_word};
-use ng_canon::{Outputs, Plane, Spindle};
+use ng_canon::{Feed, Outputs, Plane, Spindle};
 use ng_modal::{Block, Coolant, NonModal, StopWord};
-use ng_num::{Len, Num, Unit};
+use ng_num::{Num, Unit};
 use ng_state::FeedMode;
 
 /// What words give the steps of a block to do.
@@ -31,7 +31,7 @@ pub struct Tasks {
 
 /// The feed that F prints: that after the line.
 #[inline]
-pub fn feed_set(block: &Block, mode: FeedMode, feed_per_min: Len) -> Option<Len>
+pub fn feed_set(block: &Block, mode: FeedMode, feed_per_min: Feed) -> Option<Feed>
     ensures { result ≡ feed_set block.now mode feed_per_min }
 {
     match feed_word(mode, block.values.f) {

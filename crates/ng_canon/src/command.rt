@@ -1,3 +1,4 @@
+use crate::pace::Feed;
 use crate::plane::{ArcDirection, Plane};
 use ng_num::{Len, Num, Point, Unit};
 
@@ -15,8 +16,8 @@ pub struct ArcFeed {
 /// A canonical command whose arguments are numbers (NISTIR 6556, 4.3, in this project's profile).
 #[derive(Clone, Copy, Debug, PartialEq, Eq)]
 pub enum CanonicalCommand {
-    /// SET_FEED_RATE: a length a minute.
-    FeedRate(Len),
+    /// SET_FEED_RATE.
+    FeedRate(Feed),
     /// INVERSE_TIME (own): the F word.
     InverseTime(Num),
     /// SET_SPINDLE_SPEED.

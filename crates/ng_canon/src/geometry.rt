@@ -1,7 +1,7 @@
 ghost use Rattle.std.specs.Prelude.{◌≡◌, ◌≤◌, ◌≤ℤ◌, ◌↔◌, pos, negsuc, IsSome, IfSome};
 ghost use Rattle.ng_canon.specs.Limits.{IsAxis, IsPacing};
 
-use crate::pace::Rate;
+use crate::pace::{Feed, Rate};
 use ng_num::{Len, Point};
 
 /// One axis: its step and its travel, in machine coordinates.
@@ -101,7 +101,7 @@ impl Geometry {
     pub fn standard() -> Geometry
         ensures { IsStandard result }
     {
-        let traverse = Len::of_nm(6_000_000_000).unwrap();
+        let traverse = Feed::of(Len::of_nm(6_000_000_000).unwrap());
         Geometry {
             x: Axis::standard(),
             y: Axis::standard(),

@@ -24,7 +24,7 @@ pub use command::{ArcFeed, Canon, CanonicalCommand};
 pub use geometry::{Axis, Geometry};
 pub use item::{AxisStep, Item, Pulse};
 pub use outputs::{Outputs, Spindle};
-pub use pace::{InverseTime, Pace, Rate};
+pub use pace::{Feed, InverseTime, Pace, Rate};
 pub use plane::{ArcDirection, Plane, pick_a, pick_b};
 pub use plane_point::PlanePoint;
 pub use printing::{print, print_command, print_feed, print_traverse};

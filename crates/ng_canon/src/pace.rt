@@ -3,6 +3,65 @@ ghost use Rattle.std.specs.Prelude.{◌≡◌, ◌<◌, ◌≤◌};
 use ng_num::{Len, Num};
 use std::marker::Model;
 
+/// What F sets under feed a minute (NISTIR 6556, 3.5.1): nanometres a minute, in size at most 9,999,999,999,999, 0 too.
+#[derive(Clone, Copy, Debug, PartialEq, Eq)]
+pub struct Feed {
+    per_min: Len,
+}
+
+impl Model for Feed {
+    ghost use Rattle.std.specs.Prelude.{ℤ};
+    ghost use Rattle.ng_num.specs.Range.{IsCount};
+
+    ghost Value = { ℤ };
+
+    ghost view = { λ f. f.per_min };
+
+    ghost invariant = { λ f. IsCount f.per_min };
+
+    ghost inverse = { λ z. record { per_min = z } };
+}
+
+impl Feed {
+    ghost use Rattle.std.specs.Prelude.{pos};
+    ghost use Rattle.ng_num.specs.Range.{IsCount};
+
+    /// The feed of a length a minute.
+    #[inline]
+    pub fn of(per_min: Len) -> Feed
+        ensures { result ≡ per_min }
+    {
+        Feed { per_min }
+    }
+
+    /// No feed, that of the fresh state.
+    #[inline]
+    pub fn zero() -> Feed
+        ensures { result ≡ pos 0 }
+    {
+        Feed {
+            per_min: Len::zero(),
+        }
+    }
+
+    /// The length that it goes in a minute.
+    #[inline]
+    pub fn per_min(self) -> Len
+        ensures { result ≡ self }
+    {
+        self.per_min
+    }
+
+    /// Its nanometres a minute.
+    #[inline]
+    pub fn nm_per_min(self) -> i64
+        ensures value { result ≡ self }
+        ensures range { IsCount self }
+    {
+        self.per_min.nm()
+    }
+}
+
 /// A rate of motion in nanometres a minute: 1 to 9,999,999,999,999.
 #[derive(Clone, Copy, Debug, PartialEq, Eq)]
 pub struct Rate {
@@ -26,14 +85,14 @@ impl Rate {
     ghost use Rattle.ng_num.specs.Range.{greatest};
     ghost use Rattle.ng_canon.specs.Rates.{above_zero};
 
-    /// The rate of a length a minute; none where it isn't above 0.
-    pub fn of(per_min: Len) -> Option<Rate>
-        ensures { result ≡ above_zero per_min }
+    /// The rate of a feed; none where it isn't above 0.
+    pub fn of(feed: Feed) -> Option<Rate>
+        ensures { result ≡ above_zero feed }
     {
-        let nm = per_min.nm();
-        if 0 < nm {
+        let nm_per_min = feed.nm_per_min();
+        if 0 < nm_per_min {
             Some(Rate {
-                nm_per_min: nm as u64,
+                nm_per_min: nm_per_min as u64,
             })
         } else {
             None

@@ -155,7 +155,7 @@ fn push_command<A: Allocator + Copy + Drop>(
     ensures err { OnErr result (StaysWithin text.old.items text.new.items) }
 {
     match *command {
-        CanonicalCommand::FeedRate(rate) => push_offset(text, b"SET_FEED_RATE(", rate),
+        CanonicalCommand::FeedRate(feed) => push_offset(text, b"SET_FEED_RATE(", feed.per_min()),
         CanonicalCommand::InverseTime(number) => push_number(text, b"INVERSE_TIME(", number),
         CanonicalCommand::SpindleSpeed(speed) => push_number(text, b"SET_SPINDLE_SPEED(", speed),
         CanonicalCommand::SelectTool(slot) => push_slot(text, b"SELECT_TOOL(", slot),

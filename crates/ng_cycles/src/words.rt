@@ -1,6 +1,6 @@
 //! What a line asks of a canned cycle, and what it meets.
 
-use ng_canon::Outputs;
+use ng_canon::{Feed, Outputs};
 use ng_num::{Len, Point};
 use ng_offsets::Offsets;
 use ng_state::KeptWords;
@@ -46,7 +46,7 @@ pub struct Setting {
     pub keeps_old_z: bool,
     /// G93.
     pub is_inverse_time: bool,
-    pub feed_per_min: Len,
+    pub feed_per_min: Feed,
     pub outputs: Outputs,
     /// The words that the same cycle keeps; none where the motion mode was another.
     pub kept: KeptWords,

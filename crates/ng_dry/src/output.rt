@@ -12,9 +12,10 @@ ghost use Rattle.ng_block.specs.Paths.{pace_command};
 use crate::ending::DryFault;
 use ng_block::{Commands, Effect};
 use ng_canon::{
-    Canon, CanonicalCommand, Pace, StraightMove, print, print_command, print_feed, print_traverse,
+    Canon, CanonicalCommand, Feed, Pace, StraightMove, print, print_command, print_feed,
+    print_traverse,
 };
-use ng_num::{Fault, Len, print_whole};
+use ng_num::{Fault, print_whole};
 use std::alloc::{AllocError, Allocator};
 use std::io::Write;
 
@@ -195,7 +196,7 @@ fn put_straight<W: Write, A: Allocator + Copy + Drop>(
 fn put_move<W: Write, A: Allocator + Copy + Drop>(
     text: &mut Vec<u8, A>,
     writer: &mut W,
-    feed_per_min: Option<Len>,
+    feed_per_min: Option<Feed>,
     line: &StraightMove,
 ) -> Result<(), DryFault>
     ensures { FlushSpec (W.contents writer.old) (W.contents writer.new) (text.old.items ++ commands_text (map numeric (command_for CanonicalCommand.FeedRate feed_per_min ++ pace_command line.now.pace line.now.end ∷ []))) text.new.items result }

@@ -11,7 +11,7 @@ use crate::codes::{
 };
 use crate::field::{CodeField, HalfField, KeptField, StateField, Triple};
 use crate::half::{Half, LONGEST_TEXT, Opened, Source, text_from};
-use ng_canon::Outputs;
+use ng_canon::{Feed, Outputs};
 use ng_num::{Len, Num, Point};
 use ng_offsets::Offsets;
 use ng_params::System;
@@ -56,10 +56,11 @@ fn num_of(millionths: i64) -> Option<Num>
     Num::of(i128::from(millionths)).ok()
 }
 
-fn feed_of(nm_per_min: u64) -> Option<Len>
+fn feed_of(nm_per_min: u64) -> Option<Feed>
     ensures { result ≡ count_of (pos nm_per_min) }
 {
-    Len::of_nm(i128::from(nm_per_min)).ok()
+    let per_min = Len::of_nm(i128::from(nm_per_min)).ok()?;
+    Some(Feed::of(per_min))
 }
 
 fn speed_of(millionths: u64) -> Option<Num>

@@ -161,7 +161,7 @@ impl StateField {
             entries,
             place,
             point: triple_of(machine.point),
-            feed: machine.feed_per_min.nm().unsigned_abs(),
+            feed: machine.feed_per_min.nm_per_min().unsigned_abs(),
             speed: outputs.speed.count().unsigned_abs(),
             g92: triple_of(offsets.g92),
             origin: triple_of(offsets.origin),

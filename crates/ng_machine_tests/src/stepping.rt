@@ -1,7 +1,7 @@
 use ng_block::{Effect, Tools, execute};
 use ng_canon::{
-    Arc, ArcDirection, Axis, AxisStep, Geometry, InverseTime, Item, Outputs, Pace, Plane, Pulse,
-    Rate, Segment, StraightMove,
+    Arc, ArcDirection, Axis, AxisStep, Feed, Geometry, InverseTime, Item, Outputs, Pace, Plane,
+    Pulse, Rate, Segment, StraightMove,
 };
 use ng_num::{Len, Num, Point};
 use ng_state::State;
@@ -33,8 +33,8 @@ fn spot(at: At) -> Point {
 }
 
 /// F60: a micrometre a millisecond.
-fn feed() -> Pace {
-    match Rate::of(len(60_000_000)) {
+fn steady() -> Pace {
+    match Rate::of(Feed::of(len(60_000_000))) {
         Some(rate) => Pace::Feed(rate),
         None => Pace::Traverse,
     }
@@ -65,7 +65,7 @@ fn arc(plane: Plane, turn: ArcDirection, start: Point, end: Point, centre: (i64,
         end,
         centre_a: len(centre.0),
         centre_b: len(centre.1),
-        pace: feed(),
+        pace: steady(),
     })
 }
 
@@ -154,7 +154,7 @@ enum By {
 
 fn pace(by: &By) -> Pace {
     match by {
-        By::Feed => feed(),
+        By::Feed => steady(),
         By::Second => match Num::of(60_000_000) {
             Ok(number) => InverseTime::of(number).map_or(Pace::Traverse, Pace::InverseTime),
             Err(_) => Pace::Traverse,

@@ -8,7 +8,7 @@ use crate::rounding::inches_to_nm;
 use crate::unit::Unit;
 use std::marker::Model;
 
-/// A length: a whole count of nanometres, in size at most 9,999,999,999,999 (own). Feeds are lengths a minute.
+/// A length: a whole count of nanometres, in size at most 9,999,999,999,999 (own).
 #[derive(Clone, Copy, Debug, PartialEq, Eq, PartialOrd, Ord)]
 pub struct Len {
     nm: i64,

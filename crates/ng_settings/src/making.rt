@@ -9,7 +9,7 @@ ghost use Rattle.ng_settings.specs.Given.{IsAxisOf, IsMachine, IsMachineOf, IsIn
 
 use crate::setting_numbers::SettingNumbers;
 use crate::whole::Whole;
-use ng_canon::{Axis, Geometry, Rate};
+use ng_canon::{Axis, Feed, Geometry, Rate};
 use ng_num::Len;
 use ng_offsets::{SLOTS, Tools};
 use toml::value::Array;
@@ -44,7 +44,7 @@ fn traverse(nm_per_min: Whole) -> Rate
     ensures { pos result ≡ nm_per_min }
 {
     let per_min = Len::of_nm(nm_per_min.number() as i128).unwrap();
-    Rate::of(per_min).unwrap()
+    Rate::of(Feed::of(per_min)).unwrap()
 }
 
 /// The least period of a number.

@@ -3,15 +3,15 @@ ghost use Rattle.std.specs.Prelude.{◌≡◌};
 
 use crate::kept_words::KeptWords;
 use crate::modes::Modes;
-use ng_canon::Outputs;
-use ng_num::{Len, Point};
+use ng_canon::{Feed, Outputs};
+use ng_num::Point;
 use ng_offsets::Offsets;
 
 /// All that a block can read or change but the parameter table.
 #[derive(Clone, Copy, Debug, PartialEq, Eq)]
 pub struct Machine {
     pub modes: Modes,
-    pub feed_per_min: Len,
+    pub feed_per_min: Feed,
     pub outputs: Outputs,
     pub offsets: Offsets,
     /// The words that the cycle of the motion mode keeps.
@@ -31,7 +31,7 @@ impl Machine {
     {
         Machine {
             modes: Modes::fresh(),
-            feed_per_min: Len::zero(),
+            feed_per_min: Feed::zero(),
             outputs: Outputs::fresh(),
             offsets: Offsets::none(),
             kept: KeptWords::none(),

@@ -1,6 +1,6 @@
 use linked_list_allocator::LocalHeap;
 use ng_canon::{
-    ArcDirection, ArcFeed, Axis, Canon, CanonicalCommand, Geometry, Plane, Rate, print,
+    ArcDirection, ArcFeed, Axis, Canon, CanonicalCommand, Feed, Geometry, Plane, Rate, print,
 };
 use ng_num::{Len, Num, Point, Unit};
 use std::alloc::Allocator;
@@ -122,7 +122,7 @@ enum Numbered {
 
 fn command(numbered: Numbered) -> CanonicalCommand {
     match numbered {
-        Numbered::FeedRate(rate) => CanonicalCommand::FeedRate(nm(rate)),
+        Numbered::FeedRate(rate) => CanonicalCommand::FeedRate(Feed::of(nm(rate))),
         Numbered::InverseTime(count) => CanonicalCommand::InverseTime(millionths(count)),
         Numbered::SpindleSpeed(count) => CanonicalCommand::SpindleSpeed(millionths(count)),
         Numbered::Dwell(count) => CanonicalCommand::Dwell(millionths(count)),
@@ -259,7 +259,7 @@ const MACHINES: &[(i64, u32, bool)] = &[
 fn machines_have_limits(rt: HostRuntime) {
     let standard = Geometry::standard();
     for (traverse, period, want) in MACHINES {
-        let machine = match Rate::of(nm(*traverse)) {
+        let machine = match Rate::of(Feed::of(nm(*traverse))) {
             Some(rate) => Geometry::new(standard.x, standard.y, standard.z, rate, *period),
             None => None,
         };

@@ -1,4 +1,4 @@
-use ng_canon::{Geometry, Outputs, Pace, Segment, Spindle};
+use ng_canon::{Feed, Geometry, Outputs, Pace, Segment, Spindle};
 use ng_cycles::{Canned, Cycle, CycleKind, CycleWords, Setting};
 use ng_num::{Fault, Len, Num, Point};
 use ng_offsets::Offsets;
@@ -101,7 +101,7 @@ fn canned(line: &Line) -> Result<Canned, Fault> {
         is_incremental: line.is_incremental,
         keeps_old_z: line.keeps_old_z,
         is_inverse_time: line.is_inverse_time,
-        feed_per_min: len(line.feed),
+        feed_per_min: Feed::of(len(line.feed)),
         outputs,
         kept: KeptWords {
             r: line.kept_r.map(len),

@@ -1,4 +1,4 @@
-use ng_canon::{Axis, Geometry, Rate};
+use ng_canon::{Axis, Feed, Geometry, Rate};
 use ng_num::{Fault, Len};
 use ng_offsets::Tools;
 use ng_settings::{Settings, settings};
@@ -202,7 +202,7 @@ fn are(settings: &Settings, machine: Option<Geometry>, lengths_nm: &[i64]) -> bo
 /// The default machine, by its numbers.
 fn default_machine() -> Option<Geometry> {
     let axis = axis(1_000, -1_000_000_000, 1_000_000_000)?;
-    Geometry::new(axis, axis, axis, Rate::of(nm(6_000_000_000))?, 50)
+    Geometry::new(axis, axis, axis, Rate::of(Feed::of(nm(6_000_000_000)))?, 50)
 }
 
 /// A machine whose numbers all differ.
@@ -210,7 +210,7 @@ fn other_machine() -> Option<Geometry> {
     let x = axis(11, -21, 31)?;
     let y = axis(12, -22, 32)?;
     let z = axis(13, -23, 33)?;
-    Geometry::new(x, y, z, Rate::of(nm(41))?, 51)
+    Geometry::new(x, y, z, Rate::of(Feed::of(nm(41)))?, 51)
 }
 
 const OTHER: &[u8] =

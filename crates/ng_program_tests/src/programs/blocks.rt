@@ -37,7 +37,7 @@ fn a_line_changes_its_fields_and_no_others(rt: HostRuntime) -> Result<(), Fail> 
     let machine = effect.machine;
     let feed = machine.feed_per_min;
     let point = machine.point;
-    assert_eq!(rt; feed.nm(), 60_000_000);
+    assert_eq!(rt; feed.nm_per_min(), 60_000_000);
     assert_eq!(rt; machine.modes.motion, Motion::Feed);
     assert_eq!(rt; machine.modes.unit, Unit::Inches);
     assert_eq!(rt; (point.x.nm(), point.y.nm()), (25_400_000, 0));
