@@ -1,6 +1,7 @@
 //! G28 and G30: the way home (NISTIR 6556, 3.5.8).
 ghost use Rattle.std.specs.Prelude.{◌≡◌, ◌≤◌};
 ghost use Rattle.ng_params.specs.Changes.{with_changes};
+ghost use Rattle.ng_params.specs.Numbers.{parameter_count};
 ghost use Rattle.ng_params.specs.Points.{point_at};
 ghost use Rattle.ng_params.specs.Table.{at};
 ghost use Rattle.ng_block.specs.Homes.{home_on, home_path};
@@ -21,7 +22,7 @@ fn length_after<A: Allocator + Copy + Drop>(
     index: u16,
 ) -> Len
     requires low { 1 ≤ index }
-    requires high { index ≤ 5399 }
+    requires high { index ≤ parameter_count }
     ensures { result ≡ at (with_changes params.now changes.now) index }
 {
     let millimetres = params.get_after(Index::known(index), changes);

@@ -4,6 +4,7 @@ ghost use Rattle.std.specs.List.{All};
 ghost use Rattle.ng_num.specs.declared.fault.Fault.{Fault};
 ghost use Rattle.ng_canon.specs.declared.geometry.Geometry.{Geometry};
 ghost use Rattle.ng_num.specs.Causes.{NoneHolds, IsFirstFault};
+ghost use Rattle.ng_params.specs.Numbers.{parameter_count};
 ghost use Rattle.ng_modal.specs.declared.block.Block.{Block};
 ghost use Rattle.ng_state.specs.State.{StateModel};
 ghost use Rattle.ng_block.specs.Causes.{causes};
@@ -47,5 +48,5 @@ pub fn travel()
 
 /// A line that ends the program leaves what M2 and M30 do, in a table of all 5,399 parameters (NISTIR 6556, 3.6.1).
 pub fn program_end()
-    ensures { (setup : StateModel) (tools : List ℤ) (geometry : Geometry) (text : List ℕ) (done : Done) → length setup.params ≡ 5399 → executed setup tools geometry text ≡ Ok done → done.stop ≡ Ends → IsEnded done.setup }
+    ensures { (setup : StateModel) (tools : List ℤ) (geometry : Geometry) (text : List ℕ) (done : Done) → length setup.params ≡ parameter_count → executed setup tools geometry text ≡ Ok done → done.stop ≡ Ends → IsEnded done.setup }
 {}

@@ -265,13 +265,6 @@ still_forgotten e known program of = by (drops_plan e)
 pub forgotten_none : {A : Type 0} (e : Event A) (known : KnownModel) → drops_plan e ≡ true → (forgotten_for e known).ahead ≡ []
 forgotten_none e known drops = ap (λ (b : Bool). (let k : KnownModel = if b then forgotten known else known in k).ahead) drops
 
-pub plan_forgotten : {A : Type 0} (equipment : Equipment) (base : Base) (e : Event A) (known : KnownModel) → IsPlan equipment base known.ahead → IsPlan equipment base (forgotten_for e known).ahead
-plan_forgotten equipment base e known plan = by (drops_plan e)
-  where
-    by : (b : Bool) → IsPlan equipment base (let k : KnownModel = if b then forgotten known else known in k).ahead
-    by true = tt
-    by false = plan
-
 module _ {R : Type 0} (honest : R → Type 0) (trace : R → Trace) (failed sectors : R → ℕ) where
   pub carried_forgotten : {A : Type 0} (e : Event A) (answer : Result Reply Fault) (old new : ControllerModel R) (known : KnownModel) → known ≡ forgotten_for e old.lines
       → CarriesOutEvent honest trace failed sectors e answer (with_lines old known) new → CarriesOutEvent honest trace failed sectors e answer old new

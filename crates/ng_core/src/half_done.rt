@@ -2,6 +2,7 @@
 ghost use Rattle.std.specs.Prelude.{◌≡◌, ◌≤◌, ℕ, List, false, IfOk, IfErr};
 ghost use Rattle.ng_num.specs.declared.fault.Fault.TheVariants.{DeviceFailed};
 ghost use Rattle.ng_rig.specs.Calls.{IfHonest};
+ghost use Rattle.ng_layout.specs.Limits.{greatest_count};
 ghost use Rattle.ng_layout.specs.Storable.{IsStorable};
 ghost use Rattle.ng_layout.specs.Stored.{DurableState, with_decoded_state};
 ghost use Rattle.ng_journal.specs.Journal.{IsDurablyAt, CountsFailure, IsBrokenBy};
@@ -60,7 +61,7 @@ impl<R: Rig, A: Allocator + Copy + Drop> Controller<R, A> {
         requires whole { self.old.journal.broken ≡ false }
         requires alone { self.old.lines.ahead ≡ [] }
         requires free { self.old.session.current ≡ None }
-        requires count { report.entries ≤ 1_000_000_000_000 }
+        requires count { report.entries ≤ greatest_count }
         requires storable { IsStorable (with_decoded_state self.old.session.stored report self.old.session.stored.length) }
         ensures { (entry : Entry) → IsCommitted entry → CarriesOut R.honest R.trace R.failed R.sectors ⊥ (Unit {0}) ⊥
             (λ program. commits program entry (record self.old.session { stored = with_decoded_state self.old.session.stored report self.old.session.stored.length })) result self.old self.new }

@@ -5,15 +5,12 @@ use std::fs::{OpenFile, OpenOptions};
 use std::io::ErrorKind;
 use std::rt::Files;
 
-/// The bytes of a file that is made for a device: 1,710 sectors of 512.
-const NEW_DEVICE: u64 = 875_520;
-
 /// Why a device's file wasn't opened.
 #[derive(Clone, Copy, Debug, PartialEq, Eq)]
 pub enum NoDevice {
     /// It isn't there, or the system doesn't let it be read and written.
     Unopened,
-    /// It is a directory, or another process holds it, or it can't be made as long as a device.
+    /// It is a directory, or another process holds it, or a new one can't be made as long as it has to be.
     Unusable,
 }
 
@@ -35,11 +32,15 @@ where
     held(file)
 }
 
-/// Opens the file of a device and holds it for this process alone; makes it with zeros where there is none (own).
+/// Opens the file of a device and holds it for this process alone; where there is none makes one of so many bytes, all zeros (own).
 ///
 /// `Unopened` where it can't be made, or is there and may not be read and written; `Unusable` as for `open_device`, or where a new file
-/// can't be made as long as a device: it stays then, too short.
-pub fn make_device<R: Files>(rt: &R, path: &str) -> Result<OpenedFile<R::File>, NoDevice>
+/// can't be made so long: it stays then, too short.
+pub fn make_device<R: Files>(
+    rt: &R,
+    path: &str,
+    size_bytes: u64,
+) -> Result<OpenedFile<R::File>, NoDevice>
 where
     R::File: Hold,
 {
@@ -49,7 +50,7 @@ where
         .create_new(true)
         .open(rt, path);
     match made {
-        Ok(file) => match file.set_len(NEW_DEVICE) {
+        Ok(file) => match file.set_len(size_bytes) {
             Ok(()) => held(file),
             Err(_) => Err(NoDevice::Unusable),
         },

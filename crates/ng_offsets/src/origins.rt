@@ -4,6 +4,7 @@
 ghost use Rattle.std.specs.Prelude.{◌≡◌, ◌≤◌, length, IfOk};
 ghost use Rattle.ng_num.specs.Points.{zero_point};
 ghost use Rattle.ng_params.specs.Changes.{with_changes};
+ghost use Rattle.ng_params.specs.Numbers.{parameter_count};
 ghost use Rattle.ng_params.specs.Table.{at};
 ghost use Rattle.ng_params.specs.Points.{g92_changes, g92_stored};
 ghost use Rattle.ng_offsets.specs.Origins.{printed, selected, given_origin, offset_for, offsets_for, set_offset, HasCoordinates, dropped, restored, with_tool};
@@ -24,7 +25,7 @@ fn length_after<A: Allocator + Copy + Drop>(
     index: u16,
 ) -> Len
     requires low { 1 ≤ index }
-    requires high { index ≤ 5399 }
+    requires high { index ≤ parameter_count }
     ensures { result ≡ at (with_changes table.now changes.now) index }
 {
     let millimetres = table.get_after(Index::known(index), changes);

@@ -2,6 +2,7 @@
 ghost use Rattle.std.specs.Prelude.{◌≡◌, ◌≤◌, ℕ, List, Some, true, false, Ok, Err, IfOk, OnOk, OnErr, MatchResult, length};
 ghost use Rattle.ng_text.specs.Percent.{first_kind};
 ghost use Rattle.ng_block.specs.Effects.{in_state};
+ghost use Rattle.ng_block.specs.Program.{executed_after};
 ghost use Rattle.ng_layout.specs.declared.half.Source.TheVariants as source;
 ghost use Rattle.ng_text.specs.Programs.{lines_before};
 ghost use Rattle.ng_layout.specs.Storable.{IsStorableMachine};
@@ -42,13 +43,14 @@ fn execute_alone<'p, A: Allocator + Copy + Drop>(
 /// What a line of the program does, in places, or the first fault that refuses it; `first` is the kind of the first line
 /// before it that isn't blank.
 #[tactic(auto, unfolding(crate::specs::Entries::done_of))]
-fn execute_after_lines<'p, A: Allocator + Copy + Drop>(
+pub(crate) fn execute_after_lines<'p, A: Allocator + Copy + Drop>(
     places: &'p mut Scratch,
     stored: &Stored<A>,
     first: LineKind,
     text: &[u8],
     terms: &Terms<'_>,
 ) -> Result<&'p Effect, Fault>
+    ensures does { MatchResult result (λ e. executed_after terms.now first stored.now.setup text.now ≡ Ok (in_state stored.now.setup e.now)) (λ fault. executed_after terms.now first stored.now.setup text.now ≡ Err fault) }
     ensures done { (program : List ℕ) → first ≡ first_kind (lines_before program stored.now.place) → MatchResult result (λ e. done_of (equipment_of terms.now) program stored.now source.Program text.now terms.now.block_delete ≡ Ok (in_state stored.now.setup e.now)) (λ fault. done_of (equipment_of terms.now) program stored.now source.Program text.now terms.now.block_delete ≡ Err fault) }
     ensures short { OnOk result (length text.now ≤ 256) }
     ensures stands { IfOk result (λ e. IsStorableMachine stored.now.setup.machine → IsStorableMachine e.now.machine) }

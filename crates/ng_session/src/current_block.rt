@@ -1,6 +1,7 @@
 //! The block that is worked.
 ghost use Rattle.std.specs.Prelude.{◌≡◌, ◌≢◌, ◌≤◌, ◌<◌, ◌+◌, ◌^◌, length, IfOk, Some, None};
 ghost use Rattle.ng_block.specs.Effects.{in_state};
+ghost use Rattle.ng_layout.specs.Limits.{greatest_count};
 ghost use Rattle.ng_layout.specs.Storable.{IsStorableMachine, IsStorable};
 ghost use Rattle.std.specs.Option.{option_map};
 ghost use Rattle.ng_canon.specs.declared.pace.Pace.TheVariants as pace;
@@ -115,7 +116,7 @@ fn after_approach<A: Allocator + Copy + Drop>(
     half: &Half,
     to: &MotionState,
 ) -> Result<Stored<A>, AllocError>
-    requires count { stored.now.entries ≤ 1_000_000_000_000 }
+    requires count { stored.now.entries ≤ greatest_count }
     requires storable { IsStorable stored.now }
     requires short { length half.now.text ≤ 256 }
     ensures value { IfOk result (λ x. x ≡ reached stored.now half.now to.now.point) }
@@ -184,7 +185,7 @@ impl<A: Allocator + Copy + Drop> CurrentBlock<A> {
         next: u64,
         effect: &Effect,
     ) -> Result<CurrentBlock<A>, AllocError>
-        requires count { stored.now.entries ≤ 1_000_000_000_000 }
+        requires count { stored.now.entries ≤ greatest_count }
         requires storable { IsStorable stored.now }
         requires within { next ≤ stored.now.length }
         requires stands { IsStorableMachine effect.now.machine }
@@ -220,7 +221,7 @@ impl<A: Allocator + Copy + Drop> CurrentBlock<A> {
         next: u64,
         effect: &Effect,
     ) -> Result<CurrentBlock<A>, AllocError>
-        requires count { stored.now.entries ≤ 1_000_000_000_000 }
+        requires count { stored.now.entries ≤ greatest_count }
         requires storable { IsStorable stored.now }
         requires within { next ≤ stored.now.length }
         requires stands { IsStorableMachine effect.now.machine }

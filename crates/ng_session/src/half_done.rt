@@ -1,6 +1,7 @@
 //! A half-done block (own): where its machine stands is told, it goes on, or it is given up.
 ghost use Rattle.std.specs.Prelude.{◌≡◌, ◌≤◌, not, nat_lt, false, ℕ, List, Ok, Err, IfOk, OnOk, OnErr, MatchResult, MatchOption, length};
 ghost use Rattle.ng_block.specs.Effects.{in_state};
+ghost use Rattle.ng_layout.specs.Limits.{greatest_count};
 ghost use Rattle.ng_layout.specs.Storable.{IsStorableMachine, IsStorable};
 ghost use Rattle.ng_layout.specs.Stored.{with_decoded_state};
 ghost use Rattle.ng_session.specs.Entries.{equipment_of, done_again, turned_off, given_up};
@@ -10,7 +11,7 @@ use crate::reply::Reply;
 use crate::session::Session;
 use ng_block::{Effect, Scratch, Terms, Tools};
 use ng_canon::{Geometry, Outputs, Spindle};
-use ng_layout::{DecodedState, Half, Source, Stored};
+use ng_layout::{DecodedState, GREATEST_COUNT, Half, Source, Stored};
 use ng_num::{Fault, Point};
 use ng_state::Machine;
 use std::alloc::{AllocError, Allocator};
@@ -85,7 +86,7 @@ impl<A: Allocator + Copy + Drop> Session<A> {
     /// one alone says it. The session stays as it is.
     #[tactic(auto, using(crate::proofs::Standing::reference_storable))]
     pub fn referenced(&self, point: Point) -> DecodedState
-        requires { self.now.stored.entries < 1_000_000_000_000 }
+        requires { self.now.stored.entries < greatest_count }
         ensures value { with_decoded_state self.now.stored result self.now.stored.length ≡ after_reference self.now.stored point }
         ensures count { result.entries ≡ self.now.stored.entries + 1 }
         ensures storable { IsStorable (with_decoded_state self.now.stored result self.now.stored.length) }
@@ -134,7 +135,7 @@ impl<A: Allocator + Copy + Drop> Session<A> {
     /// it stands, else no longer known; none where no block is half-done. The session stays as it is.
     #[tactic(auto, using(crate::proofs::Standing::abandon_storable))]
     pub fn abandoned(&self) -> Option<DecodedState>
-        requires { self.now.stored.entries < 1_000_000_000_000 }
+        requires { self.now.stored.entries < greatest_count }
         ensures count { IfSome result (λ report. report.entries ≡ self.now.stored.entries + 1) }
         ensures storable { IfSome result (λ report. IsStorable (with_decoded_state self.now.stored report self.now.stored.length)) }
         ensures value { MatchOption result (self.now.stored.half ≡ None) (λ report. with_decoded_state self.now.stored report self.now.stored.length ≡ after_abandon self.now.stored) }
@@ -198,16 +199,16 @@ impl<A: Allocator + Copy + Drop> Session<A> {
 
     /// Whether an entry more would be beyond the greatest count.
     pub fn is_count_used_up(&self) -> bool
-        ensures { result ≡ not (nat_lt self.now.stored.entries 1_000_000_000_000) }
+        ensures { result ≡ not (nat_lt self.now.stored.entries greatest_count) }
     {
-        !(self.stored.entries < 1_000_000_000_000)
+        !(self.stored.entries < GREATEST_COUNT)
     }
 
     /// Puts a report in the place of what is stored of it, and gives that back: put in its place again, that takes the report back.
     #[tactic(auto, using(crate::proofs::Keeping::kept_report))]
     pub fn exchange(&mut self, report: DecodedState) -> DecodedState
         requires free { self.old.current ≡ None }
-        requires count { report.entries ≤ 1_000_000_000_000 }
+        requires count { report.entries ≤ greatest_count }
         requires storable { IsStorable (with_decoded_state self.old.stored report self.old.stored.length) }
         ensures next { self.new ≡ record self.old { stored = with_decoded_state self.old.stored report self.old.stored.length } }
         ensures before { result ≡ record { entries = self.old.stored.entries; place = self.old.stored.place; machine = self.old.stored.setup.machine; half = self.old.stored.half } }

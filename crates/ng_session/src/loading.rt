@@ -1,6 +1,6 @@
 //! How a program is loaded.
 ghost use Rattle.std.specs.Prelude.{◌≡◌, ◌≤◌, ℕ, Ok, IfOk, length};
-ghost use Rattle.ng_layout.specs.Limits.{longest_program};
+ghost use Rattle.ng_layout.specs.Limits.{greatest_count, longest_program};
 ghost use Rattle.ng_layout.specs.Storable.{IsStorable};
 ghost use Rattle.ng_session.specs.Entries.{after_load};
 
@@ -16,7 +16,7 @@ fn after_load<A: Allocator + Copy + Drop>(
     stored: &Stored<A>,
     length: u64,
 ) -> Result<Stored<A>, AllocError>
-    requires { stored.now.entries ≤ 1_000_000_000_000 }
+    requires { stored.now.entries ≤ greatest_count }
     ensures { IfOk result (λ x. x ≡ after_load stored.now length) }
 {
     let mut state = stored.state.copy()?;

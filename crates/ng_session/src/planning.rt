@@ -1,48 +1,24 @@
 //! How lines of the program are planned ahead, and how one that was planned is begun.
-ghost use Rattle.std.specs.Prelude.{◌≡◌, ◌≤◌, Bool, Ok, Err, MatchResult, OnOk, IfOk, IfSome, Some, None, length};
+ghost use Rattle.std.specs.Prelude.{◌≡◌, ◌≤◌, Bool, IfSome, Some, None};
 ghost use Rattle.std.specs.Option.{option_map};
 ghost use Rattle.ng_words.specs.declared.start.LineKind.TheVariants.{Blank};
-ghost use Rattle.ng_block.specs.Program.{executed_after};
-ghost use Rattle.ng_block.specs.Effects.{in_state};
-ghost use Rattle.ng_layout.specs.Storable.{IsStorableMachine, IsStorable};
+ghost use Rattle.ng_layout.specs.Limits.{greatest_count};
+ghost use Rattle.ng_layout.specs.Storable.{IsStorable};
 ghost use Rattle.ng_session.specs.Entries.{equipment_of};
 ghost use Rattle.ng_session.specs.Planned.{IsPlannedOn, base_after, base_at_end, ends_after, ends_at_end};
 ghost use Rattle.ng_session.specs.SessionInvariant.{IsReadyOn, block_of};
 
+use crate::beginning::execute_after_lines;
 use crate::current_block::CurrentBlock;
 use crate::known_lines::KnownLines;
 use crate::planned::Planned;
 use crate::reply::Reply;
 use crate::session::Session;
-use ng_block::{Effect, ProgramFlow, Scratch, Terms, Tools};
+use ng_block::{ProgramFlow, Scratch, Terms, Tools};
 use ng_canon::Geometry;
-use ng_layout::{Source, Stored};
-use ng_num::Fault;
+use ng_layout::{GREATEST_COUNT, Source, Stored};
 use ng_words::LineKind;
 use std::alloc::Allocator;
-
-/// The most entries that may stand before a block that is begun.
-const MOST_ENTRIES: u64 = 1_000_000_000_000;
-
-/// What a line of the program does after lines whose first that isn't blank is of a kind, in places, or the first fault that refuses it.
-fn execute_ahead<'p, A: Allocator + Copy + Drop>(
-    places: &'p mut Scratch,
-    base: &Stored<A>,
-    first: LineKind,
-    text: &[u8],
-    terms: &Terms<'_>,
-) -> Result<&'p Effect, Fault>
-    ensures does { MatchResult result (λ e. executed_after terms.now first base.now.setup text.now ≡ Ok (in_state base.now.setup e.now)) (λ fault. executed_after terms.now first base.now.setup text.now ≡ Err fault) }
-    ensures short { OnOk result (length text.now ≤ 256) }
-    ensures stands { IfOk result (λ e. IsStorableMachine base.now.setup.machine → IsStorableMachine e.now.machine) }
-{
-    // called for its contract: a table has at most 64 slots, and no more are stored
-    let _ = terms.tools.slots();
-    match places.execute_after(terms, first, &base.state, text) {
-        Ok(effect) => Ok(effect),
-        Err(fault) => Err(fault),
-    }
-}
 
 /// The line at the place of what will be stored, as it will be begun then; none where it is refused or its state found no memory.
 fn plan_line<A: Allocator + Copy + Drop>(
@@ -53,7 +29,7 @@ fn plan_line<A: Allocator + Copy + Drop>(
     next: u64,
     terms: &Terms<'_>,
 ) -> Option<Planned<A>>
-    requires count { base.now.entries ≤ 1_000_000_000_000 }
+    requires count { base.now.entries ≤ greatest_count }
     requires storable { IsStorable base.now }
     requires within { next ≤ base.now.length }
     requires beginning { base.now.place ≡ 0 → first ≡ Blank }
@@ -62,7 +38,7 @@ fn plan_line<A: Allocator + Copy + Drop>(
     ensures text { IfSome result (λ p. p.prepared.block.text ≡ text.now) }
     ensures next { IfSome result (λ p. p.next ≡ next) }
 {
-    let effect = match execute_ahead(places, base, first, text, terms) {
+    let effect = match execute_after_lines(places, base, first, text, terms) {
         Ok(effect) => effect,
         Err(_) => return None,
     };
@@ -165,7 +141,7 @@ impl<A: Allocator + Copy + Drop> Session<A> {
             geometry,
         };
         let base = stored_at_end(&self.stored, &self.current, lines);
-        if base.entries > MOST_ENTRIES {
+        if base.entries > GREATEST_COUNT {
             return;
         }
         match plan_line(&mut self.places, base, first, text, next, &terms) {

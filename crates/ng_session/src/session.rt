@@ -2,6 +2,7 @@
 ghost use Rattle.std.specs.Prelude.{◌≡◌, ◌≤◌, List, ℕ};
 ghost use Rattle.std.specs.Option.{option_map};
 ghost use Rattle.ng_session.specs.Session.{point_shown, point_known_shown, half_shown};
+ghost use Rattle.ng_layout.specs.Limits.{greatest_count};
 
 use crate::activity::Activity;
 use crate::current_block::CurrentBlock;
@@ -64,7 +65,7 @@ impl<A: Allocator + Copy + Drop> Session<A> {
     /// What the device stands for.
     pub fn stored(&self) -> &Stored<A>
         ensures value { result.now ≡ self.now.stored }
-        ensures count { self.now.stored.entries ≤ 1_000_000_000_000 }
+        ensures count { self.now.stored.entries ≤ greatest_count }
         ensures storable { IsStorable self.now.stored }
     {
         &self.stored

@@ -1,5 +1,6 @@
 //! What a Tick is made of: an item, an approach, a segment, an entry.
 ghost use Rattle.std.specs.Prelude.{◌≡◌, ◌≤◌, ◌<◌, List, ℕ, None, Some, MatchOption, IfSome, IfNone};
+ghost use Rattle.ng_layout.specs.Limits.{greatest_count};
 
 use crate::current_block::CurrentBlock;
 use crate::reply::Reply;
@@ -90,7 +91,7 @@ impl<A: Allocator + Copy + Drop> Session<A> {
     /// Goes on after the current block or its approach, once that is stored. Where no block is current the reply is that of a session
     /// that has nothing to do, and the session stays as it is.
     pub fn commit(&mut self) -> Reply
-        requires { IfSome self.old.current (λ c. self.old.stored.entries < 1_000_000_000_000) }
+        requires { IfSome self.old.current (λ c. self.old.stored.entries < greatest_count) }
         ensures reply { (c : CurrentBlockModel) → self.old.current ≡ Some c → result ≡ Reply.Done (committed self.old c).stored.entries }
         ensures next { (c : CurrentBlockModel) → self.old.current ≡ Some c → self.new ≡ committed self.old c }
         ensures rest_reply { (program : List ℕ) → self.old.current ≡ None → result ≡ (rest program self.old).reply }
@@ -110,7 +111,7 @@ impl<A: Allocator + Copy + Drop> Session<A> {
 
     /// Goes on after the block that was taken from it.
     fn end_block(&mut self, current: CurrentBlock<A>)
-        requires count { self.old.stored.entries < 1_000_000_000_000 }
+        requires count { self.old.stored.entries < greatest_count }
         requires none { self.old.current ≡ None }
         requires ready { IsReady self.old.stored current }
         ensures { self.new ≡ record self.old { stored = after_current_block self.old.stored current.block; activity = activity_after current.block.source current.block.stop self.old.optional_stop self.old.activity } }
@@ -124,7 +125,7 @@ impl<A: Allocator + Copy + Drop> Session<A> {
     /// Goes on with the block that was taken from it, after its approach.
     #[tactic(auto, using(crate::proofs::Keeping::kept_between))]
     fn end_approach(&mut self, current: CurrentBlock<A>, approach: Approach)
-        requires count { self.old.stored.entries < 1_000_000_000_000 }
+        requires count { self.old.stored.entries < greatest_count }
         requires ready { IsBeforeBlock self.old.stored current approach }
         ensures { self.new ≡ record (approach_done self.old current.block approach) { current = Some (record current.block { stage = Stage.OnBlock }) } }
     {

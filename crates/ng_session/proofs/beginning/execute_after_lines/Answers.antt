@@ -9,6 +9,7 @@ unfolding done_of
 returns-in-Ok g c =
     let few : length c.args.terms.now.tools ≤ 64 = rw (← c.terms.view_is) (omega (arith, c.slots.ensures.range, c.slots.ensures.value)) in
     record {
+      does = rw (← c.stored.view_is) c.in-Ok.ensures;
       done = λ program e. rw (← e, ← c.stored.view_is) c.in-Ok.ensures;
       short = after_short (Ok c.in-Ok.effect) _ _ _ c.args.text.now _ c.in-Ok.ensures;
       stands = rw (← c.stored.view_is) (after-stands (Ok c.in-Ok.effect) _ _ _ c.args.text.now _ few c.in-Ok.ensures);
