@@ -1,11 +1,14 @@
 #!/bin/sh
-# What an entry of `ngc run` costs beside a row of sqlite3, how many pulses it hands out in a second, and how long power on takes.
+# What an entry of `ngc run` costs beside a row of sqlite3, how many pulses it hands out in a second, how many short lines of a program it does
+# in a second, and how long power on takes.
 #
-# usage, at the top of the repository: bench/run.sh [--ngc PATH] [--rounds N] [--entries N] [FOLDER..]
+# usage, at the top of the repository: bench/run.sh [--ngc PATH] [--beside PATH] [--rounds N] [--entries N] [--lines N] [FOLDER..]
 #
 #   --ngc PATH    the program; crates/ngc/out/ngc, which rt builds where that is needed, if none is named
-#   --rounds N    how often pulses and power on are measured (3): the best and the median are shown
+#   --beside PATH another executable of ngc, say one that plans no line ahead: it does the short lines too, in turns with the first
+#   --rounds N    how often pulses, short lines and power on are measured (3): the best and the median are shown
 #   --entries N   how many entries are made for the rate of entries (2048)
+#   --lines N     how many short lines are done in a round (100000)
 #   FOLDER..      where the files lie: a temporary folder here and one in /dev/shm, where none is given. Only a file system on a disk
 #                 says what a sync costs; the script says of each folder what it is, and a loop device or a tmpfs isn't a disk
 #
@@ -14,15 +17,18 @@
 # an fsync, which is what the disk can do. These take turns, 64 at a time, so that all meet the same disk with the same other work on it.
 # Writes, bytes and syncs are those of the system calls (strace) on the device, or on the database and its WAL: the difference of 2,148 and
 # 100 entries, so a full log and sqlite3's own checkpoints are among them. A pulse is one of `G0 X500` at steps of 1 um, a line that is
-# written to OUT: `tick 400000` in the midst of the move. Power on is from the start of the process to the answer to `status`, over a log without
+# written to OUT: `tick 400000` in the midst of the move. A short line is `X1` or `X0` by turns, one pulse at steps of 1 mm, in programs of 25,000
+# lines; it takes two syncs. Power on is from the start of the process to the answer to `status`, over a log without
 # a record and over one of 1,024, with the file in the system's memory. Times are those of the clock.
 set -eu
-ngc= rounds=3 entries=2048
+ngc= beside= rounds=3 entries=2048 lines=100000
 while [ $# -gt 0 ]; do
     case $1 in
         --ngc) ngc=$(realpath "$2"); shift 2 ;;
+        --beside) beside=$(realpath "$2"); shift 2 ;;
         --rounds) rounds=$2; shift 2 ;;
         --entries) entries=$2; shift 2 ;;
+        --lines) lines=$2; shift 2 ;;
         *) break ;;
     esac
 done
@@ -36,15 +42,16 @@ memory=$(mktemp -d -p /dev/shm)
 trap 'rm -rf "$work" "$memory"' EXIT
 [ $# -gt 0 ] || set -- "$work" "$memory"
 for folder in "$@"; do
-    python3 - "$ngc" "$folder" "$rounds" "$entries" <<'PY'
+    python3 - "$ngc" "$folder" "$rounds" "$entries" "$lines" "$beside" <<'PY'
 import atexit, os, re, shutil, sqlite3, statistics, subprocess, sys, tempfile, time
-ngc, rounds, entries = sys.argv[1], int(sys.argv[3]), int(sys.argv[4])
+ngc, rounds, entries, lines, beside = sys.argv[1], int(sys.argv[3]), int(sys.argv[4]), int(sys.argv[5]), sys.argv[6]
 folder = tempfile.mkdtemp(dir=sys.argv[2])
 atexit.register(shutil.rmtree, folder)
-TICKS, TURN, LOG, FEW = 400_000, 64, 1024, 100
+TICKS, TURN, LOG, FEW, PROGRAM = 400_000, 64, 1024, 100, 25_000
 CALLS = "write,pwrite64,pwritev,pwritev2,fsync,fdatasync,sync_file_range,msync"
-with open(f"{folder}/mill.toml", "w") as file:
-    file.write("""step_nm = [1000, 1000, 1000]
+for name, step in (("mill", 1_000), ("coarse", 1_000_000)):
+    with open(f"{folder}/{name}.toml", "w") as file:
+        file.write(f"""step_nm = [{step}, {step}, {step}]
 low_nm = [-1000000000, -1000000000, -1000000000]
 high_nm = [1000000000, 1000000000, 1000000000]
 traverse_nm_per_min = 6000000000
@@ -68,13 +75,13 @@ def where(path):
 class Mill:
     """A formatted device and a session over it."""
 
-    def __init__(self, name, before=()):
+    def __init__(self, name, before=(), program=ngc, settings="mill"):
         self.device = f"{folder}/{name}.dev"
-        subprocess.run([ngc, "format", self.device], check=True)
-        self.start(before)
+        subprocess.run([program, "format", self.device], check=True)
+        self.start(before, program, settings)
 
-    def start(self, before=()):
-        words = [*before, ngc, "run", self.device, f"{folder}/mill.toml", f"{folder}/out"]
+    def start(self, before=(), program=ngc, settings="mill"):
+        words = [*before, program, "run", self.device, f"{folder}/{settings}.toml", f"{folder}/out"]
         self.entries, self.child = 0, subprocess.Popen(words, stdin=subprocess.PIPE, stdout=subprocess.PIPE)
 
     def ask(self, text, answer):
@@ -219,6 +226,25 @@ def pulses():
     told("pulses a second", "{:,.0f}", found, max)
 
 
+def short_lines():
+    """Lines a second of programs of short lines."""
+    text = b"".join(b"X1\n" if n % 2 else b"X0\n" for n in range(1, PROGRAM - 1))
+    text = b"G0X0\n" + text + b"M2\n"
+    rivals = {"short lines a second": ngc, **({"beside it": beside} if beside else {})}
+    found = {name: [] for name in rivals}
+    for _ in range(rounds):
+        for name, program in rivals.items():
+            mill, seconds, loads = Mill("lines", (), program, "coarse"), 0.0, max(1, lines // PROGRAM)
+            for _ in range(loads):
+                mill.ask(b"load %d\n" % len(text) + text + b"start\n", b"going")
+                seconds += mill.ask(b"tick 1000000\n", b"ticks ")
+            mill.end()
+            os.remove(f"{folder}/out")
+            found[name].append(loads * PROGRAM / seconds)
+    for name, rates in found.items():
+        told(name, "{:,.0f}", rates, max)
+
+
 def records(device):
     """What the script for a stranger says of the log."""
     lines = subprocess.run([sys.executable, "examples/read_device.py", device], capture_output=True, text=True, check=True).stdout.split("\n")
@@ -252,6 +278,7 @@ print(f"{sys.argv[2]}: {where(folder)}; load {os.getloadavg()[0]:.1f} on {os.cpu
 per_entry()
 rates()
 pulses()
+short_lines()
 power_on()
 PY
 done

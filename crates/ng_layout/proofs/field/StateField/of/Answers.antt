@@ -14,7 +14,7 @@ returns-clause-is c =
     let m = c.args.machine.now in
     let feed : c.unsigned_abs.result ≡ unsigned_abs m.feed_per_min = grind (arith, to_z-of_z) in
     let speed : c.unsigned_abs-2.result ≡ unsigned_abs m.outputs.speed = grind (arith, to_z-of_z) in
-    let tool : cast_signed w64 (cast_unsigned w64 c.nm-2.result) ≡ m.offsets.tool_length = grind (arith, to_z-of_z) in
+    let tool : cast_signed w64 (cast_unsigned w64 c.nm.result) ≡ m.offsets.tool_length = grind (arith, to_z-of_z) in
     λ i. record {
       entries = c.args.entries;
       place = c.args.place;
@@ -36,9 +36,9 @@ returns-clause-means c = λ length within.
     let m = c.args.machine.now in
     let r : DecodedStateModel = record { entries = c.args.entries; place = c.args.place; machine = m; half = option_copied c.args.half } in
     let counted : IsCounted m = record {
-      feed = c.nm.ensures.range;
+      feed = c.nm_per_min.ensures.range;
       speed = c.count.ensures.range;
-      tool = c.nm-2.ensures.range;
+      tool = c.nm.ensures.range;
       modes = sym (ap modes_of c.codes_of.ensures.is) ∙ c.codes_of.ensures.modes;
       kept = sym (ap (kept_of (kept_bits m.kept)) c.kept_field.ensures.is) ∙ c.kept_field.ensures.means;
       point = sym (ap point_of c.triple_of.ensures.is) ∙ c.triple_of.ensures.means;
