@@ -1,0 +1,154 @@
+//! Events with what each does, as tables tell them.
+use ng_canon::{AxisStep, Item, Outputs, Pulse};
+use ng_core::{Event, Reply, Source, Text};
+use ng_num::{Fault, Len, Point};
+use std::alloc::{AllocError, Allocator};
+
+/// An event.
+#[derive(Clone, Copy)]
+pub enum Order {
+    Load(&'static str),
+    Start,
+    Hold,
+    Continue,
+    Mdi(&'static str),
+    OptionalStop,
+    BlockDelete,
+    /// At this X, in nanometres, and at Y 0 and Z 0.
+    Reference(i64),
+    Resume,
+    Abandon,
+    Tick,
+}
+
+/// One of each kind, but of Status.
+pub const EACH_KIND: &[Order] = &[
+    Order::Load("M2"),
+    Order::Start,
+    Order::Hold,
+    Order::Continue,
+    Order::Mdi("F1"),
+    Order::OptionalStop,
+    Order::BlockDelete,
+    Order::Reference(0),
+    Order::Resume,
+    Order::Abandon,
+    Order::Tick,
+];
+
+/// An item: a pulse of X, forward or backward, of 50 us; all outputs off.
+#[derive(Clone, Copy)]
+pub enum Given {
+    Forward,
+    Backward,
+    Off,
+}
+
+/// What an event does.
+#[derive(Clone, Copy)]
+pub enum Does {
+    /// It is refused, and changes nothing.
+    Refuses(Fault),
+    /// The program runs, or the half-done block is taken up.
+    Goes,
+    /// A line is begun.
+    Begins,
+    /// There is nothing to do.
+    Rests,
+    /// It hands an item out.
+    Hands(Given),
+    /// It opens this segment of a line.
+    Opens(&'static str, Source, u64),
+    /// It opens the approach.
+    Approaches,
+    /// An entry: this is the program.
+    Loads(&'static str),
+    /// An entry: a line was executed, and the next one begins at this place.
+    Executes(&'static str, u64),
+    /// An entry: the machine is known to stand at this X, in nanometres, in the midst of a half-done block.
+    Stands(i64),
+}
+
+/// An event, what it does, and how many writes, syncs and hand-outs it makes.
+pub type Row = (Order, Does, usize);
+
+pub const BEGUN: Row = (Order::Tick, Does::Begins, 0);
+
+pub const FORWARD: Row = (Order::Tick, Does::Hands(Given::Forward), 1);
+
+pub const BACKWARD: Row = (Order::Tick, Does::Hands(Given::Backward), 1);
+
+pub const OFF: Row = (Order::Tick, Does::Hands(Given::Off), 1);
+
+pub const IDLE: Row = (Order::Tick, Does::Rests, 0);
+
+/// The point at this X, in nanometres, and at Y 0 and Z 0.
+pub fn point_at(x_nm: i64) -> Result<Point, Fault> {
+    let x = Len::of_nm(i128::from(x_nm))?;
+    Ok(Point { x, ..Point::zero() })
+}
+
+/// The bytes of a text, as an event brings them.
+fn text_of<A: Allocator + Copy + Drop>(alloc: A, text: &str) -> Result<Text<A>, AllocError> {
+    Ok(Text::of(Vec::from_slice(alloc, text.as_bytes())?))
+}
+
+pub fn event_of<A: Allocator + Copy + Drop>(alloc: A, order: Order) -> Result<Event<A>, Fault> {
+    Ok(match order {
+        Order::Load(text) => Event::Load(text_of(alloc, text)?),
+        Order::Start => Event::Start,
+        Order::Hold => Event::Hold,
+        Order::Continue => Event::Continue,
+        Order::Mdi(text) => Event::Mdi(text_of(alloc, text)?),
+        Order::OptionalStop => Event::OptionalStop(true),
+        Order::BlockDelete => Event::BlockDelete(true),
+        Order::Reference(x_nm) => Event::Reference(point_at(x_nm)?),
+        Order::Resume => Event::Resume,
+        Order::Abandon => Event::Abandon,
+        Order::Tick => Event::Tick,
+    })
+}
+
+/// What an event is answered that does this after so many entries.
+pub fn reply_to(does: Does, entries: u64) -> Reply {
+    match does {
+        Does::Refuses(fault) => Reply::Refused(fault),
+        Does::Goes => Reply::Going,
+        Does::Begins => Reply::Begun,
+        Does::Rests => Reply::Idle,
+        Does::Hands(_) => Reply::Moved,
+        Does::Opens(_, _, index) => Reply::Opened(index),
+        Does::Approaches => Reply::Approaching,
+        Does::Loads(_) | Does::Executes(_, _) | Does::Stands(_) => {
+            Reply::Done(entries.saturating_add(1))
+        }
+    }
+}
+
+/// How many entries there are after an event that does this.
+pub fn entries_after(does: Does, entries: u64) -> u64 {
+    match does {
+        Does::Loads(_) | Does::Executes(_, _) | Does::Stands(_) => entries.saturating_add(1),
+        Does::Refuses(_)
+        | Does::Goes
+        | Does::Begins
+        | Does::Rests
+        | Does::Hands(_)
+        | Does::Opens(_, _, _)
+        | Does::Approaches => entries,
+    }
+}
+
+pub fn item_of(given: Given) -> Item {
+    let x = match given {
+        Given::Forward => AxisStep::Forward,
+        Given::Backward => AxisStep::Backward,
+        Given::Off => return Item::Switch(Outputs::fresh()),
+    };
+    Item::Pulse(Pulse {
+        x,
+        y: AxisStep::Still,
+        z: AxisStep::Still,
+        period_us: 50,
+    })
+}
