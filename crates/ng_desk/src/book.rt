@@ -41,6 +41,10 @@ impl<R: Rig, A: Allocator + Copy + Drop, O: Origin<R>> Model for Book<R, A, O> {
 
 impl<R: Rig, A: Allocator + Copy + Drop, O: Origin<R>> Book<R, A, O> {
     /// An empty history at the controller where it starts, and a ledger of no call. It takes no memory.
+    ///
+    /// A call of its own: `Desk::new` gives the controller at one place of its result or at another, and where LLVM sees both ways whole it
+    /// splits the one by the pieces of the other, thousands of times over.
+    #[inline(never)]
     pub fn new(
         alloc: A,
         controller: Controller<R, A>,

@@ -1,9 +1,11 @@
 //! Whether what the seats hold agrees with the history. Nothing here takes memory.
-ghost use Rattle.std.specs.Prelude.{◌≡◌, ◌↔◌, IsTrue, All, map};
+ghost use Rattle.std.specs.Prelude.{◌≡◌, ◌↔◌, IsTrue, All, map, MatchResult};
+ghost use Rattle.ng_num.specs.declared.fault.Fault.TheVariants.{SeatsDisagree};
 ghost use Rattle.ng_desk.specs.Calls.{StandsIn, RiseFrom, AreApart, AllApart, Agree, calls_of, lists_of};
 
 use crate::call::Call;
 use crate::seat::Seat;
+use ng_num::Fault;
 use std::alloc::Allocator;
 use std::sync::ledger::Ledger;
 
@@ -97,11 +99,24 @@ fn all_apart<A: Allocator + Copy + Drop, O: Ledger>(seats: &[Seat<A, O>]) -> boo
 }
 
 /// Whether what the seats hold agrees with the history.
-pub(crate) fn agree<A: Allocator + Copy + Drop, O: Ledger>(
-    history: &[Call<A>],
-    seats: &[Seat<A, O>],
-) -> bool
+fn agree<A: Allocator + Copy + Drop, O: Ledger>(history: &[Call<A>], seats: &[Seat<A, O>]) -> bool
     ensures { IsTrue result ↔ Agree history.now (lists_of seats.now) }
 {
     all_in(history, seats) && all_apart(seats)
+}
+
+/// K6 exactly where what the seats hold disagrees with the history.
+pub(crate) fn compare<A: Allocator + Copy + Drop, O: Ledger>(
+    history: &[Call<A>],
+    seats: &[Seat<A, O>],
+) -> Result<(), Fault>
+    ensures { MatchResult result
+        (λ _. Agree history.now (lists_of seats.now))
+        (λ fault. (fault ≡ SeatsDisagree) × (Agree history.now (lists_of seats.now) → ⊥)) }
+{
+    if agree(history, seats) {
+        Ok(())
+    } else {
+        Err(Fault::SeatsDisagree)
+    }
 }

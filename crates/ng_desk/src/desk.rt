@@ -6,7 +6,7 @@ ghost use Rattle.ng_desk.specs.Running.{IsClosed};
 
 use crate::book::Book;
 use crate::call::Call;
-use crate::comparing::agree;
+use crate::comparing::compare;
 use crate::origin::Origin;
 use crate::seat::Seat;
 use ng_core::{Controller, Event, Reply};
@@ -79,7 +79,7 @@ impl<R: Rig, A: Allocator + Copy + Drop, O: Origin<R>> Desk<R, A, O> {
         Ok(reply)
     }
 
-    /// The controller, the history and all seats of this desk, once the history was compared with the seats' lists (own). It takes no
+    /// The controller, the history and all seats of this desk, and whether the history agrees with the seats' lists (own). It takes no
     /// memory.
     ///
     /// K6 exactly where a seat's call isn't the history's at its number, a seat's numbers don't rise, or a number stands in two seats. The
@@ -88,17 +88,17 @@ impl<R: Rig, A: Allocator + Copy + Drop, O: Origin<R>> Desk<R, A, O> {
     pub fn close(
         self,
         seats: Vec<Seat<A, O>, A>,
-    ) -> Result<
-        (Controller<R, A>, Vec<Call<A>, A>, Vec<Seat<A, O>, A>),
-        (Fault, Controller<R, A>, Vec<Call<A>, A>, Vec<Seat<A, O>, A>),
-    >
+    ) -> (
+        Controller<R, A>,
+        Vec<Call<A>, A>,
+        Vec<Seat<A, O>, A>,
+        Result<(), Fault>,
+    )
         requires { (length seats.items ≡ O.parts) × All (λ s. s.parts ≡ 1) seats.items }
-        ensures closed { MatchResult result
-            (λ r. IsClosed R.honest R.trace R.failed R.sectors O.start seats.items r.0 r.1.items r.2.items)
-            (λ e. IsClosed R.honest R.trace R.failed R.sectors O.start seats.items e.1 e.2.items e.3.items) }
-        ensures agrees { MatchResult result
-            (λ r. Agree r.1.items (lists_of seats.items))
-            (λ e. (e.0 ≡ SeatsDisagree) × (Agree e.2.items (lists_of seats.items) → ⊥)) }
+        ensures closed { IsClosed R.honest R.trace R.failed R.sectors O.start seats.items result.0 result.1.items result.2.items }
+        ensures agrees { MatchResult result.3
+            (λ _. Agree result.1.items (lists_of seats.items))
+            (λ fault. (fault ≡ SeatsDisagree) × (Agree result.1.items (lists_of seats.items) → ⊥)) }
     {
         let mut seats = seats;
         let Desk { book } = self;
@@ -106,11 +106,8 @@ impl<R: Rig, A: Allocator + Copy + Drop, O: Origin<R>> Desk<R, A, O> {
         let mut all = book.no_share();
         gather(seats.as_mut_slice(), &mut all);
         let (controller, history) = book.close(all);
-        if agree(history.as_slice(), seats.as_slice()) {
-            Ok((controller, history, seats))
-        } else {
-            Err((Fault::SeatsDisagree, controller, history, seats))
-        }
+        let agreed = compare(history.as_slice(), seats.as_slice());
+        (controller, history, seats, agreed)
     }
 }
 

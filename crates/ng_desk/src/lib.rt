@@ -13,6 +13,8 @@ mod book;
 mod call;
 mod comparing;
 mod desk;
+#[cfg(test)]
+mod disagreeing;
 mod origin;
 mod seat;
 

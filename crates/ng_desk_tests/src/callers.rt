@@ -1,0 +1,277 @@
+//! Callers in threads, each in a seat of its own: some tick, some ask for the status, and one loads a program, starts it and holds it.
+ghost use Rattle.std.specs.Prelude.{◌≡◌, ◌≤◌, Some, All, false, length};
+
+use crate::devices::started;
+use ng_core::{Condition, Controller, Event, Reply, Text};
+use ng_desk::{Call, Desk, Origin, Seat};
+use ng_num::Fault;
+use ng_rig::{MemoryRig, Rig};
+use std::alloc::Global;
+use std::marker::Brand;
+use std::sync::Wait;
+use std::sync::ledger::{Blank, Ledger};
+use std::test::Fail;
+use std::thread;
+use std::thread::Threads;
+
+/// How often a caller asks or ticks at most.
+const MOST_CALLS: u32 = 99_000;
+
+/// A move of 500,000 pulses, 500 mm in steps of 1,000 nm: no caller sees its end.
+const PROGRAM: &str = "G0 X500\nM2\n";
+
+/// What a caller waits for.
+#[derive(Clone, Copy)]
+enum Awaited {
+    Held,
+    HalfDone,
+}
+
+/// What a caller does.
+#[derive(Clone, Copy, Debug, PartialEq, Eq)]
+enum Role {
+    Ticks,
+    Asks,
+    Commands,
+}
+
+impl Role {
+    /// The first of so many callers ticks, the last one commands, those between them ask and tick by turns.
+    fn of(index: usize, callers: usize) -> Role {
+        if index >= callers.saturating_sub(1) {
+            Role::Commands
+        } else if index % 2 == 0 {
+            Role::Ticks
+        } else {
+            Role::Asks
+        }
+    }
+}
+
+/// Whether a reply tells what is awaited.
+fn tells(reply: Reply, awaited: Awaited) -> bool {
+    match (reply, awaited) {
+        (Reply::Held, Awaited::Held) => true,
+        (Reply::Status(status), Awaited::Held) => status.condition == Condition::Held,
+        (Reply::Status(status), Awaited::HalfDone) => status.half.is_some(),
+        _ => false,
+    }
+}
+
+/// Gives an event and gives way: the reply, or M1.
+fn give<R: Rig, O: Origin<R>, W: Wait>(
+    rt: &W,
+    desk: &Desk<R, Global, O>,
+    seat: &mut Seat<Global, O>,
+    event: &Event<Global>,
+) -> Result<Reply, Fault>
+    requires { seat.old.parts ≡ 1 }
+    ensures { seat.new.parts ≡ 1 }
+{
+    let reply = desk.call(rt, seat, event);
+    thread::yield_now();
+    reply
+}
+
+/// Gives an event until a reply tells what is awaited.
+fn give_until<R: Rig, O: Origin<R>, W: Wait>(
+    rt: &W,
+    desk: &Desk<R, Global, O>,
+    seat: &mut Seat<Global, O>,
+    event: &Event<Global>,
+    awaited: Awaited,
+) -> Result<(), Fault>
+    requires { seat.old.parts ≡ 1 }
+    ensures { seat.new.parts ≡ 1 }
+{
+    for _call in 0..MOST_CALLS {
+        if tells(give(rt, desk, seat, event)?, awaited) {
+            return Ok(());
+        }
+    }
+    Ok(())
+}
+
+/// Loads the program, starts it, and holds it once one of its blocks is half-done.
+fn command<R: Rig, O: Origin<R>, W: Wait>(
+    rt: &W,
+    desk: &Desk<R, Global, O>,
+    seat: &mut Seat<Global, O>,
+    load: &Event<Global>,
+) -> Result<(), Fault>
+    requires { seat.old.parts ≡ 1 }
+    ensures { seat.new.parts ≡ 1 }
+{
+    give(rt, desk, seat, load)?;
+    give(rt, desk, seat, &Event::Start)?;
+    give_until(rt, desk, seat, &Event::Status, Awaited::HalfDone)?;
+    give(rt, desk, seat, &Event::Hold)?;
+    Ok(())
+}
+
+/// A caller at work.
+fn work<R: Rig, O: Origin<R>, W: Wait>(
+    rt: &W,
+    desk: &Desk<R, Global, O>,
+    seat: &mut Seat<Global, O>,
+    role: Role,
+    load: &Event<Global>,
+)
+    requires { seat.old.parts ≡ 1 }
+    ensures { seat.new.parts ≡ 1 }
+{
+    let _ = match role {
+        Role::Ticks => give_until(rt, desk, seat, &Event::Tick, Awaited::Held),
+        Role::Asks => give_until(rt, desk, seat, &Event::Status, Awaited::Held),
+        Role::Commands => command(rt, desk, seat, load),
+    };
+}
+
+/// All callers at work, each in a thread of its own.
+fn work_all<R: Rig + Drop + Send, O: Origin<R> + Send + Sync, W: Threads + Wait + Sync>(
+    rt: &W,
+    desk: &Desk<R, Global, O>,
+    seats: &mut [Seat<Global, O>],
+    load: &Event<Global>,
+)
+    requires { (1 ≤ length seats.old) × All (λ s. s.parts ≡ 1) seats.old }
+    ensures { All (λ s. s.parts ≡ 1) seats.new }
+{
+    let callers = seats.len();
+    thread::for_each_mut(
+        rt,
+        seats,
+        callers,
+        &|index, seat: &mut Seat<Global, O>|
+            requires { seat.old.parts ≡ 1 }
+            ensures { seat.new.parts ≡ 1 }
+        { work(rt, desk, seat, Role::of(index, callers), load) },
+    );
+}
+
+/// Whether a caller was answered as its work has it: held at the end, and by a load and a start at first.
+fn is_answered(role: Role, calls: &[Call<Global>]) -> bool {
+    let Some(last) = calls.last() else {
+        return false;
+    };
+    match role {
+        Role::Ticks | Role::Asks => tells(last.reply, Awaited::Held),
+        Role::Commands => {
+            calls.len() > 3
+                && calls[0].reply == Reply::Done(1)
+                && calls[1].reply == Reply::Going
+                && last.reply == Reply::Held
+        }
+    }
+}
+
+/// The first caller that was answered otherwise.
+fn first_astray<O: Ledger>(seats: &[Seat<Global, O>]) -> Option<Role> {
+    for (index, seat) in seats.iter().enumerate() {
+        let role = Role::of(index, seats.len());
+        if !is_answered(role, seat.calls()) {
+            return Some(role);
+        }
+    }
+    None
+}
+
+/// So many callers at one desk: the first that was answered otherwise than its work has it, and the history.
+fn day<R: Rig + Drop + Send, O: Origin<R> + Send + Sync, W: Threads + Wait + Sync>(
+    rt: &W,
+    alloc: Global,
+    blank: Blank,
+    controller: Controller<R, Global>,
+    callers: usize,
+    load: &Event<Global>,
+) -> (
+    Controller<R, Global>,
+    Result<(Option<Role>, Vec<Call<Global>>), Fault>,
+)
+    requires whole { controller.journal.broken ≡ false }
+    requires some { 1 ≤ callers }
+    requires start { O.start ≡ Some controller }
+    requires name { blank.name ≡ O.name }
+    requires parts { (blank.parts ≡ O.parts) × (callers ≡ O.parts) }
+{
+    let (desk, mut seats) = match Desk::<R, Global, O>::new(alloc, blank, controller, callers) {
+        Ok(made) => made,
+        Err((fault, controller)) => return (controller, Err(fault)),
+    };
+    work_all(rt, &desk, seats.as_mut_slice(), load);
+    let astray = first_astray(seats.as_slice());
+    let (controller, history, _, agreed) = desk.close(seats);
+    match agreed {
+        Ok(()) => (controller, Ok((astray, history))),
+        Err(fault) => (controller, Err(fault)),
+    }
+}
+
+/// Whether `run` of a history's events over a like device gives its replies.
+fn runs_alike(alloc: Global, history: Vec<Call<Global>>) -> Result<bool, Fault> {
+    let mut events = Vec::new(alloc);
+    let mut replies = Vec::new(alloc);
+    for Call {
+        number: _,
+        event,
+        reply,
+    } in history {
+        events.push(event)?;
+        replies.push(reply)?;
+    }
+    let mut controller = started(alloc, alloc)?;
+    let answers = controller.run(events.as_slice());
+    drop(controller.into_rig());
+    Ok(answers?.as_slice() == replies.as_slice())
+}
+
+/// So many callers at a desk over a new device: the first that was answered otherwise, and whether `run` answers as they were answered.
+fn day_at_a_fresh_desk<W: Threads + Wait + Sync>(
+    rt: &W,
+    alloc: Global,
+    callers: usize,
+) -> Result<(Option<Role>, bool), Fault>
+    requires { 1 ≤ callers }
+{
+    let load = Event::Load(Text::of(Vec::from_slice(alloc, PROGRAM.as_bytes())?));
+    let controller = started(alloc, alloc)?;
+    let blank = Blank::new(callers as u64);
+    let (controller, came) = day::<MemoryRig<Global>, Brand, W>(
+        rt, alloc, blank, controller, callers, &load,
+    );
+    drop(controller.into_rig());
+    let (astray, history) = came?;
+    Ok((astray, runs_alike(alloc, history)?))
+}
+
+/// How many days there are at most: where the system lets a caller stand for long, another one may have made all its calls before.
+const MOST_DAYS: u32 = 10;
+
+/// The first day on which each caller was answered as its work has it, or on which `run` answers otherwise; else the last one.
+fn best_day<W: Threads + Wait + Sync>(
+    rt: &W,
+    alloc: Global,
+    callers: usize,
+) -> Result<(Option<Role>, bool), Fault>
+    requires { 1 ≤ callers }
+{
+    for _day in 1..MOST_DAYS {
+        let (astray, is_alike) = day_at_a_fresh_desk(rt, alloc, callers)?;
+        if astray.is_none() || !is_alike {
+            return Ok((astray, is_alike));
+        }
+    }
+    day_at_a_fresh_desk(rt, alloc, callers)
+}
+
+#[test]
+fn two_callers(rt: HostRuntime) -> Result<(), Fail> {
+    assert_eq!(rt; best_day(&rt, rt.alloc(), 2), Ok((None, true)));
+    Ok(())
+}
+
+#[test]
+fn eight_callers(rt: HostRuntime) -> Result<(), Fail> {
+    assert_eq!(rt; best_day(&rt, rt.alloc(), 8), Ok((None, true)));
+    Ok(())
+}
