@@ -3,7 +3,7 @@ use crate::devices::{Device, cut, formatted, found_on, shown, started};
 use crate::rows::{EACH_KIND, Row, entries_after, event_of, reply_to};
 use crate::scripts::{
     AFTER_A_CUT, AFTER_A_CUT_OF_A_PROGRAM, BEFORE_A_CUT, BEFORE_A_CUT_OF_A_PROGRAM, READ_AHEAD,
-    STORED_AND_RUN, filling_the_log, filling_the_log_by_a_cycle,
+    STORED_AND_RUN, filling_the_log,
 };
 use crate::standing::Standing;
 use ng_core::{Condition, Controller, HalfShown, Reply, Source, Status, power_on};
@@ -211,12 +211,11 @@ impl<'a> Choice<'a> {
     }
 }
 
-/// The calls after which one fails: from the first on, so many apart, and up to the last.
+/// The numbers of calls after which one fails, each in turn.
 #[derive(Clone, Copy)]
 struct Sweep {
     first: u64,
     last: u64,
-    step: u64,
 }
 
 /// The first of these failures after which something is astray; or how many calls a session makes that met none.
@@ -237,7 +236,7 @@ fn first_astray(
         if let Some(astray) = choice.astray(alloc, played)? {
             return Ok((Some((calls, astray)), None));
         }
-        calls = calls.saturating_add(sweep.step);
+        calls = calls.saturating_add(1);
         if calls > sweep.last {
             return Ok((None, None));
         }
@@ -249,7 +248,6 @@ fn first_astray(
 const EACH: Sweep = Sweep {
     first: 0,
     last: u64::MAX,
-    step: 1,
 };
 
 /// Each call after power on over a new device, which makes 89 reads: of two headers, a snapshot's 86 sectors, and the log's first.
@@ -355,25 +353,42 @@ fn each_call_after_a_cut_of_a_program(rt: HostRuntime) -> Result<(), Fail> {
     Ok(())
 }
 
-/// How many calls come before the last entry as the log fills: 89 reads and 90 other calls of power on, the first entry, the cycle's
-/// segments, pulses and entry, two moves, and what comes before the entry of the third.
-const BEFORE_THE_LAST: u64 = 89 + 90 + 2 + (2 * 1_017 + 339 + 2) + 2 * 5 + 3;
+/// How many calls come before this of the moves that fill the log: those of power on, two of the entry before them, and five of each.
+fn calls_before_move(number: u64) -> u64 {
+    let moves = number.saturating_sub(1);
+    EACH_AFTER_POWER_ON
+        .first
+        .saturating_add(2)
+        .saturating_add(moves.saturating_mul(5))
+}
 
-/// The first failure as the log fills after which something is astray, or how many calls the session makes without one.
+/// The first failure, as moves fill the log, after which something is astray, or how many calls the session makes without one.
 fn first_astray_as_the_log_fills(
     alloc: Global,
     sweep: Sweep,
 ) -> Result<(Option<(u64, Astray)>, Option<usize>), Fault> {
-    let rows = filling_the_log_by_a_cycle(alloc)?;
+    let rows = filling_the_log(alloc)?;
     first_astray_of(alloc, rows.as_slice(), sweep)
 }
 
-#[test]
-fn some_calls_as_the_log_fills(rt: HostRuntime) -> Result<(), Fail> {
+/// That in these moves alone, the last one with them.
+fn first_astray_in_moves(
+    alloc: Global,
+    first: u64,
+    last: u64,
+) -> Result<(Option<(u64, Astray)>, Option<usize>), Fault> {
     let sweep = Sweep {
-        first: 0,
-        last: BEFORE_THE_LAST,
-        step: 31,
+        first: calls_before_move(first),
+        last: calls_before_move(last.saturating_add(1)).saturating_sub(1),
+    };
+    first_astray_as_the_log_fills(alloc, sweep)
+}
+
+#[test]
+fn each_call_of_the_entry_and_the_256_moves_after_it(rt: HostRuntime) -> Result<(), Fail> {
+    let sweep = Sweep {
+        last: calls_before_move(257).saturating_sub(1),
+        ..EACH_AFTER_POWER_ON
     };
     assert_eq!(rt;
         first_astray_as_the_log_fills(rt.alloc(), sweep),
@@ -382,48 +397,43 @@ fn some_calls_as_the_log_fills(rt: HostRuntime) -> Result<(), Fail> {
     Ok(())
 }
 
-/// Where moves fill the log, calls that are 311 apart, so that with five calls a move each of the five fails at least once. The first is in
-/// the second move.
 #[test]
-fn a_few_calls_as_moves_fill_the_log(rt: HostRuntime) -> Result<(), Fail> {
-    let rows = filling_the_log(rt.alloc())?;
-    let sweep = Sweep {
-        first: 89 + 90 + 2 + 9,
-        last: 89 + 90 + 2 + 512 * 5,
-        step: 311,
-    };
+fn each_call_of_moves_257_to_362(rt: HostRuntime) -> Result<(), Fail> {
     assert_eq!(rt;
-        first_astray_of(rt.alloc(), rows.as_slice(), sweep),
+        first_astray_in_moves(rt.alloc(), 257, 362),
         Ok((None, None))
     );
     Ok(())
 }
 
-/// Before the entry what stands is written anew: here each write of the first half of its 86 sectors fails in turn.
 #[test]
-fn each_call_of_half_the_snapshot_of_a_full_log(rt: HostRuntime) -> Result<(), Fail> {
-    let sweep = Sweep {
-        first: BEFORE_THE_LAST,
-        last: BEFORE_THE_LAST + 42,
-        step: 1,
-    };
+fn each_call_of_moves_363_to_443(rt: HostRuntime) -> Result<(), Fail> {
     assert_eq!(rt;
-        first_astray_as_the_log_fills(rt.alloc(), sweep),
+        first_astray_in_moves(rt.alloc(), 363, 443),
         Ok((None, None))
     );
     Ok(())
 }
 
-/// The other half, the header, the syncs, and the entry's own record.
 #[test]
-fn each_later_call_of_the_entry_after_a_full_log(rt: HostRuntime) -> Result<(), Fail> {
+fn each_call_of_moves_444_to_511(rt: HostRuntime) -> Result<(), Fail> {
+    assert_eq!(rt;
+        first_astray_in_moves(rt.alloc(), 444, 511),
+        Ok((None, None))
+    );
+    Ok(())
+}
+
+/// Before the entry of the last move, what stands is written anew.
+#[test]
+fn each_call_of_the_last_move_and_its_entry_after_a_full_log(rt: HostRuntime) -> Result<(), Fail> {
     let sweep = Sweep {
-        first: BEFORE_THE_LAST + 43,
+        first: calls_before_move(512),
         ..EACH
     };
     assert_eq!(rt;
         first_astray_as_the_log_fills(rt.alloc(), sweep),
-        Ok((None, Some(2_571)))
+        Ok((None, Some(2_741)))
     );
     Ok(())
 }

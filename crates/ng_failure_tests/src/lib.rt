@@ -18,8 +18,6 @@ mod greatest;
 #[cfg(test)]
 mod planning;
 #[cfg(test)]
-mod reading;
-#[cfg(test)]
 mod refused;
 #[cfg(test)]
 mod rows;

@@ -158,39 +158,3 @@ pub fn many_lines(alloc: Global) -> Result<Vec<Row>, AllocError> {
     rows.push(IDLE)?;
     Ok(rows)
 }
-
-/// A cycle of 339 repeats. Under G91 each goes on by a pulse of X, down to where it is, and out to there: three segments.
-const CYCLE: &str = "G91 G81 X0.001 Z0 R0 L339";
-
-/// What opens a segment of that cycle.
-fn stroke(index: u64) -> Row {
-    (Order::Tick, Does::Opens(CYCLE, Source::Mdi, index), 2)
-}
-
-/// A repeat of it, after so many.
-fn repeat(before: u64) -> [Row; 4] {
-    let first = before.saturating_mul(3);
-    [
-        stroke(first),
-        FORWARD,
-        stroke(first.saturating_add(1)),
-        stroke(first.saturating_add(2)),
-    ]
-}
-
-/// An entry in sector 686, a cycle whose 1,017 segments and entry are in sectors 687 to 1704, and three moves. The last of them is opened
-/// in sector 1709, the log's last, so that its entry takes 88 writes and 3 syncs. Few lines are begun, so it takes little time.
-pub fn filling_the_log_by_a_cycle(alloc: Global) -> Result<Vec<Row>, AllocError> {
-    let mut rows = Vec::new(alloc);
-    rows.push((Order::Mdi("F100"), Does::Begins, 0))?;
-    rows.push((Order::Tick, Does::Executes("F100", 0), 2))?;
-    rows.push((Order::Mdi(CYCLE), Does::Begins, 0))?;
-    for before in 0..339 {
-        rows.extend_from_slice(&repeat(before))?;
-    }
-    rows.push((Order::Tick, Does::Executes(CYCLE, 0), 2))?;
-    rows.extend_from_slice(&move_by("G0 X0.001", FORWARD, 2))?;
-    rows.extend_from_slice(&move_by("G0 X-0.001", BACKWARD, 2))?;
-    rows.extend_from_slice(&move_by("G0 X0.001", FORWARD, 91))?;
-    Ok(rows)
-}
