@@ -1,0 +1,503 @@
+//! A device fails one of its calls, each in turn.
+use crate::devices::{Device, cut, formatted, found_on, shown, started};
+use crate::failures::rows::{EACH_KIND, Row, entries_after, event_of, reply_to};
+use crate::failures::scripts::{
+    AFTER_A_CUT, AFTER_A_CUT_OF_A_PROGRAM, BEFORE_A_CUT, BEFORE_A_CUT_OF_A_PROGRAM, READ_AHEAD,
+    STORED_AND_RUN, filling_the_log,
+};
+use crate::failures::standing::Standing;
+use ng_core::{Condition, Controller, HalfShown, Reply, Source, Status, power_on};
+use ng_num::Fault;
+use ng_rig::{FailRig, Rig};
+use ng_settings::Settings;
+use std::alloc::Global;
+use std::test::Fail;
+
+/// How many writes and syncs power on makes.
+const POWER_ON: usize = 90;
+
+/// What is astray after a device failed.
+#[derive(Clone, Copy, Debug, PartialEq, Eq)]
+pub enum Astray {
+    /// The number of failures, or which event met the failure.
+    Failures,
+    /// A reply after it, or the status.
+    Later,
+    /// The items handed out.
+    Items,
+    /// What the device stands for.
+    Standing,
+}
+
+/// A session over a device that failed a call: which event met the failure, from 1 on, 0 where it was power on, none where all went
+/// well; whether each event after it was refused and the status showed what stood before it; the failures; and the device.
+#[derive(Drop)]
+struct Played {
+    met: Option<usize>,
+    is_refused: bool,
+    failures: u64,
+    rig: Device,
+}
+
+/// Gives events until one meets a failure of the device: the number of that event, from 1 on, and what the status showed before it.
+fn met<R: Rig>(
+    alloc: Global,
+    controller: &mut Controller<R, Global>,
+    rows: &[Row],
+    entries: u64,
+) -> Result<Option<(usize, Option<Status>)>, Fault> {
+    let mut entries = entries;
+    for (n, (order, does, _)) in rows.iter().enumerate() {
+        let before = shown(controller);
+        let reply = controller.on(event_of(alloc, *order)?);
+        if reply == Reply::Refused(Fault::DeviceFailed) {
+            return Ok(Some((n.saturating_add(1), before)));
+        }
+        if reply != reply_to(*does, entries) {
+            return Err(Fault::Broken);
+        }
+        entries = entries_after(*does, entries);
+    }
+    Ok(None)
+}
+
+/// Whether each kind of event is refused since the device failed, and the status shows what it showed before, and that it did.
+fn is_broken<R: Rig>(
+    alloc: Global,
+    controller: &mut Controller<R, Global>,
+    before: Option<Status>,
+) -> Result<bool, Fault> {
+    for order in EACH_KIND {
+        if controller.on(event_of(alloc, *order)?) != Reply::Refused(Fault::Broken) {
+            return Ok(false);
+        }
+    }
+    let before = before.ok_or(Fault::Broken)?;
+    let broken = Status {
+        condition: Condition::Broken,
+        ..before
+    };
+    Ok(shown(controller) == Some(broken))
+}
+
+/// Gives events until one meets a failure, and each kind of event after that: which one met it, and whether all was refused then.
+fn meet<R: Rig>(
+    alloc: Global,
+    controller: &mut Controller<R, Global>,
+    rows: &[Row],
+    entries: u64,
+) -> Result<(Option<usize>, bool), Fault> {
+    match met(alloc, controller, rows, entries)? {
+        Some((event, before)) => Ok((Some(event), is_broken(alloc, controller, before)?)),
+        None => Ok((None, true)),
+    }
+}
+
+/// Power on and these events over a device that fails the call after so many.
+fn play(
+    alloc: Global,
+    rig: Device,
+    rows: &[Row],
+    entries: u64,
+    calls: u64,
+) -> Result<Played, Fault> {
+    match power_on(alloc, FailRig::new(rig, calls), Settings::standard()) {
+        Ok(mut controller) => {
+            let met = meet(alloc, &mut controller, rows, entries);
+            let rig = controller.into_rig();
+            let (met, is_refused) = met?;
+            Ok(Played {
+                met,
+                is_refused,
+                failures: rig.failures(),
+                rig: rig.into_inner(),
+            })
+        }
+        Err((Fault::DeviceFailed, rig)) => Ok(Played {
+            met: Some(0),
+            is_refused: true,
+            failures: rig.failures(),
+            rig: rig.into_inner(),
+        }),
+        Err((fault, _)) => Err(fault),
+    }
+}
+
+/// What may stand once an event met a failure: what stood before it, or what stands after it.
+#[derive(Drop)]
+struct Choice<'a> {
+    rows: &'a [Row],
+    /// The number of the event, 0 for power on.
+    event: usize,
+    /// How many writes, syncs and hand-outs come before it, and how many it makes.
+    calls: usize,
+    own: usize,
+    before: Standing,
+    after: Standing,
+}
+
+impl<'a> Choice<'a> {
+    /// Of power on over a device that stands for this; both are the same.
+    fn at_power_on(rows: &'a [Row], before: Standing, after: Standing) -> Choice<'a> {
+        Choice {
+            rows,
+            event: 0,
+            calls: 0,
+            own: POWER_ON,
+            before,
+            after,
+        }
+    }
+
+    /// Goes to the next event.
+    fn go_on(&mut self) -> Result<(), Fault> {
+        if let Some((_, does, _)) = self.event.checked_sub(1).and_then(|n| self.rows.get(n)) {
+            self.before.take(*does)?;
+        }
+        let (_, does, calls) = self.rows.get(self.event).ok_or(Fault::Broken)?;
+        self.after.take(*does)?;
+        self.calls = self.calls.saturating_add(self.own);
+        self.own = *calls;
+        self.event = self.event.saturating_add(1);
+        Ok(())
+    }
+
+    /// Goes to a later event.
+    fn go_to(&mut self, event: usize) -> Result<(), Fault> {
+        for _ in self.event..event {
+            self.go_on()?;
+        }
+        Ok(())
+    }
+
+    /// Whether a session ended in this event, by the calls that it made: all before it, and less than all of its own, or none where it
+    /// only reads.
+    fn has_calls(&self, made: usize) -> bool {
+        made >= self.calls && made.saturating_sub(self.calls) < self.own.max(1)
+    }
+
+    /// Whether a device that is powered on stands for one of the two; for what stood before where nothing is kept that wasn't synced, since
+    /// an event that stores something ends with its sync.
+    fn is_standing(&self, alloc: Global, rig: Device) -> Result<bool, Fault> {
+        let cut = found_on(alloc, cut(&rig)?)?;
+        let found = found_on(alloc, rig)?;
+        Ok(
+            self.before.is_found(&cut)?
+                && (self.before.is_found(&found)? || self.after.is_found(&found)?),
+        )
+    }
+
+    /// What is astray after a session that ended in this event.
+    fn astray(&self, alloc: Global, played: Played) -> Result<Option<Astray>, Fault> {
+        let Played {
+            met: _,
+            is_refused,
+            failures,
+            rig,
+        } = played;
+        if failures != 1 || !self.has_calls(rig.calls()) {
+            return Ok(Some(Astray::Failures));
+        }
+        if !is_refused {
+            return Ok(Some(Astray::Later));
+        }
+        if rig.handed(usize::MAX)?.as_slice() != self.before.items() {
+            return Ok(Some(Astray::Items));
+        }
+        if !self.is_standing(alloc, rig)? {
+            return Ok(Some(Astray::Standing));
+        }
+        Ok(None)
+    }
+}
+
+/// The numbers of calls after which one fails, each in turn.
+#[derive(Clone, Copy)]
+struct Sweep {
+    first: u64,
+    last: u64,
+}
+
+/// The first of these failures after which something is astray; or how many calls a session makes that met none.
+fn first_astray(
+    alloc: Global,
+    rig: &Device,
+    choice: &mut Choice<'_>,
+    sweep: Sweep,
+) -> Result<(Option<(u64, Astray)>, Option<usize>), Fault> {
+    let entries = choice.before.entries();
+    let mut calls = sweep.first;
+    for _ in 0..10_000 {
+        let played = play(alloc, cut(rig)?, choice.rows, entries, calls)?;
+        let Some(event) = played.met else {
+            return Ok((None, Some(played.rig.calls())));
+        };
+        choice.go_to(event)?;
+        if let Some(astray) = choice.astray(alloc, played)? {
+            return Ok((Some((calls, astray)), None));
+        }
+        calls = calls.saturating_add(1);
+        if calls > sweep.last {
+            return Ok((None, None));
+        }
+    }
+    Err(Fault::Broken)
+}
+
+/// Each call.
+const EACH: Sweep = Sweep {
+    first: 0,
+    last: u64::MAX,
+};
+
+/// Each call after power on over a new device, which makes 89 reads: of two headers, a snapshot's 86 sectors, and the log's first.
+const EACH_AFTER_POWER_ON: Sweep = Sweep {
+    first: 89 + POWER_ON as u64,
+    ..EACH
+};
+
+/// The first failure of a session over a new device after which something is astray, or how many calls it makes without one.
+fn first_astray_of(
+    alloc: Global,
+    rows: &[Row],
+    sweep: Sweep,
+) -> Result<(Option<(u64, Astray)>, Option<usize>), Fault> {
+    let mut choice = Choice::at_power_on(rows, Standing::fresh(alloc)?, Standing::fresh(alloc)?);
+    first_astray(alloc, &formatted(alloc)?, &mut choice, sweep)
+}
+
+#[test]
+fn each_call_of_power_on(rt: HostRuntime) -> Result<(), Fail> {
+    assert_eq!(rt;
+        first_astray_of(rt.alloc(), &[], EACH),
+        Ok((None, Some(90)))
+    );
+    Ok(())
+}
+
+#[test]
+fn each_call_as_a_program_is_stored_and_run(rt: HostRuntime) -> Result<(), Fail> {
+    assert_eq!(rt;
+        first_astray_of(rt.alloc(), STORED_AND_RUN, EACH_AFTER_POWER_ON),
+        Ok((None, Some(192)))
+    );
+    Ok(())
+}
+
+#[test]
+fn each_call_as_lines_are_read_ahead(rt: HostRuntime) -> Result<(), Fail> {
+    assert_eq!(rt;
+        first_astray_of(rt.alloc(), READ_AHEAD, EACH_AFTER_POWER_ON),
+        Ok((None, Some(206)))
+    );
+    Ok(())
+}
+
+#[test]
+fn each_call_before_a_cut(rt: HostRuntime) -> Result<(), Fail> {
+    assert_eq!(rt;
+        first_astray_of(rt.alloc(), BEFORE_A_CUT, EACH_AFTER_POWER_ON),
+        Ok((None, Some(97)))
+    );
+    Ok(())
+}
+
+/// A device on which these events opened a line, and then power was cut; and what it stands for.
+pub fn half_done(alloc: Global, rows: &[Row]) -> Result<(Device, Standing), Fault> {
+    let played = play(alloc, formatted(alloc)?, rows, 0, u64::MAX)?;
+    let mut standing = Standing::fresh(alloc)?;
+    standing.take_all(rows)?;
+    standing.hand_nothing();
+    Ok((cut(&played.rig)?, standing))
+}
+
+/// The first failure of a session after that after which something is astray, or how many calls it makes without one.
+fn first_astray_after_a_cut(
+    alloc: Global,
+    opened: &[Row],
+    rows: &[Row],
+    sweep: Sweep,
+) -> Result<(Option<(u64, Astray)>, Option<usize>), Fault> {
+    let (rig, before) = half_done(alloc, opened)?;
+    let (_, after) = half_done(alloc, opened)?;
+    let mut choice = Choice::at_power_on(rows, before, after);
+    first_astray(alloc, &rig, &mut choice, sweep)
+}
+
+#[test]
+fn each_call_after_a_cut(rt: HostRuntime) -> Result<(), Fail> {
+    assert_eq!(rt;
+        first_astray_after_a_cut(rt.alloc(), BEFORE_A_CUT, AFTER_A_CUT, EACH),
+        Ok((None, Some(106)))
+    );
+    Ok(())
+}
+
+/// Each call after power on over such a device, whose log has a record: one read more.
+const EACH_AFTER_POWER_ON_ANEW: Sweep = Sweep {
+    first: 90 + POWER_ON as u64,
+    ..EACH
+};
+
+#[test]
+fn each_call_after_a_cut_of_a_program(rt: HostRuntime) -> Result<(), Fail> {
+    assert_eq!(rt;
+        first_astray_after_a_cut(
+            rt.alloc(),
+            BEFORE_A_CUT_OF_A_PROGRAM,
+            AFTER_A_CUT_OF_A_PROGRAM,
+            EACH_AFTER_POWER_ON_ANEW
+        ),
+        Ok((None, Some(109)))
+    );
+    Ok(())
+}
+
+/// How many calls come before this of the moves that fill the log: those of power on, two of the entry before them, and five of each.
+fn calls_before_move(number: u64) -> u64 {
+    let moves = number.saturating_sub(1);
+    EACH_AFTER_POWER_ON
+        .first
+        .saturating_add(2)
+        .saturating_add(moves.saturating_mul(5))
+}
+
+/// The first failure, as moves fill the log, after which something is astray, or how many calls the session makes without one.
+fn first_astray_as_the_log_fills(
+    alloc: Global,
+    sweep: Sweep,
+) -> Result<(Option<(u64, Astray)>, Option<usize>), Fault> {
+    let rows = filling_the_log(alloc)?;
+    first_astray_of(alloc, rows.as_slice(), sweep)
+}
+
+/// That in these moves alone, the last one with them.
+fn first_astray_in_moves(
+    alloc: Global,
+    first: u64,
+    last: u64,
+) -> Result<(Option<(u64, Astray)>, Option<usize>), Fault> {
+    let sweep = Sweep {
+        first: calls_before_move(first),
+        last: calls_before_move(last.saturating_add(1)).saturating_sub(1),
+    };
+    first_astray_as_the_log_fills(alloc, sweep)
+}
+
+#[test]
+fn each_call_of_the_entry_and_the_256_moves_after_it(rt: HostRuntime) -> Result<(), Fail> {
+    let sweep = Sweep {
+        last: calls_before_move(257).saturating_sub(1),
+        ..EACH_AFTER_POWER_ON
+    };
+    assert_eq!(rt;
+        first_astray_as_the_log_fills(rt.alloc(), sweep),
+        Ok((None, None))
+    );
+    Ok(())
+}
+
+#[test]
+fn each_call_of_moves_257_to_362(rt: HostRuntime) -> Result<(), Fail> {
+    assert_eq!(rt;
+        first_astray_in_moves(rt.alloc(), 257, 362),
+        Ok((None, None))
+    );
+    Ok(())
+}
+
+#[test]
+fn each_call_of_moves_363_to_443(rt: HostRuntime) -> Result<(), Fail> {
+    assert_eq!(rt;
+        first_astray_in_moves(rt.alloc(), 363, 443),
+        Ok((None, None))
+    );
+    Ok(())
+}
+
+#[test]
+fn each_call_of_moves_444_to_511(rt: HostRuntime) -> Result<(), Fail> {
+    assert_eq!(rt;
+        first_astray_in_moves(rt.alloc(), 444, 511),
+        Ok((None, None))
+    );
+    Ok(())
+}
+
+/// Before the entry of the last move, what stands is written anew.
+#[test]
+fn each_call_of_the_last_move_and_its_entry_after_a_full_log(rt: HostRuntime) -> Result<(), Fail> {
+    let sweep = Sweep {
+        first: calls_before_move(512),
+        ..EACH
+    };
+    assert_eq!(rt;
+        first_astray_as_the_log_fills(rt.alloc(), sweep),
+        Ok((None, Some(2_741)))
+    );
+    Ok(())
+}
+
+/// What is found once an event met a failure: the items that were handed out before it; and once power is on anew, the entries, the place,
+/// whether it is known where the machine stands, and the half-done block.
+type Shown = (usize, u64, u64, bool, Option<HalfShown>);
+
+/// Events, after how many calls one fails, the number of the event that meets it, and what is found then. Power on makes 179 calls. An
+/// item isn't handed out: the first of a line, which two calls open. A line isn't read: a load makes 91 calls, and the first tick after it
+/// reads three lines, of which the second or the third fails; five calls later the tick that begins the second line reads the fourth and
+/// the fifth, of which either fails.
+const MET: &[(&[Row], u64, usize, Shown)] = &[
+    (
+        BEFORE_A_CUT,
+        181,
+        3,
+        (
+            0,
+            0,
+            0,
+            false,
+            Some(HalfShown {
+                source: Source::Mdi,
+                index: 0,
+            }),
+        ),
+    ),
+    (READ_AHEAD, 271, 3, (0, 1, 0, true, None)),
+    (READ_AHEAD, 272, 3, (0, 1, 0, true, None)),
+    (READ_AHEAD, 278, 7, (1, 2, 10, true, None)),
+    (READ_AHEAD, 279, 7, (1, 2, 10, true, None)),
+];
+
+/// The number of the event that meets a failure after so many calls, and what is found then.
+fn shown_where_met(
+    alloc: Global,
+    rows: &[Row],
+    calls: u64,
+) -> Result<Option<(usize, Shown)>, Fault> {
+    let played = play(alloc, formatted(alloc)?, rows, 0, calls)?;
+    let Some(event) = played.met else {
+        return Ok(None);
+    };
+    let items = played.rig.handed(usize::MAX)?.len();
+    let Status {
+        entries,
+        place,
+        point: _,
+        point_known,
+        half,
+        condition: _,
+    } = found_on(alloc, played.rig)?.status;
+    Ok(Some((event, (items, entries, place, point_known, half))))
+}
+
+#[test]
+fn an_item_that_is_not_handed_out_and_lines_that_are_not_read(rt: HostRuntime) -> Result<(), Fail> {
+    for (rows, calls, event, shown) in MET {
+        assert_eq!(rt;
+            shown_where_met(rt.alloc(), rows, *calls),
+            Ok(Some((*event, *shown))),
+            "{calls}"
+        );
+    }
+    Ok(())
+}

@@ -1,0 +1,111 @@
+//! What may be refused for want of memory is answered at its greatest.
+use crate::devices::{Device, formatted, started};
+use crate::failures::rows::{Does, Given, entries_after, reply_to};
+use ng_core::{Event, Reply, Source, Text};
+use ng_num::{Fault, Point};
+use std::alloc::{AllocError, Global};
+use std::test::Fail;
+
+/// The most bytes of a line, and of a program.
+const LINE: usize = 256;
+
+const PROGRAM: usize = 131_072;
+
+/// A line of 256 bytes that moves by one pulse, with blanks after it.
+fn long_line(alloc: Global) -> Result<Vec<u8>, AllocError> {
+    let mut line = Vec::from_slice(alloc, b"G0 X0.001".as_slice())?;
+    line.resize(LINE, b' ')?;
+    Ok(line)
+}
+
+/// A program of 131,072 bytes that begins with that line.
+fn long_program(alloc: Global) -> Result<Vec<u8>, AllocError> {
+    let mut program = long_line(alloc)?;
+    program.resize(PROGRAM - 2, b'\n')?;
+    program.extend_from_slice(b"M2")?;
+    Ok(program)
+}
+
+/// What that line of the operator does, until it is opened, and once it was cut and goes on.
+const OF_A_LINE: &[Does] = &[Does::Begins, Does::Opens("", Source::Mdi, 0)];
+
+const OF_A_CUT_LINE: &[Does] = &[
+    Does::Stands(0),
+    Does::Goes,
+    Does::Approaches,
+    Does::Hands(Given::Off),
+    Does::Stands(0),
+    Does::Opens("", Source::Mdi, 0),
+    Does::Hands(Given::Forward),
+    Does::Executes("", 0),
+    Does::Rests,
+];
+
+/// What that program does, until its second line is begun.
+const OF_A_PROGRAM: &[Does] = &[
+    Does::Loads(""),
+    Does::Goes,
+    Does::Begins,
+    Does::Opens("", Source::Program, 0),
+    Does::Hands(Given::Forward),
+    Does::Executes("", 257),
+    Does::Begins,
+];
+
+/// Whether these are the replies to events that do this after no entry.
+fn are_replies(replies: &[Reply], wanted: &[Does]) -> bool {
+    let mut entries = 0;
+    for (reply, does) in replies.iter().zip(wanted) {
+        if *reply != reply_to(*does, entries) {
+            return false;
+        }
+        entries = entries_after(*does, entries);
+    }
+    replies.len() == wanted.len()
+}
+
+/// Whether these events, and ticks after them, are answered as what does this; and the device then.
+fn are_answered(
+    alloc: Global,
+    rig: Device,
+    events: Vec<Event<Global>>,
+    wanted: &[Does],
+) -> Result<(bool, Device), Fault> {
+    let mut events = events;
+    for _ in events.len()..wanted.len() {
+        events.push(Event::Tick)?;
+    }
+    let mut controller = started(alloc, rig)?;
+    let replies = controller.run(events.as_slice());
+    let rig = controller.into_rig();
+    Ok((are_replies(replies?.as_slice(), wanted), rig))
+}
+
+/// Whether the line is answered, also once it was cut.
+fn is_line_answered(alloc: Global) -> Result<[bool; 2], Fault> {
+    let line = Event::Mdi(Text::of(long_line(alloc)?));
+    let events = Vec::from_array(alloc, [line])?;
+    let (first, rig) = are_answered(alloc, formatted(alloc)?, events, OF_A_LINE)?;
+    let events = Vec::from_array(alloc, [Event::Reference(Point::zero()), Event::Resume])?;
+    let (second, _) = are_answered(alloc, rig, events, OF_A_CUT_LINE)?;
+    Ok([first, second])
+}
+
+/// Whether the program is.
+fn is_program_answered(alloc: Global) -> Result<bool, Fault> {
+    let program = Event::Load(Text::of(long_program(alloc)?));
+    let events = Vec::from_array(alloc, [program, Event::Start])?;
+    Ok(are_answered(alloc, formatted(alloc)?, events, OF_A_PROGRAM)?.0)
+}
+
+#[test]
+fn a_line_of_256_bytes(rt: HostRuntime) -> Result<(), Fail> {
+    assert_eq!(rt; is_line_answered(rt.alloc()), Ok([true, true]));
+    Ok(())
+}
+
+#[test]
+fn a_program_of_131072_bytes(rt: HostRuntime) -> Result<(), Fail> {
+    assert_eq!(rt; is_program_answered(rt.alloc()), Ok(true));
+    Ok(())
+}

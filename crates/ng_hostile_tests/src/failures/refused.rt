@@ -1,0 +1,366 @@
+//! A controller finds no memory, at each of its growths in turn.
+use crate::devices::{Device, cut, formatted, found_on, shown, started};
+use crate::failures::counting::Counting;
+use crate::failures::failing::half_done;
+use crate::failures::filling::{BLOCK, TABLE, fill, fill_but};
+use crate::failures::rows::{Does, Order, Row, entries_after, event_of, reply_to};
+use crate::failures::scripts::{
+    AFTER_A_CUT, AFTER_A_CUT_OF_A_PROGRAM, BEFORE_A_CUT, BEFORE_A_CUT_OF_A_PROGRAM, READ_AHEAD,
+    STORED_AND_RUN, filling_the_log,
+};
+use crate::failures::standing::Standing;
+use linked_list_allocator::LocalHeap;
+use ng_core::{Controller, Event, Reply, power_on};
+use ng_num::Fault;
+use ng_settings::Settings;
+use std::alloc::Global;
+use std::cell::Cell;
+use std::test::Fail;
+
+/// The bytes of a heap: room for the lines that are read ahead, eight tables of parameters, texts and a list of replies.
+const HEAP: usize = 400_000;
+
+/// A controller whose tables stand in a heap, over a device that counts its calls.
+type Machine<'a, 'h> = Controller<Counting<'a>, &'h LocalHeap>;
+
+/// How many tables of parameters an event takes, without which it is refused, and for how many more it finds room, without which it is
+/// answered all the same: those of the lines that it reads ahead.
+type Tables = (usize, usize);
+
+/// Whether an event is a tick that begins a line of the program.
+fn is_begin(order: Order, does: Does) -> bool {
+    matches!((order, does), (Order::Tick, Does::Begins))
+}
+
+/// The tables of an event that does this. Those of a tick that begins a line of the program are told apart; where they aren't, it takes
+/// that of its line, and finds no room to read ahead.
+fn tables_of(order: Order, does: Does, told: Option<&Tables>) -> Tables {
+    match (order, does) {
+        (Order::Load(_), Does::Loads(_)) => (1, 0),
+        (Order::Mdi(_), Does::Begins) => (1, 0),
+        (Order::Tick, Does::Begins) => *told.unwrap_or(&(1, 0)),
+        // the state after the approach, and that after the line
+        (Order::Resume, Does::Goes) => (2, 0),
+        _ => (0, 0),
+    }
+}
+
+/// Whether these calls of a device may be made before an event is refused for want of memory: of a tick and of what goes on, the reads of
+/// a line.
+fn may_come(order: Order, before: [u64; 2], after: [u64; 2]) -> bool {
+    match order {
+        Order::Tick | Order::Resume => before[1] == after[1],
+        _ => before == after,
+    }
+}
+
+/// Whether power on is refused where a heap has so much room, with no call of the device; and the device.
+fn is_power_refused(
+    alloc: Global,
+    heap: &LocalHeap,
+    rig: Device,
+    room: usize,
+) -> Result<(bool, Device), Fault> {
+    let ballast = fill_but(alloc, heap, room)?;
+    let calls = Cell::new([0, 0]);
+    let refused = power_on(heap, Counting::new(rig, &calls), Settings::standard());
+    drop(ballast);
+    match refused {
+        Ok(controller) => Ok((false, controller.into_rig().into_inner())),
+        Err((fault, rig)) => Ok((
+            fault == Fault::OutOfMemory && calls.get() == [0, 0],
+            rig.into_inner(),
+        )),
+    }
+}
+
+/// What an event is answered where a heap has so much room.
+fn answer_in_room<'h>(
+    alloc: Global,
+    heap: &'h LocalHeap,
+    controller: &mut Machine<'_, 'h>,
+    order: Order,
+    room: usize,
+) -> Result<Reply, Fault> {
+    let event = event_of(heap, order)?;
+    let ballast = fill_but(alloc, heap, room)?;
+    let reply = controller.on(event);
+    drop(ballast);
+    Ok(reply)
+}
+
+/// Whether an event is answered as it should be: with room for less tables than it takes it is refused, which shows nowhere; and with room
+/// for them, and for no more than it may find, the same event is answered.
+fn is_answered<'h>(
+    alloc: Global,
+    heap: &'h LocalHeap,
+    controller: &mut Machine<'_, 'h>,
+    calls: &Cell<[u64; 2]>,
+    row: &Row,
+    tables: Tables,
+    entries: u64,
+) -> Result<bool, Fault> {
+    let (order, does, _) = *row;
+    let (taken, more) = tables;
+    let before = (shown(controller), calls.get());
+    for room in 0..taken {
+        let reply = answer_in_room(alloc, heap, controller, order, room.saturating_mul(BLOCK))?;
+        let is_same = shown(controller) == before.0 && may_come(order, before.1, calls.get());
+        if reply != Reply::Refused(Fault::OutOfMemory) || !is_same {
+            return Ok(false);
+        }
+    }
+    let room = taken.saturating_add(more).saturating_mul(BLOCK);
+    let reply = answer_in_room(alloc, heap, controller, order, room)?;
+    Ok(reply == reply_to(does, entries))
+}
+
+/// The first of these events over a heap without memory that isn't answered as it should be; with the tables of the ticks that begin a
+/// line of the program.
+fn first_astray<'h>(
+    alloc: Global,
+    heap: &'h LocalHeap,
+    controller: &mut Machine<'_, 'h>,
+    calls: &Cell<[u64; 2]>,
+    rows: &[Row],
+    begins: &[Tables],
+    entries: u64,
+) -> Result<Option<usize>, Fault> {
+    let mut entries = entries;
+    let mut begun: usize = 0;
+    for (n, row) in rows.iter().enumerate() {
+        let (order, does, _) = *row;
+        let tables = tables_of(order, does, begins.get(begun));
+        if !is_answered(alloc, heap, controller, calls, row, tables, entries)? {
+            return Ok(Some(n));
+        }
+        if is_begin(order, does) {
+            begun = begun.saturating_add(1);
+        }
+        entries = entries_after(does, entries);
+    }
+    Ok(None)
+}
+
+/// What came of events over a heap without memory: the first that isn't answered as it should be, how many calls but reads the device
+/// took, and whether it handed out and stands for what it should.
+type Came = (Option<usize>, usize, bool);
+
+/// What comes of events over this device, which stands for this; with the tables of the ticks that begin a line of the program.
+fn came(
+    alloc: Global,
+    rig: Device,
+    standing: Standing,
+    rows: &[Row],
+    begins: &[Tables],
+) -> Result<Came, Fault> {
+    let heap = LocalHeap::new(alloc, HEAP)?;
+    let calls = Cell::new([0, 0]);
+    let mut standing = standing;
+    let mut controller = started(&heap, Counting::new(rig, &calls))?;
+    let entries = standing.entries();
+    let astray = first_astray(alloc, &heap, &mut controller, &calls, rows, begins, entries);
+    let rig = controller.into_rig().into_inner();
+    standing.take_all(rows)?;
+    let is_handed = rig.handed(usize::MAX)?.as_slice() == standing.items();
+    let found = found_on(alloc, cut(&rig)?)?;
+    Ok((
+        astray?,
+        rig.calls(),
+        is_handed && standing.is_found(&found)?,
+    ))
+}
+
+/// That over a new device.
+fn came_of(alloc: Global, rows: &[Row], begins: &[Tables]) -> Result<Came, Fault> {
+    came(
+        alloc,
+        formatted(alloc)?,
+        Standing::fresh(alloc)?,
+        rows,
+        begins,
+    )
+}
+
+/// The tables of the ticks that begin the five lines of a program, of which some find room to read ahead. A line that was read ahead
+/// brings its table with it. A growth that is refused ends the reading ahead until no line waits any more.
+const AHEAD: &[&[Tables]] = &[
+    // no line is ever read ahead
+    &[(1, 0), (1, 0), (1, 0), (1, 0), (1, 0)],
+    // each as soon as it may be
+    &[(1, 2), (0, 2), (0, 0), (0, 0), (0, 0)],
+    // the second, with no room for the third; the fourth and the fifth
+    &[(1, 1), (0, 0), (1, 2), (0, 0), (0, 0)],
+    // two, and then the fourth, with no room for the fifth, which is read once none waits
+    &[(1, 2), (0, 1), (0, 2), (0, 1), (0, 0)],
+    // two, and then the fourth, once none waits; the fifth never
+    &[(1, 2), (0, 0), (0, 1), (0, 0), (1, 0)],
+];
+
+#[test]
+fn each_growth_as_lines_are_read_ahead(rt: HostRuntime) -> Result<(), Fail> {
+    for (n, begins) in AHEAD.iter().enumerate() {
+        assert_eq!(rt;
+            came_of(rt.alloc(), READ_AHEAD, begins),
+            Ok((None, 206, true)),
+            "{n}"
+        );
+    }
+    Ok(())
+}
+
+#[test]
+fn each_growth_as_a_program_is_stored_and_run(rt: HostRuntime) -> Result<(), Fail> {
+    assert_eq!(rt;
+        came_of(rt.alloc(), STORED_AND_RUN, &[]),
+        Ok((None, 192, true))
+    );
+    Ok(())
+}
+
+/// That after a cut, where a half-done block goes on.
+fn came_after_a_cut(alloc: Global, opened: &[Row], rows: &[Row]) -> Result<Came, Fault> {
+    let (rig, standing) = half_done(alloc, opened)?;
+    came(alloc, rig, standing, rows, &[])
+}
+
+#[test]
+fn each_growth_before_a_cut_and_after_it(rt: HostRuntime) -> Result<(), Fail> {
+    assert_eq!(rt;
+        (
+            came_of(rt.alloc(), BEFORE_A_CUT, &[]),
+            came_after_a_cut(rt.alloc(), BEFORE_A_CUT, AFTER_A_CUT),
+            came_after_a_cut(
+                rt.alloc(),
+                BEFORE_A_CUT_OF_A_PROGRAM,
+                AFTER_A_CUT_OF_A_PROGRAM
+            )
+        ),
+        (
+            Ok((None, 97, true)),
+            Ok((None, 106, true)),
+            Ok((None, 109, true))
+        )
+    );
+    Ok(())
+}
+
+/// That as the log fills.
+fn came_as_the_log_fills(alloc: Global) -> Result<Came, Fault> {
+    let rows = filling_the_log(alloc)?;
+    came_of(alloc, rows.as_slice(), &[])
+}
+
+#[test]
+fn each_growth_as_the_log_fills(rt: HostRuntime) -> Result<(), Fail> {
+    assert_eq!(rt; came_as_the_log_fills(rt.alloc()), Ok((None, 2_741, true)));
+    Ok(())
+}
+
+/// How many bytes of a heap a controller holds that is powered on: room for 16 lines that are read ahead, and two tables of parameters.
+fn held(alloc: Global) -> Result<usize, Fault> {
+    let heap = LocalHeap::new(alloc, HEAP)?;
+    let calls = Cell::new([0, 0]);
+    let controller = started(&heap, Counting::new(formatted(alloc)?, &calls))?;
+    let held = heap.used();
+    drop(controller.into_rig());
+    Ok(held)
+}
+
+/// How many bytes of a heap power on finds that holds so many in the end, and whether it is refused: at each of its three growths, the
+/// first of which is the room for lines, with nothing and where 16 bytes are wanting.
+fn rooms(held: usize) -> [(usize, bool); 7] {
+    let lines = held.saturating_sub(2 * BLOCK);
+    [
+        (0, true),
+        (lines.saturating_sub(16), true),
+        (lines, true),
+        (lines.saturating_add(BLOCK - 16), true),
+        (lines.saturating_add(BLOCK), true),
+        (held.saturating_sub(16), true),
+        (held, false),
+    ]
+}
+
+/// A line that waits keeps its text of up to 256 bytes, with much else.
+#[test]
+fn each_growth_of_power_on(rt: HostRuntime) -> Result<(), Fail> {
+    let heap = LocalHeap::new(rt.alloc(), HEAP)?;
+    let (Ok(held), Ok(rig)) = (held(rt.alloc()), formatted(rt.alloc())) else {
+        panic!(rt; "the device isn't powered on")
+    };
+    assert!(rt; held > 2 * BLOCK + 16 * 256, "{held}");
+    let mut rig = rig;
+    for (room, is_refused) in rooms(held) {
+        let Ok((refused, left)) = is_power_refused(rt.alloc(), &heap, rig, room) else {
+            panic!(rt; "power on is refused otherwise")
+        };
+        rig = left;
+        let calls = if is_refused { 0 } else { 90 };
+        assert_eq!(rt; (refused, rig.calls()), (is_refused, calls), "{room}");
+    }
+    Ok(())
+}
+
+/// Events as a list.
+fn events_of<'h>(
+    alloc: Global,
+    heap: &'h LocalHeap,
+    rows: &[Row],
+) -> Result<Vec<Event<&'h LocalHeap>>, Fault> {
+    let mut events = Vec::new(alloc);
+    for (order, _, _) in rows {
+        events.push(event_of(heap, *order)?)?;
+    }
+    Ok(events)
+}
+
+/// Whether these are the replies to events after no entry.
+fn are_replies(replies: &[Reply], rows: &[Row]) -> bool {
+    let mut entries = 0;
+    for (reply, (_, does, _)) in replies.iter().zip(rows) {
+        if *reply != reply_to(*does, entries) {
+            return false;
+        }
+        entries = entries_after(*does, entries);
+    }
+    replies.len() == rows.len()
+}
+
+/// Whether a list of events is refused by a heap without memory, which shows nowhere, and then answered.
+fn is_list_answered<'h>(
+    alloc: Global,
+    heap: &'h LocalHeap,
+    controller: &mut Machine<'_, 'h>,
+    calls: &Cell<[u64; 2]>,
+    rows: &[Row],
+) -> Result<bool, Fault> {
+    let events = events_of(alloc, heap, rows)?;
+    let before = (shown(controller), calls.get());
+    let ballast = fill(alloc, heap)?;
+    let refused = controller.run(events.as_slice());
+    drop(ballast);
+    let is_same = (shown(controller), calls.get()) == before;
+    let is_refused = match refused {
+        Ok(_) => false,
+        Err(fault) => fault == Fault::OutOfMemory,
+    };
+    let replies = controller.run(events.as_slice())?;
+    Ok(is_same && is_refused && are_replies(replies.as_slice(), rows))
+}
+
+/// That over a new device.
+fn is_program_answered(alloc: Global, rows: &[Row]) -> Result<bool, Fault> {
+    let heap = LocalHeap::new(alloc, HEAP)?;
+    let calls = Cell::new([0, 0]);
+    let mut controller = started(&heap, Counting::new(formatted(alloc)?, &calls))?;
+    let is_answered = is_list_answered(alloc, &heap, &mut controller, &calls, rows);
+    drop(controller.into_rig());
+    is_answered
+}
+
+#[test]
+fn the_growth_of_a_list(rt: HostRuntime) -> Result<(), Fail> {
+    assert_eq!(rt; is_program_answered(rt.alloc(), STORED_AND_RUN), Ok(true));
+    Ok(())
+}

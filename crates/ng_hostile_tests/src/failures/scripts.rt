@@ -1,0 +1,160 @@
+//! Events of some sessions.
+use crate::failures::rows::{BACKWARD, BEGUN, Does, FORWARD, IDLE, OFF, Order, Row};
+use ng_core::Source;
+use ng_num::Fault;
+use std::alloc::{AllocError, Global};
+
+/// Of 13 bytes.
+const PROGRAM: &str = "G0 X0.002\nM2\n";
+
+/// A program is stored and run to its end.
+pub const STORED_AND_RUN: &[Row] = &[
+    (Order::Load(PROGRAM), Does::Loads(PROGRAM), 91),
+    (Order::Start, Does::Goes, 0),
+    BEGUN,
+    (Order::Tick, Does::Opens("G0 X0.002", Source::Program, 0), 2),
+    FORWARD,
+    FORWARD,
+    (Order::Tick, Does::Executes("G0 X0.002", 10), 2),
+    BEGUN,
+    (Order::Tick, Does::Opens("M2", Source::Program, 0), 2),
+    OFF,
+    (Order::Tick, Does::Executes("M2", 0), 2),
+    IDLE,
+];
+
+/// Of 35 bytes: its lines begin at bytes 0, 10, 16, 26 and 32.
+const LINES: &str = "G0 X0.001\nG0 X0\nG0 X0.001\nG0 X0\nM2\n";
+
+/// A program of five lines is stored and run to its end. The tick that begins its first line reads the two after it too, the one that
+/// begins the second reads the last two, and the others read nothing.
+pub const READ_AHEAD: &[Row] = &[
+    (Order::Load(LINES), Does::Loads(LINES), 91),
+    (Order::Start, Does::Goes, 0),
+    BEGUN,
+    (Order::Tick, Does::Opens("G0 X0.001", Source::Program, 0), 2),
+    FORWARD,
+    (Order::Tick, Does::Executes("G0 X0.001", 10), 2),
+    BEGUN,
+    (Order::Tick, Does::Opens("G0 X0", Source::Program, 0), 2),
+    BACKWARD,
+    (Order::Tick, Does::Executes("G0 X0", 16), 2),
+    BEGUN,
+    (Order::Tick, Does::Opens("G0 X0.001", Source::Program, 0), 2),
+    FORWARD,
+    (Order::Tick, Does::Executes("G0 X0.001", 26), 2),
+    BEGUN,
+    (Order::Tick, Does::Opens("G0 X0", Source::Program, 0), 2),
+    BACKWARD,
+    (Order::Tick, Does::Executes("G0 X0", 32), 2),
+    BEGUN,
+    (Order::Tick, Does::Opens("M2", Source::Program, 0), 2),
+    OFF,
+    (Order::Tick, Does::Executes("M2", 0), 2),
+    IDLE,
+];
+
+/// The first line of a program is opened, and one of its two pulses is handed out.
+pub const BEFORE_A_CUT_OF_A_PROGRAM: &[Row] = &[
+    (Order::Load(PROGRAM), Does::Loads(PROGRAM), 91),
+    (Order::Start, Does::Goes, 0),
+    BEGUN,
+    (Order::Tick, Does::Opens("G0 X0.002", Source::Program, 0), 2),
+    FORWARD,
+];
+
+/// After the cut the machine stands where that pulse brought it: the approach goes back by one, the line comes whole, and then the
+/// program goes on. The resume reads the line, and the tick that begins the next one reads what comes before it and the line itself.
+pub const AFTER_A_CUT_OF_A_PROGRAM: &[Row] = &[
+    (Order::Reference(1_000), Does::Stands(1_000), 2),
+    (Order::Resume, Does::Goes, 0),
+    (Order::Tick, Does::Approaches, 2),
+    OFF,
+    BACKWARD,
+    (Order::Tick, Does::Stands(0), 2),
+    (Order::Tick, Does::Opens("G0 X0.002", Source::Program, 0), 2),
+    FORWARD,
+    FORWARD,
+    (Order::Tick, Does::Executes("G0 X0.002", 10), 2),
+    BEGUN,
+    (Order::Tick, Does::Opens("M2", Source::Program, 0), 2),
+    OFF,
+    (Order::Tick, Does::Executes("M2", 0), 2),
+    IDLE,
+];
+
+const MOVES: &str = "G0 X0.005";
+
+/// A line of the operator, of which all is handed out and its entry is still to come.
+pub const BEFORE_A_CUT: &[Row] = &[
+    (Order::Mdi(MOVES), Does::Begins, 0),
+    (Order::Tick, Does::Opens(MOVES, Source::Mdi, 0), 2),
+    FORWARD,
+    FORWARD,
+    FORWARD,
+    FORWARD,
+    FORWARD,
+];
+
+/// After the cut the machine is told to stand where the line begins: the approach is the switch alone, and then the line comes whole.
+pub const AFTER_A_CUT: &[Row] = &[
+    (Order::Resume, Does::Refuses(Fault::PlaceUnknown), 0),
+    (Order::Reference(0), Does::Stands(0), 2),
+    (Order::Resume, Does::Goes, 0),
+    (Order::Tick, Does::Approaches, 2),
+    OFF,
+    (Order::Tick, Does::Stands(0), 2),
+    (Order::Tick, Does::Opens(MOVES, Source::Mdi, 0), 2),
+    FORWARD,
+    FORWARD,
+    FORWARD,
+    FORWARD,
+    FORWARD,
+    (Order::Tick, Does::Executes(MOVES, 0), 2),
+    IDLE,
+];
+
+/// A move of one pulse that takes two records, of which the second makes so many calls.
+fn move_by(line: &'static str, pulse: Row, calls: usize) -> [Row; 4] {
+    [
+        (Order::Mdi(line), Does::Begins, 0),
+        (Order::Tick, Does::Opens(line, Source::Mdi, 0), 2),
+        pulse,
+        (Order::Tick, Does::Executes(line, 0), calls),
+    ]
+}
+
+/// An entry in sector 686, and 512 moves there and back by turns. The last of them is opened in sector 1709, the log's last, so that its
+/// entry takes 88 writes and 3 syncs.
+pub fn filling_the_log(alloc: Global) -> Result<Vec<Row>, AllocError> {
+    let mut rows = Vec::new(alloc);
+    rows.push((Order::Mdi("F100"), Does::Begins, 0))?;
+    rows.push((Order::Tick, Does::Executes("F100", 0), 2))?;
+    for _ in 0..255 {
+        rows.extend_from_slice(&move_by("G0 X0.001", FORWARD, 2))?;
+        rows.extend_from_slice(&move_by("G0 X0", BACKWARD, 2))?;
+    }
+    rows.extend_from_slice(&move_by("G0 X0.001", FORWARD, 2))?;
+    rows.extend_from_slice(&move_by("G0 X0", BACKWARD, 91))?;
+    Ok(rows)
+}
+
+/// 33 blank lines, and then the program's end.
+const BLANKS: &str = "\n\n\n\n\n\n\n\n\n\n\n\n\n\n\n\n\n\n\n\n\n\n\n\n\n\n\n\n\n\n\n\n\nM2\n";
+
+/// A program of 34 lines is stored and run to its end.
+pub fn many_lines(alloc: Global) -> Result<Vec<Row>, AllocError> {
+    let mut rows = Vec::new(alloc);
+    rows.push((Order::Load(BLANKS), Does::Loads(BLANKS), 91))?;
+    rows.push((Order::Start, Does::Goes, 0))?;
+    for line in 1..=33 {
+        rows.push(BEGUN)?;
+        rows.push((Order::Tick, Does::Executes("", line), 2))?;
+    }
+    rows.push(BEGUN)?;
+    rows.push((Order::Tick, Does::Opens("M2", Source::Program, 0), 2))?;
+    rows.push(OFF)?;
+    rows.push((Order::Tick, Does::Executes("M2", 0), 2))?;
+    rows.push(IDLE)?;
+    Ok(rows)
+}

@@ -1,0 +1,250 @@
+//! Images that were changed by chance: bytes, numbers and whole sectors, swapped, doubled, lost, or as they were long before.
+use crate::devices::{Device, copy_of};
+use crate::images::chance::Chance;
+use crate::images::generations::generations;
+use crate::images::powered::{Astray, Outcome, outcome_of};
+use crate::images::sectors::{GREATEST, number_at, put, sector_of, store, sync};
+use ng_num::Fault;
+use std::alloc::Global;
+use std::test::Fail;
+
+/// The sectors that are changed: headers, parts of both snapshots, both programs, the log's first and its last.
+const SECTORS: &[usize] = &[
+    0, 1, 2, 2, 3, 4, 84, 87, 88, 88, 89, 90, 170, 173, 174, 430, 686, 687, 688, 689, 690, 691,
+    692, 693, 694, 695, 696, 697, 698, 699, 700, 1_709,
+];
+
+/// Epochs that a header or a part is given.
+const EPOCHS: &[i64] = &[
+    -1,
+    0,
+    1,
+    2,
+    3,
+    4,
+    5,
+    6,
+    7,
+    8,
+    9,
+    10,
+    11,
+    GREATEST - 2,
+    GREATEST - 1,
+    GREATEST,
+    GREATEST,
+    GREATEST + 1,
+    GREATEST + 2,
+];
+
+/// One of the sectors.
+fn any_sector(chance: &mut Chance) -> usize {
+    let place = chance.below(SECTORS.len());
+    SECTORS.get(place).copied().unwrap_or(0)
+}
+
+/// Makes up to eight bytes that follow one another, anywhere, any bytes.
+fn spoil(chance: &mut Chance, sector: &mut [u8; 512]) {
+    let at = chance.below(512);
+    let end = at.saturating_add(chance.below(8));
+    for k in at..=end {
+        if let Some(byte) = sector.get_mut(k) {
+            *byte = chance.byte();
+        }
+    }
+}
+
+/// Makes a byte of what fields name a small number, or one more or less than it was.
+fn nudge(chance: &mut Chance, sector: &mut [u8; 512]) {
+    let at = chance.below(240);
+    if let Some(byte) = sector.get_mut(at) {
+        *byte = match chance.below(3) {
+            0 => chance.byte() % 24,
+            1 => byte.wrapping_add(1),
+            _ => byte.wrapping_sub(1),
+        };
+    }
+}
+
+/// Makes the epoch of a header another, or a byte of one of its fields.
+fn change_header(chance: &mut Chance, header: &mut [u8; 512]) {
+    let place = chance.below(EPOCHS.len());
+    let at = chance.below(40);
+    match chance.below(2) {
+        0 => put(header, 16, 8, EPOCHS.get(place).copied().unwrap_or(0)),
+        _ => put(header, at, 1, i64::from(chance.byte())),
+    }
+}
+
+/// Makes each byte any byte.
+fn scatter(chance: &mut Chance, sector: &mut [u8; 512]) {
+    for byte in sector {
+        *byte = chance.byte();
+    }
+}
+
+/// Makes the epoch of a part another.
+fn date(chance: &mut Chance, sector: &mut [u8; 512]) {
+    let place = chance.below(EPOCHS.len());
+    put(sector, 0, 8, EPOCHS.get(place).copied().unwrap_or(0));
+}
+
+/// The numbers of a part's label: their bytes and widths.
+const LABEL: &[(usize, usize)] = &[(0, 8), (8, 8), (16, 2), (18, 2), (20, 2)];
+
+/// Makes a number of a part's label a small one, or one more.
+fn label(chance: &mut Chance, sector: &mut [u8; 512]) {
+    let place = chance.below(LABEL.len());
+    let (at, width) = LABEL.get(place).copied().unwrap_or((0, 8));
+    let number = match chance.below(4) {
+        0 => 0,
+        1 => 1,
+        2 => 2,
+        _ => number_at(sector, at, width).wrapping_add(1),
+    };
+    put(sector, at, width, i64::try_from(number).unwrap_or(-1));
+}
+
+/// Changes one sector in one of six ways.
+fn change_sector(chance: &mut Chance, sector: &mut [u8; 512]) {
+    match chance.below(8) {
+        0 | 1 => spoil(chance, sector),
+        2 | 3 => nudge(chance, sector),
+        4 => scatter(chance, sector),
+        5 => date(chance, sector),
+        6 => label(chance, sector),
+        _ => *sector = [0; 512],
+    }
+}
+
+/// Makes a change of an image: two sectors change places, or one is as it was on an older one there or elsewhere, or is a double of another,
+/// or a header or any sector is changed alone.
+fn change(chance: &mut Chance, rig: &mut Device, older: &mut Device) -> Result<(), Fault> {
+    let here = any_sector(chance);
+    let there = any_sector(chance);
+    let mut sector = sector_of(rig, here);
+    match chance.below(10) {
+        0 => {
+            let other = sector_of(rig, there);
+            store(rig, here, &other)?;
+            store(rig, there, &sector)
+        }
+        1 => store(rig, here, &sector_of(older, here)),
+        2 => store(rig, here, &sector_of(older, there)),
+        3 => store(rig, there, &sector),
+        4 | 5 => {
+            let place = chance.below(2);
+            let mut header = sector_of(rig, place);
+            change_header(chance, &mut header);
+            store(rig, place, &header)
+        }
+        _ => {
+            change_sector(chance, &mut sector);
+            store(rig, here, &sector)
+        }
+    }
+}
+
+/// An image that stood at some time, with some changes; what an older one had may come back.
+fn changed(chance: &mut Chance, all: &mut Vec<Device>) -> Result<Device, Fault> {
+    let place = chance.below(all.len());
+    let before = chance.below(all.len());
+    let mut rig = match all.get(place) {
+        Some(rig) => copy_of(rig)?,
+        None => return Err(Fault::Broken),
+    };
+    for _ in 0..=chance.below(5) {
+        if let Some(older) = all.get_mut(before) {
+            change(chance, &mut rig, older)?;
+        }
+    }
+    sync(&mut rig)?;
+    Ok(rig)
+}
+
+/// How often each came.
+#[derive(Clone, Copy, Debug, PartialEq, Eq)]
+struct Tally {
+    recovered: u64,
+    not_formatted: u64,
+    damaged: u64,
+    counters_used: u64,
+}
+
+impl Tally {
+    /// Counts an outcome; what isn't as it has to be, if something is.
+    fn count(&mut self, outcome: Outcome) -> Option<Astray> {
+        let counted = match outcome {
+            Outcome::Recovered => &mut self.recovered,
+            Outcome::NotFormatted => &mut self.not_formatted,
+            Outcome::Damaged => &mut self.damaged,
+            Outcome::CountersUsed => &mut self.counters_used,
+            Outcome::Ahead => return None,
+            Outcome::Astray(astray) => return Some(astray),
+        };
+        *counted = counted.saturating_add(1);
+        None
+    }
+
+    /// Whether none of them is rare.
+    fn has_each(&self) -> bool {
+        self.recovered >= 500
+            && self.not_formatted >= 50
+            && self.damaged >= 250
+            && self.counters_used >= 5
+    }
+}
+
+/// A quarter of ten thousand images.
+const IMAGES: u64 = 2_500;
+
+/// The first of so many images that went astray, and how; and how often each answer came.
+fn outcomes(alloc: Global, seed: u64) -> Result<(Option<(u64, Astray)>, Tally), Fault> {
+    let mut chance = Chance::new(seed);
+    let mut all = generations(alloc)?;
+    let mut tally = Tally {
+        recovered: 0,
+        not_formatted: 0,
+        damaged: 0,
+        counters_used: 0,
+    };
+    for image in 0..IMAGES {
+        let rig = changed(&mut chance, &mut all)?;
+        if let Some(astray) = tally.count(outcome_of(alloc, rig)?) {
+            return Ok((Some((image, astray)), tally));
+        }
+    }
+    Ok((None, tally))
+}
+
+#[test]
+fn images_of_the_first_seed(rt: HostRuntime) -> Result<(), Fail> {
+    let (astray, tally) = outcomes(rt.alloc(), 0x9e37_79b9_7f4a_7c15)?;
+    assert_eq!(rt; astray, None);
+    assert!(rt; tally.has_each(), "{tally:?}");
+    Ok(())
+}
+
+#[test]
+fn images_of_the_second_seed(rt: HostRuntime) -> Result<(), Fail> {
+    let (astray, tally) = outcomes(rt.alloc(), 0xd1b5_4a32_d192_ed03)?;
+    assert_eq!(rt; astray, None);
+    assert!(rt; tally.has_each(), "{tally:?}");
+    Ok(())
+}
+
+#[test]
+fn images_of_the_third_seed(rt: HostRuntime) -> Result<(), Fail> {
+    let (astray, tally) = outcomes(rt.alloc(), 0x2545_f491_4f6c_dd1d)?;
+    assert_eq!(rt; astray, None);
+    assert!(rt; tally.has_each(), "{tally:?}");
+    Ok(())
+}
+
+#[test]
+fn images_of_the_fourth_seed(rt: HostRuntime) -> Result<(), Fail> {
+    let (astray, tally) = outcomes(rt.alloc(), 0x0123_4567_89ab_cdef)?;
+    assert_eq!(rt; astray, None);
+    assert!(rt; tally.has_each(), "{tally:?}");
+    Ok(())
+}

@@ -1,0 +1,238 @@
+//! What a changed image stands for, by its headers alone, and whether power on answers so; what was found then is found again.
+use crate::devices::Device;
+use crate::images::sectors::{number_at, put, sector_of};
+use ng_core::{Condition, Event, HalfShown, Reply, Status, power_on};
+use ng_journal::recover;
+use ng_layout::{Half, Stored};
+use ng_num::Fault;
+use ng_rig::Rig;
+use ng_settings::Settings;
+use std::alloc::{AllocError, Global};
+
+/// The last epoch.
+const LAST_EPOCH: u64 = 1_000_000_000_000;
+
+/// What power on made of an image.
+#[derive(Clone, Copy, Debug, PartialEq, Eq)]
+pub enum Outcome {
+    Recovered,
+    NotFormatted,
+    Damaged,
+    CountersUsed,
+    /// Recovered, though the log begins with a part of an epoch to come, which no device has that this controller formatted. Once that epoch
+    /// is in force the part counts, so what is found again may be another state.
+    Ahead,
+    Astray(Astray),
+}
+
+/// What isn't as it has to be.
+#[derive(Clone, Copy, Debug, PartialEq, Eq)]
+pub enum Astray {
+    /// The number of calls.
+    Calls,
+    /// The epoch of the header in force.
+    Epoch,
+    /// The name by which an image is refused.
+    Name,
+    /// The name by which it is refused again.
+    Again,
+    /// The state that is found again.
+    State,
+    /// The program that its header names.
+    Header,
+    /// The status that a controller shows.
+    Status,
+}
+
+/// The epoch of a header, if it is valid in this sector.
+fn epoch_of(sector: &[u8; 512], place: u64) -> Option<u64> {
+    let epoch = number_at(sector, 16, 8);
+    let is_valid = sector.starts_with(b"RS274NGC")
+        && number_at(sector, 8, 4) == 1
+        && (1..=LAST_EPOCH).contains(&epoch)
+        && epoch % 2 == place
+        && number_at(sector, 24, 8) <= 1
+        && number_at(sector, 32, 8) <= 131_072;
+    if is_valid { Some(epoch) } else { None }
+}
+
+/// The greatest epoch of a valid header; 0 where none is valid.
+fn epoch_in_force(rig: &mut Device) -> u64 {
+    let even = epoch_of(&sector_of(rig, 0), 0).unwrap_or(0);
+    let odd = epoch_of(&sector_of(rig, 1), 1).unwrap_or(0);
+    even.max(odd)
+}
+
+/// The header of this epoch, as another epoch would have it.
+fn header_as_of(rig: &mut Device, epoch: u64, other: u64) -> [u8; 512] {
+    let mut header = sector_of(rig, if epoch % 2 == 0 { 0 } else { 1 });
+    put(&mut header, 16, 8, i64::try_from(other).unwrap_or(0));
+    header
+}
+
+/// Whether two half-done blocks are the same, and nothing is open.
+fn is_same_half(one: &Option<Half>, other: &Option<Half>) -> bool {
+    match (one, other) {
+        (Some(one), Some(other)) => {
+            one.text.as_slice() == other.text.as_slice()
+                && one.source == other.source
+                && one.index == other.index
+                && one.at == other.at
+                && one.opened.is_none()
+                && other.opened.is_none()
+        }
+        (None, None) => true,
+        _ => false,
+    }
+}
+
+/// Whether two states are the same, and nothing is open.
+fn is_same(one: &Stored<Global>, other: &Stored<Global>) -> Result<bool, AllocError> {
+    let changes = one.state.params.changes_from(&other.state.params)?;
+    Ok(
+        one.entries == other.entries
+            && one.place == other.place
+            && one.length == other.length
+            && one.state.machine == other.state.machine
+            && changes.is_empty()
+            && is_same_half(&one.half, &other.half),
+    )
+}
+
+/// What the status shows of a state.
+fn status_of(stored: &Stored<Global>) -> Status {
+    let machine = &stored.state.machine;
+    let (point, point_known, half) = match &stored.half {
+        Some(half) => (
+            half.at.unwrap_or(machine.point),
+            half.at.is_some(),
+            Some(HalfShown {
+                source: half.source,
+                index: half.index,
+            }),
+        ),
+        None => (machine.point, machine.point_known, None),
+    };
+    Status {
+        entries: stored.entries,
+        place: stored.place,
+        point,
+        point_known,
+        half,
+        condition: Condition::Idle,
+    }
+}
+
+/// Whether a controller over this device, under this epoch, shows this state; under the last epoch it is refused.
+fn is_shown(alloc: Global, rig: Device, epoch: u64, stored: &Stored<Global>) -> bool {
+    match power_on(alloc, rig, Settings::standard()) {
+        Ok(controller) => {
+            let mut controller = controller;
+            let reply = controller.on(Event::Status);
+            drop(controller.into_rig());
+            reply == Reply::Status(status_of(stored))
+        }
+        Err((fault, _)) => fault == Fault::CountersUsed && epoch == LAST_EPOCH,
+    }
+}
+
+/// What isn't so of a device that was powered on, and so is under this epoch: it gives this state again, under the next epoch and with the
+/// same program.
+fn stands_not(
+    alloc: Global,
+    rig: Device,
+    epoch: u64,
+    stored: &Stored<Global>,
+) -> Result<Option<Astray>, AllocError> {
+    let mut rig = rig;
+    let next = epoch.saturating_add(1);
+    if epoch_in_force(&mut rig) != epoch {
+        return Ok(Some(Astray::Epoch));
+    }
+    let wanted = header_as_of(&mut rig, epoch, next);
+    let (journal, again) = match recover(alloc, rig) {
+        Ok(recovered) => recovered,
+        Err((fault, rig)) => {
+            drop(rig);
+            return Ok(not_used_up(fault, epoch));
+        }
+    };
+    let mut rig = journal.into_rig();
+    if header_as_of(&mut rig, next, next) != wanted {
+        return Ok(Some(Astray::Header));
+    }
+    if !is_same(stored, &again)? {
+        return Ok(Some(Astray::State));
+    }
+    Ok(if is_shown(alloc, rig, next, &again) {
+        None
+    } else {
+        Some(Astray::Status)
+    })
+}
+
+/// What isn't so of a refusal that may come under the last epoch alone, since that is used up.
+fn not_used_up(fault: Fault, epoch: u64) -> Option<Astray> {
+    if fault == Fault::CountersUsed && epoch == LAST_EPOCH {
+        None
+    } else {
+        Some(Astray::Again)
+    }
+}
+
+/// What a refusal comes to where the headers have this epoch, 0 for none.
+fn refusal(fault: Fault, epoch: u64) -> Outcome {
+    match fault {
+        Fault::NotFormatted if epoch == 0 => Outcome::NotFormatted,
+        Fault::Damaged if epoch != 0 => Outcome::Damaged,
+        Fault::CountersUsed if epoch == LAST_EPOCH => Outcome::CountersUsed,
+        _ => Outcome::Astray(Astray::Name),
+    }
+}
+
+/// What power on makes of an image. It makes one call where it refuses it, and refuses it again; and 90 where it recovers it.
+pub fn outcome_of(alloc: Global, rig: Device) -> Result<Outcome, AllocError> {
+    let mut rig = rig;
+    let epoch = epoch_in_force(&mut rig);
+    let is_ahead = number_at(&sector_of(&mut rig, 686), 0, 8) > epoch;
+    let before = rig.calls();
+    match recover(alloc, rig) {
+        Ok((journal, stored)) => {
+            let rig = journal.into_rig();
+            if rig.calls() != before.saturating_add(90) {
+                return Ok(Outcome::Astray(Astray::Calls));
+            }
+            match stands_not(alloc, rig, epoch.saturating_add(1), &stored)? {
+                None => Ok(Outcome::Recovered),
+                Some(Astray::Again | Astray::State | Astray::Status) if is_ahead => Ok(
+                    Outcome::Ahead,
+                ),
+                Some(astray) => Ok(Outcome::Astray(astray)),
+            }
+        }
+        Err((fault, rig)) => {
+            if rig.calls() != before.saturating_add(1) {
+                return Ok(Outcome::Astray(Astray::Calls));
+            }
+            Ok(refused_again(alloc, rig, fault, epoch))
+        }
+    }
+}
+
+/// What the refusal of a device comes to, which is refused again by the same name.
+fn refused_again(alloc: Global, rig: Device, fault: Fault, epoch: u64) -> Outcome {
+    match recover(alloc, rig) {
+        Ok((journal, _)) => {
+            drop(journal.into_rig());
+            Outcome::Astray(Astray::Again)
+        }
+        Err((again, rig)) => {
+            drop(rig);
+            if again == fault {
+                refusal(fault, epoch)
+            } else {
+                Outcome::Astray(Astray::Again)
+            }
+        }
+    }
+}

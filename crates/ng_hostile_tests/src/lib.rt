@@ -1,0 +1,12 @@
+//! What a controller makes of power that is cut at each call, of calls that fail, of memory that is wanting, and of any image and any input,
+//! through public calls. No program stands on this crate.
+#![tactic(auto)]
+
+#[cfg(test)]
+mod devices;
+#[cfg(test)]
+mod failures;
+#[cfg(test)]
+mod images;
+#[cfg(test)]
+mod stops;

@@ -1,0 +1,225 @@
+//! A stop at each call of a device.
+use crate::devices::Device;
+use crate::stops::devices::{Kept, found, played, stands_for, stopped};
+use crate::stops::recorder::Notes;
+use crate::stops::rows::{Does, Row};
+use crate::stops::wanted::{Found, Wanted};
+use ng_num::Fault;
+use std::alloc::{AllocError, Global};
+
+/// How many writes and syncs power on makes.
+pub const POWER_ON: usize = 90;
+
+/// What a stop may leave.
+#[derive(Drop)]
+pub struct Choice {
+    /// What stood before the event under way.
+    before: Wanted,
+    /// What stands after it.
+    after: Wanted,
+}
+
+impl Choice {
+    /// Before the first event.
+    pub fn one(wanted: Wanted) -> Result<Choice, AllocError> {
+        Ok(Choice {
+            before: wanted.copy()?,
+            after: wanted,
+        })
+    }
+
+    /// The next event comes.
+    pub fn take(&mut self, does: Does) -> Result<(), Fault> {
+        self.before = self.after.copy()?;
+        self.after.take(does)
+    }
+
+    /// The event is over.
+    pub fn end(&mut self) -> Result<(), Fault> {
+        self.before = self.after.copy()?;
+        Ok(())
+    }
+
+    /// What stands after the event.
+    pub fn after(&self) -> &Wanted {
+        &self.after
+    }
+
+    /// The one that was found; once the event is over it can be the latter alone.
+    pub fn found(&self, found: &Found, is_over: bool) -> Result<Option<&Wanted>, AllocError> {
+        if self.after.is_found(found)? {
+            return Ok(Some(&self.after));
+        }
+        if !is_over && self.before.is_found(found)? {
+            return Ok(Some(&self.before));
+        }
+        Ok(None)
+    }
+}
+
+/// The stops that are tried, by the calls that they come after.
+#[derive(Clone, Copy, Drop)]
+pub struct Cuts {
+    pub first: usize,
+    pub last: usize,
+    /// Whether the power on after them is stopped too.
+    pub is_deep: bool,
+}
+
+impl Cuts {
+    /// These, and those of the power on after them.
+    pub fn deep(first: usize, last: usize) -> Cuts {
+        Cuts {
+            first,
+            last,
+            is_deep: true,
+        }
+    }
+}
+
+/// The stop after which something else stands: after how many calls, and what it keeps; and the same of a stop in the power on after that,
+/// if it is that one.
+pub type Astray = Option<(usize, Kept, Option<usize>)>;
+
+/// A device with its calls, and the stops that are tried.
+#[derive(Drop)]
+pub struct Played {
+    pub rig: Device,
+    pub notes: Notes,
+    pub cuts: Cuts,
+}
+
+impl Played {
+    /// The first stop after so many calls, with which an event is over or not, that leaves something else: with all unsynced sectors lost,
+    /// with all kept, with each alone kept, with each alone lost.
+    ///
+    /// Power on is stopped too where the image is new. Where all are lost, it is that of an earlier stop with all kept; where all are kept
+    /// and the last call is no write, it is that of the stop before that call.
+    fn first_astray_after(
+        &self,
+        alloc: Global,
+        calls: usize,
+        choice: &Choice,
+        is_over: bool,
+    ) -> Result<Astray, Fault> {
+        let is_new = self.notes.ends_in_write(calls);
+        let is_first = self.cuts.is_deep && calls == self.cuts.first;
+        let astray = self.astray(alloc, calls, Kept::None, choice, is_over, is_first)?;
+        if astray.is_some() {
+            return Ok(astray);
+        }
+        let is_deep = self.cuts.is_deep && is_new;
+        let astray = self.astray(alloc, calls, Kept::All, choice, is_over, is_deep)?;
+        if astray.is_some() || !is_new {
+            return Ok(astray);
+        }
+        self.first_astray_alone(alloc, calls, choice, is_over)
+    }
+
+    /// The first stop after so many calls that keeps one unsynced sector alone, or loses it alone, and leaves something else.
+    fn first_astray_alone(
+        &self,
+        alloc: Global,
+        calls: usize,
+        choice: &Choice,
+        is_over: bool,
+    ) -> Result<Astray, Fault> {
+        for call in self.notes.synced(calls)..calls {
+            if let Some(sector) = self.notes.sector(call) {
+                let only = self.astray(alloc, calls, Kept::Only(sector), choice, is_over, false)?;
+                let but = self.astray(alloc, calls, Kept::AllBut(sector), choice, is_over, false)?;
+                if only.is_some() || but.is_some() {
+                    return Ok(only.or(but));
+                }
+            }
+        }
+        Ok(None)
+    }
+
+    /// This stop, if it leaves something else; if not, and power on is to be stopped too, the first stop there that leaves something else.
+    fn astray(
+        &self,
+        alloc: Global,
+        calls: usize,
+        kept: Kept,
+        choice: &Choice,
+        is_over: bool,
+        is_deep: bool,
+    ) -> Result<Astray, Fault> {
+        let (found, notes, rig) = found(alloc, stopped(&self.rig, calls, kept)?)?;
+        let Some(wanted) = choice.found(&found, is_over)? else {
+            return Ok(Some((calls, kept, None)));
+        };
+        if !is_deep {
+            return Ok(None);
+        }
+        let astray = first_astray_in_power_on(alloc, &rig, &notes, wanted)?;
+        Ok(astray.map(|stop| (calls, kept, Some(stop))))
+    }
+}
+
+/// The first stop in power on, which made these calls of this device, that leaves something else: after so many calls, with all kept.
+///
+/// A new image comes with each write alone: where all unsynced sectors are lost, it is that of an earlier stop with all kept.
+fn first_astray_in_power_on(
+    alloc: Global,
+    rig: &Device,
+    notes: &Notes,
+    wanted: &Wanted,
+) -> Result<Option<usize>, Fault> {
+    for calls in 1..=POWER_ON {
+        if notes.ends_in_write(calls)
+            && !stands_for(alloc, stopped(rig, calls, Kept::All)?, wanted)?
+        {
+            return Ok(Some(calls));
+        }
+    }
+    Ok(None)
+}
+
+/// The first stop that leaves something else, of those that are tried after `first` to `over` calls, with the last of which the event is
+/// over.
+pub fn first_astray_between(
+    alloc: Global,
+    played: &Played,
+    first: usize,
+    over: usize,
+    choice: &Choice,
+) -> Result<Astray, Fault> {
+    for calls in first.max(played.cuts.first)..=over.min(played.cuts.last) {
+        let astray = played.first_astray_after(alloc, calls, choice, calls == over)?;
+        if astray.is_some() {
+            return Ok(astray);
+        }
+    }
+    Ok(None)
+}
+
+/// The first stop that leaves something else, where power on and these events come over a device that stands for what is wanted.
+pub fn first_astray(
+    alloc: Global,
+    rig: Device,
+    wanted: Wanted,
+    rows: &[Row],
+    cuts: Cuts,
+) -> Result<Astray, Fault> {
+    let (rig, notes) = played(alloc, rig, rows, wanted.entries())?;
+    let played = Played { rig, notes, cuts };
+    let mut choice = Choice::one(wanted)?;
+    let mut over = POWER_ON;
+    let mut astray = first_astray_between(alloc, &played, 0, over, &choice)?;
+    for (_, does, calls) in rows {
+        let begin = over.saturating_add(1);
+        over = over.saturating_add(*calls);
+        choice.take(*does)?;
+        if astray.is_none() {
+            astray = first_astray_between(alloc, &played, begin, over, &choice)?;
+        }
+    }
+    if over == played.rig.calls() {
+        Ok(astray)
+    } else {
+        // an event made other calls than its row says
+        Err(Fault::Broken)
+    }
+}

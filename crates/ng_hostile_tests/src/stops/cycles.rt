@@ -1,0 +1,141 @@
+//! Power comes and goes many times.
+use crate::devices::{Device, formatted, started};
+use crate::stops::cuts::Choice;
+use crate::stops::devices::{Kept, found, stopped};
+use crate::stops::rows::{Does, MOVED, Order, Row, Told, event_of, reply_to};
+use crate::stops::wanted::Wanted;
+use ng_core::{Controller, Reply, Source, power_on};
+use ng_num::Fault;
+use ng_rig::{FuseRig, Rig};
+use ng_settings::Settings;
+use std::alloc::Global;
+use std::test::Fail;
+
+/// Counts, and waits.
+const LINE: &str = "#1=[#1+1] G4 P0";
+
+/// A line of the operator. Its entry changes a parameter, which takes two parts.
+const WORKS: &[Row] = &[
+    (Order::Mdi(LINE), Does::Answers(Told::Begun), 0),
+    (Order::Tick, Does::Opens(LINE, Source::Mdi, 0), 2),
+    MOVED,
+    (Order::Tick, Does::Executes(LINE, 0), 3),
+];
+
+/// That line goes on where it was cut. The approach is its switch alone.
+const GOES_ON: &[Row] = &[
+    (Order::Reference(0), Does::Stands(0), 2),
+    (Order::Resume, Does::Answers(Told::Going), 0),
+    (Order::Tick, Does::Approaches, 2),
+    MOVED,
+    (Order::Tick, Does::Stands(0), 2),
+    (Order::Tick, Does::Opens(LINE, Source::Mdi, 0), 2),
+    MOVED,
+    (Order::Tick, Does::Executes(LINE, 0), 3),
+];
+
+/// Gives these events until the device fails: whether it did.
+fn fails<R: Rig>(
+    alloc: Global,
+    controller: &mut Controller<R, Global>,
+    choice: &mut Choice,
+    rows: &[Row],
+) -> Result<bool, Fault> {
+    for (order, does, _) in rows {
+        let wanted = reply_to(*does, choice.after().entries());
+        choice.take(*does)?;
+        let reply = controller.on(event_of(alloc, *order)?);
+        if reply == Reply::Refused(Fault::DeviceFailed) {
+            return Ok(true);
+        }
+        if reply != wanted {
+            return Err(Fault::Broken);
+        }
+    }
+    Ok(false)
+}
+
+/// Works until the device fails: first what is half-done goes on.
+fn work<R: Rig>(
+    alloc: Global,
+    controller: &mut Controller<R, Global>,
+    choice: &mut Choice,
+) -> Result<(), Fault> {
+    if choice.after().is_half_done() && fails(alloc, controller, choice, GOES_ON)? {
+        return Ok(());
+    }
+    for _ in 0..16 {
+        if fails(alloc, controller, choice, WORKS)? {
+            return Ok(());
+        }
+    }
+    Err(Fault::Broken)
+}
+
+/// The device after power was cut so many calls after it came, and what may stand.
+fn cut_after(
+    alloc: Global,
+    rig: Device,
+    wanted: Wanted,
+    calls: u64,
+) -> Result<(Device, Choice), Fault> {
+    let mut choice = Choice::one(wanted)?;
+    match power_on(alloc, FuseRig::new(rig, calls), Settings::standard()) {
+        Ok(mut controller) => {
+            let worked = work(alloc, &mut controller, &mut choice);
+            let fuse = controller.into_rig();
+            worked?;
+            Ok((fuse.into_inner(), choice))
+        }
+        Err((Fault::DeviceFailed, fuse)) => Ok((fuse.into_inner(), choice)),
+        Err((fault, _)) => Err(fault),
+    }
+}
+
+/// A power cycle: the device that is left, with all unsynced sectors kept or none, and what it stands for, if that is as it has to be.
+fn cycle(
+    alloc: Global,
+    rig: Device,
+    wanted: Wanted,
+    calls: u64,
+) -> Result<(Device, Option<Wanted>), Fault> {
+    let kept = if calls % 2 == 0 {
+        Kept::None
+    } else {
+        Kept::All
+    };
+    let (rig, choice) = cut_after(alloc, rig, wanted, calls)?;
+    let (found, _, _) = found(alloc, stopped(&rig, usize::MAX, kept)?)?;
+    let wanted = match choice.found(&found, false)? {
+        Some(wanted) => Some(wanted.copy()?),
+        None => None,
+    };
+    Ok((stopped(&rig, usize::MAX, kept)?, wanted))
+}
+
+/// The first of 64 power cycles, each cut a call later than the one before, that leaves something else; and the entries then.
+fn first_astray(alloc: Global, first: u64) -> Result<(Option<u64>, u64), Fault> {
+    let mut rig = formatted(alloc)?;
+    let mut wanted = Wanted::fresh(alloc)?;
+    for calls in first..first.saturating_add(64) {
+        let entries = wanted.entries();
+        let (left, stands) = cycle(alloc, rig, wanted, calls)?;
+        rig = left;
+        wanted = match stands {
+            Some(stands) => stands,
+            None => return Ok((Some(calls), entries)),
+        };
+    }
+    Ok((None, wanted.entries()))
+}
+
+/// The first cycles end within power on, which makes 89 reads of a log that is empty, 87 writes and 3 syncs, and the last ones in work.
+#[test]
+fn power_comes_and_goes(rt: HostRuntime) -> Result<(), Fail> {
+    let Ok((astray, entries)) = first_astray(rt.alloc(), 150) else {
+        panic!(rt; "an event is answered otherwise")
+    };
+    assert_eq!(rt; astray, None);
+    assert!(rt; entries >= 20, "{entries}");
+    Ok(())
+}

@@ -1,0 +1,137 @@
+//! Devices, and what is found on them.
+ghost use Rattle.std.specs.Prelude.{◌≡◌, ◌≤◌, false};
+
+use crate::devices::{Device, started};
+use crate::stops::recorder::{Notes, Recorder};
+use crate::stops::rows::{Row, entries_after, event_of, reply_to};
+use crate::stops::wanted::{Found, Wanted};
+use ng_core::{Controller, Event, Reply, Status};
+use ng_journal::{Journal, ProgramLine, recover};
+use ng_num::Fault;
+use ng_rig::Rig;
+use std::alloc::{AllocError, Global};
+
+/// Which of the sectors that are written and not synced a stop keeps.
+#[derive(Clone, Copy, Debug, PartialEq, Eq)]
+pub enum Kept {
+    None,
+    All,
+    Only(usize),
+    AllBut(usize),
+}
+
+/// How many of its unsynced writes each sector keeps.
+fn writes_kept(kept: Kept) -> [usize; 1_710] {
+    let (sector, of_it, of_others) = match kept {
+        Kept::None => (0, 0, 0),
+        Kept::All => (0, usize::MAX, usize::MAX),
+        Kept::Only(sector) => (sector, usize::MAX, 0),
+        Kept::AllBut(sector) => (sector, 0, usize::MAX),
+    };
+    let mut writes = [of_others; 1_710];
+    if let Some(it) = writes.get_mut(sector) {
+        *it = of_it;
+    }
+    writes
+}
+
+/// The device as a cut of power after so many of its calls leaves it.
+pub fn stopped(rig: &Device, calls: usize, kept: Kept) -> Result<Device, AllocError> {
+    rig.stopped(calls, &writes_kept(kept))
+}
+
+/// What a controller shows once this device is powered on, and the device then.
+fn shown<R: Rig + Drop>(alloc: Global, rig: R) -> Result<(Status, R), Fault> {
+    let mut controller = started(alloc, rig)?;
+    let reply = controller.on(Event::Status);
+    let rig = controller.into_rig();
+    match reply {
+        Reply::Status(status) => Ok((status, rig)),
+        _ => Err(Fault::Broken),
+    }
+}
+
+/// The lines of the program in force that begin at its first byte and in its middle.
+fn lines<R: Rig>(
+    journal: &mut Journal<R, Global>,
+    length: u64,
+) -> Result<[Option<ProgramLine>; 2], Fault>
+    requires whole { journal.old.broken ≡ false }
+    requires length { length ≤ journal.old.saved.length }
+{
+    let first = journal.program_line(0)?;
+    let second = journal.program_line(length / 2)?;
+    Ok([first, second])
+}
+
+/// What is found on a device that is powered on, the calls of that, and the device then, which was read again after those calls.
+pub fn found(alloc: Global, rig: Device) -> Result<(Found, Notes, Device), Fault> {
+    let (status, recorder) = shown(alloc, Recorder::new(alloc, rig))?;
+    let (rig, notes) = recorder.into_parts();
+    match recover(alloc, rig) {
+        Ok((mut journal, stored)) => {
+            let lines = lines(&mut journal, stored.length);
+            let rig = journal.into_rig();
+            let found = Found {
+                status,
+                stored,
+                lines: lines?,
+            };
+            Ok((found, notes, rig))
+        }
+        Err((fault, _)) => Err(fault),
+    }
+}
+
+/// Whether a device stands for this once it is powered on.
+pub fn stands_for(alloc: Global, rig: Device, wanted: &Wanted) -> Result<bool, Fault> {
+    let (found, _, _) = found(alloc, rig)?;
+    Ok(wanted.is_found(&found)?)
+}
+
+/// The first of these events, after so many entries, with another reply.
+pub fn first_astray<R: Rig>(
+    alloc: Global,
+    controller: &mut Controller<R, Global>,
+    rows: &[Row],
+    entries: u64,
+) -> Result<Option<(usize, Reply)>, Fault> {
+    let mut entries = entries;
+    for (n, (order, does, _)) in rows.iter().enumerate() {
+        let reply = controller.on(event_of(alloc, *order)?);
+        if reply != reply_to(*does, entries) {
+            return Ok(Some((n, reply)));
+        }
+        entries = entries_after(*does, entries);
+    }
+    Ok(None)
+}
+
+/// A device on which these events came after power on, and its calls.
+pub fn played(
+    alloc: Global,
+    rig: Device,
+    rows: &[Row],
+    entries: u64,
+) -> Result<(Device, Notes), Fault> {
+    let mut controller = started(alloc, Recorder::new(alloc, rig))?;
+    let astray = first_astray(alloc, &mut controller, rows, entries);
+    let (rig, notes) = controller.into_rig().into_parts();
+    match astray? {
+        None => Ok((rig, notes)),
+        Some(_) => Err(Fault::Broken),
+    }
+}
+
+/// The device that a session over it leaves, whose last call is a sync or a hand-out, and what it stands for.
+pub fn left_by(
+    alloc: Global,
+    rig: Device,
+    wanted: Wanted,
+    rows: &[Row],
+) -> Result<(Device, Wanted), Fault> {
+    let (rig, _) = played(alloc, rig, rows, wanted.entries())?;
+    let mut wanted = wanted;
+    wanted.take_all(rows)?;
+    Ok((stopped(&rig, usize::MAX, Kept::None)?, wanted))
+}

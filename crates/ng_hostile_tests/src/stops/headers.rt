@@ -1,0 +1,121 @@
+//! The sync of a header fails, so that the older header may come back with a later cut.
+use crate::devices::{Device, formatted, started};
+use crate::stops::cuts::{Astray, Choice, Cuts, POWER_ON, Played, first_astray_between};
+use crate::stops::devices::{first_astray, left_by, played};
+use crate::stops::recorder::{Notes, Recorder};
+use crate::stops::rows::{Does, Order, Row, event_of};
+use crate::stops::wanted::Wanted;
+use ng_core::{Reply, power_on};
+use ng_num::Fault;
+use ng_rig::FailRig;
+use ng_settings::Settings;
+use std::alloc::Global;
+use std::test::Fail;
+
+const OLD: &str = "G0 X0.002\nM2\n";
+
+const NEW: &str = "G0 Y0.001\nM2\n";
+
+const BEFORE: &[Row] = &[(Order::Load(OLD), Does::Loads(OLD), 91)];
+
+const LOADS: &[Row] = &[(Order::Load(NEW), Does::Loads(NEW), 91)];
+
+/// A device that stands for a program, and what it stands for.
+fn loaded(alloc: Global) -> Result<(Device, Wanted), Fault> {
+    left_by(alloc, formatted(alloc)?, Wanted::fresh(alloc)?, BEFORE)
+}
+
+/// How many calls, reads too, come before the last call of power on and these events.
+fn calls_before_the_last(alloc: Global, rows: &[Row]) -> Result<u64, Fault> {
+    let (rig, wanted) = loaded(alloc)?;
+    let (rig, notes) = played(alloc, rig, rows, wanted.entries())?;
+    Ok(
+        (rig.calls() as u64)
+            .saturating_add(notes.reads())
+            .saturating_sub(1),
+    )
+}
+
+/// A device of which the last sync of power on fails, its header's.
+fn failed_in_power_on(alloc: Global) -> Result<Recorder<Device>, Fault> {
+    let (rig, _) = loaded(alloc)?;
+    let calls = calls_before_the_last(alloc, &[])?;
+    let rig = FailRig::new(Recorder::new(alloc, rig), calls);
+    match power_on(alloc, rig, Settings::standard()) {
+        Ok(controller) => {
+            drop(controller.into_rig());
+            Err(Fault::Broken)
+        }
+        Err((Fault::DeviceFailed, rig)) => Ok(rig.into_inner()),
+        Err((fault, _)) => Err(fault),
+    }
+}
+
+/// A device of which the last sync of a load fails, its header's.
+fn failed_in_load(alloc: Global) -> Result<Recorder<Device>, Fault> {
+    let (rig, _) = loaded(alloc)?;
+    let calls = calls_before_the_last(alloc, LOADS)?;
+    let event = event_of(alloc, Order::Load(NEW))?;
+    let mut controller = started(alloc, FailRig::new(Recorder::new(alloc, rig), calls))?;
+    let reply = controller.on(event);
+    let rig = controller.into_rig().into_inner();
+    match reply {
+        Reply::Refused(Fault::DeviceFailed) => Ok(rig),
+        _ => Err(Fault::Broken),
+    }
+}
+
+/// The device is powered on again, with no cut before it.
+fn powered_again(alloc: Global, rig: Recorder<Device>) -> Result<Played, Fault> {
+    let controller = started(alloc, rig)?;
+    let (rig, notes) = controller.into_rig().into_parts();
+    let cuts = Cuts {
+        first: rig.calls().saturating_sub(POWER_ON),
+        last: rig.calls(),
+        is_deep: false,
+    };
+    Ok(Played { rig, notes, cuts })
+}
+
+/// The first stop in that power on that leaves something else. Once its first sync is over, what was written before it stands.
+fn first_astray_again(
+    alloc: Global,
+    rig: Recorder<Device>,
+    choice: &mut Choice,
+) -> Result<Astray, Fault> {
+    let played = powered_again(alloc, rig)?;
+    let synced = played.cuts.first.saturating_add(1);
+    let astray = first_astray_between(alloc, &played, 0, synced, choice)?;
+    if astray.is_some() {
+        return Ok(astray);
+    }
+    choice.end()?;
+    first_astray_between(alloc, &played, synced, played.cuts.last, choice)
+}
+
+/// That after a load.
+fn first_astray_after_load(alloc: Global) -> Result<Astray, Fault> {
+    let (_, wanted) = loaded(alloc)?;
+    let mut choice = Choice::one(wanted)?;
+    choice.take(Does::Loads(NEW))?;
+    first_astray_again(alloc, failed_in_load(alloc)?, &mut choice)
+}
+
+/// That after power on.
+fn first_astray_after_power_on(alloc: Global) -> Result<Astray, Fault> {
+    let (_, wanted) = loaded(alloc)?;
+    let mut choice = Choice::one(wanted)?;
+    first_astray_again(alloc, failed_in_power_on(alloc)?, &mut choice)
+}
+
+#[test]
+fn a_header_of_a_load_whose_sync_failed(rt: HostRuntime) -> Result<(), Fail> {
+    assert_eq!(rt; first_astray_after_load(rt.alloc()), Ok(None));
+    Ok(())
+}
+
+#[test]
+fn a_header_of_power_on_whose_sync_failed(rt: HostRuntime) -> Result<(), Fail> {
+    assert_eq!(rt; first_astray_after_power_on(rt.alloc()), Ok(None));
+    Ok(())
+}

@@ -1,0 +1,76 @@
+//! A block that was cut is told where the machine stands, and goes on.
+use crate::devices::formatted;
+use crate::stops::cuts::{Astray, Cuts, first_astray};
+use crate::stops::devices::left_by;
+use crate::stops::rows::{BEGUN, Does, IDLE, MOVED, Order, Row, Told};
+use crate::stops::wanted::Wanted;
+use ng_core::Source;
+use ng_num::Fault;
+use std::alloc::Global;
+use std::test::Fail;
+
+const TURNS: &str = "M3 S1000";
+
+const MOVES: &str = "G0 X0.005";
+
+/// The spindle is switched on, and the first segment of a move is opened.
+const CUT: &[Row] = &[
+    (Order::Mdi(TURNS), Does::Answers(Told::Begun), 0),
+    (Order::Tick, Does::Opens(TURNS, Source::Mdi, 0), 2),
+    MOVED,
+    (Order::Tick, Does::Opens(TURNS, Source::Mdi, 1), 2),
+    MOVED,
+    (Order::Tick, Does::Executes(TURNS, 0), 2),
+    (Order::Mdi(MOVES), Does::Answers(Told::Begun), 0),
+    (Order::Tick, Does::Opens(MOVES, Source::Mdi, 0), 2),
+];
+
+/// The machine stands at X0.001: the approach is the switch and a pulse back, and then the move comes whole.
+const GOES_ON: &[Row] = &[
+    (Order::Reference(1_000), Does::Stands(1_000), 2),
+    (Order::Resume, Does::Answers(Told::Going), 0),
+    (Order::Tick, Does::Approaches, 2),
+    MOVED,
+    MOVED,
+    (Order::Tick, Does::Stands(0), 2),
+    (Order::Tick, Does::Opens(MOVES, Source::Mdi, 0), 2),
+    MOVED,
+    MOVED,
+    MOVED,
+    MOVED,
+    MOVED,
+    (Order::Tick, Does::Executes(MOVES, 0), 2),
+    IDLE,
+];
+
+/// The first stop in the session before the cut, after its power on, that leaves something else.
+fn first_astray_before(alloc: Global) -> Result<Astray, Fault> {
+    let cuts = Cuts::deep(90, usize::MAX);
+    first_astray(alloc, formatted(alloc)?, Wanted::fresh(alloc)?, CUT, cuts)
+}
+
+#[test]
+fn a_stop_at_each_call_before_the_cut(rt: HostRuntime) -> Result<(), Fail> {
+    assert_eq!(rt; first_astray_before(rt.alloc()), Ok(None));
+    Ok(())
+}
+
+/// The first stop in the session after the cut that leaves something else.
+fn first_astray_after(alloc: Global, cuts: Cuts) -> Result<Astray, Fault> {
+    let (rig, wanted) = left_by(alloc, formatted(alloc)?, Wanted::fresh(alloc)?, CUT)?;
+    first_astray(alloc, rig, wanted, GOES_ON, cuts)
+}
+
+#[test]
+fn a_stop_at_each_call_of_power_on_after_the_cut(rt: HostRuntime) -> Result<(), Fail> {
+    let cuts = Cuts::deep(0, 90);
+    assert_eq!(rt; first_astray_after(rt.alloc(), cuts), Ok(None));
+    Ok(())
+}
+
+#[test]
+fn a_stop_at_each_call_as_a_block_goes_on(rt: HostRuntime) -> Result<(), Fail> {
+    let cuts = Cuts::deep(90, usize::MAX);
+    assert_eq!(rt; first_astray_after(rt.alloc(), cuts), Ok(None));
+    Ok(())
+}

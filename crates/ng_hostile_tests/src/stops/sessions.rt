@@ -1,0 +1,71 @@
+//! A program is stored and run.
+use crate::devices::formatted;
+use crate::stops::cuts::{Astray, Cuts, first_astray};
+use crate::stops::devices::played;
+use crate::stops::rows::{BEGUN, Does, IDLE, MOVED, Order, Row, Told};
+use crate::stops::wanted::Wanted;
+use ng_core::Source;
+use ng_num::Fault;
+use std::alloc::Global;
+use std::test::Fail;
+
+/// Of 13 bytes.
+const PROGRAM: &str = "G0 X0.002\nM2\n";
+
+/// A program is stored and run to its end.
+const STORED_AND_RUN: &[Row] = &[
+    (Order::Load(PROGRAM), Does::Loads(PROGRAM), 91),
+    (Order::Start, Does::Answers(Told::Going), 0),
+    BEGUN,
+    (Order::Tick, Does::Opens("G0 X0.002", Source::Program, 0), 2),
+    MOVED,
+    MOVED,
+    (Order::Tick, Does::Executes("G0 X0.002", 10), 2),
+    BEGUN,
+    (Order::Tick, Does::Opens("M2", Source::Program, 0), 2),
+    MOVED,
+    (Order::Tick, Does::Executes("M2", 0), 2),
+    IDLE,
+];
+
+/// How many writes, syncs and hand-outs are made, power on included.
+#[test]
+fn calls_of_a_session(rt: HostRuntime) -> Result<(), Fail> {
+    let Ok(rig) = formatted(rt.alloc()) else {
+        panic!(rt; "the device isn't formatted")
+    };
+    let Ok((rig, notes)) = played(rt.alloc(), rig, STORED_AND_RUN, 0) else {
+        panic!(rt; "an event is answered otherwise")
+    };
+    assert_eq!(rt; (notes.counts(), rig.calls()), ([179, 10, 3, 0], 192));
+    Ok(())
+}
+
+/// The first of these stops that leaves something else.
+fn first_astray_of(alloc: Global, first: usize, last: usize) -> Result<Astray, Fault> {
+    first_astray(
+        alloc,
+        formatted(alloc)?,
+        Wanted::fresh(alloc)?,
+        STORED_AND_RUN,
+        Cuts::deep(first, last),
+    )
+}
+
+#[test]
+fn a_stop_at_each_call_of_power_on(rt: HostRuntime) -> Result<(), Fail> {
+    assert_eq!(rt; first_astray_of(rt.alloc(), 0, 90), Ok(None));
+    Ok(())
+}
+
+#[test]
+fn a_stop_at_each_call_of_a_load(rt: HostRuntime) -> Result<(), Fail> {
+    assert_eq!(rt; first_astray_of(rt.alloc(), 90, 181), Ok(None));
+    Ok(())
+}
+
+#[test]
+fn a_stop_at_each_call_of_a_program(rt: HostRuntime) -> Result<(), Fail> {
+    assert_eq!(rt; first_astray_of(rt.alloc(), 181, 192), Ok(None));
+    Ok(())
+}

@@ -1,0 +1,229 @@
+//! What a device has to stand for, folded from entries.
+use crate::stops::rows::{Does, Row, entries_after, point_at};
+use ng_block::execute;
+use ng_core::{Condition, HalfShown, Source, Status};
+use ng_journal::ProgramLine;
+use ng_layout::{Half, Stored};
+use ng_num::{Fault, Point};
+use ng_settings::Settings;
+use std::alloc::{AllocError, Global};
+
+/// What was found on a device that was powered on.
+#[derive(Drop)]
+pub struct Found {
+    /// What the controller shows.
+    pub status: Status,
+    /// What is stored.
+    pub stored: Stored<Global>,
+    /// The lines that begin at the first byte of its program and in its middle.
+    pub lines: [Option<ProgramLine>; 2],
+}
+
+/// Whether this is the line that begins at a byte of a program.
+fn is_line(program: &str, place: usize, line: &Option<ProgramLine>) -> bool {
+    let rest = program.as_bytes().get(place..).unwrap_or_default();
+    match line {
+        Some(line) => rest.split(|byte| *byte == b'\n').next() == Some(line.text.as_slice()),
+        None => rest.is_empty(),
+    }
+}
+
+/// A half-done block.
+#[derive(Clone, Copy)]
+pub struct Begun {
+    text: &'static str,
+    source: Source,
+    index: u64,
+    at: Option<Point>,
+}
+
+impl Begun {
+    /// Whether this is what is stored, with nothing open.
+    fn is_half(&self, half: &Half) -> bool {
+        half.text.as_slice() == self.text.as_bytes()
+            && half.source == self.source
+            && half.index == self.index
+            && half.at == self.at
+            && half.opened.is_none()
+    }
+
+    fn copy(&self) -> Begun {
+        Begun {
+            text: self.text,
+            source: self.source,
+            index: self.index,
+            at: self.at,
+        }
+    }
+
+    fn shown(&self) -> HalfShown {
+        HalfShown {
+            source: self.source,
+            index: self.index,
+        }
+    }
+}
+
+/// What a device has to stand for.
+#[derive(Drop)]
+pub struct Wanted {
+    /// All but the half-done block.
+    stored: Stored<Global>,
+    half: Option<Begun>,
+    program: &'static str,
+}
+
+/// The same as is stored, but for the half-done block.
+fn copy_of(stored: &Stored<Global>) -> Result<Stored<Global>, AllocError> {
+    let state = stored.state.copy()?;
+    Ok(Stored {
+        entries: stored.entries,
+        state,
+        place: stored.place,
+        length: stored.length,
+        half: None,
+    })
+}
+
+impl Wanted {
+    /// What a formatted device stands for.
+    pub fn fresh(alloc: Global) -> Result<Wanted, AllocError> {
+        Ok(Wanted {
+            stored: Stored::fresh(alloc)?,
+            half: None,
+            program: "",
+        })
+    }
+
+    pub fn copy(&self) -> Result<Wanted, AllocError> {
+        Ok(Wanted {
+            stored: copy_of(&self.stored)?,
+            half: match &self.half {
+                Some(half) => Some(half.copy()),
+                None => None,
+            },
+            program: self.program,
+        })
+    }
+
+    pub fn entries(&self) -> u64 {
+        self.stored.entries
+    }
+
+    pub fn is_half_done(&self) -> bool {
+        self.half.is_some()
+    }
+
+    /// What stands after events that do this.
+    pub fn take_all(&mut self, rows: &[Row]) -> Result<(), Fault> {
+        for (_, does, _) in rows {
+            self.take(*does)?;
+        }
+        Ok(())
+    }
+
+    /// What stands after an event that does this, and is powered on: what it opened is half-done.
+    pub fn take(&mut self, does: Does) -> Result<(), Fault> {
+        self.stored.entries = entries_after(does, self.stored.entries);
+        match does {
+            Does::Answers(_) => {}
+            Does::Opens(text, source, index) => {
+                self.half = Some(Begun {
+                    text,
+                    source,
+                    index,
+                    at: None,
+                });
+            }
+            Does::Approaches => self.stand(None),
+            Does::Loads(text) => self.load(text),
+            Does::Executes(text, place) => self.execute(text, place)?,
+            Does::Stands(x_nm) => self.stand(Some(point_at(x_nm)?)),
+        }
+        Ok(())
+    }
+
+    /// This is known of where the machine stands in the midst of the half-done block.
+    fn stand(&mut self, at: Option<Point>) {
+        if let Some(half) = &mut self.half {
+            half.at = at;
+        }
+    }
+
+    fn load(&mut self, text: &'static str) {
+        self.stored.state.params.clear_passing();
+        self.stored.place = 0;
+        self.stored.length = text.len() as u64;
+        self.program = text;
+    }
+
+    fn execute(&mut self, text: &str, place: u64) -> Result<(), Fault> {
+        let Settings { geometry, tools } = Settings::standard();
+        let effect = execute(&self.stored.state, text.as_bytes(), &tools, &geometry)?;
+        self.stored
+            .state
+            .take_over(&effect.machine, effect.changes.as_slice());
+        self.stored.place = place;
+        self.half = None;
+        Ok(())
+    }
+
+    /// Whether this was found.
+    pub fn is_found(&self, found: &Found) -> Result<bool, AllocError> {
+        Ok(
+            self.status() == found.status
+                && is_line(self.program, 0, &found.lines[0])
+                && is_line(self.program, self.program.len() / 2, &found.lines[1])
+                && self.is_half(&found.stored.half)
+                && self.is_stored(&found.stored)
+                && self.has_parameters(&found.stored)?,
+        )
+    }
+
+    /// What the status shows once power is on.
+    fn status(&self) -> Status {
+        let machine = &self.stored.state.machine;
+        let (point, point_known) = match &self.half {
+            Some(half) => (half.at.unwrap_or(machine.point), half.at.is_some()),
+            None => (machine.point, machine.point_known),
+        };
+        Status {
+            entries: self.stored.entries,
+            place: self.stored.place,
+            point,
+            point_known,
+            half: match &self.half {
+                Some(half) => Some(half.shown()),
+                None => None,
+            },
+            condition: Condition::Idle,
+        }
+    }
+
+    fn is_half(&self, half: &Option<Half>) -> bool {
+        match (&self.half, half) {
+            (Some(begun), Some(half)) => begun.is_half(half),
+            (None, None) => true,
+            _ => false,
+        }
+    }
+
+    /// Whether all is stored but the half-done block and the parameters.
+    fn is_stored(&self, stored: &Stored<Global>) -> bool {
+        stored.entries == self.stored.entries
+            && stored.place == self.stored.place
+            && stored.length == self.stored.length
+            && stored.state.machine == self.stored.state.machine
+    }
+
+    /// Whether each parameter is stored.
+    fn has_parameters(&self, stored: &Stored<Global>) -> Result<bool, AllocError> {
+        Ok(
+            stored
+                .state
+                .params
+                .changes_from(&self.stored.state.params)?
+                .is_empty(),
+        )
+    }
+}
