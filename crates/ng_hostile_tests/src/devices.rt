@@ -1,7 +1,9 @@
 //! Devices, and what is found on them.
+ghost use Rattle.std.specs.Prelude.{◌≡◌, ◌≤◌, false};
+
+use crate::standing::Found;
 use ng_core::{Controller, Event, Reply, Status, power_on};
-use ng_journal::{ProgramLine, format, recover};
-use ng_layout::Stored;
+use ng_journal::{Journal, ProgramLine, format, recover};
 use ng_num::Fault;
 use ng_rig::{MemoryRig, Rig};
 use ng_settings::Settings;
@@ -9,17 +11,6 @@ use std::alloc::{AllocError, Allocator, Global};
 
 /// A device in memory.
 pub type Device = MemoryRig<Global>;
-
-/// What was found on a device that was powered on.
-#[derive(Drop)]
-pub struct Found {
-    /// What the controller shows.
-    pub status: Status,
-    /// What is stored.
-    pub stored: Stored<Global>,
-    /// The first line of its program.
-    pub line: Option<ProgramLine>,
-}
 
 /// A formatted device, with no calls.
 pub fn formatted(alloc: Global) -> Result<Device, Fault> {
@@ -59,18 +50,31 @@ pub fn shown<R: Rig, A: Allocator + Copy + Drop>(
     }
 }
 
+/// The lines of the program in force that begin at its first byte and in its middle.
+pub fn lines<R: Rig>(
+    journal: &mut Journal<R, Global>,
+    length: u64,
+) -> Result<[Option<ProgramLine>; 2], Fault>
+    requires whole { journal.old.broken ≡ false }
+    requires length { length ≤ journal.old.saved.length }
+{
+    let first = journal.program_line(0)?;
+    let second = journal.program_line(length / 2)?;
+    Ok([first, second])
+}
+
 /// What is found on a device that is powered on.
 pub fn found_on(alloc: Global, rig: Device) -> Result<Found, Fault> {
     let mut controller = started(alloc, rig)?;
     let status = shown(&mut controller);
     match recover(alloc, controller.into_rig()) {
         Ok((mut journal, stored)) => {
-            let line = journal.program_line(0);
+            let lines = lines(&mut journal, stored.length);
             drop(journal.into_rig());
             Ok(Found {
                 status: status.ok_or(Fault::Broken)?,
                 stored,
-                line: line?,
+                lines: lines?,
             })
         }
         Err((fault, _)) => Err(fault),

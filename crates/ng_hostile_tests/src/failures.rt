@@ -9,8 +9,5 @@ mod filling;
 mod greatest;
 mod planning;
 mod refused;
-mod rows;
 mod running_dry;
-mod scripts;
-mod standing;
 mod talking;

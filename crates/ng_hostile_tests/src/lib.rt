@@ -9,4 +9,10 @@ mod failures;
 #[cfg(test)]
 mod images;
 #[cfg(test)]
+mod rows;
+#[cfg(test)]
+mod scripts;
+#[cfg(test)]
+mod standing;
+#[cfg(test)]
 mod stops;

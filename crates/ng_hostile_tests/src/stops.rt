@@ -12,6 +12,4 @@ mod headers;
 mod loads;
 mod recorder;
 mod resumed;
-mod rows;
 mod sessions;
-mod wanted;

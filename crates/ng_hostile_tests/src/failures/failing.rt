@@ -1,16 +1,16 @@
 //! A device fails one of its calls, each in turn.
 use crate::devices::{Device, cut, formatted, found_on, shown, started};
-use crate::failures::rows::{EACH_KIND, Row, entries_after, event_of, reply_to};
-use crate::failures::scripts::{
+use crate::rows::{EACH_KIND, Row, entries_after, event_of, reply_to};
+use crate::scripts::{
     AFTER_A_CUT, AFTER_A_CUT_OF_A_PROGRAM, BEFORE_A_CUT, BEFORE_A_CUT_OF_A_PROGRAM, READ_AHEAD,
     STORED_AND_RUN, filling_the_log,
 };
-use crate::failures::standing::Standing;
+use crate::standing::Standing;
 use ng_core::{Condition, Controller, HalfShown, Reply, Source, Status, power_on};
 use ng_num::Fault;
 use ng_rig::{FailRig, Rig};
 use ng_settings::Settings;
-use std::alloc::Global;
+use std::alloc::{AllocError, Global};
 use std::test::Fail;
 
 /// How many writes and syncs power on makes.
@@ -138,15 +138,16 @@ struct Choice<'a> {
 
 impl<'a> Choice<'a> {
     /// Of power on over a device that stands for this; both are the same.
-    fn at_power_on(rows: &'a [Row], before: Standing, after: Standing) -> Choice<'a> {
-        Choice {
+    fn at_power_on(rows: &'a [Row], before: Standing) -> Result<Choice<'a>, AllocError> {
+        let after = before.copy()?;
+        Ok(Choice {
             rows,
             event: 0,
             calls: 0,
             own: POWER_ON,
             before,
             after,
-        }
+        })
     }
 
     /// Goes to the next event.
@@ -262,7 +263,7 @@ fn first_astray_of(
     rows: &[Row],
     sweep: Sweep,
 ) -> Result<(Option<(u64, Astray)>, Option<usize>), Fault> {
-    let mut choice = Choice::at_power_on(rows, Standing::fresh(alloc)?, Standing::fresh(alloc)?);
+    let mut choice = Choice::at_power_on(rows, Standing::fresh(alloc)?)?;
     first_astray(alloc, &formatted(alloc)?, &mut choice, sweep)
 }
 
@@ -319,8 +320,7 @@ fn first_astray_after_a_cut(
     sweep: Sweep,
 ) -> Result<(Option<(u64, Astray)>, Option<usize>), Fault> {
     let (rig, before) = half_done(alloc, opened)?;
-    let (_, after) = half_done(alloc, opened)?;
-    let mut choice = Choice::at_power_on(rows, before, after);
+    let mut choice = Choice::at_power_on(rows, before)?;
     first_astray(alloc, &rig, &mut choice, sweep)
 }
 

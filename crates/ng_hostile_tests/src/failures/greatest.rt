@@ -1,6 +1,6 @@
 //! What may be refused for want of memory is answered at its greatest.
 use crate::devices::{Device, formatted, started};
-use crate::failures::rows::{Does, Given, entries_after, reply_to};
+use crate::rows::{Does, Given, entries_after, reply_to};
 use ng_core::{Event, Reply, Source, Text};
 use ng_num::{Fault, Point};
 use std::alloc::{AllocError, Global};

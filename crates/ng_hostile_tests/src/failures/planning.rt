@@ -2,8 +2,8 @@
 use crate::devices::{Device, formatted, started};
 use crate::failures::counting::Counting;
 use crate::failures::failing::half_done;
-use crate::failures::rows::{Does, Order, Row, entries_after, event_of, reply_to};
-use crate::failures::scripts::{
+use crate::rows::{Does, Order, Row, entries_after, event_of, reply_to};
+use crate::scripts::{
     AFTER_A_CUT_OF_A_PROGRAM, BEFORE_A_CUT_OF_A_PROGRAM, READ_AHEAD, STORED_AND_RUN, many_lines,
 };
 use ng_core::Controller;

@@ -3,12 +3,12 @@ use crate::devices::{Device, cut, formatted, found_on, shown, started};
 use crate::failures::counting::Counting;
 use crate::failures::failing::half_done;
 use crate::failures::filling::{BLOCK, TABLE, fill, fill_but};
-use crate::failures::rows::{Does, Order, Row, entries_after, event_of, reply_to};
-use crate::failures::scripts::{
+use crate::rows::{Does, Order, Row, entries_after, event_of, reply_to};
+use crate::scripts::{
     AFTER_A_CUT, AFTER_A_CUT_OF_A_PROGRAM, BEFORE_A_CUT, BEFORE_A_CUT_OF_A_PROGRAM, READ_AHEAD,
     STORED_AND_RUN, filling_the_log,
 };
-use crate::failures::standing::Standing;
+use crate::standing::Standing;
 use linked_list_allocator::LocalHeap;
 use ng_core::{Controller, Event, Reply, power_on};
 use ng_num::Fault;

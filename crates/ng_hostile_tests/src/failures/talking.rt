@@ -2,7 +2,7 @@
 use crate::devices::{Device, cut, formatted};
 use crate::failures::failing::half_done;
 use crate::failures::filling::{BLOCK, Ballast, fill_but};
-use crate::failures::scripts::BEFORE_A_CUT;
+use crate::scripts::BEFORE_A_CUT;
 use linked_list_allocator::LocalHeap;
 use ng_num::Fault;
 use ng_run::console;

@@ -1,9 +1,9 @@
 //! A stop at each call of a device.
 use crate::devices::Device;
+use crate::rows::{Does, Row};
+use crate::standing::{Found, Standing};
 use crate::stops::devices::{Kept, found, played, stands_for, stopped};
 use crate::stops::recorder::Notes;
-use crate::stops::rows::{Does, Row};
-use crate::stops::wanted::{Found, Wanted};
 use ng_num::Fault;
 use std::alloc::{AllocError, Global};
 
@@ -14,14 +14,14 @@ pub const POWER_ON: usize = 90;
 #[derive(Drop)]
 pub struct Choice {
     /// What stood before the event under way.
-    before: Wanted,
+    before: Standing,
     /// What stands after it.
-    after: Wanted,
+    after: Standing,
 }
 
 impl Choice {
     /// Before the first event.
-    pub fn one(wanted: Wanted) -> Result<Choice, AllocError> {
+    pub fn one(wanted: Standing) -> Result<Choice, AllocError> {
         Ok(Choice {
             before: wanted.copy()?,
             after: wanted,
@@ -41,12 +41,12 @@ impl Choice {
     }
 
     /// What stands after the event.
-    pub fn after(&self) -> &Wanted {
+    pub fn after(&self) -> &Standing {
         &self.after
     }
 
     /// The one that was found; once the event is over it can be the latter alone.
-    pub fn found(&self, found: &Found, is_over: bool) -> Result<Option<&Wanted>, AllocError> {
+    pub fn found(&self, found: &Found, is_over: bool) -> Result<Option<&Standing>, AllocError> {
         if self.after.is_found(found)? {
             return Ok(Some(&self.after));
         }
@@ -165,7 +165,7 @@ fn first_astray_in_power_on(
     alloc: Global,
     rig: &Device,
     notes: &Notes,
-    wanted: &Wanted,
+    wanted: &Standing,
 ) -> Result<Option<usize>, Fault> {
     for calls in 1..=POWER_ON {
         if notes.ends_in_write(calls)
@@ -199,7 +199,7 @@ pub fn first_astray_between(
 pub fn first_astray(
     alloc: Global,
     rig: Device,
-    wanted: Wanted,
+    wanted: Standing,
     rows: &[Row],
     cuts: Cuts,
 ) -> Result<Astray, Fault> {

@@ -1,9 +1,9 @@
 //! Power comes and goes many times.
 use crate::devices::{Device, formatted, started};
+use crate::rows::{Does, MOVED, Order, Row, event_of, reply_to};
+use crate::standing::Standing;
 use crate::stops::cuts::Choice;
 use crate::stops::devices::{Kept, found, stopped};
-use crate::stops::rows::{Does, MOVED, Order, Row, Told, event_of, reply_to};
-use crate::stops::wanted::Wanted;
 use ng_core::{Controller, Reply, Source, power_on};
 use ng_num::Fault;
 use ng_rig::{FuseRig, Rig};
@@ -16,7 +16,7 @@ const LINE: &str = "#1=[#1+1] G4 P0";
 
 /// A line of the operator. Its entry changes a parameter, which takes two parts.
 const WORKS: &[Row] = &[
-    (Order::Mdi(LINE), Does::Answers(Told::Begun), 0),
+    (Order::Mdi(LINE), Does::Begins, 0),
     (Order::Tick, Does::Opens(LINE, Source::Mdi, 0), 2),
     MOVED,
     (Order::Tick, Does::Executes(LINE, 0), 3),
@@ -25,7 +25,7 @@ const WORKS: &[Row] = &[
 /// That line goes on where it was cut. The approach is its switch alone.
 const GOES_ON: &[Row] = &[
     (Order::Reference(0), Does::Stands(0), 2),
-    (Order::Resume, Does::Answers(Told::Going), 0),
+    (Order::Resume, Does::Goes, 0),
     (Order::Tick, Does::Approaches, 2),
     MOVED,
     (Order::Tick, Does::Stands(0), 2),
@@ -76,7 +76,7 @@ fn work<R: Rig>(
 fn cut_after(
     alloc: Global,
     rig: Device,
-    wanted: Wanted,
+    wanted: Standing,
     calls: u64,
 ) -> Result<(Device, Choice), Fault> {
     let mut choice = Choice::one(wanted)?;
@@ -96,9 +96,9 @@ fn cut_after(
 fn cycle(
     alloc: Global,
     rig: Device,
-    wanted: Wanted,
+    wanted: Standing,
     calls: u64,
-) -> Result<(Device, Option<Wanted>), Fault> {
+) -> Result<(Device, Option<Standing>), Fault> {
     let kept = if calls % 2 == 0 {
         Kept::None
     } else {
@@ -116,7 +116,7 @@ fn cycle(
 /// The first of 64 power cycles, each cut a call later than the one before, that leaves something else; and the entries then.
 fn first_astray(alloc: Global, first: u64) -> Result<(Option<u64>, u64), Fault> {
     let mut rig = formatted(alloc)?;
-    let mut wanted = Wanted::fresh(alloc)?;
+    let mut wanted = Standing::fresh(alloc)?;
     for calls in first..first.saturating_add(64) {
         let entries = wanted.entries();
         let (left, stands) = cycle(alloc, rig, wanted, calls)?;

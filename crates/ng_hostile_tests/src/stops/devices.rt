@@ -1,12 +1,10 @@
 //! Devices, and what is found on them.
-ghost use Rattle.std.specs.Prelude.{◌≡◌, ◌≤◌, false};
-
-use crate::devices::{Device, started};
+use crate::devices::{Device, lines, started};
+use crate::rows::{Row, entries_after, event_of, reply_to};
+use crate::standing::{Found, Standing};
 use crate::stops::recorder::{Notes, Recorder};
-use crate::stops::rows::{Row, entries_after, event_of, reply_to};
-use crate::stops::wanted::{Found, Wanted};
 use ng_core::{Controller, Event, Reply, Status};
-use ng_journal::{Journal, ProgramLine, recover};
+use ng_journal::recover;
 use ng_num::Fault;
 use ng_rig::Rig;
 use std::alloc::{AllocError, Global};
@@ -51,19 +49,6 @@ fn shown<R: Rig + Drop>(alloc: Global, rig: R) -> Result<(Status, R), Fault> {
     }
 }
 
-/// The lines of the program in force that begin at its first byte and in its middle.
-fn lines<R: Rig>(
-    journal: &mut Journal<R, Global>,
-    length: u64,
-) -> Result<[Option<ProgramLine>; 2], Fault>
-    requires whole { journal.old.broken ≡ false }
-    requires length { length ≤ journal.old.saved.length }
-{
-    let first = journal.program_line(0)?;
-    let second = journal.program_line(length / 2)?;
-    Ok([first, second])
-}
-
 /// What is found on a device that is powered on, the calls of that, and the device then, which was read again after those calls.
 pub fn found(alloc: Global, rig: Device) -> Result<(Found, Notes, Device), Fault> {
     let (status, recorder) = shown(alloc, Recorder::new(alloc, rig))?;
@@ -84,7 +69,7 @@ pub fn found(alloc: Global, rig: Device) -> Result<(Found, Notes, Device), Fault
 }
 
 /// Whether a device stands for this once it is powered on.
-pub fn stands_for(alloc: Global, rig: Device, wanted: &Wanted) -> Result<bool, Fault> {
+pub fn stands_for(alloc: Global, rig: Device, wanted: &Standing) -> Result<bool, Fault> {
     let (found, _, _) = found(alloc, rig)?;
     Ok(wanted.is_found(&found)?)
 }
@@ -127,9 +112,9 @@ pub fn played(
 pub fn left_by(
     alloc: Global,
     rig: Device,
-    wanted: Wanted,
+    wanted: Standing,
     rows: &[Row],
-) -> Result<(Device, Wanted), Fault> {
+) -> Result<(Device, Standing), Fault> {
     let (rig, _) = played(alloc, rig, rows, wanted.entries())?;
     let mut wanted = wanted;
     wanted.take_all(rows)?;

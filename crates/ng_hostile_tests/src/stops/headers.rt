@@ -1,10 +1,10 @@
 //! The sync of a header fails, so that the older header may come back with a later cut.
 use crate::devices::{Device, formatted, started};
+use crate::rows::{Does, Order, Row, event_of};
+use crate::standing::Standing;
 use crate::stops::cuts::{Astray, Choice, Cuts, POWER_ON, Played, first_astray_between};
 use crate::stops::devices::{first_astray, left_by, played};
 use crate::stops::recorder::{Notes, Recorder};
-use crate::stops::rows::{Does, Order, Row, event_of};
-use crate::stops::wanted::Wanted;
 use ng_core::{Reply, power_on};
 use ng_num::Fault;
 use ng_rig::FailRig;
@@ -21,8 +21,8 @@ const BEFORE: &[Row] = &[(Order::Load(OLD), Does::Loads(OLD), 91)];
 const LOADS: &[Row] = &[(Order::Load(NEW), Does::Loads(NEW), 91)];
 
 /// A device that stands for a program, and what it stands for.
-fn loaded(alloc: Global) -> Result<(Device, Wanted), Fault> {
-    left_by(alloc, formatted(alloc)?, Wanted::fresh(alloc)?, BEFORE)
+fn loaded(alloc: Global) -> Result<(Device, Standing), Fault> {
+    left_by(alloc, formatted(alloc)?, Standing::fresh(alloc)?, BEFORE)
 }
 
 /// How many calls, reads too, come before the last call of power on and these events.

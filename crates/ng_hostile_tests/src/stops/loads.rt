@@ -1,9 +1,9 @@
 //! A program takes the place of another.
 use crate::devices::formatted;
+use crate::rows::{Does, Order, Row};
+use crate::standing::Standing;
 use crate::stops::cuts::{Astray, Cuts, first_astray};
 use crate::stops::devices::left_by;
-use crate::stops::rows::{Does, Order, Row, Told};
-use crate::stops::wanted::Wanted;
 use ng_num::Fault;
 use std::alloc::Global;
 use std::test::Fail;
@@ -19,7 +19,7 @@ const SETS: &str = "#1=5 #5161=7";
 /// A program is stored, and two parameters are set: one that a load leaves as it is, and one that it makes 0.
 const BEFORE: &[Row] = &[
     (Order::Load(OLD), Does::Loads(OLD), 91),
-    (Order::Mdi(SETS), Does::Answers(Told::Begun), 0),
+    (Order::Mdi(SETS), Does::Begins, 0),
     (Order::Tick, Does::Executes(SETS, 0), 3),
 ];
 
@@ -28,7 +28,7 @@ const LOADS: &[Row] = &[(Order::Load(NEW), Does::Loads(NEW), 92)];
 
 /// The first stop in a load, after power on, that leaves something else.
 fn first_astray_in_load(alloc: Global) -> Result<Astray, Fault> {
-    let (rig, wanted) = left_by(alloc, formatted(alloc)?, Wanted::fresh(alloc)?, BEFORE)?;
+    let (rig, wanted) = left_by(alloc, formatted(alloc)?, Standing::fresh(alloc)?, BEFORE)?;
     first_astray(alloc, rig, wanted, LOADS, Cuts::deep(90, 182))
 }
 

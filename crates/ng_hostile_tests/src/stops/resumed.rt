@@ -1,9 +1,9 @@
 //! A block that was cut is told where the machine stands, and goes on.
 use crate::devices::formatted;
+use crate::rows::{BEGUN, Does, IDLE, MOVED, Order, Row};
+use crate::standing::Standing;
 use crate::stops::cuts::{Astray, Cuts, first_astray};
 use crate::stops::devices::left_by;
-use crate::stops::rows::{BEGUN, Does, IDLE, MOVED, Order, Row, Told};
-use crate::stops::wanted::Wanted;
 use ng_core::Source;
 use ng_num::Fault;
 use std::alloc::Global;
@@ -15,20 +15,20 @@ const MOVES: &str = "G0 X0.005";
 
 /// The spindle is switched on, and the first segment of a move is opened.
 const CUT: &[Row] = &[
-    (Order::Mdi(TURNS), Does::Answers(Told::Begun), 0),
+    (Order::Mdi(TURNS), Does::Begins, 0),
     (Order::Tick, Does::Opens(TURNS, Source::Mdi, 0), 2),
     MOVED,
     (Order::Tick, Does::Opens(TURNS, Source::Mdi, 1), 2),
     MOVED,
     (Order::Tick, Does::Executes(TURNS, 0), 2),
-    (Order::Mdi(MOVES), Does::Answers(Told::Begun), 0),
+    (Order::Mdi(MOVES), Does::Begins, 0),
     (Order::Tick, Does::Opens(MOVES, Source::Mdi, 0), 2),
 ];
 
 /// The machine stands at X0.001: the approach is the switch and a pulse back, and then the move comes whole.
 const GOES_ON: &[Row] = &[
     (Order::Reference(1_000), Does::Stands(1_000), 2),
-    (Order::Resume, Does::Answers(Told::Going), 0),
+    (Order::Resume, Does::Goes, 0),
     (Order::Tick, Does::Approaches, 2),
     MOVED,
     MOVED,
@@ -46,7 +46,7 @@ const GOES_ON: &[Row] = &[
 /// The first stop in the session before the cut, after its power on, that leaves something else.
 fn first_astray_before(alloc: Global) -> Result<Astray, Fault> {
     let cuts = Cuts::deep(90, usize::MAX);
-    first_astray(alloc, formatted(alloc)?, Wanted::fresh(alloc)?, CUT, cuts)
+    first_astray(alloc, formatted(alloc)?, Standing::fresh(alloc)?, CUT, cuts)
 }
 
 #[test]
@@ -57,7 +57,7 @@ fn a_stop_at_each_call_before_the_cut(rt: HostRuntime) -> Result<(), Fail> {
 
 /// The first stop in the session after the cut that leaves something else.
 fn first_astray_after(alloc: Global, cuts: Cuts) -> Result<Astray, Fault> {
-    let (rig, wanted) = left_by(alloc, formatted(alloc)?, Wanted::fresh(alloc)?, CUT)?;
+    let (rig, wanted) = left_by(alloc, formatted(alloc)?, Standing::fresh(alloc)?, CUT)?;
     first_astray(alloc, rig, wanted, GOES_ON, cuts)
 }
 

@@ -1,32 +1,12 @@
 //! A program is stored and run.
 use crate::devices::formatted;
+use crate::scripts::STORED_AND_RUN;
+use crate::standing::Standing;
 use crate::stops::cuts::{Astray, Cuts, first_astray};
 use crate::stops::devices::played;
-use crate::stops::rows::{BEGUN, Does, IDLE, MOVED, Order, Row, Told};
-use crate::stops::wanted::Wanted;
-use ng_core::Source;
 use ng_num::Fault;
 use std::alloc::Global;
 use std::test::Fail;
-
-/// Of 13 bytes.
-const PROGRAM: &str = "G0 X0.002\nM2\n";
-
-/// A program is stored and run to its end.
-const STORED_AND_RUN: &[Row] = &[
-    (Order::Load(PROGRAM), Does::Loads(PROGRAM), 91),
-    (Order::Start, Does::Answers(Told::Going), 0),
-    BEGUN,
-    (Order::Tick, Does::Opens("G0 X0.002", Source::Program, 0), 2),
-    MOVED,
-    MOVED,
-    (Order::Tick, Does::Executes("G0 X0.002", 10), 2),
-    BEGUN,
-    (Order::Tick, Does::Opens("M2", Source::Program, 0), 2),
-    MOVED,
-    (Order::Tick, Does::Executes("M2", 0), 2),
-    IDLE,
-];
 
 /// How many writes, syncs and hand-outs are made, power on included.
 #[test]
@@ -46,7 +26,7 @@ fn first_astray_of(alloc: Global, first: usize, last: usize) -> Result<Astray, F
     first_astray(
         alloc,
         formatted(alloc)?,
-        Wanted::fresh(alloc)?,
+        Standing::fresh(alloc)?,
         STORED_AND_RUN,
         Cuts::deep(first, last),
     )

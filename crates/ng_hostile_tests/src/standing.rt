@@ -1,6 +1,7 @@
 //! What a device has to stand for, folded from entries.
-use crate::stops::rows::{Does, Row, entries_after, point_at};
+use crate::rows::{Does, Row, entries_after, item_of, point_at};
 use ng_block::execute;
+use ng_canon::Item;
 use ng_core::{Condition, HalfShown, Source, Status};
 use ng_journal::ProgramLine;
 use ng_layout::{Half, Stored};
@@ -19,18 +20,9 @@ pub struct Found {
     pub lines: [Option<ProgramLine>; 2],
 }
 
-/// Whether this is the line that begins at a byte of a program.
-fn is_line(program: &str, place: usize, line: &Option<ProgramLine>) -> bool {
-    let rest = program.as_bytes().get(place..).unwrap_or_default();
-    match line {
-        Some(line) => rest.split(|byte| *byte == b'\n').next() == Some(line.text.as_slice()),
-        None => rest.is_empty(),
-    }
-}
-
 /// A half-done block.
 #[derive(Clone, Copy)]
-pub struct Begun {
+struct Begun {
     text: &'static str,
     source: Source,
     index: u64,
@@ -47,15 +39,6 @@ impl Begun {
             && half.opened.is_none()
     }
 
-    fn copy(&self) -> Begun {
-        Begun {
-            text: self.text,
-            source: self.source,
-            index: self.index,
-            at: self.at,
-        }
-    }
-
     fn shown(&self) -> HalfShown {
         HalfShown {
             source: self.source,
@@ -64,13 +47,23 @@ impl Begun {
     }
 }
 
-/// What a device has to stand for.
+/// What a device has to stand for once it is powered on, and what was handed out.
 #[derive(Drop)]
-pub struct Wanted {
+pub struct Standing {
     /// All but the half-done block.
     stored: Stored<Global>,
     half: Option<Begun>,
     program: &'static str,
+    items: Vec<Item>,
+}
+
+/// Whether this is the line that begins at a byte of a program.
+fn is_line(program: &str, place: usize, line: &Option<ProgramLine>) -> bool {
+    let rest = program.as_bytes().get(place..).unwrap_or_default();
+    match line {
+        Some(line) => rest.split(|byte| *byte == b'\n').next() == Some(line.text.as_slice()),
+        None => rest.is_empty(),
+    }
 }
 
 /// The same as is stored, but for the half-done block.
@@ -85,24 +78,23 @@ fn copy_of(stored: &Stored<Global>) -> Result<Stored<Global>, AllocError> {
     })
 }
 
-impl Wanted {
+impl Standing {
     /// What a formatted device stands for.
-    pub fn fresh(alloc: Global) -> Result<Wanted, AllocError> {
-        Ok(Wanted {
+    pub fn fresh(alloc: Global) -> Result<Standing, AllocError> {
+        Ok(Standing {
             stored: Stored::fresh(alloc)?,
             half: None,
             program: "",
+            items: Vec::new(alloc),
         })
     }
 
-    pub fn copy(&self) -> Result<Wanted, AllocError> {
-        Ok(Wanted {
+    pub fn copy(&self) -> Result<Standing, AllocError> {
+        Ok(Standing {
             stored: copy_of(&self.stored)?,
-            half: match &self.half {
-                Some(half) => Some(half.copy()),
-                None => None,
-            },
+            half: self.half,
             program: self.program,
+            items: self.items.clone()?,
         })
     }
 
@@ -112,6 +104,16 @@ impl Wanted {
 
     pub fn is_half_done(&self) -> bool {
         self.half.is_some()
+    }
+
+    /// What was handed out.
+    pub fn items(&self) -> &[Item] {
+        self.items.as_slice()
+    }
+
+    /// A device is powered on that hasn't handed out anything.
+    pub fn hand_nothing(&mut self) {
+        self.items.clear();
     }
 
     /// What stands after events that do this.
@@ -126,7 +128,8 @@ impl Wanted {
     pub fn take(&mut self, does: Does) -> Result<(), Fault> {
         self.stored.entries = entries_after(does, self.stored.entries);
         match does {
-            Does::Answers(_) => {}
+            Does::Refuses(_) | Does::Goes | Does::Begins | Does::Rests | Does::Moves => {}
+            Does::Hands(given) => self.items.push(item_of(given))?,
             Does::Opens(text, source, index) => {
                 self.half = Some(Begun {
                     text,

@@ -55,8 +55,10 @@ pub enum Does {
     Begins,
     /// There is nothing to do.
     Rests,
-    /// It hands an item out.
+    /// It hands this item out.
     Hands(Given),
+    /// It hands an item out.
+    Moves,
     /// It opens this segment of a line.
     Opens(&'static str, Source, u64),
     /// It opens the approach.
@@ -79,6 +81,9 @@ pub const FORWARD: Row = (Order::Tick, Does::Hands(Given::Forward), 1);
 pub const BACKWARD: Row = (Order::Tick, Does::Hands(Given::Backward), 1);
 
 pub const OFF: Row = (Order::Tick, Does::Hands(Given::Off), 1);
+
+/// An item that isn't looked at.
+pub const MOVED: Row = (Order::Tick, Does::Moves, 1);
 
 pub const IDLE: Row = (Order::Tick, Does::Rests, 0);
 
@@ -116,7 +121,7 @@ pub fn reply_to(does: Does, entries: u64) -> Reply {
         Does::Goes => Reply::Going,
         Does::Begins => Reply::Begun,
         Does::Rests => Reply::Idle,
-        Does::Hands(_) => Reply::Moved,
+        Does::Hands(_) | Does::Moves => Reply::Moved,
         Does::Opens(_, _, index) => Reply::Opened(index),
         Does::Approaches => Reply::Approaching,
         Does::Loads(_) | Does::Executes(_, _) | Does::Stands(_) => {
@@ -134,6 +139,7 @@ pub fn entries_after(does: Does, entries: u64) -> u64 {
         | Does::Begins
         | Does::Rests
         | Does::Hands(_)
+        | Does::Moves
         | Does::Opens(_, _, _)
         | Does::Approaches => entries,
     }

@@ -1,5 +1,5 @@
 //! Events of some sessions.
-use crate::failures::rows::{BACKWARD, BEGUN, Does, FORWARD, IDLE, OFF, Order, Row};
+use crate::rows::{BACKWARD, BEGUN, Does, FORWARD, IDLE, OFF, Order, Row};
 use ng_core::Source;
 use ng_num::Fault;
 use std::alloc::{AllocError, Global};
