@@ -39,6 +39,15 @@ impl Begun {
             && half.opened.is_none()
     }
 
+    fn copy(&self) -> Begun {
+        Begun {
+            text: self.text,
+            source: self.source,
+            index: self.index,
+            at: self.at,
+        }
+    }
+
     fn shown(&self) -> HalfShown {
         HalfShown {
             source: self.source,
@@ -92,7 +101,10 @@ impl Standing {
     pub fn copy(&self) -> Result<Standing, AllocError> {
         Ok(Standing {
             stored: copy_of(&self.stored)?,
-            half: self.half,
+            half: match &self.half {
+                Some(half) => Some(half.copy()),
+                None => None,
+            },
             program: self.program,
             items: self.items.clone()?,
         })
