@@ -1,7 +1,9 @@
 -- Points seen from a centre.
 use Rattle.std.proofs.Common.{◌∙◌, ◌<◌, ◌^◌, ◌≤◌, arith, ◌≡◌, refl, ℤ, ◌+ℤ◌, ◌-ℤ◌, ◌*ℤ◌, unsigned_abs, to_z, of_z}
 use mir.Syntax.{w64, w128}
-use Rattle.std.proofs.lemmas.Int.{ints}
+use Rattle.std.proofs.lemmas.Int.{ints, unsigned_abs-mul, fits_signed_from_abs}
+use Rattle.std.proofs.Math.Nat.{mul-le-mul}
+use Rattle.std.specs.Prelude.{FitsSigned}
 use Rattle.ng_num.specs.Range.{IsCount}
 use Rattle.ng_num.specs.declared.point.Point.{Point}
 use Rattle.ng_canon.specs.declared.segment.Arc.{Arc}
@@ -31,6 +33,29 @@ stored_wide x h = omega (arith, ints)
 -- a stored length is the length
 pub stored : (x : ℤ) → unsigned_abs x < 2 ^ 50 → to_z w64 (of_z w64 x) ≡ x
 stored x h = omega (arith, ints)
+
+-- a length made wide is the length
+widened : (x : ℤ) → unsigned_abs x < 2 ^ 50 → to_z w128 (of_z w128 (to_z w64 (of_z w64 x))) ≡ x
+widened x h = rw (stored x h) (stored_wide x (omega (arith, h)))
+
+product_size : (p q : ℤ) → unsigned_abs p < 2 ^ 50 → unsigned_abs q < 2 ^ 50 → unsigned_abs (p *ℤ q) ≤ 2 ^ 100
+product_size p q h k =
+    let first : unsigned_abs p ≤ 2 ^ 50 = omega arith in
+    let second : unsigned_abs q ≤ 2 ^ 50 = omega arith in
+    omega (arith, unsigned_abs-mul p q, mul-le-mul first second)
+
+-- the wide product of two lengths is their product, and fits
+pub wide_product : (p q : ℤ) → unsigned_abs p < 2 ^ 50 → unsigned_abs q < 2 ^ 50
+    → to_z w128 (of_z w128 (to_z w128 (of_z w128 (to_z w64 (of_z w64 p))) *ℤ to_z w128 (of_z w128 (to_z w64 (of_z w64 q))))) ≡ p *ℤ q
+wide_product p q h k = rw (widened p h, widened q k) (stored_wide (p *ℤ q) (omega (arith, product_size p q h k)))
+
+pub wide_product_size : (p q : ℤ) → unsigned_abs p < 2 ^ 50 → unsigned_abs q < 2 ^ 50
+    → unsigned_abs (to_z w128 (of_z w128 (to_z w128 (of_z w128 (to_z w64 (of_z w64 p))) *ℤ to_z w128 (of_z w128 (to_z w64 (of_z w64 q)))))) ≤ 2 ^ 100
+wide_product_size p q h k = rw (wide_product p q h k) (product_size p q h k)
+
+pub wide_product_fits : (p q : ℤ) → unsigned_abs p < 2 ^ 50 → unsigned_abs q < 2 ^ 50
+    → FitsSigned w128 (to_z w128 (of_z w128 (to_z w64 (of_z w64 p))) *ℤ to_z w128 (of_z w128 (to_z w64 (of_z w64 q))))
+wide_product_fits p q h k = rw (widened p h, widened q k) (fits_signed_from_abs w128 (p *ℤ q) (omega (arith, product_size p q h k)))
 
 stored_product : (p q x : ℤ) → unsigned_abs p < 2 ^ 50 → unsigned_abs q < 2 ^ 50 → x ≡ to_z w64 (of_z w64 p) *ℤ to_z w64 (of_z w64 q) → x ≡ p *ℤ q
 stored_product p q x hp hq e = e ∙ rw (stored p hp, stored q hq) refl
