@@ -14,7 +14,7 @@ by_bounds true n m e = sym (cc e)
 by_bounds false n m e = absurd (cc e)
 
 -- what is in range is itself
-itself : (n m : ℤ) → in_range n ≡ Ok m → m ≡ n
+pub itself : (n m : ℤ) → in_range n ≡ Ok m → m ≡ n
 itself n m e = by_bounds (nat_le (unsigned_abs n) greatest) n m e
 
 by_current : (wanted old shift machine offset : ℤ) (current : Result ℤ Fault) → in_range (machine -ℤ shift) ≡ current →
