@@ -2,7 +2,7 @@
 use Rattle.std.proofs.Common.{◌≡◌, Bool, true, false, ℤ, ◌||◌, Some, None, Ok, Err, List, [], ◌∷◌, ◌++◌, refl, ◌∙◌, if◌then◌else◌}
 use Rattle.std.specs.List.{list_any}
 use Rattle.ng_num.specs.declared.fault.Fault.{Fault}
-use Rattle.ng_num.specs.declared.fault.Fault.TheVariants.{OutOfRange, CycleNoAxis, NoZ, NoR, RBelowZ, InverseTime, OutsideTravel}
+use Rattle.ng_num.specs.declared.fault.Fault.TheVariants.{OutOfRange, CycleNoAxis, NoZ, NoR, RBelowZ, InverseTime, NoFeed, OutsideTravel}
 use Rattle.ng_num.specs.Causes.{first_fault, unless}
 use Rattle.ng_num.proofs.FirstFault.{first_some, first_none}
 use Rattle.ng_cycles.specs.Lengths.{is_far, far_unless}
@@ -51,6 +51,14 @@ none_far xs x found y h = let e = far_ok xs x found h in rw e.0 refl
 pub hole_err : {X : Type 0} (below inverse : Bool) (work rest : List (Bool × Fault)) (fault : Fault) (x : X) → below ≡ false → inverse ≡ false → first_fault work ≡ Some fault →
     Err fault ≡ unless (first_fault ((below, RBelowZ) ∷ ((inverse, InverseTime) ∷ (work ++ rest)))) x
 hole_err below inverse work rest fault x b i f = rw (b, i, first_some work rest fault f) refl
+
+pub hole_unfed : {X : Type 0} (below inverse unfed : Bool) (work : List (Bool × Fault)) (x : X) → below ≡ false → inverse ≡ false → first_fault work ≡ None → unfed ≡ true →
+    Err NoFeed ≡ unless (first_fault ((below, RBelowZ) ∷ ((inverse, InverseTime) ∷ (work ++ (unfed, NoFeed) ∷ [])))) x
+hole_unfed below inverse unfed work x b i f e = rw (b, i, first_none work ((unfed, NoFeed) ∷ []) f, e) refl
+
+pub hole_ok : {X : Type 0} (below inverse unfed : Bool) (work : List (Bool × Fault)) (x y : X) → below ≡ false → inverse ≡ false → first_fault work ≡ None → unfed ≡ false → y ≡ x →
+    Ok y ≡ unless (first_fault ((below, RBelowZ) ∷ ((inverse, InverseTime) ∷ (work ++ (unfed, NoFeed) ∷ [])))) x
+hole_ok below inverse unfed work x y b i f e is = rw (b, i, first_none work ((unfed, NoFeed) ∷ []) f, e, is) refl
 
 pub of_far : {X : Type 0} (far : Bool) (rest : List (Bool × Fault)) (fault : Fault) (x : X) → far ≡ true → fault ≡ OutOfRange → Err fault ≡ unless (first_fault ((far, OutOfRange) ∷ rest)) x
 of_far far rest fault x f e = rw (f, e) refl

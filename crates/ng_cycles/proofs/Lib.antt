@@ -1,6 +1,8 @@
 pub mod Between
+pub mod Stored
 pub mod Steps
 pub mod Far
+pub mod Near
 pub mod Travel
 pub mod Causes
 pub mod HasWords
