@@ -25,5 +25,3 @@ mod parameters;
 mod printing;
 #[cfg(test)]
 mod settings;
-#[cfg(test)]
-mod values;

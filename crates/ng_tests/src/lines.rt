@@ -1,39 +1,9 @@
 use ng_num::Fault;
 use ng_words::{
-    Function, Letter, Line, LineKind, Node, Operation, PIECES, PieceRef, Pieces, Tree,
-    is_deletable, kind_of, read_line,
+    Function, Letter, Line, Node, Operation, PIECES, PieceRef, Pieces, Tree, is_deletable,
+    read_line,
 };
 use std::test::Fail;
-
-/// Lines with one word, and its count of millionths where that is in range.
-const NUMBERS: &[(&[u8], Option<i64>)] = &[
-    (b"X0", Some(0)),
-    (b"X.5", Some(500_000)),
-    (b"X5.", Some(5_000_000)),
-    (b"X-.5", Some(-500_000)),
-    (b"X+5", Some(5_000_000)),
-    (b"X-0", Some(0)),
-    (b"X0012.50", Some(12_500_000)),
-    (b"X1.234567", Some(1_234_567)),
-    (b"X1.2345674", Some(1_234_567)),
-    (b"X1.2345675", Some(1_234_568)),
-    (b"X-1.2345675", Some(-1_234_568)),
-    (b"X-1.23456749999", Some(-1_234_567)),
-    (b"X0.9999995", Some(1_000_000)),
-    (b"X0.0000005", Some(1)),
-    (b"X0.0000004", Some(0)),
-    (b"X9999999.999999", Some(9_999_999_999_999)),
-    (b"X9999999.9999994", Some(9_999_999_999_999)),
-    (b"X9999999.9999995", None),
-    (b"X-9999999.9999994", Some(-9_999_999_999_999)),
-    (b"X-9999999.9999995", None),
-    (b"X10000000", None),
-    (b"X99999999999999999999999999999999999999999", None),
-    (
-        b"X00000000000000000000000000000000000000001",
-        Some(1_000_000),
-    ),
-];
 
 /// A line's bytes, whether it is deletable, its block number, and its words with their millionths.
 type Row = (&'static [u8], bool, Option<u32>, &'static [(Letter, i64)]);
@@ -155,105 +125,6 @@ const SETTINGS: &[(&[u8], &[u8], &[u8])] = &[
     (b"##1=[2*3]", b"1#", b"23*]"),
     (b"#abs[1]=fup[2]", b"1a", b"2u"),
     (b"#5=##6", b"5", b"6##"),
-];
-
-/// Lines of comments alone, and their bytes.
-const COMMENTS: &[(&[u8], &[&[u8]])] = &[
-    (b"(a)", &[b"a"]),
-    (b"()", &[b""]),
-    (b" ( a B\t) ", &[b" a B\t"]),
-    (b"(msg, N1 X#[)", &[b"msg, N1 X#["]),
-    (b"(a)(b) (c)", &[b"a", b"b", b"c"]),
-    (b"/N5(%)", &[b"%"]),
-];
-
-/// Lines that aren't in the grammar.
-const UNREADABLE: &[&[u8]] = &[
-    b"N",
-    b"N G1",
-    b"N000009",
-    b"N1.5",
-    b"N-1",
-    b"N1 N2",
-    b"G1 N1",
-    b"X",
-    b"G0 X+",
-    b"G0 X.",
-    b"X-",
-    b"X1.2.3",
-    b"X--1",
-    b"X+-1",
-    b"1",
-    b"G0/",
-    b"//G0",
-    b"N1/G0",
-    b"O1",
-    b"E1",
-    b"U1",
-    b"V1",
-    b"W1",
-    b"(",
-    b")",
-    b"%",
-    b"\x80",
-    b"G0\xC1",
-    b"G0\r",
-    b"G0\n",
-    b"X\x000",
-    b"G0;",
-    b"(a",
-    b"a)",
-    b"((a))",
-    b"(a(b)c)",
-    b"(a))",
-    b"G0(a",
-    b"N(a)1",
-    b"X(a)1",
-    b"#1",
-    b"#",
-    b"#=1",
-    b"#1=",
-    b"1=2",
-    b"#1==2",
-    b"#1=2=3",
-    b"#1(a)=2",
-    b"X#",
-    b"X##",
-    b"X[",
-    b"X]",
-    b"X[]",
-    b"X[1",
-    b"X1]",
-    b"X[1]]",
-    b"X[[1]",
-    b"X[1+]",
-    b"X[*1]",
-    b"X[1***2]",
-    b"X[1[2]]",
-    b"X1+2",
-    b"X#1+2",
-    b"X[1][2]",
-    b"X abs 1",
-    b"X abs[1",
-    b"X abs[]",
-    b"X sin[1]",
-    b"X ab[1]",
-    b"X[1 mo 2]",
-    b"X[1)",
-    b"X[1#2]",
-    b"X[#]",
-];
-
-/// Lines and whether they are blank, percent lines or others.
-const KINDS: &[(&[u8], LineKind)] = &[
-    (b"", LineKind::Blank),
-    (b" \t ", LineKind::Blank),
-    (b"%", LineKind::Percent),
-    (b"\t% ", LineKind::Percent),
-    (b"%%", LineKind::Other),
-    (b"%X1", LineKind::Other),
-    (b"X1%", LineKind::Other),
-    (b"(%)", LineKind::Other),
 ];
 
 /// A node's code: a number's digit, and a mark for anything else.
@@ -387,17 +258,6 @@ fn has_words(line: &Line, words: &[(Letter, i64)]) -> bool {
     is_end(&mut pieces)
 }
 
-/// Whether a line has just these comments.
-fn has_comments(line: &Line, comments: &[&[u8]]) -> bool {
-    let mut pieces = line.pieces();
-    for text in comments {
-        if !is_comment(&mut pieces, text) {
-            return false;
-        }
-    }
-    is_end(&mut pieces)
-}
-
 /// How many pieces a line has.
 fn count(line: &Line) -> usize {
     let mut pieces = line.pieces();
@@ -438,48 +298,12 @@ fn lines_are_read_as_they_stand(rt: HostRuntime) {
     }
 }
 
+/// No line of a file has a newline within it.
 #[test]
-fn comments_are_read_as_they_stand(rt: HostRuntime) {
+fn a_newline_within_a_line_is_refused(rt: HostRuntime) {
     let mut line = Line::new();
-    for (i, (text, comments)) in COMMENTS.iter().enumerate() {
-        assert!(rt; line.read(text).is_ok(), "comment {i}");
-        assert!(rt; has_comments(&line, comments), "comment {i}");
-        assert!(rt;
-            line.last_comment() == comments.last().copied(),
-            "comment {i}"
-        );
-    }
-}
-
-#[test]
-fn what_is_no_line_is_refused(rt: HostRuntime) {
-    let mut line = Line::new();
-    for (i, text) in UNREADABLE.iter().enumerate() {
-        let read = line.read(text);
-        assert_eq!(rt;
-            (read, count(&line)),
-            (Err(Fault::Unreadable), 0),
-            "line {i}"
-        );
-    }
-}
-
-#[test]
-fn lines_have_their_kinds(rt: HostRuntime) {
-    for (text, kind) in KINDS {
-        assert_eq!(rt; kind_of(text), *kind, "{text:?}");
-    }
-}
-
-#[test]
-fn numbers_are_read_as_they_stand(rt: HostRuntime) {
-    let mut line = Line::new();
-    for (i, (text, millionths)) in NUMBERS.iter().enumerate() {
-        assert!(rt; line.read(text).is_ok(), "number {i}");
-        let mut pieces = line.pieces();
-        assert!(rt; is_word(&mut pieces, Letter::X, *millionths), "number {i}");
-        assert!(rt; is_end(&mut pieces), "number {i}");
-    }
+    let read = line.read(b"G0\n");
+    assert_eq!(rt; (read, count(&line)), (Err(Fault::Unreadable), 0));
 }
 
 /// Reads a line: whether its first piece is a word X with these codes, and whether no other follows.
