@@ -1,13 +1,19 @@
-//! Devices, and what is found on them.
+//! Devices, what is made of them, and what is found on them.
+//!
+//! The calls that these tests are of stand here, each in a function without a contract: so what a test is proved with is not all that they
+//! promise.
 ghost use Rattle.std.specs.Prelude.{◌≡◌, ◌≤◌, false};
 
 use crate::standing::Found;
 use ng_core::{Controller, Event, Reply, Status, power_on};
 use ng_journal::{Journal, ProgramLine, format, recover};
+use ng_layout::Stored;
 use ng_num::Fault;
 use ng_rig::{MemoryRig, Rig};
+use ng_run::console;
 use ng_settings::Settings;
 use std::alloc::{AllocError, Allocator, Global};
+use std::io::{Read, Write};
 
 /// A device in memory.
 pub type Device = MemoryRig<Global>;
@@ -29,29 +35,74 @@ pub fn copy_of(rig: &Device) -> Result<Device, AllocError> {
     rig.stopped(usize::MAX, &[usize::MAX; 1_710])
 }
 
+/// A controller over this device, powered on on the default machine; or why it isn't, and the device.
+pub fn powered<R: Rig, A: Allocator + Copy + Drop>(
+    alloc: A,
+    rig: R,
+) -> Result<Controller<R, A>, (Fault, R)> {
+    power_on(alloc, rig, Settings::standard())
+}
+
 /// A controller over this device, powered on.
 pub fn started<R: Rig + Drop, A: Allocator + Copy + Drop>(
     alloc: A,
     rig: R,
 ) -> Result<Controller<R, A>, Fault> {
-    match power_on(alloc, rig, Settings::standard()) {
+    match powered(alloc, rig) {
         Ok(controller) => Ok(controller),
         Err((fault, _)) => Err(fault),
     }
+}
+
+/// Gives a controller an event: its reply.
+pub fn give<R: Rig, A: Allocator + Copy + Drop>(
+    controller: &mut Controller<R, A>,
+    event: Event<A>,
+) -> Reply {
+    controller.on(event)
+}
+
+/// Gives a controller events, one after the other: their replies.
+pub fn give_all<R: Rig, A: Allocator + Copy + Drop>(
+    controller: &mut Controller<R, A>,
+    events: &[Event<A>],
+) -> Result<Vec<Reply, A>, Fault> {
+    controller.run(events)
+}
+
+/// The device of a controller.
+pub fn rig_of<R: Rig, A: Allocator + Copy + Drop>(controller: Controller<R, A>) -> R {
+    controller.into_rig()
+}
+
+/// What is stored on a device, which is powered on by its journal alone, and the device then; or why it isn't, and the device.
+pub fn recovered(alloc: Global, rig: Device) -> Result<(Stored<Global>, Device), (Fault, Device)> {
+    let (journal, stored) = recover(alloc, rig)?;
+    Ok((stored, journal.into_rig()))
+}
+
+/// A console over a device, on the default machine: its status, and the device then.
+pub fn talk<I: Read, O: Write, R: Rig, A: Allocator + Copy + Drop>(
+    alloc: A,
+    reader: &mut I,
+    writer: &mut O,
+    rig: R,
+) -> (u8, R) {
+    console(alloc, reader, writer, rig, Settings::standard())
 }
 
 /// What a controller shows.
 pub fn shown<R: Rig, A: Allocator + Copy + Drop>(
     controller: &mut Controller<R, A>,
 ) -> Option<Status> {
-    match controller.on(Event::Status) {
+    match give(controller, Event::Status) {
         Reply::Status(status) => Some(status),
         _ => None,
     }
 }
 
 /// The lines of the program in force that begin at its first byte and in its middle.
-pub fn lines<R: Rig>(
+fn lines<R: Rig>(
     journal: &mut Journal<R, Global>,
     length: u64,
 ) -> Result<[Option<ProgramLine>; 2], Fault>
@@ -63,20 +114,28 @@ pub fn lines<R: Rig>(
     Ok([first, second])
 }
 
+/// What is read of a program, where its lines can be read.
+type Lines = Result<[Option<ProgramLine>; 2], Fault>;
+
+/// What is stored on a device, which is powered on by its journal alone, with lines of its program, and the device then.
+pub fn read_again(alloc: Global, rig: Device) -> Result<(Stored<Global>, Lines, Device), Fault> {
+    match recover(alloc, rig) {
+        Ok((mut journal, stored)) => {
+            let lines = lines(&mut journal, stored.length);
+            Ok((stored, lines, journal.into_rig()))
+        }
+        Err((fault, _)) => Err(fault),
+    }
+}
+
 /// What is found on a device that is powered on.
 pub fn found_on(alloc: Global, rig: Device) -> Result<Found, Fault> {
     let mut controller = started(alloc, rig)?;
     let status = shown(&mut controller);
-    match recover(alloc, controller.into_rig()) {
-        Ok((mut journal, stored)) => {
-            let lines = lines(&mut journal, stored.length);
-            drop(journal.into_rig());
-            Ok(Found {
-                status: status.ok_or(Fault::Broken)?,
-                stored,
-                lines: lines?,
-            })
-        }
-        Err((fault, _)) => Err(fault),
-    }
+    let (stored, lines, _) = read_again(alloc, rig_of(controller))?;
+    Ok(Found {
+        status: status.ok_or(Fault::Broken)?,
+        stored,
+        lines: lines?,
+    })
 }

@@ -1,4 +1,4 @@
-//! Devices of every size, fields at their limits and past them, images and console texts that were made by chance from fixed seeds.
+//! Images and console texts that were made by chance from fixed seeds.
 //!
 //! Expected values are worked out by hand from the formats, or by readers of their own that know the formats alone: never taken from what
 //! the crates answer.
@@ -8,10 +8,7 @@ mod by_chance;
 mod chance;
 mod commands;
 mod generations;
-mod labels;
 mod powered;
-mod records;
 mod sectors;
-mod sizes;
 mod talks;
 mod texts;

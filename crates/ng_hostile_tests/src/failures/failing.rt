@@ -1,15 +1,14 @@
 //! A device fails one of its calls, each in turn.
-use crate::devices::{Device, cut, formatted, found_on, shown, started};
+use crate::devices::{Device, cut, formatted, found_on, give, powered, rig_of, shown};
 use crate::rows::{EACH_KIND, Row, entries_after, event_of, reply_to};
 use crate::scripts::{
     AFTER_A_CUT, AFTER_A_CUT_OF_A_PROGRAM, BEFORE_A_CUT, BEFORE_A_CUT_OF_A_PROGRAM, READ_AHEAD,
     STORED_AND_RUN, filling_the_log,
 };
 use crate::standing::Standing;
-use ng_core::{Condition, Controller, HalfShown, Reply, Source, Status, power_on};
+use ng_core::{Condition, Controller, HalfShown, Reply, Source, Status};
 use ng_num::Fault;
 use ng_rig::{FailRig, Rig};
-use ng_settings::Settings;
 use std::alloc::{AllocError, Global};
 use std::test::Fail;
 
@@ -49,7 +48,7 @@ fn met<R: Rig>(
     let mut entries = entries;
     for (n, (order, does, _)) in rows.iter().enumerate() {
         let before = shown(controller);
-        let reply = controller.on(event_of(alloc, *order)?);
+        let reply = give(controller, event_of(alloc, *order)?);
         if reply == Reply::Refused(Fault::DeviceFailed) {
             return Ok(Some((n.saturating_add(1), before)));
         }
@@ -68,7 +67,7 @@ fn is_broken<R: Rig>(
     before: Option<Status>,
 ) -> Result<bool, Fault> {
     for order in EACH_KIND {
-        if controller.on(event_of(alloc, *order)?) != Reply::Refused(Fault::Broken) {
+        if give(controller, event_of(alloc, *order)?) != Reply::Refused(Fault::Broken) {
             return Ok(false);
         }
     }
@@ -101,10 +100,10 @@ fn play(
     entries: u64,
     calls: u64,
 ) -> Result<Played, Fault> {
-    match power_on(alloc, FailRig::new(rig, calls), Settings::standard()) {
+    match powered(alloc, FailRig::new(rig, calls)) {
         Ok(mut controller) => {
             let met = meet(alloc, &mut controller, rows, entries);
-            let rig = controller.into_rig();
+            let rig = rig_of(controller);
             let (met, is_refused) = met?;
             Ok(Played {
                 met,

@@ -1,5 +1,5 @@
 //! What may be refused for want of memory is answered at its greatest.
-use crate::devices::{Device, formatted, started};
+use crate::devices::{Device, formatted, give_all, rig_of, started};
 use crate::rows::{Does, Given, entries_after, reply_to};
 use ng_core::{Event, Reply, Source, Text};
 use ng_num::{Fault, Point};
@@ -76,8 +76,8 @@ fn are_answered(
         events.push(Event::Tick)?;
     }
     let mut controller = started(alloc, rig)?;
-    let replies = controller.run(events.as_slice());
-    let rig = controller.into_rig();
+    let replies = give_all(&mut controller, events.as_slice());
+    let rig = rig_of(controller);
     Ok((are_replies(replies?.as_slice(), wanted), rig))
 }
 

@@ -1,5 +1,5 @@
 //! Which events read lines of the program, and how many. A tick that begins a line reads two more at most, so that up to 16 wait.
-use crate::devices::{Device, formatted, started};
+use crate::devices::{Device, formatted, give, rig_of, started};
 use crate::failures::counting::Counting;
 use crate::failures::failing::half_done;
 use crate::rows::{Does, Order, Row, entries_after, event_of, reply_to};
@@ -33,7 +33,7 @@ fn reads_of(
 ) -> Result<u64, Fault> {
     let (order, does, _) = *row;
     let [before, _] = calls.get();
-    if controller.on(event_of(alloc, order)?) != reply_to(does, entries) {
+    if give(controller, event_of(alloc, order)?) != reply_to(does, entries) {
         return Err(Fault::Broken);
     }
     let [after, _] = calls.get();
@@ -68,7 +68,7 @@ fn reads_over(alloc: Global, rig: Device, rows: &[Row], entries: u64) -> Result<
     let calls = Cell::new([0, 0]);
     let mut controller = started(alloc, Counting::new(rig, &calls))?;
     let reads = reads(alloc, &mut controller, &calls, rows, entries);
-    drop(controller.into_rig());
+    drop(rig_of(controller));
     reads
 }
 

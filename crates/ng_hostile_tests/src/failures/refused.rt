@@ -1,5 +1,7 @@
 //! A controller finds no memory, at each of its growths in turn.
-use crate::devices::{Device, cut, formatted, found_on, shown, started};
+use crate::devices::{
+    Device, cut, formatted, found_on, give, give_all, powered, rig_of, shown, started,
+};
 use crate::failures::counting::Counting;
 use crate::failures::failing::half_done;
 use crate::failures::filling::{BLOCK, TABLE, fill, fill_but};
@@ -10,9 +12,8 @@ use crate::scripts::{
 };
 use crate::standing::Standing;
 use linked_list_allocator::LocalHeap;
-use ng_core::{Controller, Event, Reply, power_on};
+use ng_core::{Controller, Event, Reply};
 use ng_num::Fault;
-use ng_settings::Settings;
 use std::alloc::Global;
 use std::cell::Cell;
 use std::test::Fail;
@@ -63,10 +64,10 @@ fn is_power_refused(
 ) -> Result<(bool, Device), Fault> {
     let ballast = fill_but(alloc, heap, room)?;
     let calls = Cell::new([0, 0]);
-    let refused = power_on(heap, Counting::new(rig, &calls), Settings::standard());
+    let refused = powered(heap, Counting::new(rig, &calls));
     drop(ballast);
     match refused {
-        Ok(controller) => Ok((false, controller.into_rig().into_inner())),
+        Ok(controller) => Ok((false, rig_of(controller).into_inner())),
         Err((fault, rig)) => Ok((
             fault == Fault::OutOfMemory && calls.get() == [0, 0],
             rig.into_inner(),
@@ -84,7 +85,7 @@ fn answer_in_room<'h>(
 ) -> Result<Reply, Fault> {
     let event = event_of(heap, order)?;
     let ballast = fill_but(alloc, heap, room)?;
-    let reply = controller.on(event);
+    let reply = give(controller, event);
     drop(ballast);
     Ok(reply)
 }
@@ -160,7 +161,7 @@ fn came(
     let mut controller = started(&heap, Counting::new(rig, &calls))?;
     let entries = standing.entries();
     let astray = first_astray(alloc, &heap, &mut controller, &calls, rows, begins, entries);
-    let rig = controller.into_rig().into_inner();
+    let rig = rig_of(controller).into_inner();
     standing.take_all(rows)?;
     let is_handed = rig.handed(usize::MAX)?.as_slice() == standing.items();
     let found = found_on(alloc, cut(&rig)?)?;
@@ -245,6 +246,23 @@ fn each_growth_before_a_cut_and_after_it(rt: HostRuntime) -> Result<(), Fail> {
     Ok(())
 }
 
+/// What is answered to an operator who gives a half-done block up where no memory is left, and after how many entries.
+fn given_up(alloc: Global) -> Result<(Reply, u64), Fault> {
+    let (rig, standing) = half_done(alloc, BEFORE_A_CUT)?;
+    let heap = LocalHeap::new(alloc, HEAP)?;
+    let calls = Cell::new([0, 0]);
+    let mut controller = started(&heap, Counting::new(rig, &calls))?;
+    let reply = answer_in_room(alloc, &heap, &mut controller, Order::Abandon, 0);
+    drop(rig_of(controller));
+    Ok((reply?, standing.entries()))
+}
+
+#[test]
+fn a_half_done_block_is_given_up_without_memory(rt: HostRuntime) -> Result<(), Fail> {
+    assert_eq!(rt; given_up(rt.alloc()), Ok((Reply::Done(1), 0)));
+    Ok(())
+}
+
 /// That as the log fills.
 fn came_as_the_log_fills(alloc: Global) -> Result<Came, Fault> {
     let rows = filling_the_log(alloc)?;
@@ -263,7 +281,7 @@ fn held(alloc: Global) -> Result<usize, Fault> {
     let calls = Cell::new([0, 0]);
     let controller = started(&heap, Counting::new(formatted(alloc)?, &calls))?;
     let held = heap.used();
-    drop(controller.into_rig());
+    drop(rig_of(controller));
     Ok(held)
 }
 
@@ -338,14 +356,14 @@ fn is_list_answered<'h>(
     let events = events_of(alloc, heap, rows)?;
     let before = (shown(controller), calls.get());
     let ballast = fill(alloc, heap)?;
-    let refused = controller.run(events.as_slice());
+    let refused = give_all(controller, events.as_slice());
     drop(ballast);
     let is_same = (shown(controller), calls.get()) == before;
     let is_refused = match refused {
         Ok(_) => false,
         Err(fault) => fault == Fault::OutOfMemory,
     };
-    let replies = controller.run(events.as_slice())?;
+    let replies = give_all(controller, events.as_slice())?;
     Ok(is_same && is_refused && are_replies(replies.as_slice(), rows))
 }
 
@@ -355,7 +373,7 @@ fn is_program_answered(alloc: Global, rows: &[Row]) -> Result<bool, Fault> {
     let calls = Cell::new([0, 0]);
     let mut controller = started(&heap, Counting::new(formatted(alloc)?, &calls))?;
     let is_answered = is_list_answered(alloc, &heap, &mut controller, &calls, rows);
-    drop(controller.into_rig());
+    drop(rig_of(controller));
     is_answered
 }
 

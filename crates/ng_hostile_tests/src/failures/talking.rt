@@ -1,12 +1,10 @@
 //! A console finds no memory, at each of its growths in turn.
-use crate::devices::{Device, cut, formatted};
+use crate::devices::{Device, cut, formatted, talk};
 use crate::failures::failing::half_done;
 use crate::failures::filling::{BLOCK, Ballast, fill_but};
 use crate::scripts::BEFORE_A_CUT;
 use linked_list_allocator::LocalHeap;
 use ng_num::Fault;
-use ng_run::console;
-use ng_settings::Settings;
 use std::alloc::Global;
 use std::cell::Cell;
 use std::io;
@@ -235,7 +233,7 @@ fn ended(
         text: Vec::new(alloc),
         is_refused: &is_refused,
     };
-    let (status, _) = console(&heap, &mut reader, &mut writer, rig, Settings::standard());
+    let (status, _) = talk(&heap, &mut reader, &mut writer, rig);
     end_of(alloc, turns, short, status, writer.text.as_slice())
 }
 

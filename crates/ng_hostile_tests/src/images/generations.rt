@@ -1,8 +1,6 @@
 //! One device as it stood at some times of its life, from its format on. What each holds is an older image of the next.
-use crate::devices::{Device, copy_of, formatted};
+use crate::devices::{Device, copy_of, formatted, talk};
 use ng_num::Fault;
-use ng_run::console;
-use ng_settings::Settings;
 use std::alloc::Global;
 
 /// What an operator asks each time, and how that ends: power is on, and off after it.
@@ -37,7 +35,7 @@ pub fn generations(alloc: Global) -> Result<Vec<Device>, Fault> {
 fn asked(alloc: Global, rig: Device, text: &str) -> Result<Device, Fault> {
     let mut reader = text.as_bytes();
     let mut answers = Vec::new(alloc);
-    let (status, rig) = console(alloc, &mut reader, &mut answers, rig, Settings::standard());
+    let (status, rig) = talk(alloc, &mut reader, &mut answers, rig);
     if status == 0 {
         Ok(rig)
     } else {

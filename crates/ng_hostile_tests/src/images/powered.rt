@@ -1,12 +1,10 @@
 //! What a changed image stands for, by its headers alone, and whether power on answers so; what was found then is found again.
-use crate::devices::Device;
+use crate::devices::{Device, powered, recovered, rig_of, shown};
 use crate::images::sectors::{number_at, put, sector_of};
-use ng_core::{Condition, Event, HalfShown, Reply, Status, power_on};
-use ng_journal::recover;
+use ng_core::{Condition, HalfShown, Status};
 use ng_layout::{Half, Stored};
 use ng_num::Fault;
 use ng_rig::Rig;
-use ng_settings::Settings;
 use std::alloc::{AllocError, Global};
 
 /// The last epoch.
@@ -125,12 +123,12 @@ fn status_of(stored: &Stored<Global>) -> Status {
 
 /// Whether a controller over this device, under this epoch, shows this state; under the last epoch it is refused.
 fn is_shown(alloc: Global, rig: Device, epoch: u64, stored: &Stored<Global>) -> bool {
-    match power_on(alloc, rig, Settings::standard()) {
+    match powered(alloc, rig) {
         Ok(controller) => {
             let mut controller = controller;
-            let reply = controller.on(Event::Status);
-            drop(controller.into_rig());
-            reply == Reply::Status(status_of(stored))
+            let status = shown(&mut controller);
+            drop(rig_of(controller));
+            status == Some(status_of(stored))
         }
         Err((fault, _)) => fault == Fault::CountersUsed && epoch == LAST_EPOCH,
     }
@@ -150,14 +148,10 @@ fn stands_not(
         return Ok(Some(Astray::Epoch));
     }
     let wanted = header_as_of(&mut rig, epoch, next);
-    let (journal, again) = match recover(alloc, rig) {
+    let (again, mut rig) = match recovered(alloc, rig) {
         Ok(recovered) => recovered,
-        Err((fault, rig)) => {
-            drop(rig);
-            return Ok(not_used_up(fault, epoch));
-        }
+        Err((fault, _)) => return Ok(not_used_up(fault, epoch)),
     };
-    let mut rig = journal.into_rig();
     if header_as_of(&mut rig, next, next) != wanted {
         return Ok(Some(Astray::Header));
     }
@@ -196,9 +190,8 @@ pub fn outcome_of(alloc: Global, rig: Device) -> Result<Outcome, AllocError> {
     let epoch = epoch_in_force(&mut rig);
     let is_ahead = number_at(&sector_of(&mut rig, 686), 0, 8) > epoch;
     let before = rig.calls();
-    match recover(alloc, rig) {
-        Ok((journal, stored)) => {
-            let rig = journal.into_rig();
+    match recovered(alloc, rig) {
+        Ok((stored, rig)) => {
             if rig.calls() != before.saturating_add(90) {
                 return Ok(Outcome::Astray(Astray::Calls));
             }
@@ -221,18 +214,8 @@ pub fn outcome_of(alloc: Global, rig: Device) -> Result<Outcome, AllocError> {
 
 /// What the refusal of a device comes to, which is refused again by the same name.
 fn refused_again(alloc: Global, rig: Device, fault: Fault, epoch: u64) -> Outcome {
-    match recover(alloc, rig) {
-        Ok((journal, _)) => {
-            drop(journal.into_rig());
-            Outcome::Astray(Astray::Again)
-        }
-        Err((again, rig)) => {
-            drop(rig);
-            if again == fault {
-                refusal(fault, epoch)
-            } else {
-                Outcome::Astray(Astray::Again)
-            }
-        }
+    match recovered(alloc, rig) {
+        Err((again, _)) if again == fault => refusal(fault, epoch),
+        _ => Outcome::Astray(Astray::Again),
     }
 }

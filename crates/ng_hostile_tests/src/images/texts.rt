@@ -1,10 +1,8 @@
 //! Texts that a console is given by chance: commands of all kinds, some of them spoiled or cut, long lines, and any bytes.
-use crate::devices::{Device, copy_of, formatted};
+use crate::devices::{Device, copy_of, formatted, talk};
 use crate::images::chance::Chance;
 use crate::images::talks::Talk;
 use ng_num::Fault;
-use ng_run::console;
-use ng_settings::Settings;
 use std::alloc::{AllocError, Global};
 use std::test::Fail;
 
@@ -184,7 +182,7 @@ fn talked(
 ) -> Result<(Device, Option<u64>), AllocError> {
     let mut reader = text;
     let mut answers = Vec::new(alloc);
-    let (status, rig) = console(alloc, &mut reader, &mut answers, rig, Settings::standard());
+    let (status, rig) = talk(alloc, &mut reader, &mut answers, rig);
     let mut talk = Talk::new(text, answers.as_slice(), entries);
     let is_so = status == 0 && talk.is_answered();
     let entries = talk.entries;

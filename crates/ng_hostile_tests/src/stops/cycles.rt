@@ -1,13 +1,12 @@
 //! Power comes and goes many times.
-use crate::devices::{Device, formatted, started};
+use crate::devices::{Device, formatted, give, powered, rig_of};
 use crate::rows::{Does, MOVED, Order, Row, event_of, reply_to};
 use crate::standing::Standing;
 use crate::stops::cuts::Choice;
 use crate::stops::devices::{Kept, found, stopped};
-use ng_core::{Controller, Reply, Source, power_on};
+use ng_core::{Controller, Reply, Source};
 use ng_num::Fault;
 use ng_rig::{FuseRig, Rig};
-use ng_settings::Settings;
 use std::alloc::Global;
 use std::test::Fail;
 
@@ -44,7 +43,7 @@ fn fails<R: Rig>(
     for (order, does, _) in rows {
         let wanted = reply_to(*does, choice.after().entries());
         choice.take(*does)?;
-        let reply = controller.on(event_of(alloc, *order)?);
+        let reply = give(controller, event_of(alloc, *order)?);
         if reply == Reply::Refused(Fault::DeviceFailed) {
             return Ok(true);
         }
@@ -80,10 +79,10 @@ fn cut_after(
     calls: u64,
 ) -> Result<(Device, Choice), Fault> {
     let mut choice = Choice::one(wanted)?;
-    match power_on(alloc, FuseRig::new(rig, calls), Settings::standard()) {
+    match powered(alloc, FuseRig::new(rig, calls)) {
         Ok(mut controller) => {
             let worked = work(alloc, &mut controller, &mut choice);
-            let fuse = controller.into_rig();
+            let fuse = rig_of(controller);
             worked?;
             Ok((fuse.into_inner(), choice))
         }

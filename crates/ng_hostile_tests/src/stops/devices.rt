@@ -1,10 +1,9 @@
 //! Devices, and what is found on them.
-use crate::devices::{Device, lines, started};
+use crate::devices::{Device, give, read_again, rig_of, shown, started};
 use crate::rows::{Row, entries_after, event_of, reply_to};
 use crate::standing::{Found, Standing};
 use crate::stops::recorder::{Notes, Recorder};
-use ng_core::{Controller, Event, Reply, Status};
-use ng_journal::recover;
+use ng_core::{Controller, Reply};
 use ng_num::Fault;
 use ng_rig::Rig;
 use std::alloc::{AllocError, Global};
@@ -38,34 +37,18 @@ pub fn stopped(rig: &Device, calls: usize, kept: Kept) -> Result<Device, AllocEr
     rig.stopped(calls, &writes_kept(kept))
 }
 
-/// What a controller shows once this device is powered on, and the device then.
-fn shown<R: Rig + Drop>(alloc: Global, rig: R) -> Result<(Status, R), Fault> {
-    let mut controller = started(alloc, rig)?;
-    let reply = controller.on(Event::Status);
-    let rig = controller.into_rig();
-    match reply {
-        Reply::Status(status) => Ok((status, rig)),
-        _ => Err(Fault::Broken),
-    }
-}
-
 /// What is found on a device that is powered on, the calls of that, and the device then, which was read again after those calls.
 pub fn found(alloc: Global, rig: Device) -> Result<(Found, Notes, Device), Fault> {
-    let (status, recorder) = shown(alloc, Recorder::new(alloc, rig))?;
-    let (rig, notes) = recorder.into_parts();
-    match recover(alloc, rig) {
-        Ok((mut journal, stored)) => {
-            let lines = lines(&mut journal, stored.length);
-            let rig = journal.into_rig();
-            let found = Found {
-                status,
-                stored,
-                lines: lines?,
-            };
-            Ok((found, notes, rig))
-        }
-        Err((fault, _)) => Err(fault),
-    }
+    let mut controller = started(alloc, Recorder::new(alloc, rig))?;
+    let status = shown(&mut controller);
+    let (rig, notes) = rig_of(controller).into_parts();
+    let (stored, lines, rig) = read_again(alloc, rig)?;
+    let found = Found {
+        status: status.ok_or(Fault::Broken)?,
+        stored,
+        lines: lines?,
+    };
+    Ok((found, notes, rig))
 }
 
 /// Whether a device stands for this once it is powered on.
@@ -83,7 +66,7 @@ pub fn first_astray<R: Rig>(
 ) -> Result<Option<(usize, Reply)>, Fault> {
     let mut entries = entries;
     for (n, (order, does, _)) in rows.iter().enumerate() {
-        let reply = controller.on(event_of(alloc, *order)?);
+        let reply = give(controller, event_of(alloc, *order)?);
         if reply != reply_to(*does, entries) {
             return Ok(Some((n, reply)));
         }
@@ -101,7 +84,7 @@ pub fn played(
 ) -> Result<(Device, Notes), Fault> {
     let mut controller = started(alloc, Recorder::new(alloc, rig))?;
     let astray = first_astray(alloc, &mut controller, rows, entries);
-    let (rig, notes) = controller.into_rig().into_parts();
+    let (rig, notes) = rig_of(controller).into_parts();
     match astray? {
         None => Ok((rig, notes)),
         Some(_) => Err(Fault::Broken),

@@ -1,14 +1,13 @@
 //! The sync of a header fails, so that the older header may come back with a later cut.
-use crate::devices::{Device, formatted, started};
+use crate::devices::{Device, formatted, give, powered, rig_of, started};
 use crate::rows::{Does, Order, Row, event_of};
 use crate::standing::Standing;
 use crate::stops::cuts::{Astray, Choice, Cuts, POWER_ON, Played, first_astray_between};
 use crate::stops::devices::{first_astray, left_by, played};
 use crate::stops::recorder::{Notes, Recorder};
-use ng_core::{Reply, power_on};
+use ng_core::Reply;
 use ng_num::Fault;
 use ng_rig::FailRig;
-use ng_settings::Settings;
 use std::alloc::Global;
 use std::test::Fail;
 
@@ -41,9 +40,9 @@ fn failed_in_power_on(alloc: Global) -> Result<Recorder<Device>, Fault> {
     let (rig, _) = loaded(alloc)?;
     let calls = calls_before_the_last(alloc, &[])?;
     let rig = FailRig::new(Recorder::new(alloc, rig), calls);
-    match power_on(alloc, rig, Settings::standard()) {
+    match powered(alloc, rig) {
         Ok(controller) => {
-            drop(controller.into_rig());
+            drop(rig_of(controller));
             Err(Fault::Broken)
         }
         Err((Fault::DeviceFailed, rig)) => Ok(rig.into_inner()),
@@ -57,8 +56,8 @@ fn failed_in_load(alloc: Global) -> Result<Recorder<Device>, Fault> {
     let calls = calls_before_the_last(alloc, LOADS)?;
     let event = event_of(alloc, Order::Load(NEW))?;
     let mut controller = started(alloc, FailRig::new(Recorder::new(alloc, rig), calls))?;
-    let reply = controller.on(event);
-    let rig = controller.into_rig().into_inner();
+    let reply = give(&mut controller, event);
+    let rig = rig_of(controller).into_inner();
     match reply {
         Reply::Refused(Fault::DeviceFailed) => Ok(rig),
         _ => Err(Fault::Broken),
@@ -68,7 +67,7 @@ fn failed_in_load(alloc: Global) -> Result<Recorder<Device>, Fault> {
 /// The device is powered on again, with no cut before it.
 fn powered_again(alloc: Global, rig: Recorder<Device>) -> Result<Played, Fault> {
     let controller = started(alloc, rig)?;
-    let (rig, notes) = controller.into_rig().into_parts();
+    let (rig, notes) = rig_of(controller).into_parts();
     let cuts = Cuts {
         first: rig.calls().saturating_sub(POWER_ON),
         last: rig.calls(),

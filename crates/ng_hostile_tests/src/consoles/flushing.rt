@@ -1,8 +1,6 @@
 //! An answer is written through before the next command is read: an operator waits for it.
-use ng_journal::format;
-use ng_rig::MemoryRig;
-use ng_run::console;
-use ng_settings::Settings;
+use crate::devices::{formatted, talk};
+use ng_num::Fault;
 use std::alloc::Global;
 use std::cell::Cell;
 use std::io::{self, Read, Write};
@@ -60,11 +58,7 @@ const COMMANDS: &[u8] = b"status\nmdi G0 X0.001\nhold\ntick 1\ncontinue\ntick 9\
 
 /// The status of a console over a fresh device; how many reads came too early, how many bytes were never flushed, and how many flushes there
 /// were for a line.
-fn counted(alloc: Global) -> Result<(u8, usize, usize, usize), Fail> {
-    let mut rig = MemoryRig::new(alloc, 1_710)?;
-    if format(&mut rig).is_err() {
-        return Err(Fail::from("the device isn't formatted"));
-    }
+fn counted(alloc: Global) -> Result<(u8, usize, usize, usize), Fault> {
     let unflushed = Cell::new(0);
     let mut reader = Patient {
         lines: COMMANDS,
@@ -75,7 +69,7 @@ fn counted(alloc: Global) -> Result<(u8, usize, usize, usize), Fail> {
         unflushed: &unflushed,
         flushes: 0,
     };
-    let (status, _) = console(alloc, &mut reader, &mut writer, rig, Settings::standard());
+    let (status, _) = talk(alloc, &mut reader, &mut writer, formatted(alloc)?);
     Ok((status, reader.early, unflushed.get(), writer.flushes))
 }
 

@@ -1,33 +1,31 @@
-//! A console over readers, writers, devices and heaps that fail at each place. What it answers where none fails is said by the cases of
-//! `ngc_cases`.
+//! A console over readers, writers, devices and heaps that fail at each place.
+use crate::devices::{Device, formatted, talk};
 use linked_list_allocator::LocalHeap;
-use ng_journal::format;
+use ng_num::Fault;
 use ng_rig::{FailRig, MemoryRig, Rig};
-use ng_run::console;
-use ng_settings::Settings;
-use std::alloc::{AllocError, Global};
+use std::alloc::Global;
 use std::io;
 use std::io::{ErrorKind, Read, Write};
 use std::test::Fail;
-
-/// A formatted device.
-fn formatted(alloc: Global) -> Result<MemoryRig<Global>, AllocError> {
-    let mut rig = MemoryRig::new(alloc, 1_710)?;
-    match format(&mut rig) {
-        Ok(()) => Ok(rig),
-        Err(_) => Err(AllocError),
-    }
-}
 
 /// What a console answers to these lines over a device: its status, what it writes, and the device then.
 fn answered<R: Rig>(alloc: Global, lines: &str, rig: R) -> (u8, Vec<u8>, R) {
     let mut reader = lines.as_bytes();
     let mut text = Vec::new(alloc);
-    let (status, rig) = console(alloc, &mut reader, &mut text, rig, Settings::standard());
+    let (status, rig) = talk(alloc, &mut reader, &mut text, rig);
     (status, text, rig)
 }
 
-/// A device that isn't formatted, and one that fails: power on is refused, and that is told.
+/// What a console answers that has no memory for power on: its status, and what it writes.
+fn answered_without_memory(alloc: Global) -> Result<(u8, Vec<u8>), Fault> {
+    let heap = LocalHeap::new(alloc, 1_000)?;
+    let mut reader = "status\n".as_bytes();
+    let mut text = Vec::new(alloc);
+    let (status, _) = talk(&heap, &mut reader, &mut text, formatted(alloc)?);
+    Ok((status, text))
+}
+
+/// A device that isn't formatted, one that fails, and no memory: power on is refused, and that is told.
 #[test]
 fn power_on_is_refused(rt: HostRuntime) -> Result<(), Fail> {
     let bare = MemoryRig::new(rt.alloc(), 1_710)?;
@@ -40,6 +38,9 @@ fn power_on_is_refused(rt: HostRuntime) -> Result<(), Fail> {
         ((status, is_told), (failed, is_failure_told, rig.failures())),
         ((2, true), (2, true, 1))
     );
+    let (status, text) = answered_without_memory(rt.alloc())?;
+    let is_told = text.as_slice() == b"refused M1 OutOfMemory\n".as_slice();
+    assert_eq!(rt; (status, is_told), (2, true));
     Ok(())
 }
 
@@ -70,7 +71,7 @@ fn place_of(wanted: &[&str], text: &[u8]) -> usize {
 }
 
 /// That move over a device that fails after so many calls: the place of what is written, the status, and the failures.
-fn moved_over_failing(alloc: Global, calls: u64) -> Result<(usize, u8, u64), AllocError> {
+fn moved_over_failing(alloc: Global, calls: u64) -> Result<(usize, u8, u64), Fault> {
     let rig = FailRig::new(formatted(alloc)?, calls);
     let (status, text, rig) = answered(alloc, MOVE, rig);
     Ok((place_of(FAILING, text.as_slice()), status, rig.failures()))
@@ -162,14 +163,14 @@ fn text_after(reads: usize) -> &'static str {
 }
 
 /// A console whose reader fails after so many reads: its status, and whether what was asked before is answered.
-fn dripped(alloc: Global, reads: usize) -> Result<(u8, bool), AllocError> {
+fn dripped(alloc: Global, reads: usize) -> Result<(u8, bool), Fault> {
     let mut reader = Drip {
         bytes: DRIPPING.as_bytes(),
         reads_left: reads,
     };
     let mut text = Vec::new(alloc);
     let rig = formatted(alloc)?;
-    let (status, _) = console(alloc, &mut reader, &mut text, rig, Settings::standard());
+    let (status, _) = talk(alloc, &mut reader, &mut text, rig);
     Ok((status, text.as_slice() == text_after(reads).as_bytes()))
 }
 
@@ -188,11 +189,7 @@ fn ends_where_the_reader_fails(rt: HostRuntime) -> Result<(), Fail> {
 const MOVED: &str = "begun\ndone 1\nidle\nticks 5\n";
 
 /// What is asked over a writer with so much room: the status, what is written, and the device.
-fn told_in_room(
-    alloc: Global,
-    lines: &str,
-    room: usize,
-) -> Result<(u8, Vec<u8>, MemoryRig<Global>), AllocError> {
+fn told_in_room(alloc: Global, lines: &str, room: usize) -> Result<(u8, Vec<u8>, Device), Fault> {
     let mut reader = lines.as_bytes();
     let mut writer = Full {
         taken: Vec::new(alloc),
@@ -200,7 +197,7 @@ fn told_in_room(
         takes_none: room % 2 == 0,
     };
     let rig = formatted(alloc)?;
-    let (status, rig) = console(alloc, &mut reader, &mut writer, rig, Settings::standard());
+    let (status, rig) = talk(alloc, &mut reader, &mut writer, rig);
     let Full {
         taken,
         room: _,
@@ -210,7 +207,7 @@ fn told_in_room(
 }
 
 /// That move over a writer with so much room: the status, whether a beginning is written, its length, and the items handed out.
-fn moved_in_room(alloc: Global, room: usize) -> Result<(u8, bool, usize, usize), AllocError> {
+fn moved_in_room(alloc: Global, room: usize) -> Result<(u8, bool, usize, usize), Fault> {
     let (status, text, rig) = told_in_room(alloc, "mdi G0 X0.002\ntick 9\nquit\n", room)?;
     let items = rig.handed(rig.calls())?;
     Ok((
@@ -250,10 +247,7 @@ const BEHIND_MOVES: &[&str] = &[
 
 /// That over a writer with so much room: the status, whether a beginning is written, its length, the items handed out, and the place
 /// of what the status tells once power is on again.
-fn two_moves_in_room(
-    alloc: Global,
-    room: usize,
-) -> Result<(u8, bool, usize, usize, usize), AllocError> {
+fn two_moves_in_room(alloc: Global, room: usize) -> Result<(u8, bool, usize, usize, usize), Fault> {
     let (status, text, rig) = told_in_room(alloc, TWO_MOVES, room)?;
     let items = rig.handed(rig.calls())?;
     let (_, shown, _) = answered(alloc, "status\n", rig);
@@ -273,58 +267,6 @@ fn makes_no_tick_after_a_line_that_is_not_written(rt: HostRuntime) -> Result<(),
         let found = two_moves_in_room(rt.alloc(), room)?;
         let (items, moves) = if room < 20 { (1, 0) } else { (3, 1) };
         assert_eq!(rt; found, (2, true, room, items, moves), "{room}");
-    }
-    Ok(())
-}
-
-/// Bytes of a heap; what is written and the status. Power on wants two tables of 43,192 bytes and room for the lines that are planned, some 47,000,
-/// and a program its bytes.
-const HEAPS: &[(usize, &str, u8)] = &[
-    (1_000, "refused M1 OutOfMemory\n", 2),
-    (60_000, "refused M1 OutOfMemory\n", 2),
-    (120_000, "refused M1 OutOfMemory\n", 2),
-    (
-        167_000,
-        "refused M1 OutOfMemory\nstatus entries 0 place 0 at 0.000000 0.000000 0.000000 known half none idle\n",
-        0,
-    ),
-    (
-        2_000_000,
-        "done 1\nstatus entries 1 place 0 at 0.000000 0.000000 0.000000 known half none idle\n",
-        0,
-    ),
-];
-
-/// What these lines are answered with a heap of so many bytes: the status, and whether this text is written.
-fn answered_from_heap(
-    alloc: Global,
-    bytes: usize,
-    lines: &[u8],
-    wanted: &str,
-) -> Result<(u8, bool), AllocError> {
-    let heap = LocalHeap::new(alloc, bytes)?;
-    let mut reader = lines;
-    let mut text = Vec::new(alloc);
-    let rig = formatted(alloc)?;
-    let (status, _) = console(&heap, &mut reader, &mut text, rig, Settings::standard());
-    Ok((status, text.as_slice() == wanted.as_bytes()))
-}
-
-/// A program of so many empty lines after the command that loads it, and the status after that.
-fn long_program(alloc: Global, command: &[u8], length: usize) -> Result<Vec<u8>, AllocError> {
-    let mut lines = Vec::from_slice(alloc, command)?;
-    lines.resize(command.len().saturating_add(length), b'\n')?;
-    lines.extend_from_slice(b"status\n")?;
-    Ok(lines)
-}
-
-/// A program that finds no memory is refused, and its bytes are passed over.
-#[test]
-fn a_program_finds_no_memory(rt: HostRuntime) -> Result<(), Fail> {
-    let lines = long_program(rt.alloc(), b"load 100000\n", 100_000)?;
-    for (bytes, wanted, status) in HEAPS {
-        let found = answered_from_heap(rt.alloc(), *bytes, lines.as_slice(), wanted)?;
-        assert_eq!(rt; found, (*status, true), "{bytes}");
     }
     Ok(())
 }

@@ -1,9 +1,7 @@
 //! The end of the text is final: a reader that gave no byte isn't read again.
-use ng_journal::format;
-use ng_rig::MemoryRig;
-use ng_run::console;
-use ng_settings::Settings;
-use std::alloc::{AllocError, Global};
+use crate::devices::{formatted, talk};
+use ng_num::Fault;
+use std::alloc::Global;
 use std::io::{self, ErrorKind, Read};
 use std::test::Fail;
 
@@ -38,17 +36,13 @@ const TEXTS: &[(&str, &str)] = &[
 ];
 
 /// The status of a console over such a reader and a fresh device, and whether it answers this.
-fn answered(alloc: Global, lines: &str, wanted: &str) -> Result<(u8, bool), AllocError> {
-    let mut rig = MemoryRig::new(alloc, 1_710)?;
-    if format(&mut rig).is_err() {
-        return Err(AllocError);
-    }
+fn answered(alloc: Global, lines: &str, wanted: &str) -> Result<(u8, bool), Fault> {
     let mut reader = Once {
         bytes: lines.as_bytes(),
         has_ended: false,
     };
     let mut text = Vec::new(alloc);
-    let (status, _) = console(alloc, &mut reader, &mut text, rig, Settings::standard());
+    let (status, _) = talk(alloc, &mut reader, &mut text, formatted(alloc)?);
     Ok((status, text.as_slice() == wanted.as_bytes()))
 }
 
