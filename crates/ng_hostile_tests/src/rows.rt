@@ -114,6 +114,16 @@ pub fn event_of<A: Allocator + Copy + Drop>(alloc: A, order: Order) -> Result<Ev
     })
 }
 
+/// Whether an event is a tick that begins a line of the program.
+pub fn begins_a_line(order: Order, does: Does) -> bool {
+    matches!(order, Order::Tick) && matches!(does, Does::Begins)
+}
+
+/// Whether by an event a half-done block goes on.
+pub fn goes_on(order: Order, does: Does) -> bool {
+    matches!(order, Order::Resume) && matches!(does, Does::Goes)
+}
+
 /// What an event is answered that does this after so many entries.
 pub fn reply_to(does: Does, entries: u64) -> Reply {
     match does {

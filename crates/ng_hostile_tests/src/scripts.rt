@@ -124,12 +124,17 @@ fn move_by(line: &'static str, pulse: Row, calls: usize) -> [Row; 4] {
     ]
 }
 
+/// An entry of one record.
+const FEED: &[Row] = &[
+    (Order::Mdi("F100"), Does::Begins, 0),
+    (Order::Tick, Does::Executes("F100", 0), 2),
+];
+
 /// An entry in sector 686, and 512 moves there and back by turns. The last of them is opened in sector 1709, the log's last, so that its
 /// entry takes 88 writes and 3 syncs.
 pub fn filling_the_log(alloc: Global) -> Result<Vec<Row>, AllocError> {
     let mut rows = Vec::new(alloc);
-    rows.push((Order::Mdi("F100"), Does::Begins, 0))?;
-    rows.push((Order::Tick, Does::Executes("F100", 0), 2))?;
+    rows.extend_from_slice(FEED)?;
     for _ in 0..255 {
         rows.extend_from_slice(&move_by("G0 X0.001", FORWARD, 2))?;
         rows.extend_from_slice(&move_by("G0 X0", BACKWARD, 2))?;
@@ -142,19 +147,27 @@ pub fn filling_the_log(alloc: Global) -> Result<Vec<Row>, AllocError> {
 /// 33 blank lines, and then the program's end.
 const BLANKS: &str = "\n\n\n\n\n\n\n\n\n\n\n\n\n\n\n\n\n\n\n\n\n\n\n\n\n\n\n\n\n\n\n\n\nM2\n";
 
+const BLANKS_STORED: &[Row] = &[
+    (Order::Load(BLANKS), Does::Loads(BLANKS), 91),
+    (Order::Start, Does::Goes, 0),
+];
+
+/// The last line of a program is worked.
+const ENDED: &[Row] = &[
+    BEGUN,
+    (Order::Tick, Does::Opens("M2", Source::Program, 0), 2),
+    OFF,
+    (Order::Tick, Does::Executes("M2", 0), 2),
+    IDLE,
+];
+
 /// A program of 34 lines is stored and run to its end.
 pub fn many_lines(alloc: Global) -> Result<Vec<Row>, AllocError> {
     let mut rows = Vec::new(alloc);
-    rows.push((Order::Load(BLANKS), Does::Loads(BLANKS), 91))?;
-    rows.push((Order::Start, Does::Goes, 0))?;
+    rows.extend_from_slice(BLANKS_STORED)?;
     for line in 1..=33 {
-        rows.push(BEGUN)?;
-        rows.push((Order::Tick, Does::Executes("", line), 2))?;
+        rows.extend_from_slice(&[BEGUN, (Order::Tick, Does::Executes("", line), 2)])?;
     }
-    rows.push(BEGUN)?;
-    rows.push((Order::Tick, Does::Opens("M2", Source::Program, 0), 2))?;
-    rows.push(OFF)?;
-    rows.push((Order::Tick, Does::Executes("M2", 0), 2))?;
-    rows.push(IDLE)?;
+    rows.extend_from_slice(ENDED)?;
     Ok(rows)
 }

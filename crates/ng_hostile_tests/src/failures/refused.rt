@@ -5,7 +5,7 @@ use crate::devices::{
 use crate::failures::counting::Counting;
 use crate::failures::failing::half_done;
 use crate::failures::filling::{BLOCK, TABLE, fill, fill_but};
-use crate::rows::{Does, Order, Row, entries_after, event_of, reply_to};
+use crate::rows::{Does, Order, Row, begins_a_line, entries_after, event_of, goes_on, reply_to};
 use crate::scripts::{
     AFTER_A_CUT, AFTER_A_CUT_OF_A_PROGRAM, BEFORE_A_CUT, BEFORE_A_CUT_OF_A_PROGRAM, READ_AHEAD,
     STORED_AND_RUN, filling_the_log,
@@ -28,21 +28,18 @@ type Machine<'a, 'h> = Controller<Counting<'a>, &'h LocalHeap>;
 /// answered all the same: those of the lines that it reads ahead.
 type Tables = (usize, usize);
 
-/// Whether an event is a tick that begins a line of the program.
-fn is_begin(order: Order, does: Does) -> bool {
-    matches!((order, does), (Order::Tick, Does::Begins))
-}
-
 /// The tables of an event that does this. Those of a tick that begins a line of the program are told apart; where they aren't, it takes
 /// that of its line, and finds no room to read ahead.
 fn tables_of(order: Order, does: Does, told: Option<&Tables>) -> Tables {
-    match (order, does) {
-        (Order::Load(_), Does::Loads(_)) => (1, 0),
-        (Order::Mdi(_), Does::Begins) => (1, 0),
-        (Order::Tick, Does::Begins) => *told.unwrap_or(&(1, 0)),
+    if begins_a_line(order, does) {
+        *told.unwrap_or(&(1, 0))
+    } else if goes_on(order, does) {
         // the state after the approach, and that after the line
-        (Order::Resume, Does::Goes) => (2, 0),
-        _ => (0, 0),
+        (2, 0)
+    } else if matches!(does, Does::Loads(_) | Does::Begins) {
+        (1, 0)
+    } else {
+        (0, 0)
     }
 }
 
@@ -135,7 +132,7 @@ fn first_astray<'h>(
         if !is_answered(alloc, heap, controller, calls, row, tables, entries)? {
             return Ok(Some(n));
         }
-        if is_begin(order, does) {
+        if begins_a_line(order, does) {
             begun = begun.saturating_add(1);
         }
         entries = entries_after(does, entries);
