@@ -1,10 +1,9 @@
-ghost use Rattle.std.specs.Prelude.{◌≡◌, ◌<◌, ◌+◌};
-ghost use Rattle.ng_rig.specs.MemoryRig.{sector_count};
-
+use crate::images::{sector_of, store};
+use crate::journal::fill;
 use linked_list_allocator::LocalHeap;
 use ng_canon::{AxisStep, Item, Outputs, Pulse};
-use ng_rig::{FailRig, Failed, FuseRig, MemoryRig, Rig};
-use std::alloc::{AllocError, Allocator};
+use ng_rig::{FailRig, FuseRig, MemoryRig, Rig};
+use std::alloc::{AllocError, Allocator, Global};
 use std::test::Fail;
 
 mod worn;
@@ -26,24 +25,18 @@ fn three_items() -> [Item; 3] {
     ]
 }
 
-/// Six writes to three sectors, a sync and three hand-outs.
-fn make_ten_calls<A: Allocator + Copy + Drop>(
-    rig: &mut MemoryRig<A>,
-    items: &[Item; 3],
-) -> Result<(), Failed>
-    requires { sector_count rig.old ≡ 3 }
-    ensures { sector_count rig.new ≡ 3 }
-{
-    rig.write(0, &[1; 512])?;
-    rig.write(1, &[2; 512])?;
-    rig.hand_out(items[0])?;
-    rig.write(0, &[3; 512])?;
-    rig.sync()?;
-    rig.write(1, &[4; 512])?;
-    rig.hand_out(items[1])?;
-    rig.write(2, &[5; 512])?;
-    rig.write(1, &[6; 512])?;
-    rig.hand_out(items[2])
+/// Six writes to three sectors, a sync and three hand-outs: whether each succeeds.
+fn make_ten_calls<R: Rig>(rig: &mut R, items: &[Item; 3]) -> bool {
+    store(rig, 0, &[1; 512])
+        && store(rig, 1, &[2; 512])
+        && rig.hand_out(items[0]).is_ok()
+        && store(rig, 0, &[3; 512])
+        && rig.sync().is_ok()
+        && store(rig, 1, &[4; 512])
+        && rig.hand_out(items[1]).is_ok()
+        && store(rig, 2, &[5; 512])
+        && store(rig, 1, &[6; 512])
+        && rig.hand_out(items[2]).is_ok()
 }
 
 /// What each of the three sectors holds in all its bytes after so many of these calls, by how many of its
@@ -62,13 +55,9 @@ const LEFT: &[([[u8; 3]; 3], usize)] = &[
     ([[3, 3, 3], [2, 4, 6], [0, 5, 5]], 3),
 ];
 
-/// Whether a sector reads as 512 times this byte.
-fn holds<R: Rig>(rig: &mut R, sector: usize, byte: u8) -> bool
-    requires { sector < R.sectors rig.old }
-    ensures { R.sectors rig.new ≡ R.sectors rig.old }
-{
-    let mut bytes = [byte.wrapping_add(1); 512];
-    rig.read(sector, &mut bytes).is_ok() && bytes == [byte; 512]
+/// Whether a sector reads as 512 times this byte, which isn't 255.
+fn holds<R: Rig>(rig: &mut R, sector: usize, byte: u8) -> bool {
+    sector_of(rig, sector) == [byte; 512]
 }
 
 /// Whether the device stopped so holds these bytes, has no calls and has handed out nothing.
@@ -77,9 +66,7 @@ fn leaves<A: Allocator + Copy + Drop>(
     n: usize,
     keep: &[usize],
     want: [u8; 3],
-) -> Result<bool, AllocError>
-    requires { sector_count rig.now ≡ 3 }
-{
+) -> Result<bool, AllocError> {
     let mut stop = rig.stopped(n, keep)?;
     let is_fresh = stop.calls() == 0 && stop.handed(1)?.is_empty() && stop.failures() == 0;
     Ok(
@@ -106,9 +93,7 @@ fn leaves_each<A: Allocator + Copy + Drop>(
     rig: &MemoryRig<A>,
     n: usize,
     left: &[[u8; 3]; 3],
-) -> Result<bool, AllocError>
-    requires { sector_count rig.now ≡ 3 }
-{
+) -> Result<bool, AllocError> {
     for choice in 0..27usize {
         let (a, b, c) = (choice / 9, choice / 3 % 3, choice % 3);
         if !leaves(rig, n, &[a, b, c], [left[0][a], left[1][b], left[2][c]])? {
@@ -122,7 +107,7 @@ fn leaves_each<A: Allocator + Copy + Drop>(
 fn a_stop_after_each_call_leaves_each_choice(rt: HostRuntime) -> Result<(), Fail> {
     let mut rig = MemoryRig::new(rt.alloc(), 3)?;
     let items = three_items();
-    assert!(rt; make_ten_calls(&mut rig, &items).is_ok());
+    assert!(rt; make_ten_calls(&mut rig, &items));
     assert_eq!(rt; rig.calls(), 10);
     for (n, (left, handed)) in LEFT.iter().enumerate() {
         assert!(rt; leaves_each(&rig, n, left)?, "at {n}");
@@ -139,59 +124,64 @@ fn a_stop_after_each_call_leaves_each_choice(rt: HostRuntime) -> Result<(), Fail
 #[test]
 fn a_stop_keeps_as_many_writes_as_there_are(rt: HostRuntime) -> Result<(), Fail> {
     let mut rig = MemoryRig::new(rt.alloc(), 3)?;
-    assert!(rt; make_ten_calls(&mut rig, &three_items()).is_ok());
+    assert!(rt; make_ten_calls(&mut rig, &three_items()));
     for (n, keep, want) in KEPT {
         assert!(rt; leaves(&rig, *n, keep, *want)?, "{keep:?} at {n}");
     }
     Ok(())
 }
 
-/// Writes, syncs, hands out and reads: which of the four succeed, and whether the read gives what was written.
-fn four_calls<R: Rig>(rig: &mut R, byte: u8) -> ([bool; 4], bool)
-    requires { 0 < R.sectors rig.old }
-    ensures { R.sectors rig.new ≡ R.sectors rig.old }
-{
-    let mut bytes = [byte.wrapping_add(1); 512];
-    let is_written = rig.write(0, &[byte; 512]).is_ok();
+/// Which of four calls succeed, whether the last gives what was written, and the device's sectors and failures then.
+type Four = ([bool; 4], bool, usize, u64);
+
+/// Writes, syncs, hands out and reads, which fails where a sector is all 255.
+fn four_calls<R: Rig>(rig: &mut R, byte: u8) -> Four {
+    let is_written = store(rig, 0, &[byte; 512]);
     let is_synced = rig.sync().is_ok();
     let is_handed = rig.hand_out(Item::Dwell { us: 7 }).is_ok();
-    let is_read = rig.read(0, &mut bytes).is_ok();
-    (
-        [is_written, is_synced, is_handed, is_read],
-        bytes == [byte; 512],
-    )
+    let read = sector_of(rig, 0);
+    let is_read = read != [255; 512];
+    let succeed = [is_written, is_synced, is_handed, is_read];
+    (succeed, read == [byte; 512], rig.size(), rig.failures())
+}
+
+/// What four calls make of a device, of a fuse around it that passes nine, of a device around that which fails the fifth, and of
+/// that once more; and the calls that the inmost one has after the first four and after all, with its failures.
+fn four_calls_each(alloc: Global) -> Result<([Four; 4], [usize; 2], u64), AllocError> {
+    let mut plain = MemoryRig::new(alloc, 1)?;
+    let first = four_calls(&mut plain, 8);
+    let before = plain.calls();
+    let mut fuse = FuseRig::new(plain, 9);
+    let second = four_calls(&mut fuse, 9);
+    let mut once = FailRig::new(fuse, 4);
+    let third = four_calls(&mut once, 10);
+    let fourth = four_calls(&mut once, 11);
+    let inner = once.into_inner().into_inner();
+    Ok((
+        [first, second, third, fourth],
+        [before, inner.calls()],
+        inner.failures(),
+    ))
 }
 
 #[test]
 fn the_three_devices_are_called_as_one(rt: HostRuntime) -> Result<(), Fail> {
-    let mut plain = MemoryRig::new(rt.alloc(), 1)?;
-    assert_eq!(rt; four_calls(&mut plain, 8), ([true; 4], true));
-    assert_eq!(rt; (plain.calls(), plain.failures()), (3, 0));
-    let mut fuse = FuseRig::new(plain, 9);
-    assert_eq!(rt; four_calls(&mut fuse, 9), ([true; 4], true));
-    assert_eq!(rt; (fuse.size(), fuse.failures()), (1, 0));
-    let mut once = FailRig::new(fuse, 4);
-    assert_eq!(rt; four_calls(&mut once, 10), ([true; 4], true));
-    assert_eq!(rt; (once.size(), once.failures()), (1, 0));
+    let (found, calls, failures) = four_calls_each(rt.alloc())?;
+    let good = ([true; 4], true, 1, 0);
     // the fuse has one call left, and the outer device fails the next before it
-    assert_eq!(rt;
-        four_calls(&mut once, 11),
-        ([false, true, false, false], false)
-    );
-    assert_eq!(rt; once.failures(), 3);
-    let inner = once.into_inner().into_inner();
-    assert_eq!(rt; (inner.calls(), inner.failures()), (10, 0));
+    let last = ([false, true, false, false], false, 1, 3);
+    assert_eq!(rt; found, [good, good, good, last]);
+    assert_eq!(rt; (calls, failures), ([3, 10], 0));
     Ok(())
 }
 
 /// Which of four calls succeed and which of the next four, and how many failures are counted after each four.
-fn eight_calls<R: Rig>(rig: &mut R) -> ([[bool; 4]; 2], [u64; 2])
-    requires { 0 < R.sectors rig.old }
-{
-    let (first, _) = four_calls(rig, 5);
-    let failures = rig.failures();
-    let (second, _) = four_calls(rig, 6);
-    ([first, second], [failures, rig.failures()])
+type Eight = ([[bool; 4]; 2], [u64; 2]);
+
+fn eight_calls<R: Rig>(rig: &mut R) -> Eight {
+    let (first, _, _, before) = four_calls(rig, 5);
+    let (second, _, _, after) = four_calls(rig, 6);
+    ([first, second], [before, after])
 }
 
 /// How many calls a fuse passes, which of four calls then succeed, how many of them fail, and how many writes, syncs and
@@ -204,15 +194,20 @@ const FUSES: &[(u64, [bool; 4], u64, usize)] = &[
     (4, [true, true, true, true], 0, 3),
 ];
 
+/// What eight calls make of a fuse that passes so many, and the calls and failures of the device in it.
+fn eight_calls_of_a_fuse(alloc: Global, passed: u64) -> Result<(Eight, usize, u64), AllocError> {
+    let mut fuse = FuseRig::new(MemoryRig::new(alloc, 1)?, passed);
+    let found = eight_calls(&mut fuse);
+    let inner = fuse.into_inner();
+    Ok((found, inner.calls(), inner.failures()))
+}
+
 #[test]
 fn a_fuse_passes_so_many_calls(rt: HostRuntime) -> Result<(), Fail> {
     for (passed, succeed, fail, calls) in FUSES {
-        let mut fuse = FuseRig::new(MemoryRig::new(rt.alloc(), 1)?, *passed);
-        let found = eight_calls(&mut fuse);
         let want = ([*succeed, [false; 4]], [*fail, fail.saturating_add(4)]);
-        let inner = fuse.into_inner();
-        let counts = (inner.calls(), inner.failures());
-        assert_eq!(rt; (found, counts), (want, (*calls, 0)), "{passed}");
+        let found = eight_calls_of_a_fuse(rt.alloc(), *passed)?;
+        assert_eq!(rt; found, (want, *calls, 0), "{passed}");
     }
     Ok(())
 }
@@ -252,18 +247,20 @@ const ONE_FAILS: &[(u64, [[bool; 4]; 2], u64, usize)] = &[
     ),
 ];
 
+/// What eight calls make of a device that fails one after so many, and the calls and failures of the device in it.
+fn eight_calls_one_fails(alloc: Global, passed: u64) -> Result<(Eight, usize, u64), AllocError> {
+    let mut once = FailRig::new(MemoryRig::new(alloc, 1)?, passed);
+    let found = eight_calls(&mut once);
+    let inner = once.into_inner();
+    Ok((found, inner.calls(), inner.failures()))
+}
+
 #[test]
 fn one_call_fails_once(rt: HostRuntime) -> Result<(), Fail> {
     for (passed, succeed, fail, calls) in ONE_FAILS {
-        let mut once = FailRig::new(MemoryRig::new(rt.alloc(), 1)?, *passed);
-        let found = eight_calls(&mut once);
-        let inner = once.into_inner();
-        let counts = (inner.calls(), inner.failures());
-        assert_eq!(rt;
-            (found, counts),
-            ((*succeed, [*fail, 1]), (*calls, 0)),
-            "{passed}"
-        );
+        let want = (*succeed, [*fail, 1]);
+        let found = eight_calls_one_fails(rt.alloc(), *passed)?;
+        assert_eq!(rt; found, (want, *calls, 0), "{passed}");
     }
     Ok(())
 }
@@ -272,11 +269,9 @@ fn one_call_fails_once(rt: HostRuntime) -> Result<(), Fail> {
 fn failures_have_no_effect_and_are_counted(rt: HostRuntime) -> Result<(), Fail> {
     let heap = LocalHeap::new(rt.alloc(), 5_000)?;
     let mut rig = MemoryRig::new(&heap, 1)?;
-    assert_eq!(rt;
-        four_calls(&mut rig, 5),
-        ([false, false, false, true], false)
-    );
-    assert_eq!(rt; (rig.calls(), rig.failures()), (0, 3));
+    let found = four_calls(&mut rig, 5);
+    assert_eq!(rt; found, ([false, false, false, true], false, 1, 3));
+    assert_eq!(rt; rig.calls(), 0);
     assert!(rt; holds(&mut rig, 0, 0));
     assert!(rt; MemoryRig::new(&heap, 1).is_err());
     assert!(rt; rig.stopped(0, &[]).is_err());
@@ -307,20 +302,20 @@ fn failures_of_all_devices_are_counted(rt: HostRuntime) {
     assert_eq!(rt; once.into_inner().failures(), u64::MAX);
 }
 
-/// Writes each sector and syncs.
-fn fill<R: Rig>(rig: &mut R) -> Result<(), Failed> {
-    for sector in 0..rig.size() {
-        if sector < rig.size() {
-            rig.write(sector, &[9; 512])?;
-        }
-    }
-    rig.sync()
+/// Writes each sector and syncs, three times over.
+fn fill_thrice<R: Rig>(rig: &mut R) -> bool {
+    fill(rig, 9)
+        && rig.sync().is_ok()
+        && fill(rig, 9)
+        && rig.sync().is_ok()
+        && fill(rig, 9)
+        && rig.sync().is_ok()
 }
 
 #[test]
 fn as_many_sectors_as_a_full_journal(rt: HostRuntime) -> Result<(), Fail> {
     let mut rig = MemoryRig::new(rt.alloc(), 5_806)?;
-    assert!(rt; fill(&mut rig).is_ok() && fill(&mut rig).is_ok() && fill(&mut rig).is_ok());
+    assert!(rt; fill_thrice(&mut rig));
     assert_eq!(rt; (rig.calls(), rig.size()), (17_421, 5_806));
     for n in [0, 9_000, 17_420, 17_421] {
         assert_eq!(rt; rig.stopped(n, &[1; 5_806])?.size(), 5_806);

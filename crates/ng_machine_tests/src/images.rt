@@ -1,8 +1,12 @@
+use crate::journal::header;
 use ng_journal::recover;
 use ng_num::Fault;
 use ng_rig::{MemoryRig, Rig};
 use std::alloc::{AllocError, Allocator};
 use std::test::Fail;
+
+mod records;
+mod sizes;
 
 /// A device of format 1 before one of its numbers is changed. Its program has 131,072 bytes, and all that isn't named
 /// is as in a fresh state.
@@ -23,6 +27,8 @@ enum Base {
 enum Answer {
     /// It stands, and the same number is written again.
     Same,
+    /// The same, while other numbers of the half-done block don't last: there is none, or it isn't known where the machine stands.
+    Alone,
     /// It stands, and the next number is written.
     Next,
     /// It stands; the number isn't looked at or doesn't last, and 0 is written.
@@ -31,6 +37,8 @@ enum Answer {
 }
 
 const SAME: Answer = Answer::Same;
+
+const ALONE: Answer = Answer::Alone;
 
 const NEXT: Answer = Answer::Next;
 
@@ -208,7 +216,8 @@ const CASES: &[Case] = &[
     ("half-done", Base::Odd, 88, 162, 1, &[3, 128, 255], J3),
     ("half-done", Base::Full, 88, 162, 1, &[1, 2], SAME),
     ("half-done", Base::Full, 88, 162, 1, &[0, 3], J3),
-    ("half-done", Base::Lost, 88, 162, 1, &[0, 1, 2], SAME),
+    ("half-done", Base::Lost, 88, 162, 1, &[1, 2], SAME),
+    ("half-done", Base::Lost, 88, 162, 1, &[0], ALONE),
     ("open", Base::Odd, 88, 163, 1, &[0], SAME),
     ("open", Base::Odd, 88, 163, 1, &[1, 2, 3], J3),
     ("open", Base::Lost, 88, 163, 1, &[0, 1, 2], ZERO),
@@ -216,8 +225,11 @@ const CASES: &[Case] = &[
     ("open", Base::Full, 88, 163, 1, &[1, 2, 3], J3),
     ("point known", Base::Odd, 88, 164, 1, &[0], SAME),
     ("point known", Base::Odd, 88, 164, 1, &[1, 2], J3),
-    ("point known", Base::Full, 88, 164, 1, &[0, 1], SAME),
+    ("point known", Base::Full, 88, 164, 1, &[1], SAME),
+    ("point known", Base::Full, 88, 164, 1, &[0], ALONE),
     ("point known", Base::Full, 88, 164, 1, &[2, 128, 255], J3),
+    ("point known", Base::Lost, 88, 164, 1, &[0, 1], SAME),
+    ("point known", Base::Lost, 88, 164, 1, &[2, 128, 255], J3),
     ("unnamed, 165", Base::Odd, 88, 165, 1, &[1, 255], ZERO),
     ("unnamed, 165", Base::Full, 88, 165, 1, &[1, 255], ZERO),
     ("bytes of text", Base::Full, 88, 166, 2, &[0, 256], SAME),
@@ -241,8 +253,8 @@ const CASES: &[Case] = &[
     ("text, 200", Base::Odd, 88, 200, 1, &[255], ZERO),
     ("text, 455", Base::Full, 88, 455, 1, &[0, 10, 255], SAME),
     ("text, 455", Base::Odd, 88, 455, 1, &[255], ZERO),
-    ("text, 202", Base::Lost, 88, 202, 1, &[255], SAME),
-    ("text, 203", Base::Lost, 88, 203, 1, &[255], ZERO),
+    ("text, 202", Base::Lost, 88, 202, 1, &[0, 10, 255], SAME),
+    ("text, 203", Base::Lost, 88, 203, 1, &[10, 255], ZERO),
     ("unnamed, 456", Base::Odd, 88, 456, 8, &[-1], ZERO),
     ("unnamed, 504", Base::Full, 88, 504, 8, &[-1], ZERO),
     ("#1", Base::Odd, 89, 0, 8, ENDS, SAME),
@@ -283,7 +295,7 @@ pub fn sector_with(fields: &[(usize, usize, i64)]) -> [u8; 512] {
 
 /// What a sector reads as; all 255 where it can't be read.
 pub fn sector_of<R: Rig>(rig: &mut R, sector: usize) -> [u8; 512] {
-    let mut bytes = [0; 512];
+    let mut bytes = [255; 512];
     if sector < rig.size() && rig.read(sector, &mut bytes).is_ok() {
         bytes
     } else {
@@ -325,12 +337,8 @@ const HALF: [(usize, usize, i64); 8] = [
 /// An Mdi block that is half-done before its first segment, with the text `G0X`.
 const LOST_HALF: [(usize, usize, i64); 3] = [(162, 1, 2), (166, 2, 3), (200, 3, 0x58_3047)];
 
-/// Makes a device of this kind, with one number changed.
-fn lay<R: Rig>(rig: &mut R, base: Base, at: (usize, usize, usize), number: i64) -> bool {
-    let (epoch, header, area) = match base {
-        Base::Even => (2, 0, 2),
-        Base::Odd | Base::Full | Base::Lost => (1, 1, 88),
-    };
+/// The state of a device of this kind, at the bytes that it has in a snapshot's first sector.
+fn state_of(base: Base) -> [u8; 512] {
     let mut state = sector_with(&FRESH);
     let more = match base {
         Base::Odd | Base::Even => [].as_slice(),
@@ -340,11 +348,20 @@ fn lay<R: Rig>(rig: &mut R, base: Base, at: (usize, usize, usize), number: i64) 
     for (byte, width, number) in more {
         put(&mut state, *byte, *width, *number);
     }
-    let named = sector_with(&[(0, 8, MARK), (8, 4, 1), (16, 8, epoch), (32, 8, LONGEST)]);
-    let is_laid = store(rig, header, &named) && store(rig, area, &state);
-    let mut changed = sector_of(rig, at.0);
-    put(&mut changed, at.1, at.2, number);
-    is_laid && store(rig, at.0, &changed) && rig.sync().is_ok()
+    state
+}
+
+/// Makes the device of a row, with this number in the row's place.
+fn lay<R: Rig>(rig: &mut R, case: &Case, number: i64) -> bool {
+    let (epoch, sector, area) = match case.1 {
+        Base::Even => (2, 0, 2),
+        Base::Odd | Base::Full | Base::Lost => (1, 1, 88),
+    };
+    let is_laid = store(rig, sector, &header(epoch, 0, LONGEST))
+        && store(rig, area, &state_of(case.1));
+    let mut changed = sector_of(rig, case.2);
+    put(&mut changed, case.3, case.4, number);
+    is_laid && store(rig, case.2, &changed) && rig.sync().is_ok()
 }
 
 /// Where the next epoch writes what stands in this sector: headers and snapshot areas change places.
@@ -369,7 +386,7 @@ pub fn powered<A: Allocator + Copy + Drop, R: Rig>(alloc: A, rig: R) -> (Option<
 /// What power on answers, what it writes in place of this number, and how many calls it makes.
 fn wanted(answer: Answer, number: i64) -> (Option<Fault>, i64, usize) {
     match answer {
-        Answer::Same => (None, number, 90),
+        Answer::Same | Answer::Alone => (None, number, 90),
         Answer::Next => (None, number.saturating_add(1), 90),
         Answer::Zero => (None, 0, 90),
         // the sync before the first read, and no write
@@ -377,36 +394,38 @@ fn wanted(answer: Answer, number: i64) -> (Option<Fault>, i64, usize) {
     }
 }
 
-/// Whether power on makes this of a device with a number changed: its answer, its calls, and what stands in the number's
-/// place afterwards.
+/// Whether power on makes of a device with a number changed what a row says: its answer, its calls, and what stands in the
+/// number's place afterwards.
 fn answers<A: Allocator + Copy + Drop>(
     alloc: A,
-    base: Base,
-    at: (usize, usize, usize),
+    case: &Case,
     number: i64,
-    answer: Answer,
 ) -> Result<bool, AllocError> {
     let mut rig = MemoryRig::new(alloc, 1_710)?;
-    let is_laid = lay(&mut rig, base, at, number);
+    let is_laid = lay(&mut rig, case, number);
     let before = rig.calls();
     let (fault, mut rig) = powered(alloc, rig);
-    let (refusal, again, calls) = wanted(answer, number);
-    let place = if fault.is_none() { twin(at.0) } else { at.0 };
+    let (refusal, again, calls) = wanted(case.6, number);
+    let place = if fault.is_none() {
+        twin(case.2)
+    } else {
+        case.2
+    };
     let found = sector_of(&mut rig, place);
     let mut want = found;
-    put(&mut want, at.1, at.2, again);
+    put(&mut want, case.3, case.4, again);
     let is_called = rig.calls() == before.saturating_add(calls);
     Ok(is_laid && fault == refusal && is_called && found == want)
 }
 
-/// The first number of a row of which power on makes something else.
+/// The first of a row's numbers of which power on makes something else.
 fn first_unlike<A: Allocator + Copy + Drop>(
     alloc: A,
     case: &Case,
+    numbers: &[i64],
 ) -> Result<Option<i64>, AllocError> {
-    let (_, base, sector, byte, width, numbers, answer) = case;
-    for number in *numbers {
-        if !answers(alloc, *base, (*sector, *byte, *width), *number, *answer)? {
+    for number in numbers {
+        if !answers(alloc, case, *number)? {
             return Ok(Some(*number));
         }
     }
@@ -416,7 +435,8 @@ fn first_unlike<A: Allocator + Copy + Drop>(
 #[test]
 fn each_field_at_its_limits_and_past_them(rt: HostRuntime) -> Result<(), Fail> {
     for case in CASES {
-        assert_eq!(rt; first_unlike(rt.alloc(), case)?, None, "{}", case.0);
+        let unlike = first_unlike(rt.alloc(), case, case.5)?;
+        assert_eq!(rt; unlike, None, "{}", case.0);
     }
     Ok(())
 }

@@ -100,7 +100,7 @@ fn devices_that_power_on_refuses(rt: HostRuntime) -> Result<(), Fail> {
 }
 
 /// Lays the state of a fresh controller with so many entries, in this area.
-fn lay_state<R: Rig>(rig: &mut R, first: usize, entries: i64) -> bool {
+pub fn lay_state<R: Rig>(rig: &mut R, first: usize, entries: i64) -> bool {
     let mut state = sector_with(&FRESH);
     put(&mut state, 0, 8, entries);
     store(rig, first, &state)
@@ -130,7 +130,7 @@ fn header_sector(epoch: i64) -> usize {
 }
 
 /// How many entries power on finds, and whether it writes a header of this epoch.
-fn entries_found<A: Allocator + Copy + Drop, R: Rig + Drop>(
+pub fn entries_found<A: Allocator + Copy + Drop, R: Rig + Drop>(
     alloc: A,
     rig: R,
     next: i64,
@@ -277,7 +277,7 @@ fn standing<A: Allocator + Copy + Drop, R: Rig + Drop>(alloc: A, rig: R) -> Stan
 }
 
 /// Writes these bytes to all sectors.
-fn fill<R: Rig>(rig: &mut R, byte: u8) -> bool {
+pub fn fill<R: Rig>(rig: &mut R, byte: u8) -> bool {
     let mut is_filled = true;
     for sector in 0..rig.size() {
         is_filled = is_filled && store(rig, sector, &[byte; 512]);
@@ -375,7 +375,9 @@ fn content(holds: Holds) -> [u8; 512] {
 }
 
 /// How many writes and syncs power on makes and then each deed, the header that is then in force, and what a sector holds.
-const DEEDS: &[(Deed, u64, u64, (i64, i64, i64), usize, Holds)] = &[
+type Row = (Deed, u64, u64, (i64, i64, i64), usize, Holds);
+
+const DEEDS: &[Row] = &[
     (Deed::Nothing, 87, 3, (2, 0, 0), 2, Holds::Fresh),
     (Deed::Commit, 89, 4, (2, 0, 0), 687, Holds::Five),
     (Deed::Open, 88, 4, (2, 0, 0), 686, Holds::Open),
@@ -396,18 +398,24 @@ fn counted<A: Allocator + Copy + Drop>(
     Ok(((done, is_broken, writes, syncs), rig))
 }
 
+/// What the deed of a row answers, whether the journal is broken then, the writes and syncs, and whether the row's header is in force and
+/// its sector holds what it says.
+fn deed_of(
+    alloc: Global,
+    row: &Row,
+) -> Result<(Result<(), Fault>, bool, u64, u64, bool, bool), Fail> {
+    let ((done, is_broken, writes, syncs), mut rig) = counted(alloc, row.0)?;
+    let wanted = header(row.3.0, row.3.1, row.3.2);
+    let is_in_force = sector_of(&mut rig, header_sector(row.3.0)) == wanted;
+    let is_held = sector_of(&mut rig, row.4) == content(row.5);
+    Ok((done, is_broken, writes, syncs, is_in_force, is_held))
+}
+
 #[test]
 fn writes_and_syncs_of_each_deed(rt: HostRuntime) -> Result<(), Fail> {
-    for (deed, writes, syncs, (epoch, area, length), sector, holds) in DEEDS {
-        let (found, mut rig) = counted(rt.alloc(), *deed)?;
-        let in_force = sector_of(&mut rig, header_sector(*epoch));
-        let is_in_force = in_force == header(*epoch, *area, *length);
-        let is_held = sector_of(&mut rig, *sector) == content(*holds);
-        assert_eq!(rt;
-            (found, [is_in_force, is_held]),
-            ((Ok(()), false, *writes, *syncs), [true; 2]),
-            "{deed:?}"
-        );
+    for row in DEEDS {
+        let wanted = (Ok(()), false, row.1, row.2, true, true);
+        assert_eq!(rt; deed_of(rt.alloc(), row)?, wanted, "{:?}", row.0);
     }
     Ok(())
 }
@@ -450,7 +458,7 @@ fn failing<A: Allocator + Copy + Drop>(
     calls: u64,
 ) -> Result<(Done, Standing), Fail> {
     let (done, rig) = done_failing(alloc, deed, calls)?;
-    Ok((done, standing(alloc, rig)))
+    Ok((done, standing(alloc, rig.into_inner())))
 }
 
 /// The deeds that call the device, how many calls each makes, and what stands after it. Only the last sync can fail with the

@@ -4,6 +4,7 @@ ghost use Rattle.std.proofs.Props.{props};
 ghost use Rattle.ng_layout.specs.Storable.{IsStorable};
 
 mod full;
+mod labels;
 mod reading;
 mod twin;
 mod writing;

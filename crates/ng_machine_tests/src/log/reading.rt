@@ -10,7 +10,7 @@ use std::alloc::Global;
 use std::test::Fail;
 
 /// A first part whose state is a fresh one with so many entries.
-fn state_part(label: Label, entries: i64) -> [u8; 512] {
+pub fn state_part(label: Label, entries: i64) -> [u8; 512] {
     let mut sector = part_with(label, &FRESH);
     put(&mut sector, 32, 8, entries);
     sector
@@ -176,8 +176,9 @@ const ROWS: &[(&[Change], Found)] = &[
 
 #[test]
 fn records_with_a_number_changed(rt: HostRuntime) -> Result<(), Fail> {
-    for (changes, wanted) in ROWS {
-        assert_eq!(rt; changed(rt.alloc(), changes)?, *wanted, "{changes:?}");
+    for row in ROWS {
+        let found = changed(rt.alloc(), row.0)?;
+        assert_eq!(rt; found, row.1, "{:?}", row.0);
     }
     Ok(())
 }

@@ -1,0 +1,77 @@
+//! The state field of a record: each number of it at its limits and past them, as in a snapshot.
+use crate::images::{
+    Answer, CASES, Case, FRESH, LONGEST, powered, put, sector_of, sector_with, state_of, store,
+    wanted,
+};
+use crate::journal::header;
+use crate::parts::part_with;
+use ng_rig::{MemoryRig, Rig};
+use std::alloc::{AllocError, Allocator};
+use std::test::Fail;
+
+/// Makes a device of epoch 1 with a program of 131,072 bytes, a fresh state in the snapshot, and one record of one part with this state.
+fn lay<R: Rig>(rig: &mut R, state: &[u8; 512]) -> bool {
+    let mut part = part_with((1, 0, 0, 1, 0), &[]);
+    part[32..488].copy_from_slice(&state[..456]);
+    store(rig, 1, &header(1, 0, LONGEST))
+        && store(rig, 88, &sector_with(&FRESH))
+        && store(rig, 686, &part)
+        && rig.sync().is_ok()
+}
+
+/// Whether power on makes of a record with a number changed what a row says: its answer, its calls, and the whole state that it writes,
+/// unless other numbers of that don't last.
+fn answers<A: Allocator + Copy + Drop>(
+    alloc: A,
+    case: &Case,
+    number: i64,
+) -> Result<bool, AllocError> {
+    let mut state = state_of(case.1);
+    put(&mut state, case.3, case.4, number);
+    let mut rig = MemoryRig::new(alloc, 1_710)?;
+    let is_laid = lay(&mut rig, &state);
+    let before = rig.calls();
+    let (fault, mut rig) = powered(alloc, rig);
+    let (refusal, again, calls) = wanted(case.6, number);
+    let found = sector_of(&mut rig, 2);
+    let mut want = if case.6 == Answer::Alone {
+        found
+    } else {
+        state
+    };
+    put(&mut want, case.3, case.4, again);
+    let is_called = rig.calls() == before.saturating_add(calls);
+    Ok(is_laid && fault == refusal && is_called && (fault.is_some() || found == want))
+}
+
+/// The first of a row's numbers of which power on makes something else.
+fn first_unlike<A: Allocator + Copy + Drop>(
+    alloc: A,
+    case: &Case,
+    numbers: &[i64],
+) -> Result<Option<i64>, AllocError> {
+    for number in numbers {
+        if !answers(alloc, case, *number)? {
+            return Ok(Some(*number));
+        }
+    }
+    Ok(None)
+}
+
+/// The numbers of a row that have a place in a record: those of a state, in the snapshot of epoch 1.
+fn in_record(case: &Case) -> &'static [i64] {
+    if case.2 == 88 && case.3 < 456 {
+        case.5
+    } else {
+        &[]
+    }
+}
+
+#[test]
+fn each_field_of_a_record_at_its_limits_and_past_them(rt: HostRuntime) -> Result<(), Fail> {
+    for case in CASES {
+        let unlike = first_unlike(rt.alloc(), case, in_record(case))?;
+        assert_eq!(rt; unlike, None, "{}", case.0);
+    }
+    Ok(())
+}

@@ -1,0 +1,153 @@
+//! The labels of a record's parts at their limits: epochs, and how many changes a record may have.
+use crate::images::{put, store};
+use crate::journal::{entries_found, header, lay_state};
+use crate::log::reading::state_part;
+use crate::parts::{Label, part_with};
+use ng_journal::recover;
+use ng_num::Fault;
+use ng_params::{Index, Params};
+use ng_rig::{MemoryRig, Rig};
+use std::alloc::Global;
+use std::test::Fail;
+
+/// A part of record 0 of epoch 1 that has so many changes, and as many parts as these take.
+fn label(part: i64, changes: i64) -> Label {
+    (1, 0, part, parts_of(changes).saturating_add(1), changes)
+}
+
+/// How many parts so many changes take after the first.
+fn parts_of(changes: i64) -> i64 {
+    changes.saturating_add(47).div_euclid(48)
+}
+
+/// Another part of that record. Change n of the record makes a parameter n + 1 millionths: the first to the last in turn, and again from
+/// the first.
+fn changes_part(part: i64, changes: i64) -> [u8; 512] {
+    let mut sector = part_with(label(part, changes), &[]);
+    let first = part.saturating_sub(1).saturating_mul(48);
+    for (k, change) in (first..changes.min(first.saturating_add(48))).enumerate() {
+        let at = k.saturating_mul(10).saturating_add(32);
+        let number = change.rem_euclid(5_399).saturating_add(1);
+        put(&mut sector, at, 2, number);
+        put(
+            &mut sector,
+            at.saturating_add(2),
+            8,
+            change.saturating_add(1),
+        );
+    }
+    sector
+}
+
+/// A device under this odd epoch with 3 entries in its snapshot, and in its log this first part. There are two sectors after the log.
+fn laid(alloc: Global, epoch: i64, first: &[u8; 512]) -> Result<MemoryRig<Global>, Fail> {
+    let mut rig = MemoryRig::new(alloc, 1_712)?;
+    if lay_state(&mut rig, 88, 3)
+        && store(&mut rig, 1, &header(epoch, 0, 0))
+        && store(&mut rig, 686, first)
+        && rig.sync().is_ok()
+    {
+        Ok(rig)
+    } else {
+        Err(Fail::from("a device isn't laid"))
+    }
+}
+
+/// A device under epoch 1 with one record of so many changes and 7 entries, as much of it as its counts can say. It may go on in the two
+/// sectors after the log.
+fn with_changes(alloc: Global, changes: i64) -> Result<MemoryRig<Global>, Fail> {
+    let mut rig = laid(alloc, 1, &state_part(label(0, changes), 7))?;
+    let mut is_laid = true;
+    for (sector, part) in (687..1_712).zip(1..parts_of(changes).saturating_add(1)) {
+        is_laid = is_laid && store(&mut rig, sector, &changes_part(part, changes));
+    }
+    if is_laid && rig.sync().is_ok() {
+        Ok(rig)
+    } else {
+        Err(Fail::from("a record isn't laid"))
+    }
+}
+
+/// What the last of so many changes makes a parameter.
+fn value_after(number: i64, changes: i64) -> i64 {
+    let rounds = changes.saturating_sub(number).div_euclid(5_399);
+    if number > changes {
+        0
+    } else {
+        number.saturating_add(rounds.saturating_mul(5_399))
+    }
+}
+
+/// The first parameter that isn't what so many changes make it.
+fn first_unlike(params: &Params<Global>, changes: i64) -> Option<i64> {
+    for number in 1..5_400 {
+        match Index::of(number) {
+            Some(index) if params.get(index).count() == value_after(number, changes) => {}
+            _ => return Some(number),
+        }
+    }
+    None
+}
+
+/// The entries that power on finds on a device, or why it is refused, and the first parameter that isn't what so many changes make it.
+fn found(alloc: Global, rig: MemoryRig<Global>, changes: i64) -> (Result<u64, Fault>, Option<i64>) {
+    match recover(alloc, rig) {
+        Ok((journal, stored)) => {
+            drop(journal.into_rig());
+            let unlike = first_unlike(&stored.state.params, changes);
+            (Ok(stored.entries), unlike)
+        }
+        Err((fault, _)) => (Err(fault), None),
+    }
+}
+
+/// How many changes a record has; the entries that power on finds, and how many changes stand. A log of 1,024 sectors has room for 49,104 in
+/// the parts after the first.
+const CHANGES: &[(i64, u64, i64)] = &[
+    (0, 7, 0),
+    (1, 7, 1),
+    (48, 7, 48),
+    (49, 7, 49),
+    (5_399, 7, 5_399),
+    (5_400, 7, 5_400),
+    (49_056, 7, 49_056),
+    (49_103, 7, 49_103),
+    (49_104, 7, 49_104),
+    (49_105, 3, 0),
+    (65_535, 3, 0),
+];
+
+#[test]
+fn a_record_has_as_many_changes_as_the_log_has_room_for(rt: HostRuntime) -> Result<(), Fail> {
+    for (changes, entries, stand) in CHANGES {
+        let rig = with_changes(rt.alloc(), *changes)?;
+        let found = found(rt.alloc(), rig, *stand);
+        assert_eq!(rt; found, (Ok(*entries), None), "{changes}");
+    }
+    Ok(())
+}
+
+/// The greatest odd epoch.
+const LAST: i64 = 999_999_999_999;
+
+/// The epoch in force, that of the record in the log, and the entries: 7 where the record counts, else 3.
+const EPOCHS: &[(i64, i64, u64)] = &[
+    (1, -1, 3),
+    (257, 1, 3),
+    (257, 256, 3),
+    (257, 257, 7),
+    (LAST, LAST - 1, 3),
+    (LAST, LAST, 7),
+    (LAST, LAST + 1, 3),
+];
+
+/// Power on finds them, and writes a header of the next epoch.
+#[test]
+fn a_record_counts_under_its_own_epoch(rt: HostRuntime) -> Result<(), Fail> {
+    for (epoch, of_record, entries) in EPOCHS {
+        let rig = laid(rt.alloc(), *epoch, &state_part((*of_record, 0, 0, 1, 0), 7))?;
+        let found = entries_found(rt.alloc(), rig, epoch.saturating_add(1));
+        assert_eq!(rt; found, Ok((*entries, true)), "{epoch} {of_record}");
+    }
+    Ok(())
+}
