@@ -48,9 +48,8 @@ fn answers<A: Allocator + Copy + Drop>(
 fn first_unlike<A: Allocator + Copy + Drop>(
     alloc: A,
     case: &Case,
-    numbers: &[i64],
 ) -> Result<Option<i64>, AllocError> {
-    for number in numbers {
+    for number in case.5 {
         if !answers(alloc, case, *number)? {
             return Ok(Some(*number));
         }
@@ -58,20 +57,17 @@ fn first_unlike<A: Allocator + Copy + Drop>(
     Ok(None)
 }
 
-/// The numbers of a row that have a place in a record: those of a state, in the snapshot of epoch 1.
-fn in_record(case: &Case) -> &'static [i64] {
-    if case.2 == 88 && case.3 < 456 {
-        case.5
-    } else {
-        &[]
-    }
+/// Whether a number has a place in a record too: one of a state, in the snapshot of epoch 1.
+fn is_in_record(sector: usize, byte: usize) -> bool {
+    sector == 88 && byte < 456
 }
 
 #[test]
 fn each_field_of_a_record_at_its_limits_and_past_them(rt: HostRuntime) -> Result<(), Fail> {
     for case in CASES {
-        let unlike = first_unlike(rt.alloc(), case, in_record(case))?;
-        assert_eq!(rt; unlike, None, "{}", case.0);
+        if is_in_record(case.2, case.3) {
+            assert_eq!(rt; first_unlike(rt.alloc(), case)?, None, "{}", case.0);
+        }
     }
     Ok(())
 }
