@@ -155,6 +155,18 @@ pub fn entries_after(does: Does, entries: u64) -> u64 {
     }
 }
 
+/// Whether these are the replies to events after no entry.
+pub fn are_replies(replies: &[Reply], rows: &[Row]) -> bool {
+    let mut entries = 0;
+    for (reply, (_, does, _)) in replies.iter().zip(rows) {
+        if *reply != reply_to(*does, entries) {
+            return false;
+        }
+        entries = entries_after(*does, entries);
+    }
+    replies.len() == rows.len()
+}
+
 pub fn item_of(given: Given) -> Item {
     let x = match given {
         Given::Forward => AxisStep::Forward,

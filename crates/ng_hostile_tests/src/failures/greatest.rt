@@ -1,7 +1,7 @@
 //! What may be refused for want of memory is answered at its greatest.
 use crate::devices::{Device, formatted, give_all, rig_of, started};
-use crate::rows::{Does, Given, entries_after, reply_to};
-use ng_core::{Event, Reply, Source, Text};
+use crate::rows::{BEGUN, Does, FORWARD, IDLE, OFF, Order, Row, are_replies};
+use ng_core::{Event, Source, Text};
 use ng_num::{Fault, Point};
 use std::alloc::{AllocError, Global};
 use std::test::Fail;
@@ -26,50 +26,41 @@ fn long_program(alloc: Global) -> Result<Vec<u8>, AllocError> {
     Ok(program)
 }
 
-/// What that line of the operator does, until it is opened, and once it was cut and goes on.
-const OF_A_LINE: &[Does] = &[Does::Begins, Does::Opens("", Source::Mdi, 0)];
+/// What that line of the operator does, until it is opened, and once it was cut and goes on. Its text isn't looked at here.
+const OF_A_LINE: &[Row] = &[
+    (Order::Mdi(""), Does::Begins, 0),
+    (Order::Tick, Does::Opens("", Source::Mdi, 0), 2),
+];
 
-const OF_A_CUT_LINE: &[Does] = &[
-    Does::Stands(0),
-    Does::Goes,
-    Does::Approaches,
-    Does::Hands(Given::Off),
-    Does::Stands(0),
-    Does::Opens("", Source::Mdi, 0),
-    Does::Hands(Given::Forward),
-    Does::Executes("", 0),
-    Does::Rests,
+const OF_A_CUT_LINE: &[Row] = &[
+    (Order::Reference(0), Does::Stands(0), 2),
+    (Order::Resume, Does::Goes, 0),
+    (Order::Tick, Does::Approaches, 2),
+    OFF,
+    (Order::Tick, Does::Stands(0), 2),
+    (Order::Tick, Does::Opens("", Source::Mdi, 0), 2),
+    FORWARD,
+    (Order::Tick, Does::Executes("", 0), 2),
+    IDLE,
 ];
 
 /// What that program does, until its second line is begun.
-const OF_A_PROGRAM: &[Does] = &[
-    Does::Loads(""),
-    Does::Goes,
-    Does::Begins,
-    Does::Opens("", Source::Program, 0),
-    Does::Hands(Given::Forward),
-    Does::Executes("", 257),
-    Does::Begins,
+const OF_A_PROGRAM: &[Row] = &[
+    (Order::Load(""), Does::Loads(""), 346),
+    (Order::Start, Does::Goes, 0),
+    BEGUN,
+    (Order::Tick, Does::Opens("", Source::Program, 0), 2),
+    FORWARD,
+    (Order::Tick, Does::Executes("", 257), 2),
+    BEGUN,
 ];
 
-/// Whether these are the replies to events that do this after no entry.
-fn are_replies(replies: &[Reply], wanted: &[Does]) -> bool {
-    let mut entries = 0;
-    for (reply, does) in replies.iter().zip(wanted) {
-        if *reply != reply_to(*does, entries) {
-            return false;
-        }
-        entries = entries_after(*does, entries);
-    }
-    replies.len() == wanted.len()
-}
-
-/// Whether these events, and ticks after them, are answered as what does this; and the device then.
+/// Whether these events, and ticks after them, are answered as these; and the device then.
 fn are_answered(
     alloc: Global,
     rig: Device,
     events: Vec<Event<Global>>,
-    wanted: &[Does],
+    wanted: &[Row],
 ) -> Result<(bool, Device), Fault> {
     let mut events = events;
     for _ in events.len()..wanted.len() {

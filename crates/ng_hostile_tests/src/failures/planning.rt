@@ -29,12 +29,11 @@ fn reads_of(
     entries: u64,
 ) -> Result<u64, Fault> {
     let (order, does, _) = *row;
-    let [before, _] = calls.get();
+    let before = calls.get()[0];
     if give(controller, event_of(alloc, order)?) != reply_to(does, entries) {
         return Err(Fault::Broken);
     }
-    let [after, _] = calls.get();
-    Ok(after.saturating_sub(before))
+    Ok(calls.get()[0].saturating_sub(before))
 }
 
 /// How many reads each event makes that may read the program, where all others make none.

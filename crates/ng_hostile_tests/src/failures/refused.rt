@@ -5,7 +5,9 @@ use crate::devices::{
 use crate::failures::counting::Counting;
 use crate::failures::failing::half_done;
 use crate::failures::filling::{BLOCK, TABLE, fill, fill_but};
-use crate::rows::{Does, Order, Row, begins_a_line, entries_after, event_of, goes_on, reply_to};
+use crate::rows::{
+    Does, Order, Row, are_replies, begins_a_line, entries_after, event_of, goes_on, reply_to,
+};
 use crate::scripts::{
     AFTER_A_CUT, AFTER_A_CUT_OF_A_PROGRAM, BEFORE_A_CUT, BEFORE_A_CUT_OF_A_PROGRAM, READ_AHEAD,
     STORED_AND_RUN, filling_the_log,
@@ -328,18 +330,6 @@ fn events_of<'h>(
         events.push(event_of(heap, *order)?)?;
     }
     Ok(events)
-}
-
-/// Whether these are the replies to events after no entry.
-fn are_replies(replies: &[Reply], rows: &[Row]) -> bool {
-    let mut entries = 0;
-    for (reply, (_, does, _)) in replies.iter().zip(rows) {
-        if *reply != reply_to(*does, entries) {
-            return false;
-        }
-        entries = entries_after(*does, entries);
-    }
-    replies.len() == rows.len()
 }
 
 /// Whether a list of events is refused by a heap without memory, which shows nowhere, and then answered.

@@ -3,7 +3,7 @@ use crate::failures::filling::{Ballast, TABLE, fill, fill_but};
 use linked_list_allocator::LocalHeap;
 use ng_dry::{DryFault, Ended, dry};
 use ng_settings::Settings;
-use std::alloc::{Allocator, Global};
+use std::alloc::{AllocError, Allocator, Global};
 use std::io;
 use std::io::{ErrorKind, Read, Write};
 use std::test::Fail;
@@ -65,25 +65,29 @@ impl Read for Greedy<'_, '_> {
 /// waits.
 const ROOMS: &[usize] = &[0, TABLE / 2, TABLE, TABLE + ROOM / 2];
 
-/// A refused growth comes before the first read, and nothing is written. After the first read there is none.
+/// Whether a dry run is refused where a heap has so much room, before it reads or writes anything; and whether it is whole with all of the
+/// heap at its beginning.
+fn is_refused(alloc: Global, heap: &LocalHeap, room: usize) -> Result<[bool; 2], AllocError> {
+    let mut reader = Greedy::new(alloc, heap);
+    let mut text = Vec::new(alloc);
+    let ballast = fill_but(alloc, heap, room)?;
+    let refused = dry_run(heap, &mut reader, &mut text);
+    drop(ballast);
+    let is_same = reader.bytes.len() == PROGRAM.len() && text.is_empty();
+    let again = dry_run(heap, &mut reader, &mut text);
+    let is_whole = matches!(again, Ok(Ended::Done)) && text.as_slice() == TEXT.as_bytes();
+    Ok([
+        matches!(refused, Err(DryFault::Memory)) && is_same,
+        is_whole,
+    ])
+}
+
+/// A refused growth comes before the first read. After the first read there is none.
 #[test]
 fn each_growth_of_a_dry_run(rt: HostRuntime) -> Result<(), Fail> {
     let heap = LocalHeap::new(rt.alloc(), HEAP)?;
     for room in ROOMS {
-        let mut reader = Greedy::new(rt.alloc(), &heap);
-        let mut text = Vec::new(rt.alloc());
-        let ballast = fill_but(rt.alloc(), &heap, *room)?;
-        let refused = dry_run(&heap, &mut reader, &mut text);
-        drop(ballast);
-        let is_refused = matches!(refused, Err(DryFault::Memory));
-        let is_same = reader.bytes.len() == PROGRAM.len() && text.is_empty();
-        let again = dry_run(&heap, &mut reader, &mut text);
-        let is_whole = matches!(again, Ok(Ended::Done)) && text.as_slice() == TEXT.as_bytes();
-        assert_eq!(rt;
-            (is_refused, is_same, is_whole),
-            (true, true, true),
-            "{room}"
-        );
+        assert_eq!(rt; is_refused(rt.alloc(), &heap, *room)?, [true; 2], "{room}");
     }
     Ok(())
 }

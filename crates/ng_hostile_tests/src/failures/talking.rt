@@ -5,7 +5,7 @@ use crate::failures::filling::{BLOCK, Ballast, fill_but};
 use crate::scripts::BEFORE_A_CUT;
 use linked_list_allocator::LocalHeap;
 use ng_num::Fault;
-use std::alloc::Global;
+use std::alloc::{AllocError, Global};
 use std::cell::Cell;
 use std::io;
 use std::io::{ErrorKind, Read, Write};
@@ -159,15 +159,26 @@ enum End {
     Whole,
 }
 
-/// What these commands are answered, and `extra` before the answer to one of them.
-fn text_of(alloc: Global, turns: &[Turn], short: usize, extra: &str) -> Result<Vec<u8>, Fault> {
-    let mut text = Vec::new(alloc);
-    for (n, (_, answer, _)) in turns.iter().enumerate() {
-        if n == short {
-            text.extend_from_slice(extra.as_bytes())?;
-        }
-        text.extend_from_slice(answer.as_bytes())?;
+/// Appends what these commands are answered.
+fn push_answers(text: &mut Vec<u8>, turns: &[Turn]) -> Result<(), AllocError> {
+    for turn in turns {
+        text.extend_from_slice(turn.1.as_bytes())?;
     }
+    Ok(())
+}
+
+/// What these commands are answered, and `extra` before the answer to one of them.
+fn text_of(
+    alloc: Global,
+    turns: &[Turn],
+    short: usize,
+    extra: &str,
+) -> Result<Vec<u8>, AllocError> {
+    let (before, after) = turns.split_at(short.min(turns.len()));
+    let mut text = Vec::new(alloc);
+    push_answers(&mut text, before)?;
+    text.extend_from_slice(extra.as_bytes())?;
+    push_answers(&mut text, after)?;
     Ok(text)
 }
 
