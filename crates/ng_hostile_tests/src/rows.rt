@@ -69,6 +69,8 @@ pub enum Does {
     Executes(&'static str, u64),
     /// An entry: the machine is known to stand at this X, in nanometres, in the midst of a half-done block.
     Stands(i64),
+    /// An entry: a half-done block is given up of which it isn't known where the machine stands, with all outputs off.
+    GivesUp,
 }
 
 /// An event, what it does, and how many writes, syncs and hand-outs it makes.
@@ -134,7 +136,7 @@ pub fn reply_to(does: Does, entries: u64) -> Reply {
         Does::Hands(_) | Does::Moves => Reply::Moved,
         Does::Opens(_, _, index) => Reply::Opened(index),
         Does::Approaches => Reply::Approaching,
-        Does::Loads(_) | Does::Executes(_, _) | Does::Stands(_) => {
+        Does::Loads(_) | Does::Executes(_, _) | Does::Stands(_) | Does::GivesUp => {
             Reply::Done(entries.saturating_add(1))
         }
     }
@@ -143,7 +145,9 @@ pub fn reply_to(does: Does, entries: u64) -> Reply {
 /// How many entries there are after an event that does this.
 pub fn entries_after(does: Does, entries: u64) -> u64 {
     match does {
-        Does::Loads(_) | Does::Executes(_, _) | Does::Stands(_) => entries.saturating_add(1),
+        Does::Loads(_) | Does::Executes(_, _) | Does::Stands(_) | Does::GivesUp => {
+            entries.saturating_add(1)
+        }
         Does::Refuses(_)
         | Does::Goes
         | Does::Begins

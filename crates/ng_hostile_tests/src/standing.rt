@@ -154,6 +154,7 @@ impl Standing {
             Does::Loads(text) => self.load(text),
             Does::Executes(text, place) => self.execute(text, place)?,
             Does::Stands(x_nm) => self.stand(Some(point_at(x_nm)?)),
+            Does::GivesUp => self.give_up(),
         }
         Ok(())
     }
@@ -163,6 +164,11 @@ impl Standing {
         if let Some(half) = &mut self.half {
             half.at = at;
         }
+    }
+
+    fn give_up(&mut self) {
+        self.stored.state.machine.point_known = false;
+        self.half = None;
     }
 
     fn load(&mut self, text: &'static str) {

@@ -4,9 +4,9 @@ use crate::devices::{
 };
 use crate::failures::counting::Counting;
 use crate::failures::failing::half_done;
-use crate::failures::filling::{BLOCK, TABLE, fill, fill_but};
+use crate::failures::filling::{BLOCK, fill, fill_but};
 use crate::rows::{
-    Does, Order, Row, are_replies, begins_a_line, entries_after, event_of, goes_on, reply_to,
+    Does, IDLE, Order, Row, begins_a_line, entries_after, event_of, goes_on, reply_to,
 };
 use crate::scripts::{
     AFTER_A_CUT, AFTER_A_CUT_OF_A_PROGRAM, BEFORE_A_CUT, BEFORE_A_CUT_OF_A_PROGRAM, READ_AHEAD,
@@ -54,23 +54,30 @@ fn may_come(order: Order, before: [u64; 2], after: [u64; 2]) -> bool {
     }
 }
 
-/// Whether power on is refused where a heap has so much room, with no call of the device; and the device.
-fn is_power_refused(
+/// How many bytes of a heap a controller holds once power is on where there is so much room, none where power on is refused for want of
+/// memory with no call of the device; and the device.
+fn held_in_room(
     alloc: Global,
     heap: &LocalHeap,
     rig: Device,
     room: usize,
-) -> Result<(bool, Device), Fault> {
+) -> Result<(Option<usize>, Device), Fault> {
     let ballast = fill_but(alloc, heap, room)?;
     let calls = Cell::new([0, 0]);
-    let refused = powered(heap, Counting::new(rig, &calls));
+    let made = powered(heap, Counting::new(rig, &calls));
     drop(ballast);
-    match refused {
-        Ok(controller) => Ok((false, rig_of(controller).into_inner())),
-        Err((fault, rig)) => Ok((
-            fault == Fault::OutOfMemory && calls.get() == [0, 0],
-            rig.into_inner(),
-        )),
+    match made {
+        Ok(controller) => {
+            let held = heap.used();
+            Ok((Some(held), rig_of(controller).into_inner()))
+        }
+        Err((fault, rig)) => {
+            if fault == Fault::OutOfMemory && calls.get() == [0, 0] {
+                Ok((None, rig.into_inner()))
+            } else {
+                Err(fault)
+            }
+        }
     }
 }
 
@@ -142,8 +149,41 @@ fn first_astray<'h>(
     Ok(None)
 }
 
+/// Events as a list.
+fn events_of<'h>(
+    alloc: Global,
+    heap: &'h LocalHeap,
+    rows: &[Row],
+) -> Result<Vec<Event<&'h LocalHeap>>, Fault> {
+    let mut events = Vec::new(alloc);
+    for (order, _, _) in rows {
+        events.push(event_of(heap, *order)?)?;
+    }
+    Ok(events)
+}
+
+/// Whether these events are refused as a list that finds no memory for its replies, which shows nowhere.
+fn is_list_refused<'h>(
+    alloc: Global,
+    heap: &'h LocalHeap,
+    controller: &mut Machine<'_, 'h>,
+    calls: &Cell<[u64; 2]>,
+    rows: &[Row],
+) -> Result<bool, Fault> {
+    let events = events_of(alloc, heap, rows)?;
+    let before = (shown(controller), calls.get());
+    let ballast = fill(alloc, heap)?;
+    let replies = give_all(controller, events.as_slice());
+    drop(ballast);
+    let is_same = (shown(controller), calls.get()) == before;
+    Ok(match replies {
+        Ok(_) => false,
+        Err(fault) => is_same && fault == Fault::OutOfMemory,
+    })
+}
+
 /// What came of events over a heap without memory: the first that isn't answered as it should be, how many calls but reads the device
-/// took, and whether it handed out and stands for what it should.
+/// took, and whether the list of them was refused before, and the device handed out and stands for what it should.
 type Came = (Option<usize>, usize, bool);
 
 /// What comes of events over this device, which stands for this; with the tables of the ticks that begin a line of the program.
@@ -159,16 +199,14 @@ fn came(
     let mut standing = standing;
     let mut controller = started(&heap, Counting::new(rig, &calls))?;
     let entries = standing.entries();
+    let is_refused = is_list_refused(alloc, &heap, &mut controller, &calls, rows);
     let astray = first_astray(alloc, &heap, &mut controller, &calls, rows, begins, entries);
     let rig = rig_of(controller).into_inner();
     standing.take_all(rows)?;
     let is_handed = rig.handed(usize::MAX)?.as_slice() == standing.items();
     let found = found_on(alloc, cut(&rig)?)?;
-    Ok((
-        astray?,
-        rig.calls(),
-        is_handed && standing.is_found(&found)?,
-    ))
+    let stands = is_handed && standing.is_found(&found)?;
+    Ok((astray?, rig.calls(), is_refused? && stands))
 }
 
 /// That over a new device.
@@ -245,20 +283,26 @@ fn each_growth_before_a_cut_and_after_it(rt: HostRuntime) -> Result<(), Fail> {
     Ok(())
 }
 
-/// What is answered to an operator who gives a half-done block up where no memory is left, and after how many entries.
-fn given_up(alloc: Global) -> Result<(Reply, u64), Fault> {
-    let (rig, standing) = half_done(alloc, BEFORE_A_CUT)?;
-    let heap = LocalHeap::new(alloc, HEAP)?;
-    let calls = Cell::new([0, 0]);
-    let mut controller = started(&heap, Counting::new(rig, &calls))?;
-    let reply = answer_in_room(alloc, &heap, &mut controller, Order::Abandon, 0);
-    drop(rig_of(controller));
-    Ok((reply?, standing.entries()))
-}
+/// Without memory a line of the operator's is refused for its fault, and one that has none for want of memory, as a program is.
+const FAULTY: &[Row] = &[
+    (Order::Mdi("F1"), Does::Refuses(Fault::OutOfMemory), 0),
+    (Order::Load("M2"), Does::Refuses(Fault::OutOfMemory), 0),
+    (Order::Mdi("G1 X1"), Does::Refuses(Fault::NoFeed), 0),
+    IDLE,
+];
+
+/// A half-done block is given up, which takes no memory.
+const GIVEN_UP: &[Row] = &[(Order::Abandon, Does::GivesUp, 2)];
 
 #[test]
-fn a_half_done_block_is_given_up_without_memory(rt: HostRuntime) -> Result<(), Fail> {
-    assert_eq!(rt; given_up(rt.alloc()), Ok((Reply::Done(1), 0)));
+fn a_fault_and_a_block_given_up_without_memory(rt: HostRuntime) -> Result<(), Fail> {
+    assert_eq!(rt;
+        (
+            came_of(rt.alloc(), FAULTY, &[]),
+            came_after_a_cut(rt.alloc(), BEFORE_A_CUT, GIVEN_UP)
+        ),
+        (Ok((None, 90, true)), Ok((None, 92, true)))
+    );
     Ok(())
 }
 
@@ -272,16 +316,6 @@ fn came_as_the_log_fills(alloc: Global) -> Result<Came, Fault> {
 fn each_growth_as_the_log_fills(rt: HostRuntime) -> Result<(), Fail> {
     assert_eq!(rt; came_as_the_log_fills(rt.alloc()), Ok((None, 2_741, true)));
     Ok(())
-}
-
-/// How many bytes of a heap a controller holds that is powered on: room for 16 lines that are read ahead, and two tables of parameters.
-fn held(alloc: Global) -> Result<usize, Fault> {
-    let heap = LocalHeap::new(alloc, HEAP)?;
-    let calls = Cell::new([0, 0]);
-    let controller = started(&heap, Counting::new(formatted(alloc)?, &calls))?;
-    let held = heap.used();
-    drop(rig_of(controller));
-    Ok(held)
 }
 
 /// How many bytes of a heap power on finds that holds so many in the end, and whether it is refused: at each of its three growths, the
@@ -299,73 +333,28 @@ fn rooms(held: usize) -> [(usize, bool); 7] {
     ]
 }
 
-/// A line that waits keeps its text of up to 256 bytes, with much else.
+/// A controller holds room for 16 lines that are read ahead, of which each keeps its text of up to 256 bytes, with much else, and two tables
+/// of parameters.
 #[test]
 fn each_growth_of_power_on(rt: HostRuntime) -> Result<(), Fail> {
     let heap = LocalHeap::new(rt.alloc(), HEAP)?;
-    let (Ok(held), Ok(rig)) = (held(rt.alloc()), formatted(rt.alloc())) else {
-        panic!(rt; "the device isn't powered on")
+    let Ok(rig) = formatted(rt.alloc()) else {
+        panic!(rt; "the device isn't formatted")
+    };
+    let Ok((Some(held), rig)) = held_in_room(rt.alloc(), &heap, rig, HEAP / 2) else {
+        panic!(rt; "power isn't on")
     };
     assert!(rt; held > 2 * BLOCK + 16 * 256, "{held}");
-    let mut rig = rig;
     for (room, is_refused) in rooms(held) {
-        let Ok((refused, left)) = is_power_refused(rt.alloc(), &heap, rig, room) else {
+        let Ok((found, rig)) = held_in_room(rt.alloc(), &heap, cut(&rig)?, room) else {
             panic!(rt; "power on is refused otherwise")
         };
-        rig = left;
-        let calls = if is_refused { 0 } else { 90 };
-        assert_eq!(rt; (refused, rig.calls()), (is_refused, calls), "{room}");
+        let wanted = if is_refused {
+            (None, 0)
+        } else {
+            (Some(held), 90)
+        };
+        assert_eq!(rt; (found, rig.calls()), wanted, "{room}");
     }
-    Ok(())
-}
-
-/// Events as a list.
-fn events_of<'h>(
-    alloc: Global,
-    heap: &'h LocalHeap,
-    rows: &[Row],
-) -> Result<Vec<Event<&'h LocalHeap>>, Fault> {
-    let mut events = Vec::new(alloc);
-    for (order, _, _) in rows {
-        events.push(event_of(heap, *order)?)?;
-    }
-    Ok(events)
-}
-
-/// Whether a list of events is refused by a heap without memory, which shows nowhere, and then answered.
-fn is_list_answered<'h>(
-    alloc: Global,
-    heap: &'h LocalHeap,
-    controller: &mut Machine<'_, 'h>,
-    calls: &Cell<[u64; 2]>,
-    rows: &[Row],
-) -> Result<bool, Fault> {
-    let events = events_of(alloc, heap, rows)?;
-    let before = (shown(controller), calls.get());
-    let ballast = fill(alloc, heap)?;
-    let refused = give_all(controller, events.as_slice());
-    drop(ballast);
-    let is_same = (shown(controller), calls.get()) == before;
-    let is_refused = match refused {
-        Ok(_) => false,
-        Err(fault) => fault == Fault::OutOfMemory,
-    };
-    let replies = give_all(controller, events.as_slice())?;
-    Ok(is_same && is_refused && are_replies(replies.as_slice(), rows))
-}
-
-/// That over a new device.
-fn is_program_answered(alloc: Global, rows: &[Row]) -> Result<bool, Fault> {
-    let heap = LocalHeap::new(alloc, HEAP)?;
-    let calls = Cell::new([0, 0]);
-    let mut controller = started(&heap, Counting::new(formatted(alloc)?, &calls))?;
-    let is_answered = is_list_answered(alloc, &heap, &mut controller, &calls, rows);
-    drop(rig_of(controller));
-    is_answered
-}
-
-#[test]
-fn the_growth_of_a_list(rt: HostRuntime) -> Result<(), Fail> {
-    assert_eq!(rt; is_program_answered(rt.alloc(), STORED_AND_RUN), Ok(true));
     Ok(())
 }

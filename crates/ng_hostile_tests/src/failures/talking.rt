@@ -159,14 +159,6 @@ enum End {
     Whole,
 }
 
-/// Appends what these commands are answered.
-fn push_answers(text: &mut Vec<u8>, turns: &[Turn]) -> Result<(), AllocError> {
-    for turn in turns {
-        text.extend_from_slice(turn.1.as_bytes())?;
-    }
-    Ok(())
-}
-
 /// What these commands are answered, and `extra` before the answer to one of them.
 fn text_of(
     alloc: Global,
@@ -174,12 +166,23 @@ fn text_of(
     short: usize,
     extra: &str,
 ) -> Result<Vec<u8>, AllocError> {
-    let (before, after) = turns.split_at(short.min(turns.len()));
     let mut text = Vec::new(alloc);
-    push_answers(&mut text, before)?;
-    text.extend_from_slice(extra.as_bytes())?;
-    push_answers(&mut text, after)?;
+    for (n, turn) in turns.iter().enumerate() {
+        if n == short {
+            text.extend_from_slice(extra.as_bytes())?;
+        }
+        text.extend_from_slice(turn.1.as_bytes())?;
+    }
     Ok(text)
+}
+
+/// How many bytes these commands are answered.
+fn length_of(turns: &[Turn]) -> usize {
+    let mut length: usize = 0;
+    for turn in turns {
+        length = length.saturating_add(turn.1.len());
+    }
+    length
 }
 
 /// How a console ended with this status, which wrote this; none where it wrote something else.
@@ -192,12 +195,10 @@ fn end_of(
 ) -> Result<Option<End>, Fault> {
     let whole = text_of(alloc, turns, short, "")?;
     if status == 2 {
-        let before = text_of(alloc, turns.get(..short).unwrap_or_default(), short, "")?;
-        let with = short.saturating_add(1);
-        let after = text_of(alloc, turns.get(..with).unwrap_or_default(), with, "")?;
-        let is_within = text.len() >= before.len() && text.len() < after.len();
-        let is_beginning = whole.as_slice().starts_with(text);
-        return Ok(if is_within && is_beginning {
+        let before = length_of(turns.get(..short).unwrap_or_default());
+        let after = length_of(turns.get(..short.saturating_add(1)).unwrap_or_default());
+        let is_within = before <= text.len() && text.len() < after;
+        return Ok(if is_within && whole.as_slice().starts_with(text) {
             Some(End::Broken)
         } else {
             None
