@@ -1,10 +1,8 @@
-use ng_block::{Effect, Tools, execute};
 use ng_canon::{
     Arc, ArcDirection, Axis, AxisStep, Feed, Geometry, InverseTime, Item, Outputs, Pace, Plane,
     Pulse, Rate, Segment, StraightMove,
 };
 use ng_num::{Len, Num, Point};
-use ng_state::State;
 use ng_step::Stepper;
 use std::alloc::Global;
 use std::test::Fail;
@@ -342,72 +340,12 @@ const ARCS: &[ArcRow] = &[
     ),
 ];
 
-/// Programs of one move that steps, and what it gives.
-const PROGRAMS: &[(&str, &str)] = &[
-    (
-        "G3 X0 I-0.002 F60",
-        "1000: +Y -X +Y -X -X -Y -X -Y -Y +X -Y +X +X +Y +X +Y",
-    ),
-    (
-        "G2 X0 I-0.002 F60",
-        "1000: -Y -X -Y -X -X +Y -X +Y +Y +X +Y +X +X -Y +X -Y",
-    ),
-    (
-        "G3 X0 Z0.004 I-0.002 F60",
-        "1000: +Y -X+Z +Y -X -X -Y+Z -X -Y -Y +X+Z -Y +X +X +Y+Z +X +Y",
-    ),
-    (
-        "G0 Y0.0004\nG3 X0 I-0.002 J-0.0001 F60",
-        "1000: +Y -X +Y +Y -X -Y -X -X -Y -Y +X -Y -Y +X +Y +X +X +Y +Y -Y",
-    ),
-    ("G1 X0.005 Y0.002 F60", "1078: +X +X+Y +X +X+Y +X"),
-    ("G93 G1 X0.005 F60", "200000: +X +X +X +X +X"),
-    ("G3 X0 I-0.001 F60", ""),
-    (
-        "G3 X-0.008 Y0.004 I-0.005 F60",
-        "1000: +Y -X +Y +Y +Y -X +Y -X -X -X -X -Y -X -X",
-    ),
-];
-
-/// All items of the first segment of what a line does.
-fn first_items(alloc: Global, effect: &Effect) -> Text {
-    match effect.segments().next() {
-        Some(segment) => items(alloc, &segment, &Geometry::standard()),
-        None => Ok(String::new(alloc)),
-    }
-}
-
-/// All items of a line's first segment; the state becomes that after the line.
-fn line_items(alloc: Global, state: &mut State<Global>, line: &str) -> Text {
-    let effect = execute(state, line.as_bytes(), &Tools::new(), &Geometry::standard())?;
-    state.take_over(&effect.machine, effect.changes.as_slice());
-    first_items(alloc, &effect)
-}
-
-/// Whether the moves of a program, one a line, give just these items.
-fn program_gives(alloc: Global, program: &str, want: &str) -> Result<bool, Fail> {
-    let mut state = State::fresh(alloc)?;
-    let mut text = String::new(alloc);
-    for line in program.lines() {
-        text.push_str(line_items(alloc, &mut state, line)?.as_str())?;
-    }
-    Ok(text.as_str() == want)
-}
-
 #[test]
 fn arcs_give_their_items(rt: HostRuntime) -> Result<(), Fail> {
     for (plane, turn, start, end, centre, step, want) in ARCS {
         let segment = arc(*plane, *turn, spot(*start), spot(*end), *centre);
         let machine = steps_of(1_000, *step, 1_000);
         assert!(rt; gives(rt.alloc(), &segment, &machine, want)?, "{want:?}");
-    }
-    Ok(())
-}
-
-#[test]
-fn moves_of_programs_give_their_items(rt: HostRuntime) -> Result<(), Fail> {
-    for (program, want) in PROGRAMS {
-        assert!(rt; program_gives(rt.alloc(), program, want)?, "{program:?}");
     }
     Ok(())
 }

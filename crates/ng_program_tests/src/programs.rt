@@ -9,28 +9,40 @@ mod offsets;
 mod resuming;
 mod streams;
 
-use ng_block::Tools;
+use ng_block::{Effect, Tools, execute};
 use ng_canon::Geometry;
 use ng_dry::{DryFault, Ended, dry};
-use ng_num::Len;
+use ng_num::{Fault, Len};
+use ng_state::State;
 use std::alloc::{Allocator, Global};
 use std::io::{Read, Write};
 
-/// A dry run with the standard geometry and one tool of 50 mm.
+/// One tool of 50 mm.
+fn one_tool() -> Tools {
+    let mut tools = Tools::new();
+    tools.push(Len::of_nm(50_000_000).unwrap());
+    tools
+}
+
+/// What a line does in a state, with the standard geometry and that tool. As this has no contract, what a test is proved with isn't all
+/// that `execute` promises.
+fn executed(state: &State<Global>, line: &[u8]) -> Result<Effect, Fault> {
+    execute(state, line, &one_tool(), &Geometry::standard())
+}
+
+/// A dry run with the standard geometry and that tool.
 fn dry_run<R: Read, W: Write, A: Allocator + Copy + Drop>(
     alloc: A,
     reader: &mut R,
     writer: &mut W,
     block_delete: bool,
 ) -> Result<Ended, DryFault> {
-    let mut tools = Tools::new();
-    tools.push(Len::of_nm(50_000_000).unwrap());
     dry(
         alloc,
         reader,
         writer,
         block_delete,
-        &tools,
+        &one_tool(),
         &Geometry::standard(),
     )
 }

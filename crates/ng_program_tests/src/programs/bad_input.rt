@@ -1,7 +1,5 @@
 //! Lines that nobody would write: each is answered by a fault, or read, at once.
-use super::dry_text;
-use ng_block::{Tools, execute};
-use ng_canon::Geometry;
+use super::{dry_text, executed};
 use ng_dry::Ended;
 use ng_num::Fault;
 use ng_state::State;
@@ -58,7 +56,7 @@ fn broken_lines_are_refused_by_name(rt: HostRuntime) -> Result<(), Fail> {
             chance = next_chance(chance);
             *byte = (chance % 256) as u8;
         }
-        let done = execute(&state, &line, &Tools::new(), &Geometry::standard());
+        let done = executed(&state, &line);
         // by chance a line may be one comment
         assert!(rt;
             matches!(done, Err(Fault::Unreadable)) || line[0] == b'(',

@@ -1,6 +1,7 @@
 //! What single lines do in a state, field by field. The values are worked out by hand from the language.
-use ng_block::{Effect, ProgramFlow, Tools, execute};
-use ng_canon::{Canon, CanonicalCommand, Geometry, Outputs, Plane, Segment};
+use super::executed;
+use ng_block::{Effect, ProgramFlow, Tools};
+use ng_canon::{Canon, CanonicalCommand, Outputs, Plane, Segment};
 use ng_num::{Len, Point, Unit};
 use ng_state::{Motion, State};
 use std::test::Fail;
@@ -32,8 +33,7 @@ fn has_segments(effect: &Effect, wanted: &[Segment]) -> bool {
 #[test]
 fn a_line_changes_its_fields_and_no_others(rt: HostRuntime) -> Result<(), Fail> {
     let mut state = State::fresh(rt.alloc())?;
-    let line = b"G20 F60 G91 G1 X1";
-    let effect = execute(&state, line, &Tools::new(), &Geometry::standard())?;
+    let effect = executed(&state, b"G20 F60 G91 G1 X1")?;
     let machine = effect.machine;
     let feed = machine.feed_per_min;
     let point = machine.point;
@@ -63,7 +63,7 @@ fn a_line_changes_its_fields_and_no_others(rt: HostRuntime) -> Result<(), Fail> 
 #[test]
 fn a_program_end_selects_the_first_system(rt: HostRuntime) -> Result<(), Fail> {
     let mut state = State::fresh(rt.alloc())?;
-    let effect = execute(&state, b"M30", &Tools::new(), &Geometry::standard())?;
+    let effect = executed(&state, b"M30")?;
     assert_eq!(rt; (effect.changes.len(), effect.stop), (1, ProgramFlow::Ends));
     let printed = [
         CanonicalCommand::OriginOffsets(Point::zero()),

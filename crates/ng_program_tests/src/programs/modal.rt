@@ -1,21 +1,19 @@
 //! Modal groups: a line's segments in the order of the steps. All of it is worked out by hand
 //! from the language.
-use super::dry_text;
-use ng_block::{ProgramFlow, Tools, execute};
-use ng_canon::{Geometry, Outputs, Segment, Spindle};
-use ng_num::{Len, Num};
+use super::{dry_text, executed};
+use ng_block::ProgramFlow;
+use ng_canon::{Outputs, Segment, Spindle};
+use ng_num::Num;
 use ng_state::State;
 use std::test::Fail;
 
 #[test]
 fn a_whole_line_has_its_segments_in_the_order_of_the_steps(rt: HostRuntime) -> Result<(), Fail> {
-    let mut tools = Tools::new();
-    tools.push(Len::zero());
     let line = b"F1 S1 T1 M6 M3 M9 G4 P1 G1 X1 M30";
     let mut state = State::fresh(rt.alloc())?;
     state.machine.outputs.mist = true;
     state.machine.outputs.spindle = Spindle::Counterclockwise;
-    let effect = execute(&state, line, &tools, &Geometry::standard())?;
+    let effect = executed(&state, line)?;
     let speed = Outputs {
         speed: Num::of(1_000_000)?,
         ..state.machine.outputs
@@ -74,7 +72,7 @@ const COOLANTS: &[(&[u8], bool, bool, ProgramFlow)] = &[
 fn coolants_add_up_and_stops_are_told_apart(rt: HostRuntime) -> Result<(), Fail> {
     let mut state = State::fresh(rt.alloc())?;
     for (line, mist, flood, stop) in COOLANTS {
-        let effect = execute(&state, line, &Tools::new(), &Geometry::standard())?;
+        let effect = executed(&state, line)?;
         assert_eq!(rt; effect.machine.outputs.mist, *mist);
         assert_eq!(rt; effect.machine.outputs.flood, *flood);
         assert_eq!(rt; effect.stop, *stop);

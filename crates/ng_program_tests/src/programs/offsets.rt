@@ -1,6 +1,6 @@
 //! Homes: where they leave the machine, worked out by hand from the language.
-use ng_block::{Tools, execute};
-use ng_canon::{Geometry, Pace, Segment, StraightMove};
+use super::executed;
+use ng_canon::{Pace, Segment, StraightMove};
 use ng_num::{Len, Point};
 use ng_state::State;
 use std::test::Fail;
@@ -33,12 +33,7 @@ fn the_way_home_is_two_traverses(rt: HostRuntime) -> Result<(), Fail> {
     let there = traverse(point(0, 0, 0)?, point(0, 5, 0)?);
     let back = traverse(point(0, 5, 0)?, point(7, 0, 0)?);
     let state = State::fresh(rt.alloc())?;
-    let effect = execute(
-        &state,
-        b"#5161=7 G28 Y5",
-        &Tools::new(),
-        &Geometry::standard(),
-    )?;
+    let effect = executed(&state, b"#5161=7 G28 Y5")?;
     let mut segments = effect.segments();
     assert_eq!(rt; segments.next(), Some(there));
     assert_eq!(rt; segments.next(), Some(back));

@@ -1,7 +1,8 @@
 //! Blocks that go on at one of their segments: where the machine stands then, how its spindle turns, and the segment that comes.
 //! Worked out by hand from the language.
-use ng_block::{Resumed, Tools, execute};
-use ng_canon::{Geometry, Pace, Segment, Spindle};
+use super::executed;
+use ng_block::Resumed;
+use ng_canon::{Pace, Segment, Spindle};
 use ng_num::{Len, Point};
 use ng_state::State;
 use std::alloc::Global;
@@ -159,11 +160,27 @@ const ROWS: &[(&str, u64, &str)] = &[
         30_001,
         "0 0 5000000 clockwise, nothing",
     ),
+    (
+        "G83 X0 Z-1000 R0 Q0.1 F100",
+        1_152_921_504_606_846_976,
+        "0 0 5000000 clockwise, nothing",
+    ),
     // and of 1,000,000,000
     (
         "G83 X0 Z-1000 R0 Q0.000001 F100",
         2_999_999_999,
         "0 0 -999745999 clockwise, feed 0 0 -1000000000",
+    ),
+    // of 10,000 pecks as often as a line can have them: 30,001 segments each time
+    (
+        "G83 X0 Z-1000 R0 Q0.1 L9999999 F100",
+        300_009_969_997,
+        "0 0 -999646000 clockwise, feed 0 0 -1000000000",
+    ),
+    (
+        "G83 X0 Z-1000 R0 Q0.1 L9999999 F100",
+        300_009_969_999,
+        "0 0 5000000 clockwise, nothing",
     ),
     // after 9,000,000 holes of 10,000,000 pecks each
     (
@@ -234,12 +251,7 @@ fn resumed(alloc: Global, line: &str, n: u64) -> Text {
     let mut state = State::fresh(alloc)?;
     state.machine.point = start;
     state.machine.outputs.spindle = Spindle::Clockwise;
-    let effect = execute(
-        &state,
-        line.as_bytes(),
-        &Tools::new(),
-        &Geometry::standard(),
-    )?;
+    let effect = executed(&state, line.as_bytes())?;
     resumed_text(alloc, effect.block_segments_from(start, n))
 }
 
