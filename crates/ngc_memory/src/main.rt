@@ -1,7 +1,7 @@
 //! Reads settings where one growth of memory is refused. The crate `toml` takes the memory of the system and no other, so no heap of a
 //! test's own can refuse it; `rt try --fail-alloc N` refuses the Nth growth of this program. It makes as many growths of its own as
 //! standard input says, then reads the settings twice, and prints where the refused growth fell: `own`, `first`, `second` or `none`.
-//! `.ci/refuse_growths` runs it with 0, 1 and so on up to N, and so has each growth of both reads refused once.
+//! `.ci/refuse_growths` runs it with 0, 1 and so on up to N, and so has each growth of the first read refused once.
 #![tactic(auto)]
 
 mod reading;
