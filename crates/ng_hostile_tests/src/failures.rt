@@ -9,5 +9,3 @@ mod filling;
 mod greatest;
 mod planning;
 mod refused;
-mod running_dry;
-mod talking;

@@ -4,7 +4,7 @@ use std::alloc::{AllocError, Global};
 
 /// How many bytes a table of parameters has. Power on takes two; a load, and a line that is begun or read ahead, one more; a block that
 /// goes on two.
-pub const TABLE: usize = 43_192;
+const TABLE: usize = 43_192;
 
 /// How many bytes of a heap it takes, which gives them by sixteens.
 pub const BLOCK: usize = TABLE + 8;

@@ -118,6 +118,23 @@ fn stops_where_the_reader_or_the_writer_fails(rt: HostRuntime) -> Result<(), Fai
     Ok(())
 }
 
+#[test]
+fn writes_a_beginning_where_its_second_write_fails(rt: HostRuntime) -> Result<(), Fail> {
+    let mut reader = b"g0x +0. 12 34y 7\nM2\n".as_slice();
+    let mut writer = Full {
+        taken: Vec::new(rt.alloc()),
+        at_most: 100,
+        writes_left: 1,
+        takes_none: false,
+    };
+    let ended = dry_run(rt.alloc(), &mut reader, &mut writer, false);
+    let beginning =
+        "STRAIGHT_TRAVERSE(0.123400, 7.000000, 0.000000)\nSET_ORIGIN_OFFSETS(0.000000, 0.000000, 0.000000)\nSEL";
+    assert!(rt; is_broken(&ended, false));
+    assert!(rt; beginning.len() == 100 && writer.taken.as_slice() == beginning.as_bytes());
+    Ok(())
+}
+
 /// How many lines a program has, and how many bytes a read gives at most: 24,000 reads of a byte, and 110 of a whole buffer.
 const READS: &[(usize, usize)] = &[(4_000, 1), (150_000, 8192)];
 
