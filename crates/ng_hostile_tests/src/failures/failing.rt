@@ -218,87 +218,70 @@ struct Sweep {
     last: u64,
 }
 
-/// The first of these failures after which something is astray; or how many calls a session makes that met none.
-fn first_astray(
+/// Each call from so many on.
+fn each_from(first: u64) -> Sweep {
+    Sweep {
+        first,
+        last: u64::MAX,
+    }
+}
+
+/// What came of a sweep: how many calls a session makes that met no failure, none where each met one; or the first failure after which
+/// something is astray.
+type Swept = Result<Option<usize>, (u64, Astray)>;
+
+/// What comes of a sweep over this device.
+fn swept(
     alloc: Global,
     rig: &Device,
     choice: &mut Choice<'_>,
     sweep: Sweep,
-) -> Result<(Option<(u64, Astray)>, Option<usize>), Fault> {
+) -> Result<Swept, Fault> {
     let entries = choice.before.entries();
     let mut calls = sweep.first;
     for _ in 0..10_000 {
         let played = play(alloc, cut(rig)?, choice.rows, entries, calls)?;
         let Some(event) = played.met else {
-            return Ok((None, Some(played.rig.calls())));
+            return Ok(Ok(Some(played.rig.calls())));
         };
         choice.go_to(event)?;
         if let Some(astray) = choice.astray(alloc, played)? {
-            return Ok((Some((calls, astray)), None));
+            return Ok(Err((calls, astray)));
         }
         calls = calls.saturating_add(1);
         if calls > sweep.last {
-            return Ok((None, None));
+            return Ok(Ok(None));
         }
     }
     Err(Fault::Broken)
 }
 
-/// Each call.
-const EACH: Sweep = Sweep {
-    first: 0,
-    last: u64::MAX,
-};
-
-/// Each call after power on over a new device, which makes 89 reads: of two headers, a snapshot's 86 sectors, and the log's first.
-const EACH_AFTER_POWER_ON: Sweep = Sweep {
-    first: 89 + POWER_ON as u64,
-    ..EACH
-};
-
-/// The first failure of a session over a new device after which something is astray, or how many calls it makes without one.
-fn first_astray_of(
-    alloc: Global,
-    rows: &[Row],
-    sweep: Sweep,
-) -> Result<(Option<(u64, Astray)>, Option<usize>), Fault> {
+/// What comes of one over a new device.
+fn swept_of(alloc: Global, rows: &[Row], sweep: Sweep) -> Result<Swept, Fault> {
     let mut choice = Choice::at_power_on(rows, Standing::fresh(alloc)?)?;
-    first_astray(alloc, &formatted(alloc)?, &mut choice, sweep)
+    swept(alloc, &formatted(alloc)?, &mut choice, sweep)
 }
 
-#[test]
-fn each_call_of_power_on(rt: HostRuntime) -> Result<(), Fail> {
-    assert_eq!(rt;
-        first_astray_of(rt.alloc(), &[], EACH),
-        Ok((None, Some(90)))
-    );
-    Ok(())
-}
+/// How many calls power on over a new device makes: besides its writes and syncs, it reads two headers, a snapshot's 86 sectors, and the log's
+/// first.
+const POWERED_ON: u64 = 89 + POWER_ON as u64;
+
+/// Sessions over a new device, the first call that fails, and how many writes, syncs and hand-outs each makes.
+const SESSIONS: &[(&[Row], u64, usize)] = &[
+    (&[], 0, 90),
+    (STORED_AND_RUN, POWERED_ON, 192),
+    (READ_AHEAD, POWERED_ON, 206),
+    (BEFORE_A_CUT, POWERED_ON, 97),
+];
 
 #[test]
-fn each_call_as_a_program_is_stored_and_run(rt: HostRuntime) -> Result<(), Fail> {
-    assert_eq!(rt;
-        first_astray_of(rt.alloc(), STORED_AND_RUN, EACH_AFTER_POWER_ON),
-        Ok((None, Some(192)))
-    );
-    Ok(())
-}
-
-#[test]
-fn each_call_as_lines_are_read_ahead(rt: HostRuntime) -> Result<(), Fail> {
-    assert_eq!(rt;
-        first_astray_of(rt.alloc(), READ_AHEAD, EACH_AFTER_POWER_ON),
-        Ok((None, Some(206)))
-    );
-    Ok(())
-}
-
-#[test]
-fn each_call_before_a_cut(rt: HostRuntime) -> Result<(), Fail> {
-    assert_eq!(rt;
-        first_astray_of(rt.alloc(), BEFORE_A_CUT, EACH_AFTER_POWER_ON),
-        Ok((None, Some(97)))
-    );
+fn each_call_of_a_session(rt: HostRuntime) -> Result<(), Fail> {
+    for (rows, first, calls) in SESSIONS {
+        assert_eq!(rt;
+            swept_of(rt.alloc(), rows, each_from(*first)),
+            Ok(Ok(Some(*calls)))
+        );
+    }
     Ok(())
 }
 
@@ -311,129 +294,86 @@ pub fn half_done(alloc: Global, rows: &[Row]) -> Result<(Device, Standing), Faul
     Ok((cut(&played.rig)?, standing))
 }
 
-/// The first failure of a session after that after which something is astray, or how many calls it makes without one.
-fn first_astray_after_a_cut(
+/// What comes of a sweep over a device on which these events opened a line, and then power was cut.
+fn swept_after_a_cut(
     alloc: Global,
     opened: &[Row],
     rows: &[Row],
     sweep: Sweep,
-) -> Result<(Option<(u64, Astray)>, Option<usize>), Fault> {
+) -> Result<Swept, Fault> {
     let (rig, before) = half_done(alloc, opened)?;
     let mut choice = Choice::at_power_on(rows, before)?;
-    first_astray(alloc, &rig, &mut choice, sweep)
+    swept(alloc, &rig, &mut choice, sweep)
 }
+
+/// What opened a line, a session after the cut, the first call that fails, and how many writes, syncs and hand-outs the session makes. Power
+/// on makes one read more, since the log has a record.
+const SESSIONS_AFTER_A_CUT: &[(&[Row], &[Row], u64, usize)] = &[
+    (BEFORE_A_CUT, AFTER_A_CUT, 0, 106),
+    (
+        BEFORE_A_CUT_OF_A_PROGRAM,
+        AFTER_A_CUT_OF_A_PROGRAM,
+        POWERED_ON + 1,
+        109,
+    ),
+];
 
 #[test]
 fn each_call_after_a_cut(rt: HostRuntime) -> Result<(), Fail> {
-    assert_eq!(rt;
-        first_astray_after_a_cut(rt.alloc(), BEFORE_A_CUT, AFTER_A_CUT, EACH),
-        Ok((None, Some(106)))
-    );
-    Ok(())
-}
-
-/// Each call after power on over such a device, whose log has a record: one read more.
-const EACH_AFTER_POWER_ON_ANEW: Sweep = Sweep {
-    first: 90 + POWER_ON as u64,
-    ..EACH
-};
-
-#[test]
-fn each_call_after_a_cut_of_a_program(rt: HostRuntime) -> Result<(), Fail> {
-    assert_eq!(rt;
-        first_astray_after_a_cut(
-            rt.alloc(),
-            BEFORE_A_CUT_OF_A_PROGRAM,
-            AFTER_A_CUT_OF_A_PROGRAM,
-            EACH_AFTER_POWER_ON_ANEW
-        ),
-        Ok((None, Some(109)))
-    );
+    for (opened, rows, first, calls) in SESSIONS_AFTER_A_CUT {
+        assert_eq!(rt;
+            swept_after_a_cut(rt.alloc(), opened, rows, each_from(*first)),
+            Ok(Ok(Some(*calls)))
+        );
+    }
     Ok(())
 }
 
 /// How many calls come before this of the moves that fill the log: those of power on, two of the entry before them, and five of each.
 fn calls_before_move(number: u64) -> u64 {
     let moves = number.saturating_sub(1);
-    EACH_AFTER_POWER_ON
-        .first
+    POWERED_ON
         .saturating_add(2)
         .saturating_add(moves.saturating_mul(5))
 }
 
-/// The first failure, as moves fill the log, after which something is astray, or how many calls the session makes without one.
-fn first_astray_as_the_log_fills(
-    alloc: Global,
-    sweep: Sweep,
-) -> Result<(Option<(u64, Astray)>, Option<usize>), Fault> {
+/// What comes of a sweep from this of the moves that fill the log up to another, or to the session's end.
+fn swept_from_move(alloc: Global, first: u64, next: Option<u64>) -> Result<Swept, Fault> {
     let rows = filling_the_log(alloc)?;
-    first_astray_of(alloc, rows.as_slice(), sweep)
-}
-
-/// That in these moves alone, the last one with them.
-fn first_astray_in_moves(
-    alloc: Global,
-    first: u64,
-    last: u64,
-) -> Result<(Option<(u64, Astray)>, Option<usize>), Fault> {
-    let sweep = Sweep {
-        first: calls_before_move(first),
-        last: calls_before_move(last.saturating_add(1)).saturating_sub(1),
+    let first = if first == 1 {
+        POWERED_ON
+    } else {
+        calls_before_move(first)
     };
-    first_astray_as_the_log_fills(alloc, sweep)
+    let last = match next {
+        Some(next) => calls_before_move(next).saturating_sub(1),
+        None => u64::MAX,
+    };
+    swept_of(alloc, rows.as_slice(), Sweep { first, last })
 }
 
 #[test]
 fn each_call_of_the_entry_and_the_256_moves_after_it(rt: HostRuntime) -> Result<(), Fail> {
-    let sweep = Sweep {
-        last: calls_before_move(257).saturating_sub(1),
-        ..EACH_AFTER_POWER_ON
-    };
-    assert_eq!(rt;
-        first_astray_as_the_log_fills(rt.alloc(), sweep),
-        Ok((None, None))
-    );
+    assert_eq!(rt; swept_from_move(rt.alloc(), 1, Some(257)), Ok(Ok(None)));
     Ok(())
 }
 
 #[test]
 fn each_call_of_moves_257_to_362(rt: HostRuntime) -> Result<(), Fail> {
-    assert_eq!(rt;
-        first_astray_in_moves(rt.alloc(), 257, 362),
-        Ok((None, None))
-    );
+    assert_eq!(rt; swept_from_move(rt.alloc(), 257, Some(363)), Ok(Ok(None)));
     Ok(())
 }
 
 #[test]
 fn each_call_of_moves_363_to_443(rt: HostRuntime) -> Result<(), Fail> {
-    assert_eq!(rt;
-        first_astray_in_moves(rt.alloc(), 363, 443),
-        Ok((None, None))
-    );
+    assert_eq!(rt; swept_from_move(rt.alloc(), 363, Some(444)), Ok(Ok(None)));
     Ok(())
 }
 
+/// Before the entry of the last move, the 512th, what stands is written anew.
 #[test]
-fn each_call_of_moves_444_to_511(rt: HostRuntime) -> Result<(), Fail> {
-    assert_eq!(rt;
-        first_astray_in_moves(rt.alloc(), 444, 511),
-        Ok((None, None))
-    );
-    Ok(())
-}
-
-/// Before the entry of the last move, what stands is written anew.
-#[test]
-fn each_call_of_the_last_move_and_its_entry_after_a_full_log(rt: HostRuntime) -> Result<(), Fail> {
-    let sweep = Sweep {
-        first: calls_before_move(512),
-        ..EACH
-    };
-    assert_eq!(rt;
-        first_astray_as_the_log_fills(rt.alloc(), sweep),
-        Ok((None, Some(2_741)))
-    );
+fn each_call_from_move_444_on(rt: HostRuntime) -> Result<(), Fail> {
+    assert_eq!(rt; swept_from_move(rt.alloc(), 444, None), Ok(Ok(Some(2_741))));
     Ok(())
 }
 

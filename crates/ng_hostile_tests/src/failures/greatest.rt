@@ -90,13 +90,13 @@ fn is_program_answered(alloc: Global) -> Result<bool, Fault> {
 }
 
 #[test]
-fn a_line_of_256_bytes(rt: HostRuntime) -> Result<(), Fail> {
-    assert_eq!(rt; is_line_answered(rt.alloc()), Ok([true, true]));
-    Ok(())
-}
-
-#[test]
-fn a_program_of_131072_bytes(rt: HostRuntime) -> Result<(), Fail> {
-    assert_eq!(rt; is_program_answered(rt.alloc()), Ok(true));
+fn a_line_of_256_bytes_and_a_program_of_131072(rt: HostRuntime) -> Result<(), Fail> {
+    assert_eq!(rt;
+        (
+            is_line_answered(rt.alloc()),
+            is_program_answered(rt.alloc())
+        ),
+        (Ok([true, true]), Ok(true))
+    );
     Ok(())
 }

@@ -96,8 +96,28 @@ fn answer_in_room<'h>(
     Ok(reply)
 }
 
-/// Whether an event is answered as it should be: with room for less tables than it takes it is refused, which shows nowhere; and with room
-/// for them, and for no more than it may find, the same event is answered.
+/// Whether a list of this event alone is refused where there is no memory for its reply, which shows nowhere.
+fn is_list_refused<'h>(
+    alloc: Global,
+    heap: &'h LocalHeap,
+    controller: &mut Machine<'_, 'h>,
+    calls: &Cell<[u64; 2]>,
+    order: Order,
+) -> Result<bool, Fault> {
+    let events = [event_of(heap, order)?];
+    let before = (shown(controller), calls.get());
+    let ballast = fill(alloc, heap)?;
+    let replies = give_all(controller, &events);
+    drop(ballast);
+    let is_same = (shown(controller), calls.get()) == before;
+    Ok(match replies {
+        Ok(_) => false,
+        Err(fault) => is_same && fault == Fault::OutOfMemory,
+    })
+}
+
+/// Whether an event is answered as it should be: in a list that finds no memory it is refused, and with room for less tables than it takes,
+/// which shows nowhere; and with room for them, and for no more than it may find, the same event is answered.
 fn is_answered<'h>(
     alloc: Global,
     heap: &'h LocalHeap,
@@ -109,6 +129,9 @@ fn is_answered<'h>(
 ) -> Result<bool, Fault> {
     let (order, does, _) = *row;
     let (taken, more) = tables;
+    if !is_list_refused(alloc, heap, controller, calls, order)? {
+        return Ok(false);
+    }
     let before = (shown(controller), calls.get());
     for room in 0..taken {
         let reply = answer_in_room(alloc, heap, controller, order, room.saturating_mul(BLOCK))?;
@@ -149,41 +172,8 @@ fn first_astray<'h>(
     Ok(None)
 }
 
-/// Events as a list.
-fn events_of<'h>(
-    alloc: Global,
-    heap: &'h LocalHeap,
-    rows: &[Row],
-) -> Result<Vec<Event<&'h LocalHeap>>, Fault> {
-    let mut events = Vec::new(alloc);
-    for (order, _, _) in rows {
-        events.push(event_of(heap, *order)?)?;
-    }
-    Ok(events)
-}
-
-/// Whether these events are refused as a list that finds no memory for its replies, which shows nowhere.
-fn is_list_refused<'h>(
-    alloc: Global,
-    heap: &'h LocalHeap,
-    controller: &mut Machine<'_, 'h>,
-    calls: &Cell<[u64; 2]>,
-    rows: &[Row],
-) -> Result<bool, Fault> {
-    let events = events_of(alloc, heap, rows)?;
-    let before = (shown(controller), calls.get());
-    let ballast = fill(alloc, heap)?;
-    let replies = give_all(controller, events.as_slice());
-    drop(ballast);
-    let is_same = (shown(controller), calls.get()) == before;
-    Ok(match replies {
-        Ok(_) => false,
-        Err(fault) => is_same && fault == Fault::OutOfMemory,
-    })
-}
-
 /// What came of events over a heap without memory: the first that isn't answered as it should be, how many calls but reads the device
-/// took, and whether the list of them was refused before, and the device handed out and stands for what it should.
+/// took, and whether it handed out and stands for what it should.
 type Came = (Option<usize>, usize, bool);
 
 /// What comes of events over this device, which stands for this; with the tables of the ticks that begin a line of the program.
@@ -199,14 +189,13 @@ fn came(
     let mut standing = standing;
     let mut controller = started(&heap, Counting::new(rig, &calls))?;
     let entries = standing.entries();
-    let is_refused = is_list_refused(alloc, &heap, &mut controller, &calls, rows);
     let astray = first_astray(alloc, &heap, &mut controller, &calls, rows, begins, entries);
     let rig = rig_of(controller).into_inner();
     standing.take_all(rows)?;
     let is_handed = rig.handed(usize::MAX)?.as_slice() == standing.items();
     let found = found_on(alloc, cut(&rig)?)?;
     let stands = is_handed && standing.is_found(&found)?;
-    Ok((astray?, rig.calls(), is_refused? && stands))
+    Ok((astray?, rig.calls(), stands))
 }
 
 /// That over a new device.
@@ -247,40 +236,10 @@ fn each_growth_as_lines_are_read_ahead(rt: HostRuntime) -> Result<(), Fail> {
     Ok(())
 }
 
-#[test]
-fn each_growth_as_a_program_is_stored_and_run(rt: HostRuntime) -> Result<(), Fail> {
-    assert_eq!(rt;
-        came_of(rt.alloc(), STORED_AND_RUN, &[]),
-        Ok((None, 192, true))
-    );
-    Ok(())
-}
-
 /// That after a cut, where a half-done block goes on.
 fn came_after_a_cut(alloc: Global, opened: &[Row], rows: &[Row]) -> Result<Came, Fault> {
     let (rig, standing) = half_done(alloc, opened)?;
     came(alloc, rig, standing, rows, &[])
-}
-
-#[test]
-fn each_growth_before_a_cut_and_after_it(rt: HostRuntime) -> Result<(), Fail> {
-    assert_eq!(rt;
-        (
-            came_of(rt.alloc(), BEFORE_A_CUT, &[]),
-            came_after_a_cut(rt.alloc(), BEFORE_A_CUT, AFTER_A_CUT),
-            came_after_a_cut(
-                rt.alloc(),
-                BEFORE_A_CUT_OF_A_PROGRAM,
-                AFTER_A_CUT_OF_A_PROGRAM
-            )
-        ),
-        (
-            Ok((None, 97, true)),
-            Ok((None, 106, true)),
-            Ok((None, 109, true))
-        )
-    );
-    Ok(())
 }
 
 /// Without memory a line of the operator's is refused for its fault, and one that has none for want of memory, as a program is.
@@ -294,15 +253,32 @@ const FAULTY: &[Row] = &[
 /// A half-done block is given up, which takes no memory.
 const GIVEN_UP: &[Row] = &[(Order::Abandon, Does::GivesUp, 2)];
 
+/// Sessions over a new device, and how many calls but reads each makes.
+const SESSIONS: &[(&[Row], usize)] = &[(STORED_AND_RUN, 192), (BEFORE_A_CUT, 97), (FAULTY, 90)];
+
 #[test]
-fn a_fault_and_a_block_given_up_without_memory(rt: HostRuntime) -> Result<(), Fail> {
-    assert_eq!(rt;
-        (
-            came_of(rt.alloc(), FAULTY, &[]),
-            came_after_a_cut(rt.alloc(), BEFORE_A_CUT, GIVEN_UP)
-        ),
-        (Ok((None, 90, true)), Ok((None, 92, true)))
-    );
+fn each_growth_of_a_session(rt: HostRuntime) -> Result<(), Fail> {
+    for (rows, calls) in SESSIONS {
+        assert_eq!(rt; came_of(rt.alloc(), rows, &[]), Ok((None, *calls, true)));
+    }
+    Ok(())
+}
+
+/// What opened a line, a session after the cut, and how many calls but reads it makes.
+const SESSIONS_AFTER_A_CUT: &[(&[Row], &[Row], usize)] = &[
+    (BEFORE_A_CUT, AFTER_A_CUT, 106),
+    (BEFORE_A_CUT_OF_A_PROGRAM, AFTER_A_CUT_OF_A_PROGRAM, 109),
+    (BEFORE_A_CUT, GIVEN_UP, 92),
+];
+
+#[test]
+fn each_growth_after_a_cut(rt: HostRuntime) -> Result<(), Fail> {
+    for (opened, rows, calls) in SESSIONS_AFTER_A_CUT {
+        assert_eq!(rt;
+            came_after_a_cut(rt.alloc(), opened, rows),
+            Ok((None, *calls, true))
+        );
+    }
     Ok(())
 }
 

@@ -1,14 +1,11 @@
 //! What a changed image stands for, by its headers alone, and whether power on answers so; what was found then is found again.
 use crate::devices::{Device, powered, recovered, rig_of, shown};
-use crate::images::sectors::{number_at, put, sector_of};
+use crate::images::sectors::{GREATEST, number_at, put, sector_of};
 use ng_core::{Condition, HalfShown, Status};
 use ng_layout::{Half, Stored};
 use ng_num::Fault;
 use ng_rig::Rig;
 use std::alloc::{AllocError, Global};
-
-/// The last epoch.
-const LAST_EPOCH: u64 = 1_000_000_000_000;
 
 /// What power on made of an image.
 #[derive(Clone, Copy, Debug, PartialEq, Eq)]
@@ -47,7 +44,8 @@ fn epoch_of(sector: &[u8; 512], place: u64) -> Option<u64> {
     let epoch = number_at(sector, 16, 8);
     let is_valid = sector.starts_with(b"RS274NGC")
         && number_at(sector, 8, 4) == 1
-        && (1..=LAST_EPOCH).contains(&epoch)
+        && epoch >= 1
+        && epoch <= GREATEST
         && epoch % 2 == place
         && number_at(sector, 24, 8) <= 1
         && number_at(sector, 32, 8) <= 131_072;
@@ -64,7 +62,7 @@ fn epoch_in_force(rig: &mut Device) -> u64 {
 /// The header of this epoch, as another epoch would have it.
 fn header_as_of(rig: &mut Device, epoch: u64, other: u64) -> [u8; 512] {
     let mut header = sector_of(rig, if epoch % 2 == 0 { 0 } else { 1 });
-    put(&mut header, 16, 8, i64::try_from(other).unwrap_or(0));
+    put(&mut header, 16, 8, other);
     header
 }
 
@@ -130,7 +128,7 @@ fn is_shown(alloc: Global, rig: Device, epoch: u64, stored: &Stored<Global>) -> 
             drop(rig_of(controller));
             status == Some(status_of(stored))
         }
-        Err((fault, _)) => fault == Fault::CountersUsed && epoch == LAST_EPOCH,
+        Err((fault, _)) => fault == Fault::CountersUsed && epoch == GREATEST,
     }
 }
 
@@ -167,7 +165,7 @@ fn stands_not(
 
 /// What isn't so of a refusal that may come under the last epoch alone, since that is used up.
 fn not_used_up(fault: Fault, epoch: u64) -> Option<Astray> {
-    if fault == Fault::CountersUsed && epoch == LAST_EPOCH {
+    if fault == Fault::CountersUsed && epoch == GREATEST {
         None
     } else {
         Some(Astray::Again)
@@ -179,7 +177,7 @@ fn refusal(fault: Fault, epoch: u64) -> Outcome {
     match fault {
         Fault::NotFormatted if epoch == 0 => Outcome::NotFormatted,
         Fault::Damaged if epoch != 0 => Outcome::Damaged,
-        Fault::CountersUsed if epoch == LAST_EPOCH => Outcome::CountersUsed,
+        Fault::CountersUsed if epoch == GREATEST => Outcome::CountersUsed,
         _ => Outcome::Astray(Astray::Name),
     }
 }

@@ -4,10 +4,10 @@ use ng_num::Fault;
 use ng_rig::Rig;
 
 /// The greatest epoch and entry count.
-pub const GREATEST: i64 = 1_000_000_000_000;
+pub const GREATEST: u64 = 1_000_000_000_000;
 
 /// Puts a number of so many bytes into a sector, its lowest byte first.
-pub fn put(sector: &mut [u8; 512], at: usize, width: usize, number: i64) {
+pub fn put(sector: &mut [u8; 512], at: usize, width: usize, number: u64) {
     let bytes = number.to_le_bytes();
     for k in 0..width.min(8) {
         if let Some(place) = sector.get_mut(at.saturating_add(k)) {
