@@ -217,20 +217,34 @@ fn outcomes(alloc: Global, seed: u64) -> Result<(Option<(u64, Astray)>, Tally), 
     Ok((None, tally))
 }
 
-/// One for each quarter.
-const SEEDS: &[u64] = &[
-    0x9e37_79b9_7f4a_7c15,
-    0xd1b5_4a32_d192_ed03,
-    0x2545_f491_4f6c_dd1d,
-    0x0123_4567_89ab_cdef,
-];
+#[test]
+fn images_of_the_first_seed(rt: HostRuntime) -> Result<(), Fail> {
+    let (astray, tally) = outcomes(rt.alloc(), 0x9e37_79b9_7f4a_7c15)?;
+    assert_eq!(rt; astray, None);
+    assert!(rt; tally.has_each(), "{tally:?}");
+    Ok(())
+}
 
 #[test]
-fn ten_thousand_images(rt: HostRuntime) -> Result<(), Fail> {
-    for seed in SEEDS {
-        let (astray, tally) = outcomes(rt.alloc(), *seed)?;
-        assert_eq!(rt; astray, None, "{seed}");
-        assert!(rt; tally.has_each(), "{seed}: {tally:?}");
-    }
+fn images_of_the_second_seed(rt: HostRuntime) -> Result<(), Fail> {
+    let (astray, tally) = outcomes(rt.alloc(), 0xd1b5_4a32_d192_ed03)?;
+    assert_eq!(rt; astray, None);
+    assert!(rt; tally.has_each(), "{tally:?}");
+    Ok(())
+}
+
+#[test]
+fn images_of_the_third_seed(rt: HostRuntime) -> Result<(), Fail> {
+    let (astray, tally) = outcomes(rt.alloc(), 0x2545_f491_4f6c_dd1d)?;
+    assert_eq!(rt; astray, None);
+    assert!(rt; tally.has_each(), "{tally:?}");
+    Ok(())
+}
+
+#[test]
+fn images_of_the_fourth_seed(rt: HostRuntime) -> Result<(), Fail> {
+    let (astray, tally) = outcomes(rt.alloc(), 0x0123_4567_89ab_cdef)?;
+    assert_eq!(rt; astray, None);
+    assert!(rt; tally.has_each(), "{tally:?}");
     Ok(())
 }
