@@ -1,11 +1,9 @@
-//! A call of a device fails, or a growth is refused, each in turn; and which events read the program.
+//! A call of a device fails, each in turn; a list of events finds no memory; and which events read the program.
 //!
 //! What a device has to stand for is folded from the entries by `execute` of `ng_block`, with places, half-done blocks and items worked out
 //! by hand from the formats and the language: never taken from what a controller answers.
 
 mod counting;
 mod failing;
-mod filling;
-mod greatest;
+mod listed;
 mod planning;
-mod refused;

@@ -2,7 +2,7 @@
 use ng_canon::{AxisStep, Item, Outputs, Pulse};
 use ng_core::{Event, Reply, Source, Text};
 use ng_num::{Fault, Len, Point};
-use std::alloc::{AllocError, Allocator};
+use std::alloc::{AllocError, Global};
 
 /// An event.
 #[derive(Clone, Copy)]
@@ -96,11 +96,11 @@ pub fn point_at(x_nm: i64) -> Result<Point, Fault> {
 }
 
 /// The bytes of a text, as an event brings them.
-fn text_of<A: Allocator + Copy + Drop>(alloc: A, text: &str) -> Result<Text<A>, AllocError> {
+fn text_of(alloc: Global, text: &str) -> Result<Text<Global>, AllocError> {
     Ok(Text::of(Vec::from_slice(alloc, text.as_bytes())?))
 }
 
-pub fn event_of<A: Allocator + Copy + Drop>(alloc: A, order: Order) -> Result<Event<A>, Fault> {
+pub fn event_of(alloc: Global, order: Order) -> Result<Event<Global>, Fault> {
     Ok(match order {
         Order::Load(text) => Event::Load(text_of(alloc, text)?),
         Order::Start => Event::Start,
@@ -157,18 +157,6 @@ pub fn entries_after(does: Does, entries: u64) -> u64 {
         | Does::Opens(_, _, _)
         | Does::Approaches => entries,
     }
-}
-
-/// Whether these are the replies to events after no entry.
-pub fn are_replies(replies: &[Reply], rows: &[Row]) -> bool {
-    let mut entries = 0;
-    for (reply, (_, does, _)) in replies.iter().zip(rows) {
-        if *reply != reply_to(*does, entries) {
-            return false;
-        }
-        entries = entries_after(*does, entries);
-    }
-    replies.len() == rows.len()
 }
 
 pub fn item_of(given: Given) -> Item {
