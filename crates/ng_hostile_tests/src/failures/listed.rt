@@ -1,7 +1,7 @@
 //! A list of events that finds no memory for its replies.
-use crate::devices::{formatted, give_all, rig_of, shown, started};
+use crate::devices::{Device, formatted, give_all, rig_of, shown, started};
 use linked_list_allocator::LocalHeap;
-use ng_core::Event;
+use ng_core::{Controller, Event};
 use ng_num::Fault;
 use std::alloc::Global;
 use std::test::Fail;
@@ -18,17 +18,32 @@ fn holds<'h>(alloc: Global, count: usize) -> Result<Vec<Event<&'h LocalHeap>>, F
     Ok(events)
 }
 
-/// What lists of so many holds are answered, one after the other, whether each shows nowhere, and how many calls but reads the device took.
+/// What lists of so many holds are answered, one after the other, and whether each shows nowhere.
+fn answers<'h>(
+    alloc: Global,
+    controller: &mut Controller<Device, &'h LocalHeap>,
+    counts: [usize; 2],
+) -> Result<([Option<Fault>; 2], bool), Fault> {
+    let many = holds(alloc, counts[0])?;
+    let few = holds(alloc, counts[1])?;
+    let before = shown(controller);
+    let first = give_all(controller, many.as_slice()).err();
+    let is_first_same = shown(controller) == before;
+    let second = give_all(controller, few.as_slice()).err();
+    Ok((
+        [first, second],
+        is_first_same && shown(controller) == before,
+    ))
+}
+
+/// That over a heap, and how many calls but reads the device took.
 fn answered(alloc: Global, counts: [usize; 2]) -> Result<([Option<Fault>; 2], bool, usize), Fault> {
     let heap = LocalHeap::new(alloc, HEAP)?;
-    let (many, few) = (holds(alloc, counts[0])?, holds(alloc, counts[1])?);
     let mut controller = started(&heap, formatted(alloc)?)?;
-    let before = shown(&mut controller);
-    let first = give_all(&mut controller, many.as_slice()).err();
-    let is_first_same = shown(&mut controller) == before;
-    let second = give_all(&mut controller, few.as_slice()).err();
-    let is_same = is_first_same && shown(&mut controller) == before;
-    Ok(([first, second], is_same, rig_of(controller).calls()))
+    let answers = answers(alloc, &mut controller, counts);
+    let rig = rig_of(controller);
+    let (faults, is_same) = answers?;
+    Ok((faults, is_same, rig.calls()))
 }
 
 #[test]
