@@ -114,6 +114,9 @@ pub const AFTER_A_CUT: &[Row] = &[
     IDLE,
 ];
 
+/// After the cut the line is given up.
+pub const GIVEN_UP: &[Row] = &[(Order::Abandon, Does::GivesUp, 2)];
+
 /// A move of one pulse that takes two records, of which the second makes so many calls.
 fn move_by(line: &'static str, pulse: Row, calls: usize) -> [Row; 4] {
     [

@@ -2,8 +2,8 @@
 use crate::devices::{Device, cut, formatted, found_on, give, powered, rig_of, shown};
 use crate::rows::{EACH_KIND, Row, entries_after, event_of, reply_to};
 use crate::scripts::{
-    AFTER_A_CUT, AFTER_A_CUT_OF_A_PROGRAM, BEFORE_A_CUT, BEFORE_A_CUT_OF_A_PROGRAM, READ_AHEAD,
-    STORED_AND_RUN, filling_the_log,
+    AFTER_A_CUT, AFTER_A_CUT_OF_A_PROGRAM, BEFORE_A_CUT, BEFORE_A_CUT_OF_A_PROGRAM, GIVEN_UP,
+    READ_AHEAD, STORED_AND_RUN, filling_the_log,
 };
 use crate::standing::Standing;
 use ng_core::{Condition, Controller, HalfShown, Reply, Source, Status};
@@ -310,6 +310,7 @@ fn swept_after_a_cut(
 /// on makes one read more, since the log has a record.
 const SESSIONS_AFTER_A_CUT: &[(&[Row], &[Row], u64, usize)] = &[
     (BEFORE_A_CUT, AFTER_A_CUT, 0, 106),
+    (BEFORE_A_CUT, GIVEN_UP, POWERED_ON + 1, 92),
     (
         BEFORE_A_CUT_OF_A_PROGRAM,
         AFTER_A_CUT_OF_A_PROGRAM,
