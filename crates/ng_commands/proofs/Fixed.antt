@@ -1,9 +1,9 @@
 -- Which commands the front of a line leaves.
-use Rattle.std.proofs.Common.{◌≡◌, ◌≢◌, ◌≤◌, ℕ, List, ◌++◌, length, drop, get_or, codes, Option, Some, None, MatchOption, sym, ◌∙◌, ap, subst, arith}
+use Rattle.std.proofs.Common.{◌≡◌, ◌≢◌, ◌≤◌, ℕ, ℤ, List, ◌++◌, length, drop, get_or, codes, Option, Some, None, MatchOption, sym, ◌∙◌, ap, subst, arith}
 use Rattle.ng_num.specs.declared.point.Point.{Point}
-use Rattle.ng_commands.specs.Commands.{SpellsCommand, IsNoCommand, IsNoSwitch, IsPlain, AreDigitsOf, SpellsPoint, switch_word}
+use Rattle.ng_commands.specs.Commands.{SpellsCommand, IsNoCommand, IsNoSwitch, IsPlain, AreDigitsOf, SpellsPoint, SpellsTool, switch_word}
 use Rattle.ng_commands.specs.declared.asked.ConsoleCommand.{ConsoleCommand}
-use Rattle.ng_commands.specs.declared.asked.ConsoleCommand.TheVariants.{Load, Start, Hold, Continue, Mdi, Reference, Resume, Abandon, OptionalStop, BlockDelete, Tick, Status, Quit}
+use Rattle.ng_commands.specs.declared.asked.ConsoleCommand.TheVariants.{Load, Start, Hold, Continue, Mdi, Reference, Resume, Abandon, Tool, OptionalStop, BlockDelete, Tick, Status, Quit}
 
 -- a line can't be two texts that begin otherwise
 apart : (line xs ys : List ℕ) → line ≡ xs → line ≡ ys → get_or xs 0 0 ≢ get_or ys 0 0 → ⊥
@@ -26,6 +26,7 @@ not_loaded line digits is none (Mdi text) (short, asks) = apart line (codes "loa
 not_loaded line digits is none (Reference point) (short, asks) = apart line (codes "load " ++ digits) (codes "reference " ++ asks.0) is asks.1 (omega arith)
 not_loaded line digits is none Resume (short, asks) = apart line (codes "load " ++ digits) (codes "resume") is asks (omega arith)
 not_loaded line digits is none Abandon (short, asks) = apart line (codes "load " ++ digits) (codes "abandon") is asks (omega arith)
+not_loaded line digits is none (Tool slot nm) (short, asks) = apart line (codes "load " ++ digits) (codes "tool " ++ asks.0) is asks.1 (omega arith)
 not_loaded line digits is none (OptionalStop is_on) (short, asks) = apart line (codes "load " ++ digits) (codes "optional " ++ switch_word is_on) is asks (omega arith)
 not_loaded line digits is none (BlockDelete is_on) (short, asks) = apart line (codes "load " ++ digits) (codes "delete " ++ switch_word is_on) is asks (omega arith)
 not_loaded line digits is none (Tick n) (short, asks) = apart line (codes "load " ++ digits) (codes "tick " ++ asks.0) is asks.1 (omega arith)
@@ -45,6 +46,7 @@ not_ticked line digits is none (Mdi text) (short, asks) = apart line (codes "tic
 not_ticked line digits is none (Reference point) (short, asks) = apart line (codes "tick " ++ digits) (codes "reference " ++ asks.0) is asks.1 (omega arith)
 not_ticked line digits is none Resume (short, asks) = apart line (codes "tick " ++ digits) (codes "resume") is asks (omega arith)
 not_ticked line digits is none Abandon (short, asks) = apart line (codes "tick " ++ digits) (codes "abandon") is asks (omega arith)
+not_ticked line digits is none (Tool slot nm) (short, asks) = apart_after line (codes "tick " ++ digits) (codes "tool " ++ asks.0) is asks.1 (omega arith)
 not_ticked line digits is none (OptionalStop is_on) (short, asks) = apart line (codes "tick " ++ digits) (codes "optional " ++ switch_word is_on) is asks (omega arith)
 not_ticked line digits is none (BlockDelete is_on) (short, asks) = apart line (codes "tick " ++ digits) (codes "delete " ++ switch_word is_on) is asks (omega arith)
 not_ticked line digits is none Status (short, asks) = apart line (codes "tick " ++ digits) (codes "status") is asks (omega arith)
@@ -62,28 +64,49 @@ not_placed line words is none Continue (short, asks) = apart line (codes "refere
 not_placed line words is none (Mdi text) (short, asks) = apart line (codes "reference " ++ words) (codes "mdi " ++ text.now) is asks (omega arith)
 not_placed line words is none Resume (short, asks) = apart_after line (codes "reference " ++ words) (codes "resume") is asks (omega arith)
 not_placed line words is none Abandon (short, asks) = apart line (codes "reference " ++ words) (codes "abandon") is asks (omega arith)
+not_placed line words is none (Tool slot nm) (short, asks) = apart line (codes "reference " ++ words) (codes "tool " ++ asks.0) is asks.1 (omega arith)
 not_placed line words is none (OptionalStop is_on) (short, asks) = apart line (codes "reference " ++ words) (codes "optional " ++ switch_word is_on) is asks (omega arith)
 not_placed line words is none (BlockDelete is_on) (short, asks) = apart line (codes "reference " ++ words) (codes "delete " ++ switch_word is_on) is asks (omega arith)
 not_placed line words is none (Tick n) (short, asks) = apart line (codes "reference " ++ words) (codes "tick " ++ asks.0) is asks.1 (omega arith)
 not_placed line words is none Status (short, asks) = apart line (codes "reference " ++ words) (codes "status") is asks (omega arith)
 not_placed line words is none Quit (short, asks) = apart line (codes "reference " ++ words) (codes "quit") is asks (omega arith)
 
+pub not_tooled : (line words : List ℕ) → line ≡ codes "tool " ++ words → ((slot : ℕ) (nm : ℤ) → SpellsTool words slot nm → ⊥) → IsNoCommand line
+not_tooled line words is none (Tool slot nm) (short, asks) =
+    let same : words ≡ asks.0 = ap (λ l. drop 5 l) (sym is ∙ asks.1) in
+    let P : List ℕ → Type 0 = λ ws. SpellsTool ws slot nm in
+    none slot nm (subst P (sym same) asks.2)
+not_tooled line words is none (Load n) (short, asks) = apart line (codes "tool " ++ words) (codes "load " ++ asks.0) is asks.1 (omega arith)
+not_tooled line words is none Start (short, asks) = apart line (codes "tool " ++ words) (codes "start") is asks (omega arith)
+not_tooled line words is none Hold (short, asks) = apart line (codes "tool " ++ words) (codes "hold") is asks (omega arith)
+not_tooled line words is none Continue (short, asks) = apart line (codes "tool " ++ words) (codes "continue") is asks (omega arith)
+not_tooled line words is none (Mdi text) (short, asks) = apart line (codes "tool " ++ words) (codes "mdi " ++ text.now) is asks (omega arith)
+not_tooled line words is none (Reference point) (short, asks) = apart line (codes "tool " ++ words) (codes "reference " ++ asks.0) is asks.1 (omega arith)
+not_tooled line words is none Resume (short, asks) = apart line (codes "tool " ++ words) (codes "resume") is asks (omega arith)
+not_tooled line words is none Abandon (short, asks) = apart line (codes "tool " ++ words) (codes "abandon") is asks (omega arith)
+not_tooled line words is none (OptionalStop is_on) (short, asks) = apart line (codes "tool " ++ words) (codes "optional " ++ switch_word is_on) is asks (omega arith)
+not_tooled line words is none (BlockDelete is_on) (short, asks) = apart line (codes "tool " ++ words) (codes "delete " ++ switch_word is_on) is asks (omega arith)
+not_tooled line words is none (Tick n) (short, asks) = apart_after line (codes "tool " ++ words) (codes "tick " ++ asks.0) is asks.1 (omega arith)
+not_tooled line words is none Status (short, asks) = apart line (codes "tool " ++ words) (codes "status") is asks (omega arith)
+not_tooled line words is none Quit (short, asks) = apart line (codes "tool " ++ words) (codes "quit") is asks (omega arith)
+
 -- a line that begins with no word before a number or a text, and has no fixed words
 pub not_asked : (line : List ℕ) → ((rest : List ℕ) → line ≢ codes "mdi " ++ rest) → ((rest : List ℕ) → line ≢ codes "load " ++ rest) → ((rest : List ℕ) → line ≢ codes "tick " ++ rest)
-    → ((rest : List ℕ) → line ≢ codes "reference " ++ rest) → ((c : ConsoleCommand) → IsPlain c → SpellsCommand line c → ⊥) → IsNoCommand line
-not_asked line mdi load tick place plain (Load n) (short, asks) = load asks.0 asks.1
-not_asked line mdi load tick place plain Start (short, asks) = plain Start tt asks
-not_asked line mdi load tick place plain Hold (short, asks) = plain Hold tt asks
-not_asked line mdi load tick place plain Continue (short, asks) = plain Continue tt asks
-not_asked line mdi load tick place plain (Mdi text) (short, asks) = mdi text.now asks
-not_asked line mdi load tick place plain (Reference point) (short, asks) = place asks.0 asks.1
-not_asked line mdi load tick place plain Resume (short, asks) = plain Resume tt asks
-not_asked line mdi load tick place plain Abandon (short, asks) = plain Abandon tt asks
-not_asked line mdi load tick place plain (OptionalStop is_on) (short, asks) = plain (OptionalStop is_on) tt asks
-not_asked line mdi load tick place plain (BlockDelete is_on) (short, asks) = plain (BlockDelete is_on) tt asks
-not_asked line mdi load tick place plain (Tick n) (short, asks) = tick asks.0 asks.1
-not_asked line mdi load tick place plain Status (short, asks) = plain Status tt asks
-not_asked line mdi load tick place plain Quit (short, asks) = plain Quit tt asks
+    → ((rest : List ℕ) → line ≢ codes "reference " ++ rest) → ((rest : List ℕ) → line ≢ codes "tool " ++ rest) → ((c : ConsoleCommand) → IsPlain c → SpellsCommand line c → ⊥) → IsNoCommand line
+not_asked line mdi load tick place tool plain (Load n) (short, asks) = load asks.0 asks.1
+not_asked line mdi load tick place tool plain Start (short, asks) = plain Start tt asks
+not_asked line mdi load tick place tool plain Hold (short, asks) = plain Hold tt asks
+not_asked line mdi load tick place tool plain Continue (short, asks) = plain Continue tt asks
+not_asked line mdi load tick place tool plain (Mdi text) (short, asks) = mdi text.now asks
+not_asked line mdi load tick place tool plain (Reference point) (short, asks) = place asks.0 asks.1
+not_asked line mdi load tick place tool plain Resume (short, asks) = plain Resume tt asks
+not_asked line mdi load tick place tool plain Abandon (short, asks) = plain Abandon tt asks
+not_asked line mdi load tick place tool plain (Tool slot nm) (short, asks) = tool asks.0 asks.1
+not_asked line mdi load tick place tool plain (OptionalStop is_on) (short, asks) = plain (OptionalStop is_on) tt asks
+not_asked line mdi load tick place tool plain (BlockDelete is_on) (short, asks) = plain (BlockDelete is_on) tt asks
+not_asked line mdi load tick place tool plain (Tick n) (short, asks) = tick asks.0 asks.1
+not_asked line mdi load tick place tool plain Status (short, asks) = plain Status tt asks
+not_asked line mdi load tick place tool plain Quit (short, asks) = plain Quit tt asks
 
 no_plain : (line : List ℕ) → line ≢ codes "start" → line ≢ codes "hold" → line ≢ codes "continue" → line ≢ codes "resume" → line ≢ codes "abandon" → line ≢ codes "status" → line ≢ codes "quit" → IsNoSwitch line
     → (c : ConsoleCommand) → IsPlain c → SpellsCommand line c → ⊥
@@ -95,6 +118,7 @@ no_plain line start hold goes resume abandon status quit switch (Mdi text) plain
 no_plain line start hold goes resume abandon status quit switch (Reference point) plain asks = plain
 no_plain line start hold goes resume abandon status quit switch Resume plain asks = resume asks
 no_plain line start hold goes resume abandon status quit switch Abandon plain asks = abandon asks
+no_plain line start hold goes resume abandon status quit switch (Tool slot nm) plain asks = plain
 no_plain line start hold goes resume abandon status quit switch (OptionalStop is_on) plain asks = (switch is_on).0 asks
 no_plain line start hold goes resume abandon status quit switch (BlockDelete is_on) plain asks = (switch is_on).1 asks
 no_plain line start hold goes resume abandon status quit switch (Tick n) plain asks = plain

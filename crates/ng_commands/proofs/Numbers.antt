@@ -14,11 +14,11 @@ use Rattle.ng_commands.specs.Commands.{AreNumber, HasNo, SpellsLength}
 
 -- ---- the bytes of numbers: digits, signs and points
 
-abbrev AreBytes : List ℕ → Type 0
+abbrev pub AreBytes : List ℕ → Type 0
 AreBytes [] = Unit {0}
 AreBytes (b ∷ bytes) = (43 ≤ b) × (b ≤ 57) × AreBytes bytes
 
-digits_bytes : (digits : List ℕ) → AreDigits digits → AreBytes digits
+pub digits_bytes : (digits : List ℕ) → AreDigits digits → AreBytes digits
 digits_bytes [] are = tt
 digits_bytes (b ∷ digits) are = (grind (arith, nat_tests, are.0), grind (arith, nat_tests, are.0), digits_bytes digits are.1)
 
@@ -52,7 +52,7 @@ plain_bytes (b ∷ bytes) are =
     let goes : (b == 40) ≡ false = grind (arith, nat_tests, are.0) in
     rw (counts, same, goes) (ap (λ l. b ∷ l) (plain_bytes bytes are.2))
 
-bytes_without : (c : ℕ) (bytes : List ℕ) → c < 43 → AreBytes bytes → HasNo c bytes
+pub bytes_without : (c : ℕ) (bytes : List ℕ) → c < 43 → AreBytes bytes → HasNo c bytes
 bytes_without c [] below are = tt
 bytes_without c (b ∷ bytes) below are = (λ same. absurd (omega (arith, below, same, are.0)), bytes_without c bytes below are.2)
 

@@ -1,9 +1,10 @@
 -- Words that are parted at their first blank.
-use Rattle.std.proofs.Common.{◌≡◌, ◌≢◌, ◌≤◌, ◌<◌, ◌+◌, ◌-◌, ℕ, zero, suc, List, [], ◌∷◌, ◌++◌, length, take, drop, get_or, Option, Some, None, MatchOption, refl, sym, ◌∙◌, ap, subst, arith}
+use Rattle.std.proofs.Common.{◌≡◌, ◌≢◌, ◌≤◌, ◌<◌, ◌+◌, ◌-◌, ℕ, ℤ, zero, suc, List, [], ◌∷◌, ◌++◌, length, take, drop, get_or, Option, Some, None, MatchOption, refl, sym, ◌∙◌, ap, subst, arith}
 use Rattle.std.proofs.lemmas.List.{take_all}
 use Rattle.ng_num.specs.declared.point.Point.{Point}
-use Rattle.ng_commands.specs.Commands.{HasNo, SpellsLength, SpellsPoint}
-use Rattle.ng_commands.proofs.Numbers.{length_whole}
+use Rattle.ng_commands.specs.Commands.{AreDigitsOf, HasNo, SpellsLength, SpellsPoint, SpellsTool}
+use Rattle.ng_words.specs.Grammar.{AreDigits}
+use Rattle.ng_commands.proofs.Numbers.{bytes_without, digits_bytes, length_whole}
 
 blank_within : (words : List ℕ) (n m : ℕ) → n < length words → m ≡ n + 1 → get_or words n 0 ≢ 32 → HasNo 32 (take n words) → HasNo 32 (take m words)
 blank_within [] n m less next none before = absurd (omega (arith, less))
@@ -66,3 +67,21 @@ two_words words x others is bare none p writes =
 pub refused : (words : List ℕ) (r : Option Point) → r ≡ None → ((p : Point) → SpellsPoint words p → ⊥) → MatchOption r ((p : Point) → SpellsPoint words p → ⊥) (SpellsPoint words)
 refused words None e none = none
 refused words (Some p) e none = absurd cc
+
+-- digits have no blank
+digits_whole : (digits : List ℕ) → AreDigits digits → HasNo 32 digits
+digits_whole digits are = bytes_without 32 digits (omega arith) (digits_bytes digits are)
+
+-- a slot and a length stand where their words are parted
+pub tooled : (words digits text : List ℕ) → words ≡ digits ++ 32 ∷ text → HasNo 32 digits → (slot : ℕ) (nm : ℤ) → SpellsTool words slot nm
+    → AreDigitsOf digits slot × (length digits ≤ 3) × SpellsLength text nm
+tooled words digits text is bare slot nm (digits_as, text_as, are, written, short, writes) =
+    let first = one_part digits digits_as text text_as bare (digits_whole digits_as written.0) (sym is ∙ are) in
+    (subst (λ (l : List ℕ). AreDigitsOf l slot) (sym first.0) written, subst (λ (l : List ℕ). length l ≤ 3) (sym first.0) short, subst (λ (l : List ℕ). SpellsLength l nm) (sym first.1) writes)
+
+pub no_tool : (words : List ℕ) → HasNo 32 words → (slot : ℕ) (nm : ℤ) → SpellsTool words slot nm → ⊥
+no_tool words none slot nm writes = not_whole words writes.0 writes.1 none writes.2
+
+pub refused_tool : (words : List ℕ) (r : Option (ℕ × ℤ)) → r ≡ None → ((slot : ℕ) (nm : ℤ) → SpellsTool words slot nm → ⊥) → MatchOption r ((slot : ℕ) (nm : ℤ) → SpellsTool words slot nm → ⊥) (λ t. SpellsTool words t.0 t.1)
+refused_tool words None e none = none
+refused_tool words (Some t) e none = absurd cc

@@ -32,3 +32,16 @@ no_length digits none n writes short =
     let small : written_after 0 digits ≤ 9_999_999 = seven_digits digits writes.0 short in
     let is : n ≡ written_after 0 digits = writes.2 in
     none n (omega (arith, small, is)) writes
+
+three_digits : (digits : List ℕ) → AreDigits digits → length digits ≤ 3 → written_after 0 digits ≤ 999
+three_digits digits are short =
+    let most : 10 ^ length digits ≤ 10 ^ 3 = pow-le-pow_right {n = 10} (omega arith) short in
+    let below : written_after 0 digits < 10 ^ length digits = written_lt digits are in
+    omega (arith, most, below)
+
+-- nor are they a slot's number, with three nines
+pub no_slot : (digits : List ℕ) → ((n : ℕ) → n ≤ 999 → AreDigitsOf digits n → ⊥) → (n : ℕ) → AreDigitsOf digits n → length digits ≤ 3 → ⊥
+no_slot digits none n writes short =
+    let small : written_after 0 digits ≤ 999 = three_digits digits writes.0 short in
+    let is : n ≡ written_after 0 digits = writes.2 in
+    none n (omega (arith, small, is)) writes

@@ -4,7 +4,7 @@ use Rattle.ng_num.specs.declared.point.Point.{Point}
 use Rattle.ng_words.specs.Grammar.{AreDigits, IsNumber, Piece, count_of, number, word, written_after}
 use Rattle.ng_words.specs.declared.letter.Letter.{Letter}
 use Rattle.ng_commands.specs.declared.asked.ConsoleCommand.{ConsoleCommand}
-use Rattle.ng_commands.specs.declared.asked.ConsoleCommand.TheVariants.{Load, Start, Hold, Continue, Mdi, Reference, Resume, Abandon, OptionalStop, BlockDelete, Tick, Status, Quit}
+use Rattle.ng_commands.specs.declared.asked.ConsoleCommand.TheVariants.{Load, Start, Hold, Continue, Mdi, Reference, Resume, Abandon, Tool, OptionalStop, BlockDelete, Tick, Status, Quit}
 
 -- digits, leading zeros and all, that write this number
 abbrev pub AreDigitsOf : List ℕ → ℕ → Type 0
@@ -20,6 +20,10 @@ abbrev pub SpellsPoint : List ℕ → Point → Type 0
 SpellsPoint words p =
     (x y z : List ℕ) × (words ≡ x ++ (codes " " ++ (y ++ (codes " " ++ z)))) × SpellsLength x p.x × SpellsLength y p.y × SpellsLength z p.z
 
+-- two words, parted by one blank, write a slot's number, of one to three digits, and a tool's length
+abbrev pub SpellsTool : List ℕ → ℕ → ℤ → Type 0
+SpellsTool words slot nm = (digits text : List ℕ) × (words ≡ digits ++ (codes " " ++ text)) × AreDigitsOf digits slot × (length digits ≤ 3) × SpellsLength text nm
+
 abbrev pub switch_word : Bool → List ℕ
 switch_word true = codes "on"
 switch_word false = codes "off"
@@ -34,6 +38,7 @@ SpellsCommand words (Mdi line) = words ≡ codes "mdi " ++ line.now
 SpellsCommand words (Reference point) = (coordinates : List ℕ) × (words ≡ codes "reference " ++ coordinates) × SpellsPoint coordinates point
 SpellsCommand words Resume = words ≡ codes "resume"
 SpellsCommand words Abandon = words ≡ codes "abandon"
+SpellsCommand words (Tool slot nm) = (rest : List ℕ) × (words ≡ codes "tool " ++ rest) × SpellsTool rest slot nm
 SpellsCommand words (OptionalStop is_on) = words ≡ codes "optional " ++ switch_word is_on
 SpellsCommand words (BlockDelete is_on) = words ≡ codes "delete " ++ switch_word is_on
 SpellsCommand words (Tick n) = (digits : List ℕ) × (words ≡ codes "tick " ++ digits) × AreDigitsOf digits n × (1 ≤ n) × (n ≤ 1_000_000)
@@ -58,6 +63,7 @@ IsPlain (Mdi line) = ⊥
 IsPlain (Reference point) = ⊥
 IsPlain Resume = Unit {0}
 IsPlain Abandon = Unit {0}
+IsPlain (Tool slot nm) = ⊥
 IsPlain (OptionalStop is_on) = Unit {0}
 IsPlain (BlockDelete is_on) = Unit {0}
 IsPlain (Tick n) = ⊥

@@ -1,5 +1,5 @@
 //! The commands of the console.
-use ng_num::Point;
+use ng_num::{Len, Point};
 
 /// The most bytes of a command's line, without its end.
 pub const LONGEST: usize = 300;
@@ -23,6 +23,8 @@ pub enum ConsoleCommand<'a> {
     Resume,
     /// `abandon`
     Abandon,
+    /// `tool N LENGTH`: the length of the tool of slot N, below 1,000, a number as on a line of a program, millimetres.
+    Tool(u16, Len),
     /// `optional on`, `optional off`
     OptionalStop(bool),
     /// `delete on`, `delete off`

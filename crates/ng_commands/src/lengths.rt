@@ -2,13 +2,20 @@
 ghost use Rattle.std.specs.Prelude.{◌≡◌, ◌≢◌, ◌≤◌, ◌+◌, ◌++◌, [], ◌∷◌, ℕ, ℤ, Some, MatchBool, MatchOption, length, take};
 ghost use Rattle.ng_num.specs.declared.point.Point.{Point};
 ghost use Rattle.ng_words.specs.Kept.{pieces_by};
-ghost use Rattle.ng_commands.specs.Commands.{AreNumber, HasNo, SpellsLength, SpellsPoint};
+ghost use Rattle.ng_commands.specs.Commands.{AreDigitsOf, AreNumber, HasNo, SpellsLength, SpellsPoint, SpellsTool};
 
+use crate::digits::whole;
 use ng_num::{Len, Num, Point, Unit, nm_of};
 use ng_words::{Line, Node, PieceRef, read_line};
 
 /// The most bytes of a number: a line of a program has 256, and a letter stands before it.
 const NUMBER_BYTES: usize = 255;
+
+/// The most digits of a slot's number.
+const SLOT_DIGITS: usize = 3;
+
+/// The greatest number of so many digits.
+const GREATEST_SLOT: u32 = 999;
 
 /// The bytes before and after the first blank.
 fn parted(words: &[u8]) -> Option<(&[u8], &[u8])>
@@ -110,4 +117,28 @@ pub(crate) fn point(words: &[u8]) -> Option<Point>
         y: length(y)?,
         z: length(z)?,
     })
+}
+
+/// The number of a slot, by its digits.
+#[tactic(auto, using(crate::proofs::Written::no_slot))]
+fn slot(digits: &[u8]) -> Option<u16>
+    ensures { MatchOption result ((n : ℕ) → AreDigitsOf digits.now n → length digits.now ≤ 3 → ⊥) (λ n. AreDigitsOf digits.now n × (length digits.now ≤ 3)) }
+{
+    if digits.len() > SLOT_DIGITS {
+        return None;
+    }
+    match whole(digits, GREATEST_SLOT) {
+        Some(slot) => Some(slot as u16),
+        None => None,
+    }
+}
+
+/// The slot and the length that two words write, parted by one blank.
+pub(crate) fn slot_and_length(words: &[u8]) -> Option<(u16, Len)>
+    ensures { MatchOption result ((slot : ℕ) (nm : ℤ) → SpellsTool words.now slot nm → ⊥) (λ t. SpellsTool words.now t.0 t.1) }
+{
+    let (digits, text) = parted(words)?;
+    let slot = slot(digits)?;
+    let length = length(text)?;
+    Some((slot, length))
 }

@@ -5,7 +5,7 @@ ghost use Rattle.ng_commands.specs.declared.asked.ConsoleCommand.{ConsoleCommand
 
 use crate::asked::{ConsoleCommand, LONGEST};
 use crate::digits::whole;
-use crate::lengths::point;
+use crate::lengths::{point, slot_and_length};
 use crate::words::{is, strip_prefix};
 
 /// The most digits of a program's length.
@@ -44,6 +44,12 @@ pub fn command_of(line: &[u8]) -> Option<ConsoleCommand<'_>>
     if let Some(words) = strip_prefix(line, b"reference ") {
         return match point(words) {
             Some(point) => Some(ConsoleCommand::Reference(point)),
+            None => None,
+        };
+    }
+    if let Some(words) = strip_prefix(line, b"tool ") {
+        return match slot_and_length(words) {
+            Some((slot, length)) => Some(ConsoleCommand::Tool(slot, length)),
             None => None,
         };
     }

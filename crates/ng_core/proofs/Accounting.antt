@@ -11,18 +11,19 @@ use Rattle.ng_block.specs.Effects.{Done}
 use Rattle.ng_layout.specs.Stored.{HalfModel, StoredModel, DurableState}
 use Rattle.ng_layout.specs.declared.half.Source.{Source}
 use Rattle.ng_layout.specs.declared.half.Source.TheVariants as source
-use Rattle.ng_session.specs.Entries.{Equipment, Entry, Block, Loaded, Referenced, Approached, Abandoned}
+use Rattle.ng_session.specs.Entries.{Equipment, Entry, Block, Loaded, Referenced, Approached, Abandoned, Tooled}
 use Rattle.ng_session.specs.Fold.{after, IsTextOf, IsBlock, FollowFold}
 use Rattle.ng_session.specs.Session.{SessionModel}
-use Rattle.ng_session.specs.Runs.{ProgramSession, CrashState, session_at_power_on, leads_to, session_of_transition, session_after, entries_of, crash_after, dones, given_by, lines_given}
+use Rattle.ng_session.specs.Runs.{ProgramSession, CrashState, session_at_power_on, leads_to, session_of_transition, session_after, entries_of, entry_of, under_way, crash_after, dones, given_by, lines_given}
 use Rattle.ng_session.specs.Cuts.{UncommittedTail, Nothing_open, Approach_open, Segment_open, IsCut}
 use Rattle.ng_session.specs.declared.event.Event.{Event}
 use Rattle.ng_session.specs.declared.reply.Reply.{Reply}
-use Rattle.ng_session.proofs.Cutting.{crash_after_events}
+use Rattle.ng_session.proofs.Cutting.{crash_after_events, cut_later}
 use Rattle.ng_core.specs.Model.{ControllerModel}
 use Rattle.ng_core.specs.Moments.{answered_by}
 use Rattle.ng_core.specs.Runs.{tried_events}
 use Rattle.ng_core.specs.Headline.{IsAccounted, IsPast, Accounts}
+use Rattle.ng_core.proofs.History.{History}
 use Rattle.ng_core.proofs.InTurn.{turns_history}
 use Rattle.ng_core.proofs.Histories.{Leads, IsLeftBy, leads, passed}
 use Rattle.ng_core.proofs.Timing.{weaker_said}
@@ -48,20 +49,21 @@ module _ (equipment : Equipment) (lines more : List (List ℕ)) (among : AreAmon
   more_lawful x (Referenced point ∷ entries) are = (are.0, more_lawful (after equipment x (Referenced point)) entries are.1)
   more_lawful x (Approached ∷ entries) are = (are.0, more_lawful (after equipment x Approached) entries are.1)
   more_lawful x (Abandoned ∷ entries) are = (are.0, more_lawful (after equipment x Abandoned) entries are.1)
+  more_lawful x (Tooled slot nm ∷ entries) are = (are.0, more_lawful (after equipment x (Tooled slot nm)) entries are.1)
 
-  more_follows : (x : DurableState) (saved : StoredModel) (given : List Item) → UncommittedTail equipment lines x saved given → UncommittedTail equipment more x saved given
-  more_follows x _ _ Nothing_open = Nothing_open
-  more_follows x _ _ (Approach_open half approach begun left held way whole) = Approach_open half approach begun left held way whole
-  more_follows x _ _ (Segment_open from text block_delete done before segment rest begun left is split whole) =
-      Segment_open from text block_delete done before segment rest begun left (more_block x from text block_delete done is) split whole
+  more_follows : (x : DurableState) (next : List Entry) (saved : StoredModel) (given : List Item) → UncommittedTail equipment lines x next saved given → UncommittedTail equipment more x next saved given
+  more_follows x next _ _ Nothing_open = Nothing_open
+  more_follows x next _ _ (Approach_open half approach begun left later comes held way whole) = Approach_open half approach begun left later comes held way whole
+  more_follows x next _ _ (Segment_open from text block_delete done before segment rest begun left later comes is split whole) =
+      Segment_open from text block_delete done before segment rest begun left later comes (more_block x from text block_delete done is) split whole
 
-  more_cut : (x : DurableState) (before : List Item) (entries : List Entry) (left : CrashState) → IsCut equipment lines x before entries left → IsCut equipment more x before entries left
-  more_cut x before entries left cut = record {
+  more_cut : (x : DurableState) (before : List Item) (entries next : List Entry) (left : CrashState) → IsCut equipment lines x before entries next left → IsCut equipment more x before entries next left
+  more_cut x before entries next left cut = record {
     lawful = more_lawful x entries cut.lawful;
     program = cut.program;
     more = cut.more;
     items = cut.items;
-    follows = more_follows _ left.standing.saved cut.more cut.follows;
+    follows = more_follows _ next left.standing.saved cut.more cut.follows;
   }
 
 either_line : (front old new : List (List ℕ)) → AreAmong old new → AreAmong (front ++ old) (front ++ new)
@@ -85,29 +87,13 @@ tried_lines (event ∷ events) (Err fault ∷ answers) text there = Contains-app
 
 -- ---- beginnings
 
--- the one list begins with the other
-abbrev Begins : {X : Type 0} → List X → List X → Type 0
-Begins {X} all some = (rest : List X) × (all ≡ some ++ rest)
-
-begins_on : {X : Type 0} (all some few : List X) → Begins all some → Begins some few → Begins all few
-begins_on {X} all some few p q = (q.0 ++ p.0, p.1 ∙ ap (λ (l : List X). l ++ p.0) q.1 ∙ append_assoc few q.0 p.0)
-
-begins_taken : {X : Type 0} (n : ℕ) (all : List X) → Begins all (take n all)
-begins_taken n all = (drop n all, sym (take-append-drop n all))
-
 take_begun : {X : Type 0} (some rest : List X) → take (length some) (some ++ rest) ≡ some
 take_begun [] rest = refl
 take_begun {X} (x ∷ some) rest = ap (λ (l : List X). x ∷ l) (take_begun some rest)
 
-begins_tried : {A : Type 0} (n : ℕ) (events : List (Event A)) (answers : List (Result Reply Fault)) → Begins (tried_events events answers) (tried_events (take n events) answers)
-begins_tried zero events answers = (tried_events events answers, refl)
-begins_tried (suc n) [] answers = ([], refl)
-begins_tried (suc n) (event ∷ events) [] = ([], refl)
-begins_tried {A} (suc n) (event ∷ events) (Ok r ∷ answers) =
-    let rest = begins_tried n events answers in
-    (rest.0, ap (λ (l : List (Event A)). event ∷ l) rest.1)
-begins_tried (suc n) (event ∷ events) (Err DeviceFailed ∷ answers) = ([], refl)
-begins_tried (suc n) (event ∷ events) (Err fault ∷ answers) = begins_tried n events answers
+drop_begun : {X : Type 0} (some rest last : List X) → drop (length some) ((some ++ rest) ++ last) ≡ rest ++ last
+drop_begun [] rest last = refl
+drop_begun (x ∷ some) rest last = drop_begun some rest last
 
 entries_more : {A : Type 0} (equipment : Equipment) (scene : ProgramSession) (some rest : List (Event A)) → entries_of equipment scene (some ++ rest) ≡ entries_of equipment scene some ++ entries_of equipment (session_after equipment scene some) rest
 entries_more equipment scene [] rest = refl
@@ -116,50 +102,63 @@ entries_more equipment scene (event ∷ some) rest =
     ap (λ (l : List Entry). out.entries ++ l) (entries_more equipment (session_of_transition out) some rest)
     ∙ sym (append_assoc out.entries (entries_of equipment (session_of_transition out) some) (entries_of equipment (session_after equipment (session_of_transition out) some) rest))
 
-begins_executed : {A : Type 0} (equipment : Equipment) (scene : ProgramSession) (all some : List (Event A)) → Begins all some → Begins (entries_of equipment scene all) (entries_of equipment scene some)
-begins_executed {A} equipment scene all some p =
-    (entries_of equipment (session_after equipment scene some) p.0, ap (λ (l : List (Event A)). entries_of equipment scene l) p.1 ∙ entries_more equipment scene some p.0)
+session_more : {A : Type 0} (equipment : Equipment) (scene : ProgramSession) (some rest : List (Event A)) → session_after equipment scene (some ++ rest) ≡ session_after equipment (session_after equipment scene some) rest
+session_more equipment scene [] rest = refl
+session_more equipment scene (event ∷ some) rest = session_more equipment (session_of_transition (leads_to equipment scene event)) some rest
 
 -- ---- a stop
 
 accounted : {A : Type 0} (equipment : Equipment) (x : DurableState) (given : List Item) (events : List (Event A)) (answers : List (Result Reply Fault)) (replies : List Reply) (n : ℕ) (image : Image) (handed : List Item)
     → IsLeftBy equipment (session_at_power_on x) given events answers replies n image handed
-    → IsAccounted equipment (lines_given (take (suc n) events)) x given (entries_of equipment (session_at_power_on x) (tried_events events answers)) (dones (take n replies)) image handed
+    → let tried = tried_events (take (suc n) events) answers in
+    IsAccounted equipment (lines_given (take (suc n) events)) x given (entries_of equipment (session_at_power_on x) tried) (under_way equipment (session_at_power_on x) tried) (dones (take n replies)) image handed
 accounted {A} equipment x given events answers replies n image handed p =
     let scene = session_at_power_on x in
-    let begun = tried_events (take (suc n) events) answers in
-    let some = take p.after.count begun in
+    let lines = lines_given (take (suc n) events) in
+    let tried = tried_events (take (suc n) events) answers in
+    let some = take p.after.count tried in
+    let rest = drop p.after.count tried in
+    let there = session_after equipment scene some in
     let entries = entries_of equipment scene some in
-    let executed = entries_of equipment scene (tried_events events answers) in
+    let later = entries_of equipment there rest in
+    let last = under_way equipment there rest in
+    let executed = entries_of equipment scene tried in
     let cut = crash_after_events A equipment x given some in
     let left = crash_after equipment scene given some in
-    let first = begins_executed equipment scene (tried_events events answers) some (begins_on (tried_events events answers) begun some (begins_tried (suc n) events answers) (begins_taken p.after.count begun)) in
-    let same : take (length entries) executed ≡ entries = ap (λ (l : List Entry). take (length entries) l) first.1 ∙ take_begun entries first.0 in
-    let long : length executed ≡ length (entries ++ first.0) = ap (λ (l : List Entry). length l) first.1 in
+    let split : some ++ rest ≡ tried = take-append-drop p.after.count tried in
+    let first : executed ≡ entries ++ later = ap (λ (l : List (Event A)). entries_of equipment scene l) (sym split) ∙ entries_more equipment scene some rest in
+    let ends : under_way equipment scene tried ≡ last =
+    ap (λ (s : ProgramSession). entry_of s.session.current) (ap (λ (l : List (Event A)). session_after equipment scene l) (sym split) ∙ session_more equipment scene some rest) in
+    let same : take (length entries) executed ≡ entries = ap (λ (l : List Entry). take (length entries) l) first ∙ take_begun entries later in
+    let next : drop (length entries) (executed ++ under_way equipment scene tried) ≡ later ++ last =
+    (λ i. drop (length entries) (first i ++ ends i)) ∙ drop_begun entries later last in
+    let long : length executed ≡ length (entries ++ later) = ap (λ (l : List Entry). length l) first in
     record {
       count = length entries;
       all = omega (arith, p.all, cut.1);
       few = omega (arith, p.few, cut.1);
-      within = omega (arith, long, length-append entries first.0);
+      within = omega (arith, long, length-append entries later);
       left = left;
-      cut = subst (λ (l : List Entry). IsCut equipment (lines_given (take (suc n) events)) x given l left) (sym same)
-          (more_cut equipment (lines_given some) (lines_given (take (suc n) events))
-          (λ text there. tried_lines (take (suc n) events) answers text (taken_lines p.after.count begun text there)) x given entries left cut.0);
+      cut = subst (λ (l : List Entry). IsCut equipment lines x given l (drop (length entries) (executed ++ under_way equipment scene tried)) left) (sym same)
+          (subst (λ (l : List Entry). IsCut equipment lines x given entries l left) (sym next)
+          (more_cut equipment (lines_given some) lines (λ text is. tried_lines (take (suc n) events) answers text (taken_lines p.after.count tried text is)) x given entries (later ++ last) left
+          (cut_later equipment (lines_given some) x given entries there rest left cut.0)));
       stands_for = p.after.stands_for;
     }
 
-from_rest : {A R : Type 0} (trace : R → Trace) (x : DurableState) (events : List (Event A)) (replies : List Reply) (first now : ControllerModel R)
-    → Leads trace events replies first.equipment (session_at_power_on x) (trace first.journal.rig) now → Accounts trace x events replies first now
-from_rest trace x events replies first now p = record {
-  passes = passed trace events replies first.equipment (session_at_power_on x) (trace first.journal.rig) now p;
+from_rest : {A R : Type 0} (trace : R → Trace) (x : DurableState) (events : List (Event A)) (replies : List Reply) (moments : List ℕ) (first now : ControllerModel R)
+    → Leads trace events replies moments first.equipment (session_at_power_on x) (trace first.journal.rig) now → Accounts trace x events replies moments first now
+from_rest trace x events replies moments first now p = record {
+  passes = passed trace events replies moments first.equipment (session_at_power_on x) (trace first.journal.rig) now p;
   stops = weaker_said (trace first.journal.rig) (trace now.journal.rig) _ _ p.stops
-      (λ t image handed from l. accounted first.equipment x (items (trace first.journal.rig)) events p.answers replies (answered_by t p.moments) image handed l);
+      (λ t image handed from l. accounted first.equipment x (items (trace first.journal.rig)) events p.answers replies (answered_by t moments) image handed l);
 }
 
-pub accounts : {A R : Type 0} (honest : R → Type 0) (trace : R → Trace) (failed sectors : R → ℕ) (x : DurableState) (events : List (Event A)) (replies : List Reply) (first now : ControllerModel R)
-    → honest first.journal.rig → IsPast honest trace failed sectors x events replies first now → Accounts trace x events replies first now
-accounts honest trace failed sectors x events replies first now h p =
+pub accounts : {A R : Type 0} (honest : R → Type 0) (trace : R → Trace) (failed sectors : R → ℕ) (x : DurableState) (events : List (Event A)) (replies : List Reply) (moments : List ℕ) (first now : ControllerModel R)
+    → honest first.journal.rig → IsPast honest trace failed sectors x events replies moments first now → Accounts trace x events replies moments first now
+accounts honest trace failed sectors x events replies moments first now h p =
     let history = (turns_history honest trace failed sectors events replies first now p.turns).holds h x.program (λ _. p.began.rests) in
-    from_rest trace x events replies first now
-    (subst (λ (s : SessionModel). Leads trace events replies first.equipment (record { program = x.program; session = s }) (trace first.journal.rig) now) p.began.session
-    (leads trace events replies x.program first now history p.began.whole p.began.rests))
+    from_rest trace x events replies moments first now
+    (subst (λ (s : SessionModel). Leads trace events replies moments first.equipment (record { program = x.program; session = s }) (trace first.journal.rig) now) p.began.session
+    (leads trace events replies moments x.program first now
+    (subst (λ (l : List ℕ). History trace events replies l x.program first now) (sym p.answered) history) p.began.whole p.began.rests))

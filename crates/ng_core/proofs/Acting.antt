@@ -107,8 +107,8 @@ moved_stops : (trace_old trace_new : Trace) (before after : DurableState) (given
 moved_stops trace_old trace_new before after given more is same stops =
     weaker trace_old trace_new (IsEither (Ok before) (Ok after) (items trace_old)) (IsCrashOfEither (record { standing = before; items = given }) (record { standing = after; items = more })) stops
     (λ image handed p. ⊎_elim
-    (λ b. record { left = record { standing = before; items = given }; which = inl refl; stands_for = record { state = b; written = p.written; handed_is = p.handed_is ∙ sym is } })
-    (λ a. record { left = record { standing = after; items = more }; which = inr refl; stands_for = record { state = a; written = p.written; handed_is = p.handed_is ∙ sym is ∙ sym same } })
+    (λ b. record { left = record { standing = before; items = given }; which = inl refl; stands_for = record { state = b; modern = p.modern; written = p.written; handed_is = p.handed_is ∙ sym is } })
+    (λ a. record { left = record { standing = after; items = more }; which = inr refl; stands_for = record { state = a; modern = p.modern; written = p.written; handed_is = p.handed_is ∙ sym is ∙ sym same } })
     p.state)
 
 -- an entry or a segment was stored, or the device failed in that

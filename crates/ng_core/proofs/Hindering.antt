@@ -1,5 +1,5 @@
 -- What hinders an event, by what hinders the calls that it makes.
-use Rattle.std.proofs.Common.{◌≡◌, ◌≤◌, ◌⊎◌, ◌↔◌, inl, inr, ℕ, Bool, true, false, not, if◌then◌else◌, ◌||◌, List, length, Option, Some, None, Result, Ok, Err, refl, sym, ◌∙◌, ap, subst, IsSomeAnd}
+use Rattle.std.proofs.Common.{◌≡◌, ◌≤◌, ◌⊎◌, ◌↔◌, inl, inr, ℕ, ℤ, Bool, true, false, not, if◌then◌else◌, ◌||◌, List, length, Option, Some, None, Result, Ok, Err, refl, sym, ◌∙◌, ap, subst, IsSomeAnd}
 use Rattle.std.specs.Option.{is_some, option_map}
 use Rattle.std.specs.Prelude.{IsErrOf}
 use Rattle.ng_num.specs.declared.fault.Fault.{Fault}
@@ -13,8 +13,8 @@ use Rattle.ng_layout.specs.declared.half.Opened.TheVariants as open_part
 use Rattle.ng_block.specs.Effects.{Done}
 use Rattle.ng_journal.specs.Storing.{Ledger, Storing, Commit, Open, Load, UsesUp}
 use Rattle.ng_num.specs.declared.point.Point.{Point}
-use Rattle.ng_session.specs.Entries.{Equipment, done_of, done_again, after_load, after_reference, after_abandon}
-use Rattle.ng_session.specs.Session.{CurrentBlockModel, SessionModel, Transition, end, begin, begin_by, load, load_unless, load_refusal, reference, reference_unless, reference_refusal, abandon, abandon_unless, abandon_refusal, refuses, resume, resume_half, resume_from, resume_by, is_at_rest, IsBetweenLines, opening_of, opening_reply, entry_on, committed}
+use Rattle.ng_session.specs.Entries.{Equipment, done_of, done_again, after_load, after_reference, after_abandon, after_tool}
+use Rattle.ng_session.specs.Session.{CurrentBlockModel, SessionModel, Transition, end, begin, begin_by, load, load_unless, load_refusal, reference, reference_unless, reference_refusal, abandon, abandon_unless, abandon_refusal, tool, tool_unless, tool_refusal, refuses, resume, resume_half, resume_from, resume_by, is_at_rest, IsBetweenLines, opening_of, opening_reply, entry_on, committed}
 use Rattle.ng_session.specs.declared.stage.Stage.{Stage}
 use Rattle.ng_session.specs.declared.stage.Stage.TheVariants as stage
 use Rattle.ng_core.specs.Causes.{UsesUpCounter, IsCausedBy, stored_for, with_entry}
@@ -78,13 +78,16 @@ hindered_load T e s saved text ledger free small is which iff =
     (λ used. (iff.0 used).1, λ u. iff.1 (small, u))
     (λ program. ap (λ (o : Option Fault). stored_for (load_unless program s text o) (load_unless program s text o).reply) free ∙ ap (λ (x : StoredModel). Some (Load x)) (sym is)))
 
--- a point where the machine stands, or a half-done block that is given up
+-- a point where the machine stands, a half-done block that is given up, or a tool's length
 pub stored_reference : (q : Equipment) (P : List ℕ) (s : SessionModel) (point : Point) → reference_refusal q.geometry s point ≡ None
     → stored_for (reference q P s point) (reference q P s point).reply ≡ Some (Commit (after_reference s.stored point))
 stored_reference q P s point free = ap (λ (o : Option Fault). stored_for (reference_unless P s point o) (reference_unless P s point o).reply) free
 
 pub stored_abandon : (P : List ℕ) (s : SessionModel) → abandon_refusal s ≡ None → stored_for (abandon P s) (abandon P s).reply ≡ Some (Commit (after_abandon s.stored))
 stored_abandon P s free = ap (λ (o : Option Fault). stored_for (abandon_unless P s o) (abandon_unless P s o).reply) free
+
+pub stored_tool : (P : List ℕ) (s : SessionModel) (slot : ℕ) (nm : ℤ) → tool_refusal s slot nm ≡ None → stored_for (tool P s slot nm) (tool P s slot nm).reply ≡ Some (Commit (after_tool s.stored slot nm))
+stored_tool P s slot nm free = ap (λ (o : Option Fault). stored_for (tool_unless P s slot nm o) (tool_unless P s slot nm o).reply) free
 
 -- an entry past the greatest count isn't stored
 pub hindered_count : (ledger : Ledger) (told : List ℕ → Transition) (x : StoredModel) (device : Type 0) → UsesUp ledger (Commit x) → ((program : List ℕ) → stored_for (told program) (told program).reply ≡ Some (Commit x))

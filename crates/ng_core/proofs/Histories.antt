@@ -21,7 +21,7 @@ use Rattle.ng_core.specs.Moments.{AtEachStop, IsRising, answered_by}
 use Rattle.ng_core.specs.Runs.{IsCrashAfterSome, PassesAsSession, answered_events, answered_events_by, session_replies, session_replies_by, tried_events, tried_events_by}
 use Rattle.ng_core.specs.Causes.{transition_of}
 use Rattle.ng_core.proofs.History.{History, HonestTurn, OnSpecIfHonest, OnSpecAnyState, program_after}
-use Rattle.ng_core.proofs.Timing.{none_by, one_by, same_moment, same_each, same_rising, no_call, one_call, more_calls, weaker_said}
+use Rattle.ng_core.proofs.Timing.{none_by, one_by, same_moment, same_more, same_none, same_each, same_rising, no_call, one_call, more_calls, weaker_said}
 
 -- ---- what a stop leaves, and how much of it was acknowledged
 
@@ -115,11 +115,10 @@ module _ {A : Type 0} (equipment : Equipment) (scene : ProgramSession) (given : 
 -- ---- what a history leads to
 
 -- What is left at each stop, with how much of it was acknowledged; and what stands now.
-pub record Leads {A R : Type 0} (trace : R → Trace) (events : List (Event A)) (replies : List Reply) (equipment : Equipment) (scene : ProgramSession) (trace_old : Trace) (new : ControllerModel R) : Type 0 where
+pub record Leads {A R : Type 0} (trace : R → Trace) (events : List (Event A)) (replies : List Reply) (moments : List ℕ) (equipment : Equipment) (scene : ProgramSession) (trace_old : Trace) (new : ControllerModel R) : Type 0 where
   pub answers : List (Result Reply Fault)
   pub replies_are : replies ≡ map reply_to answers
   pub told_is : session_replies answers ≡ replies_of equipment scene (answered_events events answers)
-  pub moments : List ℕ
   pub each : length moments ≡ length events
   pub rising : IsRising (moment trace_old) (moment (trace new.journal.rig)) moments
   pub stops : AtEachStop trace_old (trace new.journal.rig) (λ t. IsLeftBy equipment scene (items trace_old) events answers replies (answered_by t moments))
@@ -127,10 +126,11 @@ pub record Leads {A R : Type 0} (trace : R → Trace) (events : List (Event A)) 
   pub rests : new.journal.broken ≡ false → IsAtRestWith (trace new.journal.rig) new (session_after equipment scene (answered_events events answers)).program
   pub items_are : new.journal.broken ≡ false → items (trace new.journal.rig) ≡ items trace_old ++ items_of equipment scene (answered_events events answers)
 
--- once the device failed, nothing changes any more, and nothing is acknowledged
-record Idles {R : Type 0} (replies : List Reply) (old new : ControllerModel R) : Type 0 where
+-- Once the device failed, nothing changes any more, and nothing is acknowledged; so each moment is the same.
+record Idles {A R : Type 0} (trace : R → Trace) (events : List (Event A)) (replies : List Reply) (moments : List ℕ) (old new : ControllerModel R) : Type 0 where
   answers : List (Result Reply Fault)
   replies_are : replies ≡ map reply_to answers
+  moments_are : moments ≡ same_moment (moment (trace old.journal.rig)) events
   none : (n : ℕ) → dones (take n replies) ≡ 0
   same : new ≡ old
 
@@ -142,44 +142,50 @@ none_more : (r : Reply) (replies : List Reply) → done_count r ≡ 0 → ((n : 
 none_more r replies is none zero = refl
 none_more r replies is none (suc n) = let rest = none n in omega (arith, is, rest)
 
-idles_more : {A R : Type 0} (trace : R → Trace) (event : Event A) (r : Reply) (replies : List Reply) (answer : Result Reply Fault) (program : List ℕ) (old between new : ControllerModel R)
-    → old.journal.broken ≡ true → HonestTurn trace event r answer program old between → Idles replies between new → Idles (r ∷ replies) old new
-idles_more trace event r replies answer program old between new broken step rest =
+idles_more : {A R : Type 0} (trace : R → Trace) (event : Event A) (events : List (Event A)) (r : Reply) (replies : List Reply) (m : ℕ) (moments : List ℕ) (answer : Result Reply Fault) (program : List ℕ) (old between new : ControllerModel R)
+    → old.journal.broken ≡ true → HonestTurn trace event r m answer program old between → Idles trace events replies moments between new → Idles trace (event ∷ events) (r ∷ replies) (m ∷ moments) old new
+idles_more {A} {R} trace event events r replies m moments answer program old between new broken step rest =
     let turn : OnSpecAnyState trace true answer event program old between = subst (λ (b : Bool). OnSpecAnyState trace b answer event program old between) broken step.stepping in
+    let here : moment (trace between.journal.rig) ≡ moment (trace old.journal.rig) = ap (λ (c : ControllerModel R). moment (trace c.journal.rig)) turn.1 in
+    let first : m ≡ moment (trace old.journal.rig) = step.moment_is ∙ here in
+    let others : moments ≡ same_moment (moment (trace old.journal.rig)) events = rest.moments_are ∙ ap (λ (k : ℕ). same_moment k events) here in
     record {
       answers = answer ∷ rest.answers;
       replies_are = λ i. step.told_is i ∷ rest.replies_are i;
+      moments_are = (λ i. first i ∷ others i) ∙ sym (same_more (moment (trace old.journal.rig)) event events);
       none = none_more r replies (ap done_count (step.told_is ∙ ap (λ (a : Result Reply Fault). reply_to a) turn.0) ∙ none_done old.session event) rest.none;
       same = rest.same ∙ turn.1;
     }
 
-idles : {A R : Type 0} (trace : R → Trace) (events : List (Event A)) (replies : List Reply) (program : List ℕ) (old new : ControllerModel R)
-    → History trace events replies program old new → old.journal.broken ≡ true → Idles replies old new
-idles trace [] [] program old new h broken = record { answers = []; replies_are = refl; none = none_taken; same = h }
+idles : {A R : Type 0} (trace : R → Trace) (events : List (Event A)) (replies : List Reply) (moments program : List ℕ) (old new : ControllerModel R)
+    → History trace events replies moments program old new → old.journal.broken ≡ true → Idles trace events replies moments old new
+idles {A} trace [] [] [] program old new h broken = record { answers = []; replies_are = refl; moments_are = sym (same_none (Event A) (moment (trace old.journal.rig))); none = none_taken; same = h }
   where
     none_taken : (n : ℕ) → dones (take n []) ≡ 0
     none_taken zero = refl
     none_taken (suc n) = refl
-idles trace [] (r ∷ replies) program old new h broken = absurd h
-idles trace (event ∷ events) [] program old new h broken = absurd h
-idles trace (event ∷ events) (r ∷ replies) program old new h broken =
+idles trace [] [] (m ∷ moments) program old new h broken = absurd h
+idles trace [] (r ∷ replies) moments program old new h broken = absurd h
+idles trace (event ∷ events) [] moments program old new h broken = absurd h
+idles trace (event ∷ events) (r ∷ replies) [] program old new h broken = absurd h
+idles trace (event ∷ events) (r ∷ replies) (m ∷ moments) program old new h broken =
     let answer = h.0 in
     let between = h.1.0 in
     let turn : OnSpecAnyState trace true answer event program old between = subst (λ (b : Bool). OnSpecAnyState trace b answer event program old between) broken h.1.1.0.stepping in
-    idles_more trace event r replies answer program old between new broken h.1.1.0
-    (idles trace events replies (program_after answer (transition_of old program event) program) between new h.1.1.1 (ap (λ (c : ControllerModel _). c.journal.broken) turn.1 ∙ broken))
+    idles_more trace event events r replies m moments answer program old between new broken h.1.1.0
+    (idles trace events replies moments (program_after answer (transition_of old program event) program) between new h.1.1.1 (ap (λ (c : ControllerModel _). c.journal.broken) turn.1 ∙ broken))
 
 -- the rest of a history leads on, from where an answered event left the controller
-led_on : {A R : Type 0} (trace : R → Trace) (event : Event A) (events : List (Event A)) (r v : Reply) (replies : List Reply) (program : List ℕ) (old between new : ControllerModel R)
+led_on : {A R : Type 0} (trace : R → Trace) (event : Event A) (events : List (Event A)) (r v : Reply) (replies : List Reply) (moments program : List ℕ) (old between new : ControllerModel R)
     → r ≡ v → OnSpecIfHonest trace (Ok v) event program old between → IsAtRestWith (trace old.journal.rig) old program
-    → Leads trace events replies between.equipment (program_session_of (transition_of old program event).program between) (trace between.journal.rig) new
-    → Leads trace (event ∷ events) (r ∷ replies) old.equipment (program_session_of program old) (trace old.journal.rig) new
-led_on trace event events r v replies program old between new told_is s rests p =
+    → Leads trace events replies moments between.equipment (program_session_of (transition_of old program event).program between) (trace between.journal.rig) new
+    → Leads trace (event ∷ events) (r ∷ replies) (moment (trace between.journal.rig) ∷ moments) old.equipment (program_session_of program old) (trace old.journal.rig) new
+led_on trace event events r v replies moments program old between new told_is s rests p =
     let out = transition_of old program event in
     let same : program_session_of out.program between ≡ session_of_transition out = λ i. record { program = out.program; session = s.acts.comes.1 i } in
-    let q : Leads trace events replies old.equipment (session_of_transition out) (trace between.journal.rig) new =
-    subst (λ (z : ProgramSession). Leads trace events replies old.equipment z (trace between.journal.rig) new) same
-    (subst (λ (z : Equipment). Leads trace events replies z (program_session_of out.program between) (trace between.journal.rig) new) s.equipment p) in
+    let q : Leads trace events replies moments old.equipment (session_of_transition out) (trace between.journal.rig) new =
+    subst (λ (z : ProgramSession). Leads trace events replies moments old.equipment z (trace between.journal.rig) new) same
+    (subst (λ (z : Equipment). Leads trace events replies moments z (program_session_of out.program between) (trace between.journal.rig) new) s.equipment p) in
     let scene = program_session_of program old in
     let trace_old = trace old.journal.rig in
     let mid = trace between.journal.rig in
@@ -190,16 +196,15 @@ led_on trace event events r v replies program old between new told_is s rests p 
       answers = answers;
       replies_are = λ i. told_is i ∷ q.replies_are i;
       told_is = λ i. s.acts.comes.0 i ∷ q.told_is i;
-      moments = moment mid ∷ q.moments;
       each = ap (λ (n : ℕ). suc n) q.each;
       rising = (s.acts.stops.later, q.rising);
       stops = more_calls trace_old mid (trace new.journal.rig) (IsCrashOfEither (crash_in scene given) (crash_in (session_of_transition out) (given ++ out.items)))
-          (λ t. IsLeftBy old.equipment (session_of_transition out) (items mid) events q.answers replies (answered_by t q.moments)) (λ t. Said (answered_by t (moment mid ∷ q.moments))) s.acts.stops q.stops
-          (λ t image handed early either. subst (λ (n : ℕ). Said n image handed) (sym (none_by t (moment (trace new.journal.rig)) (moment mid) q.moments early q.rising))
+          (λ t. IsLeftBy old.equipment (session_of_transition out) (items mid) events q.answers replies (answered_by t moments)) (λ t. Said (answered_by t (moment mid ∷ moments))) s.acts.stops q.stops
+          (λ t image handed early either. subst (λ (n : ℕ). Said n image handed) (sym (none_by t (moment (trace new.journal.rig)) (moment mid) moments early q.rising))
           (one_left old.equipment scene given image handed event (either_left trace_old program old (crash_in (session_of_transition out) (given ++ out.items)) image handed rests either)))
-          (λ t image handed late l. subst (λ (n : ℕ). Said n image handed) (sym (one_by t (moment mid) q.moments late))
+          (λ t image handed late l. subst (λ (n : ℕ). Said n image handed) (sym (one_by t (moment mid) moments late))
           (more_left old.equipment scene given image handed event r _ _ _ (ap done_count (told_is ∙ s.acts.comes.0))
-          (subst (λ (before : List Item). IsLeftBy old.equipment (session_of_transition out) before events q.answers replies (answered_by t q.moments) image handed) s.acts.leaves.1 l)));
+          (subst (λ (before : List Item). IsLeftBy old.equipment (session_of_transition out) before events q.answers replies (answered_by t moments) image handed) s.acts.leaves.1 l)));
       session_is = q.session_is;
       rests = q.rests;
       items_are = λ whole. q.items_are whole ∙ ap (λ (l : List Item). l ++ items_of old.equipment (session_of_transition out) (answered_events events q.answers)) s.acts.leaves.1
@@ -207,11 +212,11 @@ led_on trace event events r v replies program old between new told_is s rests p 
     }
 
 -- an event that was set aside changed nothing
-led_aside : {A R : Type 0} (trace : R → Trace) (event : Event A) (events : List (Event A)) (r : Reply) (replies : List Reply) (fault : Fault) (equipment : Equipment) (scene : ProgramSession) (trace_old : Trace) (new : ControllerModel R)
+led_aside : {A R : Type 0} (trace : R → Trace) (event : Event A) (events : List (Event A)) (r : Reply) (replies : List Reply) (moments : List ℕ) (fault : Fault) (equipment : Equipment) (scene : ProgramSession) (trace_old : Trace) (new : ControllerModel R)
     → ((l : List (Event A)) → answered_events_by (Err fault) event l ≡ l) → ((l : List (Event A)) → tried_events_by (Err fault) event l ≡ l) → ((l : List Reply) → session_replies_by (Err fault) l ≡ l)
-    → r ≡ reply.Refused fault → Leads trace events replies equipment scene trace_old new
-    → Leads trace (event ∷ events) (r ∷ replies) equipment scene trace_old new
-led_aside trace event events r replies fault equipment scene trace_old new no_more no_try no_word told_is p =
+    → r ≡ reply.Refused fault → Leads trace events replies moments equipment scene trace_old new
+    → Leads trace (event ∷ events) (r ∷ replies) (moment trace_old ∷ moments) equipment scene trace_old new
+led_aside trace event events r replies moments fault equipment scene trace_old new no_more no_try no_word told_is p =
     let answers = Err fault ∷ p.answers in
     let none : done_count r ≡ 0 = ap done_count told_is in
     let Said : ℕ → Image → List Item → Type 0 = λ n image handed. IsLeftBy equipment scene (items trace_old) (event ∷ events) answers (r ∷ replies) n image handed in
@@ -219,13 +224,12 @@ led_aside trace event events r replies fault equipment scene trace_old new no_mo
       answers = answers;
       replies_are = λ i. told_is i ∷ p.replies_are i;
       told_is = rw (no_more (answered_events events p.answers), no_word (session_replies p.answers)) p.told_is;
-      moments = moment trace_old ∷ p.moments;
       each = ap (λ (n : ℕ). suc n) p.each;
       rising = (omega arith, p.rising);
-      stops = weaker_said trace_old (trace new.journal.rig) (λ t. IsLeftBy equipment scene (items trace_old) events p.answers replies (answered_by t p.moments)) (λ t. Said (answered_by t (moment trace_old ∷ p.moments))) p.stops
+      stops = weaker_said trace_old (trace new.journal.rig) (λ t. IsLeftBy equipment scene (items trace_old) events p.answers replies (answered_by t moments)) (λ t. Said (answered_by t (moment trace_old ∷ moments))) p.stops
           (λ t image handed from l.
-          let n = answered_by t p.moments in
-          subst (λ (k : ℕ). Said k image handed) (sym (one_by t (moment trace_old) p.moments from))
+          let n = answered_by t moments in
+          subst (λ (k : ℕ). Said k image handed) (sym (one_by t (moment trace_old) moments from))
           (same_left equipment scene (items trace_old) image handed _ _ _ _ _ _ (ap (λ (es : List (Event _)). length es) (no_more (answered_events (take n events) p.answers))) (no_try (tried_events (take (suc n) events) p.answers)) (omega (arith, none)) l));
       session_is = rw (no_more (answered_events events p.answers)) p.session_is;
       rests = rw (no_more (answered_events events p.answers)) p.rests;
@@ -242,24 +246,26 @@ lost_left equipment scene given event events answers r replies (suc n) image han
     same_left equipment scene given image handed _ _ _ _ _ _ refl refl none (one_left equipment scene given image handed event p)
 
 -- the device failed in an event
-led_lost : {A R : Type 0} (trace : R → Trace) (event : Event A) (events : List (Event A)) (r : Reply) (replies : List Reply) (program : List ℕ) (old between new : ControllerModel R)
-    → r ≡ reply.Refused DeviceFailed → OnSpecIfHonest trace (Err DeviceFailed) event program old between → IsAtRestWith (trace old.journal.rig) old program → Idles replies between new
-    → Leads trace (event ∷ events) (r ∷ replies) old.equipment (program_session_of program old) (trace old.journal.rig) new
-led_lost {A} {R} trace event events r replies program old between new told_is s rests idle =
+led_lost : {A R : Type 0} (trace : R → Trace) (event : Event A) (events : List (Event A)) (r : Reply) (replies : List Reply) (moments program : List ℕ) (old between new : ControllerModel R)
+    → r ≡ reply.Refused DeviceFailed → OnSpecIfHonest trace (Err DeviceFailed) event program old between → IsAtRestWith (trace old.journal.rig) old program → Idles trace events replies moments between new
+    → Leads trace (event ∷ events) (r ∷ replies) (moment (trace between.journal.rig) ∷ moments) old.equipment (program_session_of program old) (trace old.journal.rig) new
+led_lost {A} {R} trace event events r replies later program old between new told_is s rests idle =
     let failed : new.journal.broken ≡ true = ap (λ (c : ControllerModel _). c.journal.broken) idle.same ∙ s.broken in
     let trace_old = trace old.journal.rig in
     let last = moment (trace between.journal.rig) in
-    let moments = last ∷ same_moment last events in
+    let moments = last ∷ later in
     let answers = Err DeviceFailed ∷ idle.answers in
     let out = transition_of old program event in
     let after = crash_in (session_of_transition out) (items trace_old ++ out.items) in
+    let rising : IsRising last (moment (trace new.journal.rig)) later =
+    subst (λ (l : List ℕ). IsRising last (moment (trace new.journal.rig)) l) (sym idle.moments_are)
+    (subst (λ (c : ControllerModel R). IsRising last (moment (trace c.journal.rig)) (same_moment last events)) (sym idle.same) (same_rising last events)) in
     record {
       answers = answers;
       replies_are = λ i. told_is i ∷ idle.replies_are i;
       told_is = refl;
-      moments = moments;
-      each = ap (λ (n : ℕ). suc n) (same_each last events);
-      rising = (s.acts.stops.later, subst (λ (c : ControllerModel R). IsRising last (moment (trace c.journal.rig)) (same_moment last events)) (sym idle.same) (same_rising last events));
+      each = ap (λ (n : ℕ). suc n) (ap (λ (l : List ℕ). length l) idle.moments_are ∙ same_each last events);
+      rising = (s.acts.stops.later, rising);
       stops = subst (λ (c : ControllerModel R). AtEachStop trace_old (trace c.journal.rig) (λ t. IsLeftBy old.equipment (program_session_of program old) (items trace_old) (event ∷ events) answers (r ∷ replies) (answered_by t moments))) (sym idle.same)
           (one_call trace_old (trace between.journal.rig) (IsCrashOfEither (crash_in (program_session_of program old) (items trace_old)) after) _ s.acts.stops
           (λ t image handed either. lost_left old.equipment (program_session_of program old) (items trace_old) event events idle.answers r replies (answered_by t moments) image handed
@@ -270,38 +276,40 @@ led_lost {A} {R} trace event events r replies program old between new told_is s 
     }
 
 -- an event of a whole controller, and the rest of its history
-led : {A R : Type 0} (trace : R → Trace) (event : Event A) (events : List (Event A)) (r : Reply) (replies : List Reply) (answer : Result Reply Fault) (program : List ℕ) (old between new : ControllerModel R)
+led : {A R : Type 0} (trace : R → Trace) (event : Event A) (events : List (Event A)) (r : Reply) (replies : List Reply) (moments : List ℕ) (answer : Result Reply Fault) (program : List ℕ) (old between new : ControllerModel R)
     → r ≡ reply_to answer → OnSpecIfHonest trace answer event program old between → old.journal.broken ≡ false → IsAtRestWith (trace old.journal.rig) old program
-    → History trace events replies (program_after answer (transition_of old program event) program) between new
-    → ((p : List ℕ) → between.journal.broken ≡ false → IsAtRestWith (trace between.journal.rig) between p → History trace events replies p between new → Leads trace events replies between.equipment (program_session_of p between) (trace between.journal.rig) new)
-    → Leads trace (event ∷ events) (r ∷ replies) old.equipment (program_session_of program old) (trace old.journal.rig) new
-led trace event events r replies (Ok v) program old between new told_is s whole rests h on =
-    led_on trace event events r v replies program old between new told_is s rests (on (transition_of old program event).program s.broken s.acts.leaves.0 h)
-led {A} {R} trace event events r replies (Err fault) program old between new told_is s whole rests h on =
-    let Goal : Fault → Type 0 = λ f. r ≡ reply.Refused f → OnSpecIfHonest trace (Err f) event program old between → Leads trace (event ∷ events) (r ∷ replies) old.equipment (program_session_of program old) (trace old.journal.rig) new in
+    → History trace events replies moments (program_after answer (transition_of old program event) program) between new
+    → ((p : List ℕ) → between.journal.broken ≡ false → IsAtRestWith (trace between.journal.rig) between p → History trace events replies moments p between new → Leads trace events replies moments between.equipment (program_session_of p between) (trace between.journal.rig) new)
+    → Leads trace (event ∷ events) (r ∷ replies) (moment (trace between.journal.rig) ∷ moments) old.equipment (program_session_of program old) (trace old.journal.rig) new
+led trace event events r replies moments (Ok v) program old between new told_is s whole rests h on =
+    led_on trace event events r v replies moments program old between new told_is s rests (on (transition_of old program event).program s.broken s.acts.leaves.0 h)
+led {A} {R} trace event events r replies moments (Err fault) program old between new told_is s whole rests h on =
+    let Leading : ℕ → Type 0 = λ at. Leads trace (event ∷ events) (r ∷ replies) (at ∷ moments) old.equipment (program_session_of program old) (trace old.journal.rig) new in
+    let Goal : Fault → Type 0 = λ f. r ≡ reply.Refused f → OnSpecIfHonest trace (Err f) event program old between → Leading (moment (trace between.journal.rig)) in
     let unmoved : between.journal.broken ≡ false → between.session ≡ old.session → trace between.journal.rig ≡ trace old.journal.rig → IsAtRestWith (trace between.journal.rig) between program
-    → Leads trace events replies old.equipment (program_session_of program old) (trace old.journal.rig) new =
+    → Leads trace events replies moments old.equipment (program_session_of program old) (trace old.journal.rig) new =
     λ unbroken same alive here.
-    subst (λ (l : Trace). Leads trace events replies old.equipment (program_session_of program old) l new) alive
-    (subst (λ (x : SessionModel). Leads trace events replies old.equipment (record { program = program; session = x }) (trace between.journal.rig) new) same
-    (subst (λ (q : Equipment). Leads trace events replies q (program_session_of program between) (trace between.journal.rig) new) s.equipment
+    subst (λ (l : Trace). Leads trace events replies moments old.equipment (program_session_of program old) l new) alive
+    (subst (λ (x : SessionModel). Leads trace events replies moments old.equipment (record { program = program; session = x }) (trace between.journal.rig) new) same
+    (subst (λ (q : Equipment). Leads trace events replies moments q (program_session_of program between) (trace between.journal.rig) new) s.equipment
     (on program unbroken here h))) in
-    let short : Goal OutOfMemory = λ t z. led_aside trace event events r replies OutOfMemory old.equipment (program_session_of program old) (trace old.journal.rig) new (λ l. refl) (λ l. refl) (λ l. refl) t (unmoved z.broken z.acts.comes z.acts.leaves.1 z.acts.leaves.0) in
-    let used : Goal CountersUsed = λ t z. led_aside trace event events r replies CountersUsed old.equipment (program_session_of program old) (trace old.journal.rig) new (λ l. refl) (λ l. refl) (λ l. refl) t (unmoved z.broken z.acts.comes z.acts.leaves.1 z.acts.leaves.0) in
-    let lost : Goal DeviceFailed = λ t z. led_lost trace event events r replies program old between new t z rests (idles trace events replies program between new h z.broken) in
+    let then : trace between.journal.rig ≡ trace old.journal.rig → Leading (moment (trace old.journal.rig)) → Leading (moment (trace between.journal.rig)) =
+    λ alive p. subst Leading (sym (ap (λ (l : Trace). moment l) alive)) p in
+    let short : Goal OutOfMemory = λ t z. then z.acts.leaves.1 (led_aside trace event events r replies moments OutOfMemory old.equipment (program_session_of program old) (trace old.journal.rig) new (λ l. refl) (λ l. refl) (λ l. refl) t (unmoved z.broken z.acts.comes z.acts.leaves.1 z.acts.leaves.0)) in
+    let used : Goal CountersUsed = λ t z. then z.acts.leaves.1 (led_aside trace event events r replies moments CountersUsed old.equipment (program_session_of program old) (trace old.journal.rig) new (λ l. refl) (λ l. refl) (λ l. refl) t (unmoved z.broken z.acts.comes z.acts.leaves.1 z.acts.leaves.0)) in
+    let lost : Goal DeviceFailed = λ t z. led_lost trace event events r replies moments program old between new t z rests (idles trace events replies moments program between new h z.broken) in
     let goal : Goal fault = ⊎_elim (λ e. subst Goal (sym e.0) short) (λ o. ⊎_elim (λ e. subst Goal (sym e.0) used) (λ e. subst Goal (sym e.0) lost) o) s.hindered in
     goal told_is s
 
-pub leads : {A R : Type 0} (trace : R → Trace) (events : List (Event A)) (replies : List Reply) (program : List ℕ) (old new : ControllerModel R)
-    → History trace events replies program old new → old.journal.broken ≡ false → IsAtRestWith (trace old.journal.rig) old program
-    → Leads trace events replies old.equipment (program_session_of program old) (trace old.journal.rig) new
-leads {A} {R} trace [] [] program old new h whole rests =
+pub leads : {A R : Type 0} (trace : R → Trace) (events : List (Event A)) (replies : List Reply) (moments program : List ℕ) (old new : ControllerModel R)
+    → History trace events replies moments program old new → old.journal.broken ≡ false → IsAtRestWith (trace old.journal.rig) old program
+    → Leads trace events replies moments old.equipment (program_session_of program old) (trace old.journal.rig) new
+leads {A} {R} trace [] [] [] program old new h whole rests =
     let trace_old = trace old.journal.rig in
-    subst (λ (c : ControllerModel R). Leads {A = A} trace [] [] old.equipment (program_session_of program old) trace_old c) (sym h) (record {
+    subst (λ (c : ControllerModel R). Leads {A = A} trace [] [] [] old.equipment (program_session_of program old) trace_old c) (sym h) (record {
       answers = [];
       replies_are = refl;
       told_is = refl;
-      moments = [];
       each = refl;
       rising = omega arith;
       stops = no_call trace_old (λ t. IsLeftBy {A = A} old.equipment (program_session_of program old) (items trace_old) [] [] [] 0)
@@ -310,22 +318,24 @@ leads {A} {R} trace [] [] program old new h whole rests =
       rests = λ b. rests;
       items_are = λ b. sym (append-nil (items trace_old));
     })
-leads trace [] (r ∷ replies) program old new h whole rests = absurd h
-leads trace (event ∷ events) [] program old new h whole rests = absurd h
-leads trace (event ∷ events) (r ∷ replies) program old new h whole rests =
+leads trace [] [] (m ∷ moments) program old new h whole rests = absurd h
+leads trace [] (r ∷ replies) moments program old new h whole rests = absurd h
+leads trace (event ∷ events) [] moments program old new h whole rests = absurd h
+leads trace (event ∷ events) (r ∷ replies) [] program old new h whole rests = absurd h
+leads trace (event ∷ events) (r ∷ replies) (m ∷ moments) program old new h whole rests =
     let answer = h.0 in
     let between = h.1.0 in
     let turn : OnSpecIfHonest trace answer event program old between = subst (λ (b : Bool). OnSpecAnyState trace b answer event program old between) whole h.1.1.0.stepping in
-    led trace event events r replies answer program old between new h.1.1.0.told_is turn whole rests h.1.1.1
-    (λ p w k g. leads trace events replies p between new g w k)
+    subst (λ (at : ℕ). Leads trace (event ∷ events) (r ∷ replies) (at ∷ moments) old.equipment (program_session_of program old) (trace old.journal.rig) new) (sym h.1.1.0.moment_is)
+    (led trace event events r replies moments answer program old between new h.1.1.0.told_is turn whole rests h.1.1.1
+    (λ p w k g. leads trace events replies moments p between new g w k))
 
-abbrev pub passed : {A R : Type 0} (trace : R → Trace) (events : List (Event A)) (replies : List Reply) (equipment : Equipment) (scene : ProgramSession) (trace_old : Trace) (new : ControllerModel R)
-    → Leads trace events replies equipment scene trace_old new → PassesAsSession trace events replies equipment scene trace_old new
-passed trace events replies equipment scene trace_old new l = record {
+abbrev pub passed : {A R : Type 0} (trace : R → Trace) (events : List (Event A)) (replies : List Reply) (moments : List ℕ) (equipment : Equipment) (scene : ProgramSession) (trace_old : Trace) (new : ControllerModel R)
+    → Leads trace events replies moments equipment scene trace_old new → PassesAsSession trace events replies moments equipment scene trace_old new
+passed trace events replies moments equipment scene trace_old new l = record {
   answers = l.answers;
   replies_are = l.replies_are;
   told_is = l.told_is;
-  moments = l.moments;
   each = l.each;
   rising = l.rising;
   stops = weaker_said trace_old (trace new.journal.rig) _ _ l.stops (λ t image handed from is. is.after);
@@ -335,8 +345,8 @@ passed trace events replies equipment scene trace_old new l = record {
 }
 
 -- Each history passes as the session does.
-pub passes : {A R : Type 0} (trace : R → Trace) (events : List (Event A)) (replies : List Reply) (program : List ℕ) (old new : ControllerModel R)
-    → History trace events replies program old new → old.journal.broken ≡ false → IsAtRestWith (trace old.journal.rig) old program
-    → PassesAsSession trace events replies old.equipment (program_session_of program old) (trace old.journal.rig) new
-passes trace events replies program old new h whole rests =
-    passed trace events replies old.equipment (program_session_of program old) (trace old.journal.rig) new (leads trace events replies program old new h whole rests)
+pub passes : {A R : Type 0} (trace : R → Trace) (events : List (Event A)) (replies : List Reply) (moments program : List ℕ) (old new : ControllerModel R)
+    → History trace events replies moments program old new → old.journal.broken ≡ false → IsAtRestWith (trace old.journal.rig) old program
+    → PassesAsSession trace events replies moments old.equipment (program_session_of program old) (trace old.journal.rig) new
+passes trace events replies moments program old new h whole rests =
+    passed trace events replies moments old.equipment (program_session_of program old) (trace old.journal.rig) new (leads trace events replies moments program old new h whole rests)

@@ -1,7 +1,7 @@
 -- What a list of events does to a controller over an honest device, one after the other.
 use Rattle.std.proofs.Common.{◌≡◌, ℕ, Bool, true, false, List, [], ◌∷◌, Result, Ok, Err, IfErr}
 use Rattle.ng_num.specs.declared.fault.Fault.{Fault}
-use Rattle.ng_rig.specs.Trace.{Trace}
+use Rattle.ng_rig.specs.Trace.{Trace, moment}
 use Rattle.ng_journal.specs.Journal.{IsBrokenBy}
 use Rattle.ng_journal.specs.Storing.{ledger_of}
 use Rattle.ng_session.specs.Session.{Transition, TakesMemory, AsksDevice}
@@ -32,16 +32,19 @@ abbrev pub OnSpecAnyState : {A R : Type 0} → (R → Trace) → Bool → Result
 OnSpecAnyState trace true answer event program old new = (answer ≡ broken_answer old.session event) × (new ≡ old)
 OnSpecAnyState trace false answer event program old new = OnSpecIfHonest trace answer event program old new
 
--- an event with its reply
-pub record HonestTurn {A R : Type 0} (trace : R → Trace) (event : Event A) (r : Reply) (answer : Result Reply Fault) (program : List ℕ) (old new : ControllerModel R) : Type 0 where
+-- an event with its reply, and the moment at which it was answered
+pub record HonestTurn {A R : Type 0} (trace : R → Trace) (event : Event A) (r : Reply) (at : ℕ) (answer : Result Reply Fault) (program : List ℕ) (old new : ControllerModel R) : Type 0 where
   pub told_is : r ≡ reply_to answer
+  pub moment_is : at ≡ moment (trace new.journal.rig)
   pub stepping : OnSpecAnyState trace old.journal.broken answer event program old new
 
--- One event after the other, each with its reply, from where the one before left controller and device.
-abbrev pub History : {A R : Type 0} → (R → Trace) → List (Event A) → List Reply → List ℕ → ControllerModel R → ControllerModel R → Type 0
-History trace [] [] program old new = new ≡ old
-History trace [] (r ∷ replies) program old new = ⊥
-History trace (event ∷ events) [] program old new = ⊥
-History {A} {R} trace (event ∷ events) (r ∷ replies) program old new =
-    (answer : Result Reply Fault) × ((between : ControllerModel R) × (HonestTurn trace event r answer program old between
-    × History trace events replies (program_after answer (transition_of old program event) program) between new))
+-- One event after the other, each with its reply and its moment, from where the one before left controller and device.
+abbrev pub History : {A R : Type 0} → (R → Trace) → List (Event A) → List Reply → (moments program : List ℕ) → ControllerModel R → ControllerModel R → Type 0
+History trace [] [] [] program old new = new ≡ old
+History trace [] [] (m ∷ moments) program old new = ⊥
+History trace [] (r ∷ replies) moments program old new = ⊥
+History trace (event ∷ events) [] moments program old new = ⊥
+History trace (event ∷ events) (r ∷ replies) [] program old new = ⊥
+History {A} {R} trace (event ∷ events) (r ∷ replies) (m ∷ moments) program old new =
+    (answer : Result Reply Fault) × ((between : ControllerModel R) × (HonestTurn trace event r m answer program old between
+    × History trace events replies moments (program_after answer (transition_of old program event) program) between new))

@@ -3,7 +3,7 @@ use Rattle.std.proofs.Common.{◌≡◌, ◌<◌, ◌≤◌, ◌+◌, ◌%◌, �
 use Rattle.std.proofs.lemmas.List.{take_more, take_all}
 use Rattle.ng_num.specs.declared.fault.Fault.{Fault}
 use Rattle.ng_num.specs.declared.fault.Fault.TheVariants.{DeviceFailed, CountersUsed, OutOfMemory}
-use Rattle.ng_rig.specs.Trace.{Trace}
+use Rattle.ng_rig.specs.Trace.{Trace, moment}
 use Rattle.ng_rig.specs.Calls.{IfHonest}
 use Rattle.ng_rig.proofs.Promise.{meaning, promised}
 use Rattle.ng_journal.specs.Journal.{CountsFailure, IsBrokenBy}
@@ -11,7 +11,7 @@ use Rattle.ng_session.specs.declared.event.Event.{Event}
 use Rattle.ng_session.specs.declared.reply.Reply.{Reply}
 use Rattle.ng_core.specs.Model.{ControllerModel, IsAtRestWith}
 use Rattle.ng_core.specs.Events.{Handles, reply_to, broken_answer, program_session_of}
-use Rattle.ng_core.specs.AnsweredEvents.{IsAnsweredEvent, AreAnsweredEvents}
+use Rattle.ng_core.specs.AnsweredEvents.{IsAnsweredEvent, AreAnsweredEvents, answered_at}
 use Rattle.ng_core.specs.Runs.{PassesAsSession, IsRun, CountsOneFailure}
 use Rattle.ng_core.proofs.History.{HasRefusalCause, History}
 use Rattle.ng_core.proofs.GoingOn.{GoesFrom, begins, ends, goes_next}
@@ -23,13 +23,23 @@ pub turns_one : {A R : Type 0} (honest : R → Type 0) (trace : R → Trace) (fa
     → IsAnsweredEvent honest trace failed sectors event r old new → AreAnsweredEvents honest trace failed sectors (event ∷ []) (r ∷ []) old new
 turns_one honest trace failed sectors event r old new t = (new, (t, refl))
 
+-- events and then others, answered at the moments of the ones and then of the others
+pub turns_joined_at : {A R : Type 0} (honest : R → Type 0) (trace : R → Trace) (failed sectors : R → ℕ) (events more : List (Event A)) (replies others : List Reply) (old mid new : ControllerModel R)
+    → (p : AreAnsweredEvents honest trace failed sectors events replies old mid) → (q : AreAnsweredEvents honest trace failed sectors more others mid new)
+    → (all : AreAnsweredEvents honest trace failed sectors (events ++ more) (replies ++ others) old new)
+    × (answered_at honest trace failed sectors (events ++ more) (replies ++ others) old new all ≡ answered_at honest trace failed sectors events replies old mid p ++ answered_at honest trace failed sectors more others mid new q)
+turns_joined_at {A} {R} honest trace failed sectors [] more [] others old mid new p q =
+    subst (λ (c : ControllerModel R). (all : AreAnsweredEvents honest trace failed sectors more others c new)
+    × (answered_at honest trace failed sectors more others c new all ≡ answered_at honest trace failed sectors more others mid new q)) p (q, refl)
+turns_joined_at honest trace failed sectors [] more (r ∷ replies) others old mid new p q = absurd p
+turns_joined_at honest trace failed sectors (event ∷ events) more [] others old mid new p q = absurd p
+turns_joined_at honest trace failed sectors (event ∷ events) more (r ∷ replies) others old mid new p q =
+    let rest = turns_joined_at honest trace failed sectors events more replies others p.0 mid new p.1.1 q in
+    ((p.0, (p.1.0, rest.0)), ap (λ (l : List ℕ). moment (trace p.0.journal.rig) ∷ l) rest.1)
+
 pub turns_joined : {A R : Type 0} (honest : R → Type 0) (trace : R → Trace) (failed sectors : R → ℕ) (events more : List (Event A)) (replies others : List Reply) (old mid new : ControllerModel R)
     → AreAnsweredEvents honest trace failed sectors events replies old mid → AreAnsweredEvents honest trace failed sectors more others mid new → AreAnsweredEvents honest trace failed sectors (events ++ more) (replies ++ others) old new
-turns_joined {A} {R} honest trace failed sectors [] more [] others old mid new p q = subst (λ (c : ControllerModel R). AreAnsweredEvents honest trace failed sectors more others c new) p q
-turns_joined honest trace failed sectors [] more (r ∷ replies) others old mid new p q = absurd p
-turns_joined honest trace failed sectors (event ∷ events) more [] others old mid new p q = absurd p
-turns_joined honest trace failed sectors (event ∷ events) more (r ∷ replies) others old mid new p q =
-    (p.0, (p.1.0, turns_joined honest trace failed sectors events more replies others p.0 mid new p.1.1 q))
+turns_joined honest trace failed sectors events more replies others old mid new p q = (turns_joined_at honest trace failed sectors events more replies others old mid new p q).0
 
 -- the event at this place
 pub turns_more : {A R : Type 0} (honest : R → Type 0) (trace : R → Trace) (failed sectors : R → ℕ) (events : List (Event A)) (n : ℕ) (event : Event A) (done : List Reply) (r : Reply) (old now next : ControllerModel R)
@@ -48,45 +58,49 @@ turns_all {A} honest trace failed sectors events n done old now all t = subst (�
 -- ---- what they leave of an honest device
 
 -- a history goes on by turns
-turned : {A R : Type 0} (honest : R → Type 0) (trace : R → Trace) (failed sectors : R → ℕ) (all events : List (Event A)) (done replies : List Reply) (old now new : ControllerModel R)
-    → AreAnsweredEvents honest trace failed sectors events replies now new
-    → IfHonest (honest old.journal.rig) (honest now.journal.rig) (GoesFrom trace all events done old now)
-    → IfHonest (honest old.journal.rig) (honest new.journal.rig) (GoesFrom trace all [] (done ++ replies) old new)
-turned {A} {R} honest trace failed sectors all [] done [] old now new t p =
-    subst (λ (l : List Reply). IfHonest (honest old.journal.rig) (honest new.journal.rig) (GoesFrom trace all [] l old new)) (sym (append-nil done))
-    (subst (λ (c : ControllerModel R). IfHonest (honest old.journal.rig) (honest c.journal.rig) (GoesFrom trace all [] done old c)) (sym t) p)
-turned honest trace failed sectors all [] done (r ∷ replies) old now new t p = absurd t
-turned honest trace failed sectors all (event ∷ events) done [] old now new t p = absurd t
-turned honest trace failed sectors all (event ∷ events) done (r ∷ replies) old now new t p =
-    subst (λ (l : List Reply). IfHonest (honest old.journal.rig) (honest new.journal.rig) (GoesFrom trace all [] l old new)) (append_assoc done (r ∷ []) replies)
-    (turned honest trace failed sectors all events (done ++ r ∷ []) replies old t.0 new t.1.1
-    (goes_next honest trace failed sectors all event events done r now.journal.broken old now t.0 refl t.1.0.serves t.1.0.refuses p))
+turned : {A R : Type 0} (honest : R → Type 0) (trace : R → Trace) (failed sectors : R → ℕ) (all events : List (Event A)) (done replies : List Reply) (moments : List ℕ) (old now new : ControllerModel R)
+    → (t : AreAnsweredEvents honest trace failed sectors events replies now new)
+    → IfHonest (honest old.journal.rig) (honest now.journal.rig) (GoesFrom trace all events done moments old now)
+    → IfHonest (honest old.journal.rig) (honest new.journal.rig) (GoesFrom trace all [] (done ++ replies) (moments ++ answered_at honest trace failed sectors events replies now new t) old new)
+turned {A} {R} honest trace failed sectors all [] done [] moments old now new t p =
+    subst (λ (l : List Reply). IfHonest (honest old.journal.rig) (honest new.journal.rig) (GoesFrom trace all [] l (moments ++ []) old new)) (sym (append-nil done))
+    (subst (λ (l : List ℕ). IfHonest (honest old.journal.rig) (honest new.journal.rig) (GoesFrom trace all [] done l old new)) (sym (append-nil moments))
+    (subst (λ (c : ControllerModel R). IfHonest (honest old.journal.rig) (honest c.journal.rig) (GoesFrom trace all [] done moments old c)) (sym t) p))
+turned honest trace failed sectors all [] done (r ∷ replies) moments old now new t p = absurd t
+turned honest trace failed sectors all (event ∷ events) done [] moments old now new t p = absurd t
+turned honest trace failed sectors all (event ∷ events) done (r ∷ replies) moments old now new t p =
+    let at = moment (trace t.0.journal.rig) in
+    let later = answered_at honest trace failed sectors events replies t.0 new t.1.1 in
+    subst (λ (l : List Reply). IfHonest (honest old.journal.rig) (honest new.journal.rig) (GoesFrom trace all [] l (moments ++ at ∷ later) old new)) (append_assoc done (r ∷ []) replies)
+    (subst (λ (l : List ℕ). IfHonest (honest old.journal.rig) (honest new.journal.rig) (GoesFrom trace all [] ((done ++ r ∷ []) ++ replies) l old new)) (append_assoc moments (at ∷ []) later)
+    (turned honest trace failed sectors all events (done ++ r ∷ []) replies (moments ++ at ∷ []) old t.0 new t.1.1
+    (goes_next honest trace failed sectors all event events done moments r now.journal.broken old now t.0 refl t.1.0.serves t.1.0.refuses p)))
 
--- they have a history, whatever program rests there
+-- they have a history, whatever program rests there, by the moments at which they were answered
 pub turns_history : {A R : Type 0} (honest : R → Type 0) (trace : R → Trace) (failed sectors : R → ℕ) (events : List (Event A)) (replies : List Reply) (old new : ControllerModel R)
-    → AreAnsweredEvents honest trace failed sectors events replies old new
-    → IfHonest (honest old.journal.rig) (honest new.journal.rig) ((program : List ℕ) → (old.journal.broken ≡ false → IsAtRestWith (trace old.journal.rig) old program) → History trace events replies program old new)
+    → (t : AreAnsweredEvents honest trace failed sectors events replies old new)
+    → IfHonest (honest old.journal.rig) (honest new.journal.rig) ((program : List ℕ) → (old.journal.broken ≡ false → IsAtRestWith (trace old.journal.rig) old program) → History trace events replies (answered_at honest trace failed sectors events replies old new t) program old new)
 turns_history honest trace failed sectors events replies old new t =
-    meaning (turned honest trace failed sectors events events [] replies old old new t (promised (begins trace events old)))
-    (λ g program rests. ends trace events replies program old new (g program rests))
+    meaning (turned honest trace failed sectors events events [] replies [] old old new t (promised (begins trace events old)))
+    (λ g program rests. ends trace events replies (answered_at honest trace failed sectors events replies old new t) program old new (g program rests))
 
 pub turns_ran : {A R : Type 0} (honest : R → Type 0) (trace : R → Trace) (failed sectors : R → ℕ) (events : List (Event A)) (replies : List Reply) (old new : ControllerModel R)
-    → AreAnsweredEvents honest trace failed sectors events replies old new
-    → IfHonest (honest old.journal.rig) (honest new.journal.rig) (IsRun trace events replies old new)
+    → (t : AreAnsweredEvents honest trace failed sectors events replies old new)
+    → IfHonest (honest old.journal.rig) (honest new.journal.rig) (IsRun trace events replies (answered_at honest trace failed sectors events replies old new t) old new)
 turns_ran honest trace failed sectors events replies old new t =
     meaning (turns_history honest trace failed sectors events replies old new t)
-    (λ h program whole rests. passes trace events replies program old new (h program (λ _. rests)) whole rests)
+    (λ h program whole rests. passes trace events replies (answered_at honest trace failed sectors events replies old new t) program old new (h program (λ _. rests)) whole rests)
 
 -- the same of a device that is known to be honest
 pub turns_lead : {A R : Type 0} (honest : R → Type 0) (trace : R → Trace) (failed sectors : R → ℕ) (events : List (Event A)) (replies : List Reply) (program : List ℕ) (old new : ControllerModel R)
-    → honest old.journal.rig → AreAnsweredEvents honest trace failed sectors events replies old new → old.journal.broken ≡ false → IsAtRestWith (trace old.journal.rig) old program
-    → PassesAsSession trace events replies old.equipment (program_session_of program old) (trace old.journal.rig) new
+    → honest old.journal.rig → (t : AreAnsweredEvents honest trace failed sectors events replies old new) → old.journal.broken ≡ false → IsAtRestWith (trace old.journal.rig) old program
+    → PassesAsSession trace events replies (answered_at honest trace failed sectors events replies old new t) old.equipment (program_session_of program old) (trace old.journal.rig) new
 turns_lead honest trace failed sectors events replies program old new h t whole rests = (turns_ran honest trace failed sectors events replies old new t).holds h program whole rests
 
 pub turns_pass : {A R : Type 0} (honest : R → Type 0) (trace : R → Trace) (failed sectors : R → ℕ) (events : List (Event A)) (replies : List Reply) (old new : ControllerModel R)
-    → AreAnsweredEvents honest trace failed sectors events replies old new → old.journal.broken ≡ false
+    → (t : AreAnsweredEvents honest trace failed sectors events replies old new) → old.journal.broken ≡ false
     → IfHonest (honest old.journal.rig) (honest new.journal.rig) ((program : List ℕ) → IsAtRestWith (trace old.journal.rig) old program
-    → PassesAsSession trace events replies old.equipment (program_session_of program old) (trace old.journal.rig) new)
+    → PassesAsSession trace events replies (answered_at honest trace failed sectors events replies old new t) old.equipment (program_session_of program old) (trace old.journal.rig) new)
 turns_pass honest trace failed sectors events replies old new t whole =
     meaning (turns_ran honest trace failed sectors events replies old new t) (λ ran program rests. ran program whole rests)
 

@@ -5,6 +5,7 @@ pub mod History
 pub mod Histories
 pub mod Accounting
 pub mod GoingOn
+pub mod Guarding
 pub mod Pasts
 pub mod InTurn
 pub mod Doing

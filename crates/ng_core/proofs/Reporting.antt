@@ -1,5 +1,5 @@
 -- An entry that is kept as a report.
-use Rattle.std.proofs.Common.{◌≡◌, ◌⊎◌, ℕ, ◌+◌, ◌<◌, nat_lt, arith, Bool, true, false, not, ◌&&◌, if◌then◌else◌, Option, None, Some, Result, Ok, Err, refl, sym, ap, subst, ◌∙◌}
+use Rattle.std.proofs.Common.{◌≡◌, ◌⊎◌, ℕ, ℤ, ◌+◌, ◌<◌, nat_lt, arith, Bool, true, false, not, ◌&&◌, if◌then◌else◌, Option, None, Some, Result, Ok, Err, refl, sym, ap, subst, ◌∙◌}
 use Rattle.std.proofs.lemmas.Bool.Decides.{nat_tests}
 use Rattle.std.specs.Option.{is_none}
 use Rattle.ng_num.specs.declared.fault.Fault.TheVariants as fault
@@ -11,8 +11,8 @@ use Rattle.ng_rig.proofs.Promise.{meaning}
 use Rattle.ng_layout.specs.Limits.{greatest_count}
 use Rattle.ng_layout.specs.Stored.{HalfModel, StoredModel}
 use Rattle.ng_journal.specs.Journal.{JournalModel, CommitSpec}
-use Rattle.ng_session.specs.Entries.{Entry, referenced, after_reference, abandoned, after_abandon}
-use Rattle.ng_session.specs.Session.{SessionModel, commits, is_running, is_at_rest, abandon_refusal}
+use Rattle.ng_session.specs.Entries.{Entry, referenced, after_reference, abandoned, after_abandon, after_tool}
+use Rattle.ng_session.specs.Session.{SessionModel, commits, is_running, is_at_rest, accepts_load, abandon_refusal}
 use Rattle.ng_session.specs.declared.reply.Reply.{Reply}
 use Rattle.ng_session.specs.declared.reply.Reply.TheVariants as reply
 use Rattle.ng_core.specs.Model.{ControllerModel, durable_state_of}
@@ -66,6 +66,18 @@ no_block s free = none_of s.current (first_of (is_none s.current) (not (is_runni
 pub has_half : (s : SessionModel) → abandon_refusal s ≡ None → s.stored.half ≡ None → ⊥
 has_half s free none = let e : true ≡ false = sym (ap is_none none) ∙ half_of (is_at_rest s) (is_none s.stored.half) free in cc
 
+-- ---- where a tool's length may be put into a slot
+
+rest_of : (b d : Bool) → b && d ≡ true → b ≡ true
+rest_of true d h = refl
+rest_of false d h = cc
+
+pub no_block_at_rest : (s : SessionModel) → accepts_load s ≡ true → s.current ≡ None
+no_block_at_rest s free = none_of s.current (first_of (is_none s.current) (not (is_running s.activity)) (not s.held) (rest_of (is_at_rest s) (is_none s.stored.half) free))
+
+pub has_room : (n : ℕ) → not (nat_lt n greatest_count) ≡ false → n < greatest_count
+has_room n room = grind (arith, nat_tests)
+
 -- ---- the greatest count
 
 pub past_count : (n m : ℕ) → true ≡ not (nat_lt n greatest_count) → m ≡ n + 1 → greatest_count < m
@@ -84,3 +96,6 @@ entries_abandoned x (Some half) some = refl
 
 pub past_abandoned : (x : StoredModel) → (x.half ≡ None → ⊥) → true ≡ not (nat_lt x.entries greatest_count) → greatest_count < (after_abandon x).entries
 past_abandoned x some used = past_count x.entries (after_abandon x).entries used (entries_abandoned x x.half some)
+
+pub past_tooled : (x : StoredModel) (slot : ℕ) (nm : ℤ) → true ≡ not (nat_lt x.entries greatest_count) → greatest_count < (after_tool x slot nm).entries
+past_tooled x slot nm used = past_count x.entries (after_tool x slot nm).entries used refl

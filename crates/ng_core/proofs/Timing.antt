@@ -29,6 +29,14 @@ pub same_moment : {X : Type 0} → ℕ → List X → List ℕ
 same_moment m [] = []
 same_moment m (x ∷ xs) = m ∷ same_moment m xs
 
+pub same_more : {X : Type 0} (m : ℕ) (x : X) (xs : List X) → same_moment m (x ∷ xs) ≡ m ∷ same_moment m xs
+unfolding same_moment
+same_more m x xs = refl
+
+pub same_none : (X : Type 0) (m : ℕ) → same_moment {X = X} m [] ≡ []
+unfolding same_moment
+same_none X m = refl
+
 pub same_each : {X : Type 0} (m : ℕ) (xs : List X) → length (same_moment m xs) ≡ length xs
 unfolding same_moment
 same_each m [] = refl

@@ -1,6 +1,6 @@
 -- What events do to a controller and to its device, one after the other, over any device (own).
 use Rattle.std.specs.Prelude.{◌≡◌, ℕ, true, false, List, [], ◌∷◌}
-use Rattle.ng_rig.specs.Trace.{Trace}
+use Rattle.ng_rig.specs.Trace.{Trace, moment}
 use Rattle.ng_session.specs.declared.event.Event.{Event}
 use Rattle.ng_session.specs.declared.reply.Reply.{Reply}
 use Rattle.ng_core.specs.Events.{Handles, reply_to, broken_answer}
@@ -18,3 +18,10 @@ AreAnsweredEvents honest trace failed sectors [] (r ∷ replies) old new = ⊥
 AreAnsweredEvents honest trace failed sectors (event ∷ events) [] old new = ⊥
 AreAnsweredEvents {A} {R} honest trace failed sectors (event ∷ events) (r ∷ replies) old new =
     (between : ControllerModel R) × (IsAnsweredEvent honest trace failed sectors event r old between × AreAnsweredEvents honest trace failed sectors events replies between new)
+
+-- the moments of the device's trace at which they were answered
+abbrev pub answered_at : {A R : Type 0} (honest : R → Type 0) (trace : R → Trace) (failed sectors : R → ℕ) (events : List (Event A)) (replies : List Reply) (old new : ControllerModel R) → AreAnsweredEvents honest trace failed sectors events replies old new → List ℕ
+answered_at honest trace failed sectors [] replies old new turns = []
+answered_at honest trace failed sectors (event ∷ events) [] old new turns = []
+answered_at honest trace failed sectors (event ∷ events) (r ∷ replies) old new turns =
+    moment (trace turns.0.journal.rig) ∷ answered_at honest trace failed sectors events replies turns.0 new turns.1.1

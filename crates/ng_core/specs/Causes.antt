@@ -5,7 +5,7 @@ use Rattle.ng_num.specs.declared.fault.Fault.{Fault}
 use Rattle.ng_num.specs.declared.fault.Fault.TheVariants.{DeviceFailed, CountersUsed, OutOfMemory}
 use Rattle.ng_layout.specs.Stored.{StoredModel}
 use Rattle.ng_journal.specs.Storing.{Ledger, Storing, Commit, Open, Load, UsesUp}
-use Rattle.ng_session.specs.Entries.{Entry, Block, Loaded, Referenced, Approached, Abandoned}
+use Rattle.ng_session.specs.Entries.{Entry, Block, Loaded, Referenced, Approached, Abandoned, Tooled}
 use Rattle.ng_session.specs.Session.{Transition, step}
 use Rattle.ng_session.specs.declared.event.Event.{Event}
 use Rattle.ng_session.specs.declared.reply.Reply.{Reply}
@@ -23,6 +23,7 @@ with_entry saved (Loaded text) = Load saved
 with_entry saved (Referenced point) = Commit saved
 with_entry saved Approached = Commit saved
 with_entry saved Abandoned = Commit saved
+with_entry saved (Tooled slot nm) = Commit saved
 
 -- the same of the entry that there is, if there is one
 abbrev pub with_entries : StoredModel → List Entry → Option Storing

@@ -142,4 +142,15 @@ broken_status s = record (session_status s) { condition = condition.Broken }
 
 abbrev pub broken_answer : {A : Type 0} → SessionModel → Event A → Result Reply Fault
 broken_answer s event.Status = Ok (reply.Status (broken_status s))
-broken_answer s _ = Err Broken
+broken_answer s (event.Load text) = Err Broken
+broken_answer s event.Start = Err Broken
+broken_answer s event.Hold = Err Broken
+broken_answer s event.Continue = Err Broken
+broken_answer s (event.Mdi text) = Err Broken
+broken_answer s (event.Reference point) = Err Broken
+broken_answer s event.Resume = Err Broken
+broken_answer s event.Abandon = Err Broken
+broken_answer s (event.Tool slot nm) = Err Broken
+broken_answer s (event.OptionalStop wanted) = Err Broken
+broken_answer s (event.BlockDelete on) = Err Broken
+broken_answer s event.Tick = Err Broken

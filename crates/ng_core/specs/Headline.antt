@@ -1,22 +1,23 @@
 -- Wherever power is cut since power on, by the plain interpreter alone (own).
-use Rattle.std.specs.Prelude.{◌≡◌, ◌≤◌, ◌+◌, ℕ, suc, false, List, [], ◌++◌, length, take, Ok, IfOk}
+use Rattle.std.specs.Prelude.{◌≡◌, ◌≤◌, ◌+◌, ℕ, ℤ, suc, false, List, [], ◌++◌, length, take, drop, Ok, IfOk}
 use Rattle.ng_canon.specs.declared.item.Item.{Item}
-use Rattle.ng_rig.specs.Trace.{Image, Trace, reads, items}
-use Rattle.ng_layout.specs.Stands.{stands, IsWritten}
+use Rattle.ng_rig.specs.Calls.{IfHonest}
+use Rattle.ng_rig.specs.Trace.{Image, Trace, reads, items, moment, trace_at, IsStop}
+use Rattle.ng_layout.specs.Stands.{stands_beside, IsWritten}
 use Rattle.ng_layout.specs.Stored.{DurableState}
 use Rattle.ng_journal.specs.Journal.{StandsFor}
 use Rattle.ng_journal.specs.Recovery.{recovered_of}
 use Rattle.ng_session.specs.Entries.{Equipment, Entry}
 use Rattle.ng_session.specs.Session.{resting}
-use Rattle.ng_session.specs.Runs.{CrashState, session_at_power_on, entries_of, dones, lines_given}
+use Rattle.ng_session.specs.Runs.{CrashState, session_at_power_on, entries_of, under_way, dones, lines_given}
 use Rattle.ng_session.specs.Cuts.{IsCut}
 use Rattle.ng_session.specs.declared.event.Event.{Event}
 use Rattle.ng_session.specs.declared.reply.Reply.{Reply}
 use Rattle.ng_core.specs.Model.{ControllerModel, IsAtRestWith}
 use Rattle.ng_core.specs.Moments.{AtEachStop, answered_by}
 use Rattle.ng_core.specs.Powers.{PowerOnResult}
-use Rattle.ng_core.specs.Runs.{PassesAsSession, tried_events}
-use Rattle.ng_core.specs.AnsweredEvents.{AreAnsweredEvents}
+use Rattle.ng_core.specs.Runs.{PassesAsSession, IsRun, tried_events}
+use Rattle.ng_core.specs.AnsweredEvents.{AreAnsweredEvents, answered_at}
 
 -- ---- what came since power on
 
@@ -26,39 +27,57 @@ pub record IsPoweredOn {R : Type 0} (trace : R → Trace) (x : DurableState) (c 
   pub session : c.session ≡ resting x.saved
   pub rests : IsAtRestWith (trace c.journal.rig) c x.program
 
--- What came from there until now: these events, each with its reply.
-pub record IsPast {A R : Type 0} (honest : R → Type 0) (trace : R → Trace) (failed sectors : R → ℕ) (x : DurableState) (events : List (Event A)) (replies : List Reply) (first now : ControllerModel R) : Type 0 where
+-- What came from there until now: these events, each with its reply and with the moment at which it was answered.
+pub record IsPast {A R : Type 0} (honest : R → Type 0) (trace : R → Trace) (failed sectors : R → ℕ) (x : DurableState) (events : List (Event A)) (replies : List Reply) (moments : List ℕ) (first now : ControllerModel R) : Type 0 where
   pub began : IsPoweredOn trace x first
   pub turns : AreAnsweredEvents honest trace failed sectors events replies first now
+  pub answered : moments ≡ answered_at honest trace failed sectors events replies first now turns
 
 -- ---- what a stop leaves of it
 
 -- A stop leaves a cut of the first of the executed entries, which the plain interpreter carries out from what stood, of an operator who
--- gave these lines: of as many as were acknowledged, or of one more.
-pub record IsAccounted (equipment : Equipment) (lines : List (List ℕ)) (x : DurableState) (before : List Item) (executed : List Entry) (acknowledged : ℕ) (image : Image) (handed : List Item) : Type 0 where
+-- gave these lines: of as many as were acknowledged, or of one more. Next come the other executed ones and what is under way then.
+pub record IsAccounted (equipment : Equipment) (lines : List (List ℕ)) (x : DurableState) (before : List Item) (executed begun : List Entry) (acknowledged : ℕ) (image : Image) (handed : List Item) : Type 0 where
   pub count : ℕ
   pub all : acknowledged ≤ count
   pub few : count ≤ acknowledged + 1
   pub within : count ≤ length executed
   pub left : CrashState
-  pub cut : IsCut equipment lines x before (take count executed) left
+  pub cut : IsCut equipment lines x before (take count executed) (drop count (executed ++ begun)) left
   pub stands_for : StandsFor left.standing left.items image handed
 
 -- What came passes as the session does, and whenever power was cut since power on, the stop is accounted for: by the entries that the
--- session executed, as many as Done was answered by then or one more, and by the lines given by then and in the event under way.
-pub record Accounts {A R : Type 0} (trace : R → Trace) (x : DurableState) (events : List (Event A)) (replies : List Reply) (first now : ControllerModel R) : Type 0 where
-  pub passes : PassesAsSession trace events replies first.equipment (session_at_power_on x) (trace first.journal.rig) now
-  pub stops : AtEachStop (trace first.journal.rig) (trace now.journal.rig) (λ t. let n = answered_by t passes.moments in
-      IsAccounted first.equipment (lines_given (take (suc n) events)) x (items (trace first.journal.rig)) (entries_of first.equipment (session_at_power_on x) (tried_events events passes.answers)) (dones (take n replies)))
+-- session executed for the events answered by then and the one under way, and what is under way after that, as many as Done was answered by
+-- then or one more, and by the lines that these events gave. These are the moments at which the events were answered.
+pub record Accounts {A R : Type 0} (trace : R → Trace) (x : DurableState) (events : List (Event A)) (replies : List Reply) (moments : List ℕ) (first now : ControllerModel R) : Type 0 where
+  pub passes : PassesAsSession trace events replies moments first.equipment (session_at_power_on x) (trace first.journal.rig) now
+  pub stops : AtEachStop (trace first.journal.rig) (trace now.journal.rig) (λ t. let n = answered_by t moments in let tried = tried_events (take (suc n) events) passes.answers in
+      IsAccounted first.equipment (lines_given (take (suc n) events)) x (items (trace first.journal.rig)) (entries_of first.equipment (session_at_power_on x) tried) (under_way first.equipment (session_at_power_on x) tried) (dones (take n replies)))
+
+-- So a stop has, of what stood at power on, as many entries more as Done was answered by its moment, or one more, whatever table power on
+-- reads it beside.
+abbrev pub CountsAcknowledged : {R : Type 0} → (R → Trace) → DurableState → List Reply → (moments : List ℕ) → ControllerModel R → ControllerModel R → Type 0
+CountsAcknowledged trace x replies moments first now = (t : ℕ) (image : Image) (handed : List Item) (tools : List ℤ) (y : DurableState)
+    → moment (trace first.journal.rig) ≤ t → t ≤ moment (trace now.journal.rig) → IsStop (trace_at t (trace now.journal.rig)) image handed → stands_beside tools image ≡ Ok y
+    → let acknowledged = dones (take (answered_by t moments) replies) in (x.saved.entries + acknowledged ≤ y.saved.entries) × (y.saved.entries ≤ x.saved.entries + acknowledged + 1)
 
 -- ---- what the calls promise of it
 
--- Power on gives the first past, of no event: over the recovered of what stood, where only such a controller wrote it.
-abbrev pub BeginsPast : {R : Type 0} → Type 0 → (R → Type 0) → (R → Trace) → (failed sectors : R → ℕ) → PowerOnResult R → Trace → Type 0
-BeginsPast {R} A honest trace failed sectors result old =
-    IsWritten (reads old) → IfOk result (λ c. (x : DurableState) → recovered_of (stands (reads old)) ≡ Ok x → IsPast {A = A} honest trace failed sectors x [] [] c c)
+-- Power on gives the first past, of no event: over the recovered of what stood, of format 1 with these tools, where only
+-- such a controller wrote it.
+abbrev pub BeginsPast : {R : Type 0} → Type 0 → List ℤ → (R → Type 0) → (R → Trace) → (failed sectors : R → ℕ) → PowerOnResult R → Trace → Type 0
+BeginsPast {R} A tools honest trace failed sectors result old =
+    IsWritten (reads old) → IfOk result (λ c. (x : DurableState) → recovered_of (stands_beside tools (reads old)) ≡ Ok x → IsPast {A = A} honest trace failed sectors x [] [] [] c c)
 
--- Each past has these events and replies at its end now, and all of it is accounted for.
-abbrev pub AddsToPast : {A R : Type 0} → (R → Type 0) → (R → Trace) → (failed sectors : R → ℕ) → List (Event A) → List Reply → ControllerModel R → ControllerModel R → Type 0
-AddsToPast {A} {R} honest trace failed sectors events replies old new = (x : DurableState) (past : List (Event A)) (told : List Reply) (first : ControllerModel R) → IsPast honest trace failed sectors x past told first old
-    → IsPast honest trace failed sectors x (past ++ events) (told ++ replies) first new × Accounts trace x (past ++ events) (told ++ replies) first new
+-- Each past has these events, replies and moments at its end now, after its own as they were, and all of it is accounted for.
+abbrev pub AddsToPast : {A R : Type 0} → (R → Type 0) → (R → Trace) → (failed sectors : R → ℕ) → List (Event A) → List Reply → (moments : List ℕ) → ControllerModel R → ControllerModel R → Type 0
+AddsToPast {A} {R} honest trace failed sectors events replies moments old new = (x : DurableState) (past : List (Event A)) (told : List Reply) (before : List ℕ) (first : ControllerModel R)
+    → IsPast honest trace failed sectors x past told before first old
+    → IsPast honest trace failed sectors x (past ++ events) (told ++ replies) (before ++ moments) first new × Accounts trace x (past ++ events) (told ++ replies) (before ++ moments) first new
+
+-- What a list of events does, each answered in turn: over an honest device, by the moments at which they were answered, they pass as the
+-- session does, and each past has them at its end.
+pub record AreRun {A R : Type 0} (honest : R → Type 0) (trace : R → Trace) (failed sectors : R → ℕ) (events : List (Event A)) (replies : List Reply) (old new : ControllerModel R) : Type 0 where
+  pub turns : AreAnsweredEvents honest trace failed sectors events replies old new
+  pub ran : IfHonest (honest old.journal.rig) (honest new.journal.rig) (IsRun trace events replies (answered_at honest trace failed sectors events replies old new turns) old new)
+  pub past : IfHonest (honest old.journal.rig) (honest new.journal.rig) (AddsToPast honest trace failed sectors events replies (answered_at honest trace failed sectors events replies old new turns) old new)

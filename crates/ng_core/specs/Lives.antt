@@ -1,61 +1,57 @@
 -- Histories of a device over its images (own): sessions one after another, each from the image that the one before left; and which stops of a
 -- device are such sessions.
-use Rattle.std.specs.Prelude.{◌≡◌, ◌⊎◌, ◌≤◌, ℕ, suc, Option, List, [], ◌∷◌, ◌++◌, length, take, Ok}
+use Rattle.std.specs.Prelude.{◌≡◌, ◌⊎◌, ◌≤◌, ◌+◌, ℕ, ℤ, suc, Option, Some, None, List, [], ◌∷◌, ◌++◌, length, take, drop, Ok}
 use Rattle.ng_canon.specs.declared.item.Item.{Item}
 use Rattle.ng_rig.specs.Trace.{Image, Trace, reads, items, moment, IsStop}
 use Rattle.ng_rig.specs.Continuation.{IsSynced}
-use Rattle.ng_layout.specs.Stands.{stands, recovered, IsWritten}
-use Rattle.ng_layout.specs.Stored.{DurableState}
-use Rattle.ng_journal.specs.Journal.{StandsFor}
+use Rattle.ng_layout.specs.Stands.{stands_beside, recovered, IsWritten}
+use Rattle.ng_layout.specs.Stored.{StoredModel, DurableState}
+use Rattle.ng_journal.specs.Journal.{StandsBeside}
 use Rattle.ng_session.specs.Entries.{Equipment, Entry}
-use Rattle.ng_session.specs.Runs.{CrashState, session_at_power_on, entries_of, dones, lines_given}
-use Rattle.ng_session.specs.Cuts.{IsCut}
-use Rattle.ng_session.specs.Lives.{CommittedSession, state_after_session, KeepsToFold, fold_items, fold_state}
+use Rattle.ng_session.specs.Runs.{session_at_power_on, entries_of, under_way, dones, lines_given}
+use Rattle.ng_session.specs.Fold.{FollowFold, after_all, items_all}
+use Rattle.ng_session.specs.Cuts.{UncommittedTail}
 use Rattle.ng_session.specs.declared.event.Event.{Event}
 use Rattle.ng_session.specs.declared.reply.Reply.{Reply}
 use Rattle.ng_core.specs.Model.{ControllerModel}
 use Rattle.ng_core.specs.Moments.{AtEachStop, answered_by}
 use Rattle.ng_core.specs.Runs.{tried_events}
 use Rattle.ng_core.specs.Powers.{PowerOnResult, PowerOnSpecIfHonest}
-use Rattle.ng_core.specs.Headline.{Accounts}
+use Rattle.ng_core.specs.Headline.{IsAccounted, Accounts}
 
 -- ---- a session
 
--- What is known of a session once power was cut: the lines that its operator gave, the entries that were acknowledged, the image that is
--- left, and the items that were handed out in it.
+-- What is known of a session once power was cut: the lines that its operator gave, the entries that it executed until then or in the event
+-- under way, what it had under way then, how many of them were acknowledged, the image that is left, and the items that were handed out in it.
 pub record CutSession : Type 0 where
   pub lines : List (List ℕ)
-  pub acknowledged : List Entry
+  pub executed : List Entry
+  pub begun : List Entry
+  pub acknowledged : ℕ
   pub image : Image
   pub items : List Item
 
--- Power was cut within power on: what stood stands, or its recovered; nothing was acknowledged, and nothing handed out.
-pub record IsCutWithinPowerOn (x : DurableState) (s : CutSession) : Type 0 where
-  pub acknowledged : s.acknowledged ≡ []
-  pub stands_for : StandsFor x [] s.image s.items ⊎ StandsFor (recovered x) [] s.image s.items
+-- Power was cut within power on: what stood stands, or its recovered, of format 1 with these tools; nothing was executed, and nothing handed
+-- out.
+pub record IsCutWithinPowerOn (tools : List ℤ) (x : DurableState) (s : CutSession) : Type 0 where
+  pub executed : s.executed ≡ []
+  pub acknowledged : s.acknowledged ≡ 0
+  pub stands_for : StandsBeside tools x [] s.image s.items ⊎ StandsBeside tools (recovered x) [] s.image s.items
 
--- Power was cut after it: what stands and was handed out is a cut, from the recovered of what stood, of the acknowledged entries and at most
--- one more.
-pub record IsCutAfterPowerOn (equipment : Equipment) (x : DurableState) (s : CutSession) : Type 0 where
-  pub more : List Entry
-  pub few : length more ≤ 1
-  pub left : CrashState
-  pub cut : IsCut equipment s.lines (recovered x) [] (s.acknowledged ++ more) left
-  pub stands_for : StandsFor left.standing left.items s.image s.items
-
--- A session from an image that stands for something, and that only such a controller wrote.
-pub record IsSession (equipment : Equipment) (image : Image) (s : CutSession) : Type 0 where
+-- A session from an image that stands for something, of format 1 with these tools, and that only such a controller wrote. Power was cut within
+-- power on, or after it: what stands and was handed out is accounted for then, from the recovered of what stood.
+pub record IsSession (equipment : Equipment) (tools : List ℤ) (image : Image) (s : CutSession) : Type 0 where
   pub standing : DurableState
-  pub state : stands image ≡ Ok standing
+  pub state : stands_beside tools image ≡ Ok standing
   pub written : IsWritten image
-  pub cut : IsCutWithinPowerOn standing s ⊎ IsCutAfterPowerOn equipment standing s
+  pub cut : IsCutWithinPowerOn tools standing s ⊎ IsAccounted equipment s.lines (recovered standing) [] s.executed s.begun s.acknowledged s.image s.items
 
 -- ---- a history
 
 -- each session begins with the image that the one before left
-abbrev pub IsImageHistory : Equipment → Image → List CutSession → Type 0
-IsImageHistory equipment image [] = Unit {0}
-IsImageHistory equipment image (s ∷ ss) = IsSession equipment image s × IsImageHistory equipment s.image ss
+abbrev pub IsImageHistory : Equipment → List ℤ → Image → List CutSession → Type 0
+IsImageHistory equipment tools image [] = Unit {0}
+IsImageHistory equipment tools image (s ∷ ss) = IsSession equipment tools image s × IsImageHistory equipment tools s.image ss
 
 abbrev pub all_items : List CutSession → List Item
 all_items [] = []
@@ -65,55 +61,95 @@ abbrev pub last_image : Image → List CutSession → Image
 last_image image [] = image
 last_image image (s ∷ ss) = last_image s.image ss
 
--- Of each session, by its own lines, the acknowledged entries and at most one more, and what may follow them, from the fold of the one before.
+-- What a session lived after power on: its entries, and what followed them.
+pub record CommittedSession : Type 0 where
+  pub entries : List Entry
+  pub saved : StoredModel
+  pub more : List Item
+
+-- what stands after a session; None: power was cut within power on
+abbrev pub state_after_session : Equipment → DurableState → Option CommittedSession → DurableState
+state_after_session equipment x None = x
+state_after_session equipment x (Some l) = record { saved = l.saved; program = (after_all equipment (recovered x) l.entries).program }
+
+abbrev pub items_of_session : Equipment → DurableState → Option CommittedSession → List Item
+items_of_session equipment x None = []
+items_of_session equipment x (Some l) = items_all equipment (recovered x) l.entries ++ l.more
+
+abbrev pub fold_items : Equipment → DurableState → List (Option CommittedSession) → List Item
+fold_items equipment x [] = []
+fold_items equipment x (l ∷ ls) = items_of_session equipment x l ++ fold_items equipment (state_after_session equipment x l) ls
+
+abbrev pub fold_state : Equipment → DurableState → List (Option CommittedSession) → DurableState
+fold_state equipment x [] = x
+fold_state equipment x (l ∷ ls) = fold_state equipment (state_after_session equipment x l) ls
+
+-- The first of the executed entries, as many as were acknowledged or one more, and after them what may follow where the others come next.
+pub record KeepsToFold (equipment : Equipment) (x : DurableState) (s : CutSession) (l : CommittedSession) : Type 0 where
+  pub count : ℕ
+  pub all : s.acknowledged ≤ count
+  pub few : count ≤ s.acknowledged + 1
+  pub within : count ≤ length s.executed
+  pub entries : l.entries ≡ take count s.executed
+  pub lawful : FollowFold equipment s.lines (recovered x) l.entries
+  pub follows : UncommittedTail equipment s.lines (after_all equipment (recovered x) l.entries) (drop count (s.executed ++ s.begun)) l.saved l.more
+
+abbrev pub SessionKeepsToFold : Equipment → DurableState → CutSession → Option CommittedSession → Type 0
+SessionKeepsToFold equipment x s None = s.acknowledged ≡ 0
+SessionKeepsToFold equipment x s (Some l) = KeepsToFold equipment x s l
+
+-- the same of each session, each from the fold of the one before
 abbrev pub EachKeepsToFold : Equipment → DurableState → List CutSession → List (Option CommittedSession) → Type 0
 EachKeepsToFold equipment x [] [] = Unit {0}
 EachKeepsToFold equipment x [] (l ∷ ls) = ⊥
 EachKeepsToFold equipment x (s ∷ ss) [] = ⊥
-EachKeepsToFold equipment x (s ∷ ss) (l ∷ ls) = KeepsToFold equipment s.lines x s.acknowledged l × EachKeepsToFold equipment (state_after_session equipment x l) ss ls
+EachKeepsToFold equipment x (s ∷ ss) (l ∷ ls) = SessionKeepsToFold equipment x s l × EachKeepsToFold equipment (state_after_session equipment x l) ss ls
 
 -- However often power is cut: the last image stands for the fold, and what was handed out in all sessions is what the fold hands out, each
 -- session's entries with what follows them.
 abbrev pub CutsOfImageHistory : Type 0
-CutsOfImageHistory = (equipment : Equipment) (image : Image) (x : DurableState) (history : List CutSession) → stands image ≡ Ok x → IsWritten image → IsImageHistory equipment image history →
+CutsOfImageHistory = (equipment : Equipment) (tools : List ℤ) (image : Image) (x : DurableState) (history : List CutSession) → stands_beside tools image ≡ Ok x → IsWritten image → IsImageHistory equipment tools image history →
     (committed : List (Option CommittedSession)) × EachKeepsToFold equipment x history committed
-    × StandsFor (fold_state equipment x committed) (fold_items equipment x committed) (last_image image history) (all_items history)
+    × StandsBeside tools (fold_state equipment x committed) (fold_items equipment x committed) (last_image image history) (all_items history)
 
 -- ---- which stops are sessions
 
--- A stop leaves a session from this image, with these lines given and these entries acknowledged; before it these items were handed out.
-pub record LeavesSession (equipment : Equipment) (image : Image) (before : List Item) (lines : List (List ℕ)) (acknowledged : List Entry) (left : Image) (handed : List Item) : Type 0 where
+-- A stop leaves a session from this image, with these lines given, these entries executed and begun, and so many acknowledged; before it these
+-- items were handed out.
+pub record LeavesSession (equipment : Equipment) (tools : List ℤ) (image : Image) (before : List Item) (lines : List (List ℕ)) (executed begun : List Entry) (acknowledged : ℕ) (left : Image) (handed : List Item) : Type 0 where
   pub items : List Item
   pub handed_is : handed ≡ before ++ items
-  pub session : IsSession equipment image (record { lines = lines; acknowledged = acknowledged; image = left; items = items })
+  pub session : IsSession equipment tools image (record { lines = lines; executed = executed; begun = begun; acknowledged = acknowledged; image = left; items = items })
 
 -- Whatever power on answers: each stop since it began is one that the device could have had then, left by what came before; or it leaves a
--- session from what the device read then, with nothing given and nothing acknowledged. Where the device was synced then, as after a cut,
+-- session from what the device read then, with nothing given and nothing executed. Where the device was synced then, as after a cut,
 -- each leaves such a session.
 abbrev pub SessionsWithinPowerOn : {R : Type 0} → (R → Trace) → Type 0
-SessionsWithinPowerOn {R} trace = (equipment : Equipment) (x : DurableState) (result : PowerOnResult R) (old new : Trace) → PowerOnSpecIfHonest result old new → stands (reads old) ≡ Ok x → IsWritten (reads old) →
-    AtEachStop old new (λ t image handed. IsStop old image handed ⊎ LeavesSession equipment (reads old) (items old) [] [] image handed)
-    × (IsSynced old → AtEachStop old new (λ t. LeavesSession equipment (reads old) (items old) [] []))
+SessionsWithinPowerOn {R} trace = (equipment : Equipment) (tools : List ℤ) (x : DurableState) (result : PowerOnResult R) (old new : Trace) → PowerOnSpecIfHonest tools result old new → stands_beside tools (reads old) ≡ Ok x → IsWritten (reads old) →
+    AtEachStop old new (λ t image handed. IsStop old image handed ⊎ LeavesSession equipment tools (reads old) (items old) [] [] [] 0 image handed)
+    × (IsSynced old → AtEachStop old new (λ t. LeavesSession equipment tools (reads old) (items old) [] [] [] 0))
 
--- A stop at the moment t leaves a session from this image: the entries acknowledged are the first of those that the events executed, as
--- many as Done was answered by then; the lines are those given by then and in the event under way.
-abbrev pub LeavesSessionBy : {A R : Type 0} (trace : R → Trace) (image : Image) (x : DurableState) (events : List (Event A)) (replies : List Reply) (first now : ControllerModel R)
-    → Accounts trace (recovered x) events replies first now → ℕ → Image → List Item → Type 0
-LeavesSessionBy trace image x events replies first now accounts t = let n = answered_by t accounts.passes.moments in
-    LeavesSession first.equipment image (items (trace first.journal.rig)) (lines_given (take (suc n) events))
-    (take (dones (take n replies)) (entries_of first.equipment (session_at_power_on (recovered x)) (tried_events events accounts.passes.answers)))
+-- A stop at the moment t leaves a session from this image: the entries executed and begun are those of the events answered by then and of the
+-- one under way, as are the lines, and as many were acknowledged as Done was answered by then.
+abbrev pub LeavesSessionBy : {A R : Type 0} (trace : R → Trace) (tools : List ℤ) (image : Image) (x : DurableState) (events : List (Event A)) (replies : List Reply) (moments : List ℕ) (first now : ControllerModel R)
+    → Accounts trace (recovered x) events replies moments first now → ℕ → Image → List Item → Type 0
+LeavesSessionBy trace tools image x events replies moments first now accounts t =
+    let n = answered_by t moments in
+    let tried = tried_events (take (suc n) events) accounts.passes.answers in
+    let scene = session_at_power_on (recovered x) in
+    LeavesSession first.equipment tools image (items (trace first.journal.rig)) (lines_given (take (suc n) events)) (entries_of first.equipment scene tried) (under_way first.equipment scene tried) (dones (take n replies))
 
 -- Each stop since power on leaves a session from the image that power on began with.
 abbrev pub SessionsAfterPowerOn : {R : Type 0} → Type 0 → (R → Trace) → Type 0
-SessionsAfterPowerOn {R} A trace = (image : Image) (x : DurableState) (events : List (Event A)) (replies : List Reply) (first now : ControllerModel R) (accounts : Accounts trace (recovered x) events replies first now)
-    → stands image ≡ Ok x → IsWritten image
-    → AtEachStop (trace first.journal.rig) (trace now.journal.rig) (LeavesSessionBy trace image x events replies first now accounts)
+SessionsAfterPowerOn {R} A trace = (tools : List ℤ) (image : Image) (x : DurableState) (events : List (Event A)) (replies : List Reply) (moments : List ℕ) (first now : ControllerModel R) (accounts : Accounts trace (recovered x) events replies moments first now)
+    → stands_beside tools image ≡ Ok x → IsWritten image
+    → AtEachStop (trace first.journal.rig) (trace now.journal.rig) (LeavesSessionBy trace tools image x events replies moments first now accounts)
 
 -- Power on anew with no cut before it: what the device reads then is what a stop of that session leaves, and each stop since leaves that
 -- session as it came to be, or one from what the device reads then.
 abbrev pub SessionsAnew : {R : Type 0} → Type 0 → (R → Trace) → Type 0
-SessionsAnew {R} A trace = (image : Image) (x : DurableState) (events : List (Event A)) (replies : List Reply) (first now : ControllerModel R) (accounts : Accounts trace (recovered x) events replies first now)
-    (equipment : Equipment) (result : PowerOnResult R) (new : Trace) → stands image ≡ Ok x → IsWritten image → PowerOnSpecIfHonest result (trace now.journal.rig) new →
-    let old = trace now.journal.rig in let Leaves = LeavesSessionBy trace image x events replies first now accounts (moment old) in
+SessionsAnew {R} A trace = (tools : List ℤ) (image : Image) (x : DurableState) (events : List (Event A)) (replies : List Reply) (moments : List ℕ) (first now : ControllerModel R) (accounts : Accounts trace (recovered x) events replies moments first now)
+    (equipment : Equipment) (result : PowerOnResult R) (new : Trace) → stands_beside tools image ≡ Ok x → IsWritten image → PowerOnSpecIfHonest tools result (trace now.journal.rig) new →
+    let old = trace now.journal.rig in let Leaves = LeavesSessionBy trace tools image x events replies moments first now accounts (moment old) in
     Leaves (reads old) (items old)
-    × AtEachStop old new (λ t left handed. Leaves left handed ⊎ LeavesSession equipment (reads old) (items old) [] [] left handed)
+    × AtEachStop old new (λ t left handed. Leaves left handed ⊎ LeavesSession equipment tools (reads old) (items old) [] [] [] 0 left handed)

@@ -7,7 +7,7 @@ use Rattle.ng_session.specs.Entries.{Equipment}
 use Rattle.ng_session.specs.Planned.{KnownModel, IsKnownOf, base_of, IsPlan}
 use Rattle.ng_session.specs.Session.{SessionModel}
 
--- the journal of its device, its session, what it knows of the lines of its program, and the tools and the geometry that it was powered on with
+-- the journal of its device, its session, what it knows of the lines of its program, and the geometry that it was powered on with
 pub record ControllerModel (R : Type 0) : Type 0 where
   pub journal : JournalModel R
   pub session : SessionModel

@@ -1,16 +1,16 @@
 -- What power on gives (own).
-use Rattle.std.specs.Prelude.{◌≡◌, ◌≤◌, ◌<◌, ℕ, false, List, Result, Ok, Err, IfOk, IfErr, IsErrAnd}
+use Rattle.std.specs.Prelude.{◌≡◌, ◌≤◌, ◌<◌, ℕ, ℤ, false, List, Result, Ok, Err, IfOk, IfErr, IsErrAnd}
 use Rattle.ng_num.specs.declared.fault.Fault.{Fault}
 use Rattle.ng_num.specs.declared.fault.Fault.TheVariants.{NotFormatted, OutOfMemory}
 use Rattle.ng_rig.specs.Calls.{IfHonest}
 use Rattle.ng_rig.specs.Trace.{Trace, reads}
 use Rattle.ng_settings.specs.declared.standard.Settings.{Settings}
 use Rattle.ng_layout.specs.Areas.{least_size}
-use Rattle.ng_layout.specs.Stands.{stands, IsWritten}
+use Rattle.ng_layout.specs.Stands.{stands_beside, IsWritten}
 use Rattle.ng_layout.specs.Storable.{IsStorable}
 use Rattle.ng_journal.specs.Journal.{CountsFailure}
 use Rattle.ng_journal.specs.Recover.{RecoverResult, RecoverSpec, IsRecoveryFault, recover_rig, recover_fault}
-use Rattle.ng_journal.specs.Recovery.{recovered_of}
+use Rattle.ng_journal.specs.Recovery.{recovered_of, IsTableOver}
 use Rattle.ng_session.specs.Session.{resting}
 use Rattle.ng_core.specs.Model.{ControllerModel, IsAtRestWith}
 
@@ -31,22 +31,23 @@ abbrev pub power_on_fault : {R : Type 0} → PowerOnResult R → Result ℕ Faul
 power_on_fault answer = recover_fault (journal_result answer)
 
 -- the device rests with the recovered of what stood
-pub record IsControllerRecovered {R : Type 0} (c : ControllerModel R) (old new : Trace) : Type 0 where
+pub record IsControllerRecovered {R : Type 0} (tools : List ℤ) (c : ControllerModel R) (old new : Trace) : Type 0 where
   pub program : List ℕ
   pub rests : IsAtRestWith new c program
-  pub is : recovered_of (stands (reads old)) ≡ Ok (record { saved = c.session.stored; program = program })
+  pub is : recovered_of (stands_beside tools (reads old)) ≡ Ok (record { saved = c.session.stored; program = program })
 
--- The journal recovers what stands, or tells why not, over any image; over one that only such a controller wrote, the device rests then with
--- the recovered of what stood, beside the session and what it knows of the program.
-pub record PowerOnSpecIfHonest {R : Type 0} (result : PowerOnResult R) (old new : Trace) : Type 0 where
-  pub recovers : RecoverSpec (journal_result result) old new
-  pub rests : IsWritten (reads old) → IfOk result (λ c. IsControllerRecovered c old new)
+-- The journal recovers what stands, or tells why not, over any image, of format 1 with this tool table; over one that only such a controller
+-- wrote, the device rests then with the recovered of what stood, beside the session and what it knows of the program.
+pub record PowerOnSpecIfHonest {R : Type 0} (tools : List ℤ) (result : PowerOnResult R) (old new : Trace) : Type 0 where
+  pub recovers : RecoverSpec tools (journal_result result) old new
+  pub rests : IsWritten (reads old) → IfOk result (λ c. IsControllerRecovered tools c old new)
 
--- What power on gives, of any device: a whole controller at rest with what stands, or a fault and the device.
+-- What power on gives, of any device: a whole controller at rest with what stands, or a fault and the device. A device of format 1 is given the
+-- tools of the settings; no other looks at them.
 pub record PowerOnSpec {R : Type 0} (honest : R → Type 0) (trace : R → Trace) (failed sectors : R → ℕ) (settings : Settings) (rig : R) (answer : PowerOnResult R) : Type 0 where
-  pub powers : least_size ≤ sectors rig → IfHonest (honest rig) (honest (power_on_rig answer)) (PowerOnSpecIfHonest answer (trace rig) (trace (power_on_rig answer)))
+  pub powers : least_size ≤ sectors rig → (tools : List ℤ) → IsTableOver settings.tools tools (reads (trace rig)) → IfHonest (honest rig) (honest (power_on_rig answer)) (PowerOnSpecIfHonest tools answer (trace rig) (trace (power_on_rig answer)))
   pub rests : IfOk answer (λ c. (c.journal.broken ≡ false) × (c.session ≡ resting c.journal.saved) × IsStorable c.session.stored)
-  pub equipment : IfOk answer (λ c. c.equipment ≡ record { tools = settings.tools; geometry = settings.geometry })
+  pub equipment : IfOk answer (λ c. c.equipment ≡ record { geometry = settings.geometry })
   pub small : sectors rig < least_size → IsErrAnd answer (λ e. (e.0 ≡ NotFormatted) × (e.1 ≡ rig))
   pub faults : IfErr answer (λ e. IsRecoveryFault e.0)
   pub memory : IfErr answer (λ e. e.0 ≡ OutOfMemory → e.1 ≡ rig)

@@ -54,14 +54,13 @@ pub record IsCrashAfterSome {A : Type 0} (least : ℕ) (equipment : Equipment) (
   pub within : count ≤ length events
   pub stands_for : let left = crash_after equipment scene before (take count events) in StandsFor left.standing left.items image handed
 
--- The replies are the session's to the events that came. Each event was answered at a moment of the device's trace, and a stop leaves what
--- stands after those that came of the events answered by then, or after the one under way too. While the device didn't fail, what stands
+-- The replies are the session's to the events that came. Each event was answered at its moment of the device's trace, one of these, and a stop
+-- leaves what stands after those that came of the events answered by then, or after the one under way too. While the device didn't fail, what stands
 -- and was handed out now is the session's.
-pub record PassesAsSession {A R : Type 0} (trace : R → Trace) (events : List (Event A)) (replies : List Reply) (equipment : Equipment) (scene : ProgramSession) (trace_old : Trace) (new : ControllerModel R) : Type 0 where
+pub record PassesAsSession {A R : Type 0} (trace : R → Trace) (events : List (Event A)) (replies : List Reply) (moments : List ℕ) (equipment : Equipment) (scene : ProgramSession) (trace_old : Trace) (new : ControllerModel R) : Type 0 where
   pub answers : List (Result Reply Fault)
   pub replies_are : replies ≡ map reply_to answers
   pub told_is : session_replies answers ≡ replies_of equipment scene (answered_events events answers)
-  pub moments : List ℕ
   pub each : length moments ≡ length events
   pub rising : IsRising (moment trace_old) (moment (trace new.journal.rig)) moments
   pub stops : AtEachStop trace_old (trace new.journal.rig) (λ t. let n = answered_by t moments in
@@ -71,9 +70,9 @@ pub record PassesAsSession {A R : Type 0} (trace : R → Trace) (events : List (
   pub items_are : new.journal.broken ≡ false → items (trace new.journal.rig) ≡ items trace_old ++ items_of equipment scene (answered_events events answers)
 
 -- whatever program rests there beside the session, they pass as the session does
-abbrev pub IsRun : {A R : Type 0} → (R → Trace) → List (Event A) → List Reply → ControllerModel R → ControllerModel R → Type 0
-IsRun trace events replies old new = (program : List ℕ) → old.journal.broken ≡ false → IsAtRestWith (trace old.journal.rig) old program
-    → PassesAsSession trace events replies old.equipment (program_session_of program old) (trace old.journal.rig) new
+abbrev pub IsRun : {A R : Type 0} → (R → Trace) → List (Event A) → List Reply → (moments : List ℕ) → ControllerModel R → ControllerModel R → Type 0
+IsRun trace events replies moments old new = (program : List ℕ) → old.journal.broken ≡ false → IsAtRestWith (trace old.journal.rig) old program
+    → PassesAsSession trace events replies moments old.equipment (program_session_of program old) (trace old.journal.rig) new
 
 -- The device counted one failure where the controller broke, and else none; once broken it stays so.
 abbrev pub CountsOneFailure : Bool → Bool → ℕ → ℕ → Type 0

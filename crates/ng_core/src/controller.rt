@@ -6,7 +6,6 @@ ghost use Rattle.ng_rig.specs.Calls.{IfHonest};
 use ng_canon::Geometry;
 use ng_journal::Journal;
 use ng_num::Fault;
-use ng_offsets::Tools;
 use ng_rig::Rig;
 use ng_session::{Condition, Event, KnownLines, Reply, Session, Status};
 use std::alloc::Allocator;
@@ -20,7 +19,6 @@ pub struct Controller<R: Rig, A: Allocator + Copy + Drop> {
     pub(crate) session: Session<A>,
     /// What is known of the lines of the program in force.
     pub(crate) lines: KnownLines<A>,
-    pub(crate) tools: Tools,
     pub(crate) geometry: Geometry,
 }
 
@@ -29,15 +27,16 @@ impl<R: Rig, A: Allocator + Copy + Drop> Model for Controller<R, A> {
 
     ghost Value = { ControllerModel R };
 
-    ghost view = { λ c. record { journal = c.journal; session = c.session; lines = c.lines; equipment = record { tools = c.tools; geometry = c.geometry } } };
+    ghost view = { λ c. record { journal = c.journal; session = c.session; lines = c.lines; equipment = record { geometry = c.geometry } } };
 
-    ghost invariant = { λ c. IsControllerInvariant c.journal c.session c.lines (record { tools = c.tools; geometry = c.geometry }) };
+    ghost invariant = { λ c. IsControllerInvariant c.journal c.session c.lines (record { geometry = c.geometry }) };
 }
 
 impl<R: Rig, A: Allocator + Copy + Drop> Controller<R, A> {
     ghost use Rattle.ng_session.specs.Session.{load, load_refusal, IsQuiet};
     ghost use Rattle.ng_session.specs.Planned.{drops_plan};
     ghost use Rattle.ng_core.specs.Events.{CarriesOut, CarriesOutEvent, Handles, TellsFailure, reply_to, broken_answer};
+    ghost use Rattle.ng_rig.specs.Trace.{moment};
     ghost use Rattle.ng_core.specs.Headline.{AddsToPast};
 
     /// The device as it is, with no call to it.
@@ -49,7 +48,6 @@ impl<R: Rig, A: Allocator + Copy + Drop> Controller<R, A> {
             journal,
             session: _,
             lines: _,
-            tools: _,
             geometry: _,
         } = self;
         journal.into_rig()
@@ -78,7 +76,7 @@ impl<R: Rig, A: Allocator + Copy + Drop> Controller<R, A> {
         ensures broken { self.old.journal.broken ≡ true → (self.new ≡ self.old) × (result ≡ reply_to (broken_answer self.old.session event)) }
         ensures equipment { self.new.equipment ≡ self.old.equipment }
         ensures size { R.sectors self.new.journal.rig ≡ R.sectors self.old.journal.rig }
-        ensures past { IfHonest (R.honest self.old.journal.rig) (R.honest self.new.journal.rig) (AddsToPast R.honest R.trace R.failed R.sectors (event ∷ []) (result ∷ []) self.old self.new) }
+        ensures past { IfHonest (R.honest self.old.journal.rig) (R.honest self.new.journal.rig) (AddsToPast R.honest R.trace R.failed R.sectors (event ∷ []) (result ∷ []) (moment (R.trace self.new.journal.rig) ∷ []) self.old self.new) }
     {
         self.reply(&event)
     }
@@ -122,6 +120,7 @@ impl<R: Rig, A: Allocator + Copy + Drop> Controller<R, A> {
             Event::Reference(point) => self.reference(point),
             Event::Resume => self.resume(),
             Event::Abandon => self.abandon(),
+            Event::Tool(slot, tool_length) => self.tool(*slot, *tool_length),
             Event::Tick => self.tick(),
             Event::Start
             | Event::Hold
@@ -150,6 +149,7 @@ impl<R: Rig, A: Allocator + Copy + Drop> Controller<R, A> {
             | Event::Reference(_)
             | Event::Resume
             | Event::Abandon
+            | Event::Tool(_, _)
             | Event::OptionalStop(_)
             | Event::BlockDelete(_)
             | Event::Tick => Err(Fault::Broken),
@@ -179,6 +179,6 @@ impl<R: Rig, A: Allocator + Copy + Drop> Controller<R, A> {
         ensures carried { CarriesOutEvent R.honest R.trace R.failed R.sectors event.now result self.old self.new }
         ensures memory { IfErr result (λ fault. fault ≡ OutOfMemory) }
     {
-        Ok(self.session.answer(event, &self.tools, &self.geometry)?)
+        Ok(self.session.answer(event, &self.geometry)?)
     }
 }

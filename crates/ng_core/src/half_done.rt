@@ -125,10 +125,10 @@ impl<R: Rig, A: Allocator + Copy + Drop> Controller<R, A> {
         ensures { CarriesOut R.honest R.trace R.failed R.sectors (resume_refusal self.old.equipment self.old.session ≡ None) ((resume_refusal self.old.equipment self.old.session ≡ None) × IsProgramsLine self.old.session.stored.half) ((resume_refusal self.old.equipment self.old.session ≡ None) × IsProgramsLine self.old.session.stored.half)
             (λ program. resume self.old.equipment program self.old.session) result self.old self.new }
     {
-        if let Some(fault) = self.session.resume_refusal(&self.tools, &self.geometry) {
+        if let Some(fault) = self.session.resume_refusal(&self.geometry) {
             return Ok(Reply::Refused(fault));
         }
         let next = next_line(&mut self.journal, &self.session)?;
-        Ok(self.session.resume(next, &self.tools, &self.geometry)?)
+        Ok(self.session.resume(next, &self.geometry)?)
     }
 }

@@ -1,13 +1,17 @@
 //! Laws over the definitions, for proofs above this crate to cite: the call does nothing, and its contract is the law.
-ghost use Rattle.std.specs.Prelude.{◌≡◌, ℕ, List, false};
+ghost use Rattle.std.specs.Prelude.{◌≡◌, ◌≤◌, ◌<◌, ◌+◌, ℕ, ℤ, List, [], ◌∷◌, Ok, false};
+ghost use Rattle.ng_canon.specs.declared.item.Item.{Item};
+ghost use Rattle.ng_rig.specs.Trace.{Image, moment, trace_at, IsStop};
+ghost use Rattle.ng_session.specs.Runs.{dones};
 ghost use Rattle.ng_session.specs.declared.event.Event.{Event};
 ghost use Rattle.ng_session.specs.declared.reply.Reply.{Reply};
 ghost use Rattle.ng_core.specs.Model.{ControllerModel, IsAtRestWith};
 ghost use Rattle.ng_core.specs.Events.{program_session_of};
 ghost use Rattle.ng_core.specs.Runs.{PassesAsSession};
-ghost use Rattle.ng_core.specs.AnsweredEvents.{AreAnsweredEvents};
+ghost use Rattle.ng_core.specs.AnsweredEvents.{AreAnsweredEvents, answered_at};
+ghost use Rattle.ng_layout.specs.Stands.{stands_beside, recovered};
 ghost use Rattle.ng_layout.specs.Stored.{DurableState};
-ghost use Rattle.ng_core.specs.Headline.{IsPast, Accounts};
+ghost use Rattle.ng_core.specs.Headline.{IsPast, Accounts, AddsToPast, CountsAcknowledged};
 ghost use Rattle.ng_core.specs.Lives.{CutsOfImageHistory, SessionsWithinPowerOn, SessionsAfterPowerOn, SessionsAnew};
 
 use ng_rig::Rig;
@@ -17,23 +21,36 @@ use std::alloc::Allocator;
 /// each stop since their beginning leaves what stands after those that came until then, or after the one under way too.
 pub fn histories<R: Rig, A: Allocator>()
     ensures { (events : List (Event A)) (replies : List Reply) (program : List ℕ) (old new : ControllerModel R)
-        → R.honest old.journal.rig → AreAnsweredEvents R.honest R.trace R.failed R.sectors events replies old new → old.journal.broken ≡ false → IsAtRestWith (R.trace old.journal.rig) old program
-        → PassesAsSession R.trace events replies old.equipment (program_session_of program old) (R.trace old.journal.rig) new }
+        → R.honest old.journal.rig → (turns : AreAnsweredEvents R.honest R.trace R.failed R.sectors events replies old new) → old.journal.broken ≡ false → IsAtRestWith (R.trace old.journal.rig) old program
+        → PassesAsSession R.trace events replies (answered_at R.honest R.trace R.failed R.sectors events replies old new turns) old.equipment (program_session_of program old) (R.trace old.journal.rig) new }
 {}
 
 /// Whenever power of an honest device is cut since power on, the plain interpreter accounts for what is left: by as many entries as were acknowledged until
 /// then, or one more.
 pub fn accounts<R: Rig, A: Allocator>()
-    ensures { (x : DurableState) (events : List (Event A)) (replies : List Reply) (first now : ControllerModel R)
-        → R.honest first.journal.rig → IsPast R.honest R.trace R.failed R.sectors x events replies first now → Accounts R.trace x events replies first now }
+    ensures cuts { (x : DurableState) (events : List (Event A)) (replies : List Reply) (moments : List ℕ) (first now : ControllerModel R)
+        → R.honest first.journal.rig → IsPast R.honest R.trace R.failed R.sectors x events replies moments first now → Accounts R.trace x events replies moments first now }
+
+    // so what a stop leaves counts them
+    ensures counts { (x : DurableState) (events : List (Event A)) (replies : List Reply) (moments : List ℕ) (first now : ControllerModel R)
+        → Accounts R.trace x events replies moments first now → CountsAcknowledged R.trace x replies moments first now }
+
+    // and by what `on` adds to a past, that alone, no stop within an event has fewer of them than were acknowledged before it
+    ensures keeps { (event : Event A) (r : Reply) (old new : ControllerModel R) → AddsToPast {A = A} R.honest R.trace R.failed R.sectors (event ∷ []) (r ∷ []) (moment (R.trace new.journal.rig) ∷ []) old new
+        → (x : DurableState) (events : List (Event A)) (told : List Reply) (before : List ℕ) (first : ControllerModel R) → R.honest first.journal.rig → IsPast R.honest R.trace R.failed R.sectors x events told before first old
+        → (t : ℕ) (image : Image) (handed : List Item) (tools : List ℤ) (y : DurableState) → moment (R.trace old.journal.rig) ≤ t → t < moment (R.trace new.journal.rig)
+        → IsStop (trace_at t (R.trace new.journal.rig)) image handed → stands_beside tools image ≡ Ok y → x.saved.entries + dones told ≤ y.saved.entries }
 {}
 
 /// However often power is cut, within power on or after it: from an image that only such a controller wrote, the last image stands for
 /// the plain interpreter's fold over the sessions' entries, with what power on makes of it between two sessions, and what was handed out
-/// in all of them is what the fold hands out. Of each session these are the acknowledged entries and at most one more, by the lines of
-/// that session's operator, with a beginning of one further block or approach after them.
+/// in all of them is what the fold hands out. Of each session these are the first of the entries that it executed, as many as were
+/// acknowledged or one more, by the lines of that session's operator, with a beginning of the one that comes next after them.
 pub fn cuts()
-    ensures { CutsOfImageHistory }
+    ensures history { CutsOfImageHistory }
+
+    // what power on made of it stays, however often it is cut within power on after that
+    ensures again { (x : DurableState) → recovered (recovered x) ≡ recovered x }
 {}
 
 /// Each stop of a device leaves such a session, by what its calls promise.

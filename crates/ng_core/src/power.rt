@@ -1,7 +1,9 @@
 //! Power on: what a device stands for, and a session over it.
-ghost use Rattle.std.specs.Prelude.{◌≤◌};
+ghost use Rattle.std.specs.Prelude.{◌≤◌, List, ℤ};
 ghost use Rattle.ng_rig.specs.Calls.{IfHonest};
+ghost use Rattle.ng_rig.specs.Trace.{reads};
 ghost use Rattle.ng_layout.specs.Areas.{least_size};
+ghost use Rattle.ng_journal.specs.Recovery.{IsTableOver};
 ghost use Rattle.ng_core.specs.Headline.{BeginsPast};
 ghost use Rattle.ng_core.specs.Powers.{PowerOnSpec, power_on_rig};
 
@@ -17,8 +19,10 @@ use std::alloc::Allocator;
 /// Powers on (own): finds what the device stands for, writes it again with nothing open, and starts a session at rest over it, with
 /// both switches of the operator off. Where something was open, its block is half-done, and it isn't known where the machine stands.
 ///
+/// A device of format 1 is given the tools of the settings, and is of format 2 then; of any other they aren't looked at.
+///
 /// J2 for fewer than 1,710 sectors, with no call of the device, and where it isn't formatted; J3 where what stands is damaged, or a log
-/// has begun; J4 where the journal's counter is used up: all before any write. J1 where the device failed. M1 where memory is
+/// has begun; J4 where the journal's counter is used up, of format 1 where it hasn't two epochs left: all before any write. J1 where the device failed. M1 where memory is
 /// wanting, before any call of the device. The device is handed back with each of them. Nothing is handed out.
 pub fn power_on<R: Rig, A: Allocator + Copy + Drop>(
     alloc: A,
@@ -26,7 +30,7 @@ pub fn power_on<R: Rig, A: Allocator + Copy + Drop>(
     settings: Settings,
 ) -> Result<Controller<R, A>, (Fault, R)>
     ensures gives { PowerOnSpec R.honest R.trace R.failed R.sectors settings rig result }
-    ensures past { let after = power_on_rig result in least_size ≤ R.sectors rig → IfHonest (R.honest rig) (R.honest after) (BeginsPast A R.honest R.trace R.failed R.sectors result (R.trace rig)) }
+    ensures past { let after = power_on_rig result in least_size ≤ R.sectors rig → (tools : List ℤ) → IsTableOver settings.tools tools (reads (R.trace rig)) → IfHonest (R.honest rig) (R.honest after) (BeginsPast A tools R.honest R.trace R.failed R.sectors result (R.trace rig)) }
 {
     let Settings { geometry, tools } = settings;
     if rig.size() < LEAST_SIZE {
@@ -36,13 +40,12 @@ pub fn power_on<R: Rig, A: Allocator + Copy + Drop>(
         Ok(lines) => lines,
         Err(_) => return Err((Fault::OutOfMemory, rig)),
     };
-    let (journal, stored) = recover(alloc, rig)?;
+    let (journal, stored) = recover(alloc, rig, &tools)?;
     Ok(Controller {
         alloc,
         journal,
         session: Session::new(stored),
         lines,
-        tools,
         geometry,
     })
 }

@@ -1,7 +1,6 @@
 //! A list of events, one after the other.
 ghost use Rattle.std.specs.Prelude.{◌≡◌, length, IfOk, IfErr};
 ghost use Rattle.ng_num.specs.declared.fault.Fault.TheVariants.{OutOfMemory};
-ghost use Rattle.ng_rig.specs.Calls.{IfHonest};
 
 use crate::controller::Controller;
 use ng_num::Fault;
@@ -10,9 +9,8 @@ use ng_session::{Event, Reply};
 use std::alloc::Allocator;
 
 impl<R: Rig, A: Allocator + Copy + Drop> Controller<R, A> {
-    ghost use Rattle.ng_core.specs.AnsweredEvents.{AreAnsweredEvents};
-    ghost use Rattle.ng_core.specs.Runs.{IsRun, CountsOneFailure};
-    ghost use Rattle.ng_core.specs.Headline.{AddsToPast};
+    ghost use Rattle.ng_core.specs.Runs.{CountsOneFailure};
+    ghost use Rattle.ng_core.specs.Headline.{AreRun};
 
     /// Answers events in turn, each as `on` does: the replies in their order (own).
     ///
@@ -21,9 +19,7 @@ impl<R: Rig, A: Allocator + Copy + Drop> Controller<R, A> {
     /// then, or after the one under way too; and all that came since power on, in this call and before it, is accounted for by the plain
     /// interpreter, whenever power is cut.
     pub fn run(&mut self, events: &[Event<A>]) -> Result<Vec<Reply, A>, Fault>
-        ensures turns { IfOk result (λ replies. AreAnsweredEvents R.honest R.trace R.failed R.sectors events.now replies.items self.old self.new) }
-        ensures ran { IfOk result (λ replies. IfHonest (R.honest self.old.journal.rig) (R.honest self.new.journal.rig) (IsRun R.trace events.now replies.items self.old self.new)) }
-        ensures past { IfOk result (λ replies. IfHonest (R.honest self.old.journal.rig) (R.honest self.new.journal.rig) (AddsToPast R.honest R.trace R.failed R.sectors events.now replies.items self.old self.new)) }
+        ensures runs { IfOk result (λ replies. AreRun R.honest R.trace R.failed R.sectors events.now replies.items self.old self.new) }
         ensures each { IfOk result (λ replies. length replies.items ≡ length events.now) }
         ensures failures { IfOk result (λ replies. CountsOneFailure self.old.journal.broken self.new.journal.broken (R.failed self.old.journal.rig) (R.failed self.new.journal.rig)) }
         ensures equipment { self.new.equipment ≡ self.old.equipment }

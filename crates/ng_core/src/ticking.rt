@@ -204,9 +204,7 @@ impl<R: Rig, A: Allocator + Copy + Drop> Controller<R, A> {
         match self.journal.program_line(place)? {
             Some(line) => {
                 let text = line.text.as_slice();
-                let reply = self
-                    .session
-                    .begin(text, line.next, first, &self.tools, &self.geometry)?;
+                let reply = self.session.begin(text, line.next, first, &self.geometry)?;
                 let before = lines_after(&self.lines, place, first, text, line.next);
                 self.lines.set_before(before);
                 Ok(reply)
@@ -228,14 +226,8 @@ impl<R: Rig, A: Allocator + Copy + Drop> Controller<R, A> {
         match self.journal.program_line(place)? {
             Some(line) => {
                 let text = line.text.as_slice();
-                self.session.plan(
-                    &mut self.lines,
-                    text,
-                    line.next,
-                    first,
-                    &self.tools,
-                    &self.geometry,
-                );
+                self.session
+                    .plan(&mut self.lines, text, line.next, first, &self.geometry);
                 let before = lines_after(&self.lines, place, first, text, line.next);
                 self.lines.set_before(before);
             }

@@ -6,8 +6,8 @@ use Rattle.ng_session.specs.declared.event.Event.{Event}
 use Rattle.ng_session.specs.declared.reply.Reply.{Reply}
 use Rattle.ng_core.specs.Model.{ControllerModel}
 use Rattle.ng_core.specs.AnsweredEvents.{IsAnsweredEvent, AreAnsweredEvents}
-use Rattle.ng_core.proofs.InTurn.{turns_one, turns_joined, turns_ran, turns_fail, turns_equipment}
-use Rattle.ng_core.proofs.Pasts.{adds_to_past}
+use Rattle.ng_core.proofs.InTurn.{turns_one, turns_joined, turns_fail, turns_equipment}
+use Rattle.ng_core.proofs.Pasts.{are_run}
 use Rattle.ng_desk.specs.declared.call.Call.{Call}
 use Rattle.ng_desk.specs.Calls.{NumberedFrom, events_of, replies_of}
 use Rattle.ng_desk.specs.Running.{IsPromisedRun, RunsFrom}
@@ -30,11 +30,8 @@ module _ {A R : Type 0} (honest : R → Type 0) (trace : R → Trace) (failed se
   run_of : (events : List (Event A)) (replies : List Reply) (old new : ControllerModel R) → length replies ≡ length events → AreAnsweredEvents honest trace failed sectors events replies old new
       → sectors new.journal.rig ≡ sectors old.journal.rig → IsPromisedRun honest trace failed sectors events replies old new
   run_of events replies old new each turns size =
-      let ran = turns_ran honest trace failed sectors events replies old new turns in
       record {
-        turns = turns;
-        ran = ran;
-        past = adds_to_past honest trace failed sectors events replies old new turns;
+        runs = are_run honest trace failed sectors events replies old new turns;
         each = each;
         failures = turns_fail honest trace failed sectors events replies old new turns;
         equipment = turns_equipment honest trace failed sectors events replies old new turns;
@@ -46,7 +43,7 @@ module _ {A R : Type 0} (honest : R → Type 0) (trace : R → Trace) (failed se
   run_more events replies event reply old mid new run turn size =
       run_of (events ++ event ∷ []) (replies ++ reply ∷ []) old new
       (omega (arith, length-append replies (reply ∷ []), length-append events (event ∷ []), run.each))
-      (turns_joined honest trace failed sectors events (event ∷ []) replies (reply ∷ []) old mid new run.turns (turns_one honest trace failed sectors event reply mid new turn))
+      (turns_joined honest trace failed sectors events (event ∷ []) replies (reply ∷ []) old mid new run.runs.turns (turns_one honest trace failed sectors event reply mid new turn))
       (size ∙ run.size)
 
   -- a history begins

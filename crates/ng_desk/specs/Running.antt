@@ -1,13 +1,11 @@
 -- What a history's events did to its controller: all that is said here of a controller is what its own calls promise (own).
 use Rattle.std.specs.Prelude.{◌≡◌, ℕ, List, Option, Some, length, sum_by}
-use Rattle.ng_rig.specs.Calls.{IfHonest}
 use Rattle.ng_rig.specs.Trace.{Trace}
 use Rattle.ng_session.specs.declared.event.Event.{Event}
 use Rattle.ng_session.specs.declared.reply.Reply.{Reply}
 use Rattle.ng_core.specs.Model.{ControllerModel}
-use Rattle.ng_core.specs.AnsweredEvents.{AreAnsweredEvents}
-use Rattle.ng_core.specs.Runs.{IsRun, CountsOneFailure}
-use Rattle.ng_core.specs.Headline.{AddsToPast}
+use Rattle.ng_core.specs.Runs.{CountsOneFailure}
+use Rattle.ng_core.specs.Headline.{AreRun}
 use Rattle.ng_desk.specs.declared.call.Call.{Call}
 use Rattle.ng_desk.specs.Calls.{Seated, NumberedFrom, events_of, replies_of, lists_of}
 
@@ -18,9 +16,7 @@ pub record Booked (R A : Type 0) : Type 0 where
 
 -- What `run` promises of these events with these replies, from one controller to another.
 pub record IsPromisedRun {A R : Type 0} (honest : R → Type 0) (trace : R → Trace) (failed sectors : R → ℕ) (events : List (Event A)) (replies : List Reply) (old new : ControllerModel R) : Type 0 where
-  pub turns : AreAnsweredEvents honest trace failed sectors events replies old new
-  pub ran : IfHonest (honest old.journal.rig) (honest new.journal.rig) (IsRun trace events replies old new)
-  pub past : IfHonest (honest old.journal.rig) (honest new.journal.rig) (AddsToPast honest trace failed sectors events replies old new)
+  pub runs : AreRun honest trace failed sectors events replies old new
   pub each : length replies ≡ length events
   pub failures : CountsOneFailure old.journal.broken new.journal.broken (failed old.journal.rig) (failed new.journal.rig)
   pub equipment : new.equipment ≡ old.equipment

@@ -35,6 +35,7 @@ pub(crate) fn copied<A: Allocator + Copy + Drop>(
         Event::Continue => Ok(Event::Continue),
         Event::Mdi(text) => Ok(Event::Mdi(copied_text(alloc, text)?)),
         Event::Reference(point) => Ok(Event::Reference(*point)),
+        Event::Tool(slot, length) => Ok(Event::Tool(*slot, *length)),
         Event::Resume => Ok(Event::Resume),
         Event::Abandon => Ok(Event::Abandon),
         Event::OptionalStop(wanted) => Ok(Event::OptionalStop(*wanted)),
@@ -104,6 +105,7 @@ fn is_same_event<A: Allocator + Drop>(one: &Event<A>, other: &Event<A>) -> bool
         (Event::Load(text), Event::Load(found)) => is_same_text(text, found),
         (Event::Mdi(text), Event::Mdi(found)) => is_same_text(text, found),
         (Event::Reference(point), Event::Reference(found)) => *point == *found,
+        (Event::Tool(slot, length), Event::Tool(at, found)) => *slot == *at && *length == *found,
         (Event::OptionalStop(wanted), Event::OptionalStop(found)) => *wanted == *found,
         (Event::BlockDelete(on), Event::BlockDelete(found)) => *on == *found,
         (Event::Start, Event::Start)

@@ -3,7 +3,7 @@ use Rattle.std.specs.Prelude.{◌≡◌, ◌<◌, ◌⊎◌, ℕ, List, [], ◌+
 use Rattle.ng_num.specs.declared.fault.Fault.TheVariants.{BadCommand, OutOfMemory}
 use Rattle.ng_commands.specs.Commands.{IsCommand, IsNoCommand}
 use Rattle.ng_commands.specs.declared.asked.ConsoleCommand.{ConsoleCommand}
-use Rattle.ng_commands.specs.declared.asked.ConsoleCommand.TheVariants.{Load, Start, Hold, Continue, Mdi, Reference, Resume, Abandon, OptionalStop, BlockDelete, Tick, Status, Quit}
+use Rattle.ng_commands.specs.declared.asked.ConsoleCommand.TheVariants.{Load, Start, Hold, Continue, Mdi, Reference, Resume, Abandon, Tool, OptionalStop, BlockDelete, Tick, Status, Quit}
 use Rattle.ng_session.specs.declared.event.Event.TheVariants as event
 use Rattle.ng_dialogue.specs.Reading.{BeginsWithLine}
 use Rattle.ng_dialogue.specs.declared.order.Order.{Order}
@@ -25,6 +25,7 @@ Means (Mdi line) more order rest = (order ≡ Give (event.Mdi line.now)) × (res
 Means (Reference point) more order rest = (order ≡ Give (event.Reference point)) × (rest ≡ more)
 Means Resume more order rest = (order ≡ Give event.Resume) × (rest ≡ more)
 Means Abandon more order rest = (order ≡ Give event.Abandon) × (rest ≡ more)
+Means (Tool slot nm) more order rest = (order ≡ Give (event.Tool slot nm)) × (rest ≡ more)
 Means (OptionalStop is_on) more order rest = (order ≡ Give (event.OptionalStop is_on)) × (rest ≡ more)
 Means (BlockDelete is_on) more order rest = (order ≡ Give (event.BlockDelete is_on)) × (rest ≡ more)
 Means (Tick n) more order rest = (order ≡ Ticks n) × (rest ≡ more)

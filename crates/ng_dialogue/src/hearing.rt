@@ -83,6 +83,7 @@ fn ask<R: Read, A: Allocator + Copy + Drop>(
         ConsoleCommand::Reference(point) => Event::Reference(*point),
         ConsoleCommand::Resume => Event::Resume,
         ConsoleCommand::Abandon => Event::Abandon,
+        ConsoleCommand::Tool(slot, length) => Event::Tool(*slot, *length),
         ConsoleCommand::OptionalStop(is_on) => Event::OptionalStop(*is_on),
         ConsoleCommand::BlockDelete(is_on) => Event::BlockDelete(*is_on),
         ConsoleCommand::Status => Event::Status,

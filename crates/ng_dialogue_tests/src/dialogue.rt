@@ -55,6 +55,7 @@ fn word_of<A: Allocator>(event: &Event<A>) -> &'static [u8] {
         Event::Hold => b"hold",
         Event::Continue => b"continue",
         Event::Reference(_) => b"reference",
+        Event::Tool(_, _) => b"tool",
         Event::Resume => b"resume",
         Event::Abandon => b"abandon",
         Event::OptionalStop(true) => b"optional on",

@@ -77,7 +77,7 @@ pub fn rig_of<R: Rig, A: Allocator + Copy + Drop>(controller: Controller<R, A>) 
 
 /// What is stored on a device, which is powered on by its journal alone, and the device then; or why it isn't, and the device.
 pub fn recovered(alloc: Global, rig: Device) -> Result<(Stored<Global>, Device), (Fault, Device)> {
-    let (journal, stored) = recover(alloc, rig)?;
+    let (journal, stored) = recover(alloc, rig, &Settings::standard().tools)?;
     Ok((stored, journal.into_rig()))
 }
 
@@ -119,7 +119,7 @@ type Lines = Result<[Option<ProgramLine>; 2], Fault>;
 
 /// What is stored on a device, which is powered on by its journal alone, with lines of its program, and the device then.
 pub fn read_again(alloc: Global, rig: Device) -> Result<(Stored<Global>, Lines, Device), Fault> {
-    match recover(alloc, rig) {
+    match recover(alloc, rig, &Settings::standard().tools) {
         Ok((mut journal, stored)) => {
             let lines = lines(&mut journal, stored.length);
             Ok((stored, lines, journal.into_rig()))

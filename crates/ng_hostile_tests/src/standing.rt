@@ -84,6 +84,7 @@ fn copy_of(stored: &Stored<Global>) -> Result<Stored<Global>, AllocError> {
         place: stored.place,
         length: stored.length,
         half: None,
+        tools: stored.tools.copy(),
     })
 }
 

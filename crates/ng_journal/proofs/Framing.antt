@@ -1,6 +1,6 @@
 -- What each call writes, and where: a checkpoint what is stored under the next epoch, a load the text besides, a format a fresh controller
 -- among zeros.
-use Rattle.std.proofs.Common.{◌≡◌, ◌≢◌, ◌⊎◌, inl, inr, ⊎_elim, ℕ, ◌+◌, ◌-◌, ◌*◌, ◌%◌, ◌<◌, ◌≤◌, List, Result, Ok, Err, refl, sym, ◌∙◌, ap, subst, arith}
+use Rattle.std.proofs.Common.{◌≡◌, ◌≢◌, ◌⊎◌, inl, inr, ⊎_elim, ℕ, ◌+◌, ◌-◌, ◌*◌, ◌%◌, ◌<◌, ◌≤◌, List, [], ℤ, length, replicate, Result, Ok, Err, refl, sym, ◌∙◌, ap, subst, arith}
 use Rattle.std.proofs.lemmas.Bool.{cases_eq}
 use Rattle.std.proofs.lemmas.Bool.Decides.{nat_tests}
 use Rattle.std.specs.Prelude.{OnOk}
@@ -12,14 +12,17 @@ use Rattle.ng_rig.proofs.Running.{is_synced}
 use Rattle.ng_rig.proofs.Writes_only.{only_more, only_write, only_syncs, only_wider, reads_blend}
 use Rattle.ng_layout.specs.declared.header.Header.{Header}
 use Rattle.ng_layout.specs.Header.{HoldsHeader}
-use Rattle.ng_layout.specs.Areas.{log_size, snapshot_first, snapshot_size, program_first, program_size, log_first, spare_area}
+use Rattle.ng_layout.specs.Limits.{longest_program}
+use Rattle.ng_layout.specs.Areas.{shortest_log, snapshot_first, snapshot_size, tools_first, tools_size, program_first, program_size, log_first, spare_area}
 use Rattle.ng_layout.specs.Sectors.{HoldsText}
-use Rattle.ng_layout.specs.Snapshot.{HoldsPart}
+use Rattle.ng_layout.proofs.Rows.{bytes-zeros}
+use Rattle.ng_layout.specs.Snapshot.{HoldsPart, HoldsLengths, HoldsToolPart}
+use Rattle.ng_layout.specs.declared.header.Format.TheVariants.{One, Two}
 use Rattle.ng_layout.specs.Spare.{IsAmong}
 use Rattle.ng_layout.specs.Stored.{StoredModel, DurableState}
 use Rattle.ng_journal.specs.Area.{BelongsIn}
-use Rattle.ng_journal.specs.Private.CheckpointSteps.{AreaTo, WritesArea, WritesState, StoresState}
-use Rattle.ng_journal.specs.AtRest.{IsOfEpoch, BelongsTo, IsLaidOut, next_header}
+use Rattle.ng_journal.specs.Private.CheckpointSteps.{AreaTo, WritesArea, WritesAreas, WritesState, StoresState}
+use Rattle.ng_journal.specs.AtRest.{IsOfAreas, IsOfEpoch, BelongsToAreas, BelongsTo, IsLaidOut, next_header}
 use Rattle.ng_journal.specs.Formats.{IsEmpty, first_header}
 use Rattle.ng_journal.specs.Private.Overwrites.{Overwrites}
 use Rattle.ng_journal.specs.Loads.{BelongsToText, BelongsToLoad, IsTextAt, WritesLoad}
@@ -46,9 +49,53 @@ among_text area text old new w = among (program_first area) (program_size area) 
 abbrev May : Header → StoredModel → ℕ → List ℕ → Type 0
 May header saved n bytes = BelongsTo header saved n bytes
 
-pub state_area : {T E : Type 0} (result : Result T E) (first : ℕ) (header : Header) (saved : StoredModel) (old new : Trace) → first ≡ snapshot_first header.epoch → WritesArea result first saved old new → WritesState header saved old new
-state_area result first header saved old new is area =
-    only_wider (BelongsIn first snapshot_size (HoldsPart saved)) (May header saved) old new (λ n c b. inl (subst (λ (k : ℕ). BelongsIn k snapshot_size (HoldsPart saved) n c) is b)) area.writes
+abbrev MayAreas : Header → StoredModel → ℕ → List ℕ → Type 0
+MayAreas header saved n bytes = BelongsToAreas header saved n bytes
+
+-- the snapshot alone, in format 1 or where its write or one after it failed
+area_only : {T E : Type 0} (result : Result T E) (first : ℕ) (header : Header) (saved : StoredModel) (old new : Trace) → first ≡ snapshot_first header.epoch → WritesArea result first saved old new → WritesOnly (MayAreas header saved) old new
+area_only result first header saved old new is area =
+    only_wider (BelongsIn first snapshot_size (HoldsPart saved)) (MayAreas header saved) old new (λ n c b. inl (subst (λ (k : ℕ). BelongsIn k snapshot_size (HoldsPart saved) n c) is b)) area.writes
+
+pub areas_failed : {T E F : Type 0} (e : E) (result : Result T F) (first : ℕ) (header : Header) (saved : StoredModel) (old new : Trace) → first ≡ snapshot_first header.epoch → WritesArea result first saved old new → WritesAreas {T = T} (Err e) header saved old new
+areas_failed e result first header saved old new is area = record { writes = area_only result first header saved old new is area; parts = tt; tools = tt }
+
+pub areas_one : {T U E F : Type 0} (u : U) (v : T) (first : ℕ) (header : Header) (saved : StoredModel) (old new : Trace) → first ≡ snapshot_first header.epoch → header.format ≡ One → WritesArea {E = F} (Ok v) first saved old new → WritesAreas {E = E} (Ok u) header saved old new
+areas_one {F = F} u v first header saved old new is one area =
+    let ok : Result _ F = Ok v in
+    record {
+      writes = area_only ok first header saved old new is area;
+      parts = λ j lt. subst (λ (k : ℕ). HoldsPart saved j (reads new (k + j))) is (area.parts j lt);
+      tools = λ two j lt. absurd (let e : One ≡ Two = sym one ∙ two in cc);
+    }
+
+pub areas_two : {T U E F : Type 0} (result : Result T E) (u : U) (first at : ℕ) (header : Header) (saved : StoredModel) (old mid new : Trace) → first ≡ snapshot_first header.epoch → at ≡ tools_first header.epoch → header.format ≡ Two → WritesArea {E = F} (Ok u) first saved old mid → Overwrites result at tools_size (HoldsToolPart saved) mid new → WritesAreas result header saved old new
+areas_two {T = T} {U = U} {E = E} {F = F} result u first at header saved old mid new is at_is two area tools =
+    record {
+      writes = only_more (MayAreas header saved) old mid new (area_only ok first header saved old mid is area) more;
+      parts = go result;
+      tools = go_on result tools.parts;
+    }
+  where
+    ok : Result U F
+    ok = Ok u
+
+    more : WritesOnly (MayAreas header saved) mid new
+    more = only_wider (BelongsIn at tools_size (HoldsToolPart saved)) (MayAreas header saved) mid new (λ n c b. inr (two, subst (λ (k : ℕ). BelongsIn k tools_size (HoldsToolPart saved) n c) at_is b)) tools.writes
+
+    stays_there : (n : ℕ) → n < 174 → reads new n ≡ reads mid n
+    stays_there n lt = tools.outside n (λ a. let from = a.from in omega arith)
+
+    go : (result : Result T E) → OnOk result ((j : ℕ) → j < snapshot_size → HoldsPart saved j (reads new (snapshot_first header.epoch + j)))
+    go (Err e) = tt
+    go (Ok v) = λ j lt. subst (HoldsPart saved j) (sym (stays_there (snapshot_first header.epoch + j) (omega arith))) (subst (λ (k : ℕ). HoldsPart saved j (reads mid (k + j))) is (area.parts j lt))
+
+    go_on : (result : Result T E) → OnOk result ((j : ℕ) → j < tools_size → HoldsToolPart saved j (reads new (at + j))) → OnOk result (header.format ≡ Two → (j : ℕ) → j < tools_size → HoldsToolPart saved j (reads new (tools_first header.epoch + j)))
+    go_on (Err e) parts = tt
+    go_on (Ok v) parts = λ _ j lt. subst (λ (k : ℕ). HoldsToolPart saved j (reads new (k + j))) at_is (parts j lt)
+
+pub state_areas : {T E : Type 0} (result : Result T E) (header : Header) (saved : StoredModel) (old new : Trace) → WritesAreas result header saved old new → WritesState header saved old new
+state_areas result header saved old new areas = only_wider (MayAreas header saved) (May header saved) old new (λ n c b. inl b) areas.writes
 
 pub state_sync : {T E : Type 0} (result : Result T E) (header : Header) (saved : StoredModel) (old mid new : Trace) → WritesState header saved old mid → SyncSpec result mid new → WritesState header saved old new
 state_sync result header saved old mid new w is = only_syncs (May header saved) result old mid new w is
@@ -57,22 +104,28 @@ pub state_header : {T E : Type 0} (result : Result T E) (header : Header) (saved
 state_header result header saved bytes old mid new holds w is = only_more (May header saved) old mid new w (only_write (May header saved) result (header.epoch % 2) bytes mid new (inr (refl, holds)) is)
 
 -- and then it stands there
-pub laid_out : (header : Header) (saved : StoredModel) (bytes : List ℕ) (mid : Trace) → ((j : ℕ) → j < snapshot_size → HoldsPart saved j (reads mid (snapshot_first header.epoch + j))) → HoldsHeader header bytes → IsLaidOut header saved (reads (Wrote (header.epoch % 2) bytes (Synced mid)))
-laid_out header saved bytes mid parts holds n (inl among) =
+pub laid_out : (header : Header) (saved : StoredModel) (bytes : List ℕ) (mid : Trace) → ((j : ℕ) → j < snapshot_size → HoldsPart saved j (reads mid (snapshot_first header.epoch + j))) → (header.format ≡ Two → (j : ℕ) → j < tools_size → HoldsToolPart saved j (reads mid (tools_first header.epoch + j))) → HoldsHeader header bytes → IsLaidOut header saved (reads (Wrote (header.epoch % 2) bytes (Synced mid)))
+laid_out header saved bytes mid parts tools holds n (inl (inr among)) =
+    let first = tools_first header.epoch in
+    let from = among.1.from in
+    let to = among.1.to in
+    let at : n ≡ tools_first header.epoch + (n - tools_first header.epoch) = omega arith in
+    let same : reads (Wrote (header.epoch % 2) bytes (Synced mid)) n ≡ reads mid n = elsewhere n (header.epoch % 2) bytes (Synced mid) (λ e. omega arith) in
+    inl (inr (among.0, record { place = n - first; within = omega arith; is = at; right = subst (HoldsToolPart saved (n - first)) (sym (same ∙ ap (reads mid) at)) (tools among.0 (n - first) (omega arith)) }))
+laid_out header saved bytes mid parts tools holds n (inl (inl among)) =
     let first = snapshot_first header.epoch in
     let from = among.from in
     let to = among.to in
     let at : n ≡ snapshot_first header.epoch + (n - snapshot_first header.epoch) = omega arith in
     let same : reads (Wrote (header.epoch % 2) bytes (Synced mid)) n ≡ reads mid n = elsewhere n (header.epoch % 2) bytes (Synced mid) (λ e. omega arith) in
-    inl (record { place = n - first; within = omega arith; is = at; right = subst (HoldsPart saved (n - first)) (sym (same ∙ ap (reads mid) at)) (parts (n - first) (omega arith)) })
-laid_out header saved bytes mid parts holds n (inr is) = inr (is, subst (HoldsHeader header) (sym (ap (reads (Wrote (header.epoch % 2) bytes (Synced mid))) is ∙ there (header.epoch % 2) bytes (Synced mid))) holds)
+    inl (inl (record { place = n - first; within = omega arith; is = at; right = subst (HoldsPart saved (n - first)) (sym (same ∙ ap (reads mid) at)) (parts (n - first) (omega arith)) }))
+laid_out header saved bytes mid parts tools holds n (inr is) = inr (is, subst (HoldsHeader header) (sym (ap (reads (Wrote (header.epoch % 2) bytes (Synced mid))) is ∙ there (header.epoch % 2) bytes (Synced mid))) holds)
 
-pub state_laid : {T E U F : Type 0} (result : Result T E) (u : U) (first : ℕ) (header : Header) (saved : StoredModel) (bytes : List ℕ) (old mid synced wrote new : Trace) → first ≡ snapshot_first header.epoch → WritesArea {E = F} (Ok u) first saved old mid → HoldsHeader header bytes → synced ≡ Synced mid → wrote ≡ Wrote (header.epoch % 2) bytes synced → SyncSpec result wrote new → OnOk result (IsLaidOut header saved (reads new))
-state_laid (Err _) u first header saved bytes old mid synced wrote new is area holds is_synced is_wrote done = tt
-state_laid (Ok _) u first header saved bytes old mid synced wrote new is area holds is_synced is_wrote done =
+pub state_laid : {T E U F : Type 0} (result : Result T E) (u : U) (header : Header) (saved : StoredModel) (bytes : List ℕ) (old mid synced wrote new : Trace) → WritesAreas {E = F} (Ok u) header saved old mid → HoldsHeader header bytes → synced ≡ Synced mid → wrote ≡ Wrote (header.epoch % 2) bytes synced → SyncSpec result wrote new → OnOk result (IsLaidOut header saved (reads new))
+state_laid (Err _) u header saved bytes old mid synced wrote new areas holds is_synced is_wrote done = tt
+state_laid (Ok _) u header saved bytes old mid synced wrote new areas holds is_synced is_wrote done =
     let whole : new ≡ Synced (Wrote (header.epoch % 2) bytes (Synced mid)) = done ∙ ap (λ (l : Trace). Synced l) (is_wrote ∙ ap (λ (l : Trace). Wrote (header.epoch % 2) bytes l) is_synced) in
-    let parts : (j : ℕ) → j < snapshot_size → HoldsPart saved j (reads mid (snapshot_first header.epoch + j)) = λ j lt. subst (λ (k : ℕ). HoldsPart saved j (reads mid (k + j))) is (area.parts j lt) in
-    subst (λ (l : Trace). IsLaidOut header saved (reads l)) (sym whole) (laid_out header saved bytes mid parts holds)
+    subst (λ (l : Trace). IsLaidOut header saved (reads l)) (sym whole) (laid_out header saved bytes mid areas.parts areas.tools holds)
 
 pub synced_by : {T E : Type 0} (result : Result T E) (old new : Trace) → SyncSpec result old new → OnOk result (IsSynced new)
 synced_by (Err _) old new is = tt
@@ -120,8 +173,12 @@ area_failed e result n first saved bytes old mid new lt right w is =
     record { writes = one_failed result n first snapshot_size (HoldsPart saved) bytes old mid new lt right w.writes is; parts = tt }
 
 -- all of that is in sectors of the epoch
-pub of_epoch : (header : Header) (saved : StoredModel) (n : ℕ) (bytes : List ℕ) → BelongsTo header saved n bytes → IsOfEpoch header.epoch n
-of_epoch header saved n bytes (inl b) = let is = b.is in let within = b.within in inl (record { from = omega arith; to = omega arith })
+pub of_areas : (header : Header) (saved : StoredModel) (n : ℕ) (bytes : List ℕ) → BelongsToAreas header saved n bytes → IsOfAreas header n
+of_areas header saved n bytes (inl b) = let is = b.is in let within = b.within in inl (record { from = omega arith; to = omega arith })
+of_areas header saved n bytes (inr t) = let is = t.1.is in let within = t.1.within in inr (t.0, record { from = omega arith; to = omega arith })
+
+pub of_epoch : (header : Header) (saved : StoredModel) (n : ℕ) (bytes : List ℕ) → BelongsTo header saved n bytes → IsOfEpoch header n
+of_epoch header saved n bytes (inl b) = inl (of_areas header saved n bytes b)
 of_epoch header saved n bytes (inr h) = inr h.0
 
 -- A load: the text, a sync, a checkpoint.
@@ -140,25 +197,26 @@ load_state header loaded old mid new w last =
     only_more (MayLoad header loaded) old mid new w (only_wider (May (next_header header (spare_area header.area) loaded.saved.length) loaded.saved) (MayLoad header loaded) mid new (λ n c own. inr own) last)
 
 -- the text stays where it stands
-pub text_stays : {T E U F : Type 0} (result : Result T E) (u : U) (area : ℕ) (header : Header) (loaded : DurableState) (old mid synced new : Trace) → area ≡ spare_area header.area → WritesText {E = F} (Ok u) area loaded.program old mid → synced ≡ Synced mid → WritesState (next_header header (spare_area header.area) loaded.saved.length) loaded.saved synced new
+pub text_stays : {T E U F : Type 0} (result : Result T E) (u : U) (area : ℕ) (header : Header) (loaded : DurableState) (old mid synced new : Trace) → length loaded.program ≤ longest_program → area ≡ spare_area header.area → WritesText {E = F} (Ok u) area loaded.program old mid → synced ≡ Synced mid → WritesState (next_header header (spare_area header.area) loaded.saved.length) loaded.saved synced new
     → OnOk result (IsTextAt (spare_area header.area) loaded.program (reads new))
-text_stays (Err _) u area header loaded old mid synced new is w is_synced last = tt
-text_stays (Ok _) u area header loaded old mid synced new is w is_synced last = λ j lt.
-    subst (HoldsText loaded.program (512 * j)) (sym (same (program_first (spare_area header.area) + j) (omega arith))) (subst (λ (k : ℕ). HoldsText loaded.program (512 * j) (reads mid (program_first k + j))) is (w.parts j lt))
+text_stays (Err _) u area header loaded old mid synced new short is w is_synced last = tt
+text_stays (Ok _) u area header loaded old mid synced new short is w is_synced last = λ j lt.
+    subst (HoldsText loaded.program (512 * j)) (sym (same (program_first (spare_area header.area) + j) (omega arith) (omega arith))) (subst (λ (k : ℕ). HoldsText loaded.program (512 * j) (reads mid (program_first k + j))) is (w.parts j lt))
   where
     on : WritesOnly (May (next_header header (spare_area header.area) loaded.saved.length) loaded.saved) (Synced mid) new
     on = subst (λ (l : Trace). WritesOnly (May (next_header header (spare_area header.area) loaded.saved.length) loaded.saved) l new) is_synced last
 
-    apart : (n : ℕ) → 174 ≤ n → IsOfEpoch (header.epoch + 1) n → ⊥
-    apart n le (inl among) = let to = among.to in omega arith
-    apart n le (inr is) = omega arith
+    apart : (n : ℕ) → 174 ≤ n → n < 1706 → IsOfEpoch (next_header header (spare_area header.area) loaded.saved.length) n → ⊥
+    apart n le high (inl (inl among)) = let to = among.to in omega arith
+    apart n le high (inl (inr among)) = let from = among.1.from in omega arith
+    apart n le high (inr is) = omega arith
 
-    same : (n : ℕ) → 174 ≤ n → reads new n ≡ reads mid n
-    same n le = ⊎_elim (λ was. was) (λ own. absurd (apart n le (of_epoch (next_header header (spare_area header.area) loaded.saved.length) loaded.saved n (reads new n) own))) ((reads_blend (May (next_header header (spare_area header.area) loaded.saved.length) loaded.saved) (Synced mid) new on).each n)
+    same : (n : ℕ) → 174 ≤ n → n < 1706 → reads new n ≡ reads mid n
+    same n le high = ⊎_elim (λ was. was) (λ own. absurd (apart n le high (of_epoch (next_header header (spare_area header.area) loaded.saved.length) loaded.saved n (reads new n) own))) ((reads_blend (May (next_header header (spare_area header.area) loaded.saved.length) loaded.saved) (Synced mid) new on).each n)
 
 -- A format of whatever is stored: each of the three stretches, a sync, the header, a sync.
 abbrev pub MayFormat : StoredModel → ℕ → List ℕ → Type 0
-MayFormat saved n bytes = BelongsIn 0 2 IsEmpty n bytes ⊎ (BelongsIn log_first log_size IsEmpty n bytes ⊎ BelongsTo first_header saved n bytes)
+MayFormat saved n bytes = BelongsIn 0 2 IsEmpty n bytes ⊎ (BelongsIn log_first shortest_log IsEmpty n bytes ⊎ BelongsTo first_header saved n bytes)
 
 abbrev pub WritesFirst : StoredModel → Trace → Trace → Type 0
 WritesFirst saved = WritesOnly (λ n bytes. MayFormat saved n bytes)
@@ -166,12 +224,25 @@ WritesFirst saved = WritesOnly (λ n bytes. MayFormat saved n bytes)
 pub first_headers : {T E : Type 0} (result : Result T E) (saved : StoredModel) (old new : Trace) → Overwrites result 0 2 IsEmpty old new → WritesFirst saved old new
 first_headers result saved old new w = only_wider (BelongsIn 0 2 IsEmpty) (MayFormat saved) old new (λ n c b. inl b) w.writes
 
-pub first_log : {T E : Type 0} (result : Result T E) (saved : StoredModel) (old mid new : Trace) → WritesFirst saved old mid → Overwrites result log_first log_size IsEmpty mid new → WritesFirst saved old new
-first_log result saved old mid new w log = only_more (MayFormat saved) old mid new w (only_wider (BelongsIn log_first log_size IsEmpty) (MayFormat saved) mid new (λ n c b. inr (inl b)) log.writes)
+pub first_log : {T E : Type 0} (result : Result T E) (saved : StoredModel) (old mid new : Trace) → WritesFirst saved old mid → Overwrites result log_first shortest_log IsEmpty mid new → WritesFirst saved old new
+first_log result saved old mid new w log = only_more (MayFormat saved) old mid new w (only_wider (BelongsIn log_first shortest_log IsEmpty) (MayFormat saved) mid new (λ n c b. inr (inl b)) log.writes)
 
 pub first_area : {T E : Type 0} (result : Result T E) (first : ℕ) (saved : StoredModel) (old mid new : Trace) → first ≡ snapshot_first 1 → WritesFirst saved old mid → Overwrites result first snapshot_size (HoldsPart saved) mid new → WritesFirst saved old new
 first_area result first saved old mid new is w area =
-    only_more (MayFormat saved) old mid new w (only_wider (BelongsIn first snapshot_size (HoldsPart saved)) (MayFormat saved) mid new (λ n c b. inr (inr (inl (subst (λ (k : ℕ). BelongsIn k snapshot_size (HoldsPart saved) n c) is b)))) area.writes)
+    only_more (MayFormat saved) old mid new w (only_wider (BelongsIn first snapshot_size (HoldsPart saved)) (MayFormat saved) mid new (λ n c b. inr (inr (inl (inl (subst (λ (k : ℕ). BelongsIn k snapshot_size (HoldsPart saved) n c) is b))))) area.writes)
+
+-- no slots are zeros
+pub empty_lengths : (saved : StoredModel) (j : ℕ) (bytes : List ℕ) → saved.tools ≡ [] → bytes ≡ replicate 512 0 → HoldsToolPart saved j bytes
+empty_lengths saved j bytes none is = subst (λ (l : List ℕ). HoldsToolPart saved j l) (sym is) (subst (λ (tools : List ℤ). HoldsLengths tools (64 * j) (replicate 512 0)) (sym none) (record {
+  each = λ k lt there. absurd (let none : 64 * j + k < 0 = there in omega arith);
+  past = λ k lt le. bytes-zeros (512 - 8 * k) (8 * k) 512 (omega arith);
+}))
+
+pub first_tools : {T E : Type 0} (result : Result T E) (at : ℕ) (saved : StoredModel) (old mid new : Trace) → saved.tools ≡ [] → at ≡ tools_first 1 → WritesFirst saved old mid → Overwrites result at tools_size IsEmpty mid new → WritesFirst saved old new
+first_tools result at saved old mid new none is w tools =
+    only_more (MayFormat saved) old mid new w (only_wider (BelongsIn at tools_size IsEmpty) (MayFormat saved) mid new (λ n c b.
+    let here = subst (λ (k : ℕ). BelongsIn k tools_size IsEmpty n c) is b in
+    inr (inr (inl (inr (refl, record { place = here.place; within = here.within; is = here.is; right = empty_lengths saved here.place c none here.right }))))) tools.writes)
 
 pub first_sync : {T E : Type 0} (result : Result T E) (saved : StoredModel) (old mid new : Trace) → WritesFirst saved old mid → SyncSpec result mid new → WritesFirst saved old new
 first_sync result saved old mid new w is = only_syncs (MayFormat saved) result old mid new w is

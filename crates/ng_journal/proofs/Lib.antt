@@ -1,8 +1,10 @@
 pub mod Beginning
+pub mod Begun
 pub mod Finding
 pub mod FirstLinesRead
 pub mod Framing
 pub mod LinesRead
+pub mod Modern
 pub mod Moving
 pub mod Overwriting
 pub mod Recording

@@ -39,6 +39,7 @@ not_stored_as e result l saved old new s = record { writes = s.writes; laid = tt
 as_moved : (old new : Trace) (header : Header) (end : LogEnd) (before loaded : DurableState) → IsAtEnd old header before end → IsContinuation old new (IsEither (stands (reads old)) (Ok loaded) (items old)) → IsContinuation old new (IsEither (Ok before) (Ok loaded) (items old))
 as_moved old new header end before loaded at stops = weaker old new (IsEither (stands (reads old)) (Ok loaded) (items old)) (IsEither (Ok before) (Ok loaded) (items old)) stops (λ image handed p. record {
   state = ⊎_elim (λ b. inl (b ∙ ends-stand (reads old) header before end at.image)) (λ a. inr a) p.state;
+  modern = p.modern;
   written = p.written;
   handed_is = p.handed_is;
 })

@@ -18,7 +18,9 @@ use Rattle.ng_layout.specs.Stored.{StoredModel, DurableState}
 use Rattle.ng_layout.proofs.Images.{stretch-at, force-frame, stands-frame, written-frame}
 use Rattle.ng_layout.proofs.Snapshots.{text-whole}
 use Rattle.ng_log.specs.AtEnd.{no_records, IsAtEnd}
-use Rattle.ng_journal.specs.Private.CheckpointSteps.{IsOwnImage, beside, CheckpointSpec}
+use Rattle.ng_journal.specs.Private.CheckpointSteps.{IsOwnImage, IsBegun, IsEitherUnder, beside, CheckpointSpec}
+use Rattle.ng_layout.specs.declared.header.Format.TheVariants.{Two}
+use Rattle.ng_journal.proofs.Begun.{begun-end}
 use Rattle.ng_journal.specs.AtRest.{IsEither, next_header}
 use Rattle.ng_journal.specs.Private.LoadSteps.{WritesText, LoadSpec}
 use Rattle.ng_journal.proofs.Framing.{among_text}
@@ -31,22 +33,23 @@ P old loaded = IsEither (stands (reads old)) (Ok loaded) (items old)
 
 -- an image of writes to that area alone
 same_but_spare : (old : Trace) (header : Header) → IsOwnImage old header → (image : Image) (handed : List Item) → IsMixOf old (In (spare_area header.area)) image handed → SameButSpare header image (reads old)
-same_but_spare old header at image handed p = record { each = λ n. ⊎_elim (λ may. inr (at.synced.one n (image n) may)) (λ among. inl (inr among)) (p.each n) }
+same_but_spare old header at image handed p = record { each = λ n. ⊎_elim (λ may. inr (at.synced.one n (image n) may)) (λ among. inl (inr (inl among))) (p.each n) }
 
-blend_is_old : (old : Trace) (header : Header) (loaded : DurableState) → IsOwnImage old header → (image : Image) (handed : List Item) → IsMixOf old (In (spare_area header.area)) image handed → P old loaded image handed
-blend_is_old old header loaded at image handed p =
+blend_is_old : (old : Trace) (header : Header) (loaded : DurableState) → header.format ≡ Two → IsOwnImage old header → (image : Image) (handed : List Item) → IsMixOf old (In (spare_area header.area)) image handed → P old loaded image handed
+blend_is_old old header loaded two at image handed p =
     let same = same_but_spare old header at image handed p in
     record {
       state = inl (stands-frame header image (reads old) at.force same);
+      modern = record { header = header; force = force-frame header image (reads old) same ∙ at.force; format = two };
       written = written-frame header image (reads old) same at.written;
       handed_is = p.handed_is;
     }
 
-after_text : (old mid : Trace) (header : Header) (loaded : DurableState) → IsOwnImage old header → WritesOnly (In (spare_area header.area)) old mid → IsContinuation old mid (P old loaded)
-after_text old mid header loaded at w = weaker old mid (IsMixOf old (In (spare_area header.area))) (P old loaded) w.stops (blend_is_old old header loaded at)
+after_text : (old mid : Trace) (header : Header) (loaded : DurableState) → header.format ≡ Two → IsOwnImage old header → WritesOnly (In (spare_area header.area)) old mid → IsContinuation old mid (P old loaded)
+after_text old mid header loaded two at w = weaker old mid (IsMixOf old (In (spare_area header.area))) (P old loaded) w.stops (blend_is_old old header loaded two at)
 
-at_sync : (old mid : Trace) (header : Header) (loaded : DurableState) → IsOwnImage old header → WritesOnly (In (spare_area header.area)) old mid → IsContinuation old (Synced mid) (P old loaded)
-at_sync old mid header loaded at w = weaker old (Synced mid) (IsMixOf old (In (spare_area header.area))) (P old loaded) (only_sync (In (spare_area header.area)) old mid w) (blend_is_old old header loaded at)
+at_sync : (old mid : Trace) (header : Header) (loaded : DurableState) → header.format ≡ Two → IsOwnImage old header → WritesOnly (In (spare_area header.area)) old mid → IsContinuation old (Synced mid) (P old loaded)
+at_sync old mid header loaded two at w = weaker old (Synced mid) (IsMixOf old (In (spare_area header.area))) (P old loaded) (only_sync (In (spare_area header.area)) old mid w) (blend_is_old old header loaded two at)
 
 same_reads : (old mid : Trace) (header : Header) → IsOwnImage old header → WritesOnly (In (spare_area header.area)) old mid → SameButSpare header (reads mid) (reads old)
 same_reads old mid header at w = same_but_spare old header at (reads mid) (items mid) (reads_blend (In (spare_area header.area)) old mid w)
@@ -70,21 +73,22 @@ beside_is : (saved : StoredModel) (area : ℕ) (text : List ℕ) (image : Image)
 beside_is saved area text image long short parts = λ i. record { saved = saved; program = (ap (λ (n : ℕ). program_text n (stretch (program_first area) (program_size area) image)) long ∙ text_is area text image short parts) i }
 
 -- The exits.
-pub exit_text : {T E F : Type 0} (e : E) (result : Result T F) (old mid : Trace) (area : ℕ) (header : Header) (loaded : DurableState) (text : List ℕ) → IsOwnImage old header → area ≡ spare_area header.area → WritesText result area text old mid → LoadSpec {T = T} (Err e) header loaded old mid
-exit_text e result old mid area header loaded text at place w =
+pub exit_text : {T E F : Type 0} (e : E) (result : Result T F) (old mid : Trace) (area : ℕ) (header : Header) (loaded : DurableState) (text : List ℕ) → header.format ≡ Two → IsOwnImage old header → area ≡ spare_area header.area → WritesText result area text old mid → LoadSpec {T = T} (Err e) header loaded old mid
+exit_text e result old mid area header loaded text two at place w =
     let writes = subst (λ (n : ℕ). WritesOnly (In n) old mid) place (among_text area text old mid w.writes) in
-    record { stops = after_text old mid header loaded at writes; items_are = w.writes.items_are; at = tt }
+    record { stops = after_text old mid header loaded two at writes; items_are = w.writes.items_are; at = tt }
 
-pub exit_sync : {T E F : Type 0} (e : E) (result : Result T F) (old mid last : Trace) (area : ℕ) (header : Header) (loaded : DurableState) (text : List ℕ) → IsOwnImage old header → area ≡ spare_area header.area → WritesText result area text old mid → last ≡ mid → LoadSpec {T = T} (Err e) header loaded old last
-exit_sync {T = T} e result old mid last area header loaded text at place w same = subst (λ (l : Trace). LoadSpec {T = T} (Err e) header loaded old l) (sym same) (exit_text e result old mid area header loaded text at place w)
+pub exit_sync : {T E F : Type 0} (e : E) (result : Result T F) (old mid last : Trace) (area : ℕ) (header : Header) (loaded : DurableState) (text : List ℕ) → header.format ≡ Two → IsOwnImage old header → area ≡ spare_area header.area → WritesText result area text old mid → last ≡ mid → LoadSpec {T = T} (Err e) header loaded old last
+exit_sync {T = T} e result old mid last area header loaded text two at place w same = subst (λ (l : Trace). LoadSpec {T = T} (Err e) header loaded old l) (sym same) (exit_text e result old mid area header loaded text two at place w)
 
 pub loaded_all : {T E U F : Type 0} (result : Result T E) (u : U) (old mid synced last : Trace) (area : ℕ) (header next : Header) (saved : StoredModel) (text : List ℕ) → IsOwnImage old header → area ≡ spare_area header.area → saved.length ≡ length text → length text ≤ longest_program
-    → WritesText {E = F} (Ok u) area text old mid → synced ≡ Synced mid → next ≡ next_header header (spare_area header.area) saved.length → CheckpointSpec result next saved synced last → LoadSpec result header (record { saved = saved; program = text }) old last
-loaded_all {T = T} {E = E} {F = F} result u old mid synced last area header next saved text at place long short w is next_is c_next =
+    → WritesText {E = F} (Ok u) area text old mid → synced ≡ Synced mid → next ≡ next_header header (spare_area header.area) saved.length → header.format ≡ Two → CheckpointSpec result header next saved synced last → LoadSpec result header (record { saved = saved; program = text }) old last
+loaded_all {T = T} {E = E} {F = F} result u old mid synced last area header next saved text at place long short w is next_is two c_next =
     record {
-      stops = joined old synced last (P old loaded) (subst (λ (l : Trace). IsContinuation old l (P old loaded)) (sym is) (at_sync old mid header loaded at only))
-          (weaker synced last (IsEither (stands (reads synced)) (Ok (beside saved (spare_area header.area) (reads synced))) (items synced)) (P old loaded) c.stops (λ image handed p. record {
-            state = ⊎_elim (λ b. inl (b ∙ before)) (λ a. inr (a ∙ ap (λ (s : DurableState). Ok s) made)) p.state;
+      stops = joined old synced last (P old loaded) (subst (λ (l : Trace). IsContinuation old l (P old loaded)) (sym is) (at_sync old mid header loaded two at only))
+          (weaker synced last (IsEitherUnder header (next_header header (spare_area header.area) saved.length) (stands (reads synced)) (Ok (beside saved (spare_area header.area) (reads synced))) (items synced)) (P old loaded) c.stops (λ image handed p. record {
+            modern = ⊎_elim (λ b. record { header = header; force = b.0; format = two }) (λ a. record { header = next_header header (spare_area header.area) saved.length; force = a.0; format = two }) p.state;
+            state = ⊎_elim (λ b. inl (b.1 ∙ before)) (λ a. inr (a.1 ∙ ap (λ (s : DurableState). Ok s) made)) p.state;
             written = p.written;
             handed_is = p.handed_is ∙ same_items;
           }));
@@ -92,8 +96,8 @@ loaded_all {T = T} {E = E} {F = F} result u old mid synced last area header next
       at = go result c.at;
     }
   where
-    c : CheckpointSpec result (next_header header (spare_area header.area) saved.length) saved synced last
-    c = subst (λ (h : Header). CheckpointSpec result h saved synced last) next_is c_next
+    c : CheckpointSpec result header (next_header header (spare_area header.area) saved.length) saved synced last
+    c = subst (λ (h : Header). CheckpointSpec result header h saved synced last) next_is c_next
 
     loaded : DurableState
     loaded = record { saved = saved; program = text }
@@ -113,6 +117,6 @@ loaded_all {T = T} {E = E} {F = F} result u old mid synced last area header next
     made : beside saved (spare_area header.area) (reads synced) ≡ loaded
     made = ap (λ (l : Trace). beside saved (spare_area header.area) (reads l)) is ∙ beside_is saved (spare_area header.area) text (reads mid) long short writes.parts
 
-    go : (result : Result T E) → OnOk result (IsAtEnd last (next_header header (spare_area header.area) saved.length) (beside saved (spare_area header.area) (reads synced)) no_records) → OnOk result (IsAtEnd last (next_header header (spare_area header.area) saved.length) loaded no_records)
+    go : (result : Result T E) → OnOk result (IsBegun last (next_header header (spare_area header.area) saved.length) (beside saved (spare_area header.area) (reads synced))) → OnOk result (IsAtEnd last (next_header header (spare_area header.area) saved.length) loaded no_records)
     go (Err e) at = tt
-    go (Ok v) at = subst (λ (s : DurableState). IsAtEnd last (next_header header (spare_area header.area) saved.length) s no_records) made at
+    go (Ok v) at = subst (λ (s : DurableState). IsAtEnd last (next_header header (spare_area header.area) saved.length) s no_records) made (begun-end last (next_header header (spare_area header.area) saved.length) (beside saved (spare_area header.area) (reads synced)) two at)

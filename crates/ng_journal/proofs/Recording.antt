@@ -1,5 +1,5 @@
 -- Room made for a record, and then the record.
-use Rattle.std.proofs.Common.{◌≡◌, inl, inr, ⊎_elim, ℕ, ◌+◌, ◌<◌, ◌≤◌, ◌↔◌, Bool, true, false, List, ℤ, Result, Ok, Err, length, refl, sym, ◌∙◌, ap, subst, arith}
+use Rattle.std.proofs.Common.{◌≡◌, ◌⊎◌, inl, inr, ⊎_elim, ℕ, ◌+◌, ◌<◌, ◌≤◌, ◌↔◌, Bool, true, false, List, ℤ, Option, Result, Ok, Err, length, refl, sym, ◌∙◌, ap, subst, arith}
 use Rattle.std.specs.Prelude.{OnOk}
 use Rattle.std.proofs.lemmas.Bool.{cases_lt}
 use Rattle.ng_rig.specs.Trace.{Trace, reads, items}
@@ -16,12 +16,17 @@ use Rattle.ng_layout.specs.Stored.{StoredModel, DurableState}
 use Rattle.ng_log.specs.declared.log_end.LogEnd.{LogEnd}
 use Rattle.ng_log.specs.AtEnd.{no_records, IsAtEnd}
 use Rattle.ng_log.specs.Appends.{AppendSpec, WritesRecord}
+use Rattle.ng_offsets.specs.Tools.{first_change}
+use Rattle.ng_offsets.specs.declared.tools.SlotChange.{SlotChange}
 use Rattle.ng_params.specs.Differences.{differences}
-use Rattle.ng_log.specs.Records.{LogRecord, BelongsToRecord, record_from}
+use Rattle.ng_log.specs.Records.{LogRecord, size_of, BelongsToRecord, record_from}
 use Rattle.ng_params.proofs.Differing.{differences-none}
+use Rattle.ng_layout.proofs.Images.{log-short}
 use Rattle.ng_log.proofs.Ending.{ends-stand}
 use Rattle.ng_journal.specs.declared.storing.Tip.{Tip}
-use Rattle.ng_journal.specs.Private.CheckpointSteps.{IsOwnImage, StoresState, beside, CheckpointSpec}
+use Rattle.ng_journal.specs.Private.CheckpointSteps.{IsOwnImage, IsEitherUnder, StoresState, beside, CheckpointSpec}
+use Rattle.ng_layout.specs.declared.header.Format.TheVariants.{Two}
+use Rattle.ng_journal.proofs.Begun.{begun-end}
 use Rattle.ng_journal.specs.AtRest.{IsEither, IsOfEpoch, BelongsTo, IsLaidOut}
 use Rattle.ng_journal.specs.Journal.{IsTip, StandsFor}
 use Rattle.ng_journal.specs.Private.Records.{ledger, tip_of, IsRoom, MakeRoomSpec, IsRenewed, StoresRoom, StoreRecordSpec}
@@ -38,28 +43,29 @@ same_standing trace header before end saved area at is area_is =
     (λ i. beside (sym is i) (area_is i) (reads trace))
     ∙ (λ i. record { saved = before.saved; program = (ap (λ (n : ℕ). program_text n (stretch (program_first header.area) (program_size header.area) (reads trace))) at.image.long ∙ at.image.program) i })
 
-module _ (old new : Trace) (header next : Header) (before : DurableState) (end : LogEnd) (saved : StoredModel) (at : IsAtEnd old header before end) (is : before.saved ≡ saved) (area_is : next.area ≡ header.area) where
+module _ (old new : Trace) (header next : Header) (before : DurableState) (end : LogEnd) (saved : StoredModel) (at : IsAtEnd old header before end) (is : before.saved ≡ saved) (area_is : next.area ≡ header.area) (two : next.format ≡ Two) where
   same : beside saved next.area (reads old) ≡ before
   same = same_standing old header before end saved next.area at is area_is
 
   -- a checkpoint of what stands leaves it standing
-  keeps_standing : {T E : Type 0} (result : Result T E) → CheckpointSpec result next saved old new → IsContinuation old new (StandsFor before (items old))
-  keeps_standing result c = weaker old new (IsEither (stands (reads old)) (Ok (beside saved next.area (reads old))) (items old)) (StandsFor before (items old)) c.stops (λ image handed p. record {
-    state = ⊎_elim (λ was. was ∙ ends-stand (reads old) header before end at.image) (λ made. made ∙ ap (λ (s : DurableState). Ok s) same) p.state;
+  keeps_standing : {T E : Type 0} (result : Result T E) → CheckpointSpec result header next saved old new → IsContinuation old new (StandsFor before (items old))
+  keeps_standing result c = weaker old new (IsEitherUnder header next (stands (reads old)) (Ok (beside saved next.area (reads old))) (items old)) (StandsFor before (items old)) c.stops (λ image handed p. record {
+    modern = ⊎_elim (λ was. record { header = header; force = was.0; format = at.image.format }) (λ made. record { header = next; force = made.0; format = two }) p.state;
+    state = ⊎_elim (λ was. was.1 ∙ ends-stand (reads old) header before end at.image) (λ made. made.1 ∙ ap (λ (s : DurableState). Ok s) same) p.state;
     written = p.written;
     handed_is = p.handed_is;
   })
 
-  pub room_failed : {T E F : Type 0} (e : E) (result : Result T F) → CheckpointSpec result next saved old new → MakeRoomSpec (Err e) before old new
+  pub room_failed : {T E F : Type 0} (e : E) (result : Result T F) → CheckpointSpec result header next saved old new → MakeRoomSpec (Err e) before old new
   room_failed e result c = record { stops = keeps_standing result c; items_are = c.items_are; at = tt }
 
-  pub room_made : {T E F : Type 0} (v : T) (tip : Tip) → tip ≡ record { header = next; end = no_records } → CheckpointSpec {E = F} (Ok v) next saved old new → MakeRoomSpec {E = E} (Ok tip) before old new
+  pub room_made : {T E F : Type 0} (v : T) (tip : Tip) → tip ≡ record { header = next; end = no_records } → CheckpointSpec {E = F} (Ok v) header next saved old new → MakeRoomSpec {E = E} (Ok tip) before old new
   room_made {F = F} v tip tip_is c =
       let ok : Result _ F = Ok v in
       record {
         stops = keeps_standing ok c;
         items_are = c.items_are;
-        at = subst (λ (t : Tip). IsAtEnd new t.header before t.end) (sym tip_is) (subst (λ (s : DurableState). IsAtEnd new next s no_records) same c.at);
+        at = subst (λ (t : Tip). IsAtEnd new t.header before t.end) (sym tip_is) (subst (λ (s : DurableState). IsAtEnd new next s no_records) same (begun-end new next (beside saved next.area (reads old)) two c.at));
       }
 
 -- or the log has room
@@ -77,7 +83,7 @@ pub not_appended : {E F : Type 0} (e : E) (result : Result LogEnd F) (header : H
 not_appended e result header before saved old new a = record { stops = a.stops; items_are = a.items_are; at = tt }
 
 as_either : (before after : DurableState) (old mid : Trace) → IsContinuation old mid (StandsFor before (items old)) → IsContinuation old mid (IsEither (Ok before) (Ok after) (items old))
-as_either before after old mid stops = weaker old mid (StandsFor before (items old)) (IsEither (Ok before) (Ok after) (items old)) stops (λ image handed p. record { state = inl p.state; written = p.written; handed_is = p.handed_is })
+as_either before after old mid stops = weaker old mid (StandsFor before (items old)) (IsEither (Ok before) (Ok after) (items old)) stops (λ image handed p. record { state = inl p.state; modern = p.modern; written = p.written; handed_is = p.handed_is })
 
 pub no_room : {E F : Type 0} (e : E) (result : Result Tip F) (before : DurableState) (saved : StoredModel) (old new : Trace) → MakeRoomSpec result before old new → StoreRecordSpec (Err e) before saved old new
 no_room e result before saved old new m = record { stops = as_either before (record before { saved = saved }) old new m.stops; items_are = m.items_are; at = tt }
@@ -87,7 +93,7 @@ stored_after result tip before saved old mid new m s =
     let after : DurableState = record before { saved = saved } in
     record {
       stops = joined old mid new (IsEither (Ok before) (Ok after) (items old)) (as_either before after old mid m.stops)
-          (weaker mid new (IsEither (Ok before) (Ok after) (items mid)) (IsEither (Ok before) (Ok after) (items old)) s.stops (λ image handed p. record { state = p.state; written = p.written; handed_is = p.handed_is ∙ m.items_are }));
+          (weaker mid new (IsEither (Ok before) (Ok after) (items mid)) (IsEither (Ok before) (Ok after) (items old)) s.stops (λ image handed p. record { state = p.state; modern = p.modern; written = p.written; handed_is = p.handed_is ∙ m.items_are }));
       items_are = s.items_are ∙ m.items_are;
       at = s.at;
     }
@@ -125,21 +131,22 @@ not_stored e result l changes saved old new count r = record {
 }
 
 -- a record leaves what isn't in the log
-stays_laid : (l : Ledger) (r : LogRecord) (mid new : Trace) → IsRenewed l mid → WritesOnly (BelongsToRecord r) mid new → IsLaidOut (renewed l).header l.saved (reads new)
-stays_laid l r mid new done w = λ n own. subst (BelongsTo (renewed l).header l.saved n) (sym (same n own)) (done.laid n own)
+stays_laid : (l : Ledger) (r : LogRecord) (mid new : Trace) → r.at + size_of r ≤ 1020 → IsRenewed l mid → WritesOnly (BelongsToRecord r) mid new → IsLaidOut (renewed l).header l.saved (reads new)
+stays_laid l r mid new room done w = λ n own. subst (BelongsTo (renewed l).header l.saved n) (sym (same n own)) (done.laid n own)
   where
-    low : (n : ℕ) → IsOfEpoch (renewed l).header.epoch n → n < 686
-    low n (inl among) = let to = among.to in omega arith
-    low n (inr is) = omega arith
+    low : (n : ℕ) → IsOfEpoch (renewed l).header n → (n < 686) ⊎ (1706 ≤ n)
+    low n (inl (inl among)) = let to = among.to in inl (omega arith)
+    low n (inl (inr among)) = let from = among.1.from in inr (omega arith)
+    low n (inr is) = inl (omega arith)
 
-    same : (n : ℕ) → IsOfEpoch (renewed l).header.epoch n → reads new n ≡ reads mid n
-    same n own = ⊎_elim (λ may. done.synced.one n (reads new n) may) (λ there. absurd (omega (arith, low n own, there.log))) ((reads_blend (BelongsToRecord r) mid new w).each n)
+    same : (n : ℕ) → IsOfEpoch (renewed l).header n → reads new n ≡ reads mid n
+    same n own = ⊎_elim (λ may. done.synced.one n (reads new n) may) (λ there. absurd (⊎_elim (λ x. omega (arith, there.log)) (λ x. omega (arith, there.log, there.part.to, room)) (low n own))) ((reads_blend (BelongsToRecord r) mid new w).each n)
 
 room_of : (tip : Tip) (l : Ledger) (saved : StoredModel) (at : Ledger) → tip ≡ tip_of at → at.saved ≡ l.saved → record_of (ledger tip l.saved) saved ≡ record_of at saved
 room_of tip l saved at is same = λ i. record_of (record { header = (is i).header; end = (is i).end; saved = sym same i }) saved
 
-pub stored : {T E F : Type 0} (result : Result T E) (tip : Tip) (l : Ledger) (changes : ℕ) (saved : StoredModel) (old mid new : Trace) → changes ≡ changes_to l saved → IsRoom l changes tip → StoresRoom {E = F} (Ok tip) l changes old mid → WritesRecord result (record_of (ledger tip l.saved) saved) mid new → StoresRecord result l saved old new
-stored {T = T} {E = E} result tip l changes saved old mid new count (inl there) r w =
+pub stored : {T E F : Type 0} (result : Result T E) (tip : Tip) (l : Ledger) (changes : ℕ) (saved : StoredModel) (old mid new : Trace) → changes ≤ 5399 → changes ≡ changes_to l saved → IsRoom l changes tip → StoresRoom {E = F} (Ok tip) l changes old mid → WritesRecord result (record_of (ledger tip l.saved) saved) mid new → StoresRecord result l saved old new
+stored {T = T} {E = E} result tip l changes saved old mid new few count (inl there) r w =
     let at : WritesRecord result (record_of l saved) mid new = subst (λ (e : LogRecord). WritesRecord result e mid new) (room_of tip l saved l there.1 refl) w in
     let room : HasRoomFor l.header l.end (changes_to l saved) = subst (HasRoomFor l.header l.end) count there.0 in
     record {
@@ -152,14 +159,14 @@ stored {T = T} {E = E} result tip l changes saved old mid new count (inl there) 
     go : (result : Result T E) → OnOk result (IsRecorded (record_of l saved) (reads new)) → OnOk result (IsStoredIn l saved (reads new))
     go (Err e) parts = tt
     go (Ok v) parts = inl (subst (HasRoomFor l.header l.end) count there.0, parts)
-stored {T = T} {E = E} result tip l changes saved old mid new count (inr full) r w =
+stored {T = T} {E = E} result tip l changes saved old mid new few count (inr full) r w =
     let at : WritesRecord result (record_of (renewed l) saved) mid new = subst (λ (e : LogRecord). WritesRecord result e mid new) (room_of tip l saved (renewed l) full.1 refl) w in
     let is_full : IsFullFor l.header l.end (changes_to l saved) = subst (IsFullFor l.header l.end) count full.0 in
     record {
       writes = only_more (May l saved) old mid new
           (only_wider (MayRoom l changes) (May l saved) old mid (λ n c b. inr (subst (IsFullFor l.header l.end) count b.0, inl b.1)) r.writes)
           (only_wider (BelongsToRecord (record_of (renewed l) saved)) (May l saved) mid new (λ n c b. inr (is_full, inr b)) at.writes);
-      laid = go result at.parts (stays_laid l (record_of (renewed l) saved) mid new (r.done full.0) at.writes);
+      laid = go result at.parts (stays_laid l (record_of (renewed l) saved) mid new (omega (arith, count, few)) (r.done full.0) at.writes);
     }
   where
     go : (result : Result T E) → OnOk result (IsRecorded (record_of (renewed l) saved) (reads new)) → IsLaidOut (renewed l).header l.saved (reads new) → OnOk result (IsStoredIn l saved (reads new))
@@ -169,7 +176,7 @@ stored {T = T} {E = E} result tip l changes saved old mid new count (inr full) r
 -- either log has the room
 pub has_room : (tip : Tip) (l : Ledger) (changes : ℕ) → changes ≤ 5399 → IsRoom l changes tip → HasRoomFor tip.header tip.end changes
 has_room tip l changes few (inl there) = subst (λ (t : Tip). HasRoomFor t.header t.end changes) (sym there.1) there.0
-has_room tip l changes few (inr full) = subst (λ (t : Tip). HasRoomFor t.header t.end changes) (sym full.1) (let room : HasRoomFor (renewed l).header no_records changes = omega (arith, few) in room)
+has_room tip l changes few (inr full) = subst (λ (t : Tip). HasRoomFor t.header t.end changes) (sym full.1) (let room : HasRoomFor (renewed l).header no_records changes = omega (arith, few, log-short l.header.format) in room)
 
 -- a table has no changes to itself
 pub none_changed : (saved : StoredModel) → 0 ≡ length (differences saved.setup.params saved.setup.params)
@@ -183,16 +190,19 @@ has_room_yet b header end changes iff no_ = elim (cases_lt (log_size_of header) 
 
 -- the same tip, for a program of the same length
 pub same_length : (a b : ℕ) (tip : Tip) → b ≡ a → IsTip a tip.header tip.end → IsTip b tip.header tip.end
-same_length a b tip is t = record { lawful = t.lawful; long = is ∙ t.long; within = t.within; number = t.number }
+same_length a b tip is t = record { lawful = t.lawful; long = is ∙ t.long; format = t.format; within = t.within; number = t.number }
+
+record_is : (tip : Tip) (table : List ℤ) (slot : Option SlotChange) (was saved : StoredModel) → table ≡ was.setup.params → slot ≡ first_change was.tools saved.tools → record_from tip.header.epoch tip.end table slot saved ≡ record_of (ledger tip was) saved
+record_is tip table slot was saved is slot_is = λ i. record_from tip.header.epoch tip.end (is i) (slot_is i) saved
 
 -- a record as another call answers for it
-pub not_recorded : {T U E F : Type 0} (e : E) (result : Result U F) (tip : Tip) (table : List ℤ) (was saved : StoredModel) (old new : Trace) → table ≡ was.setup.params → WritesRecord result (record_from tip.header.epoch tip.end table saved) old new → WritesRecord {T = T} (Err e) (record_of (ledger tip was) saved) old new
-not_recorded e result tip table was saved old new is w = record { writes = subst (λ (t : List ℤ). WritesOnly (BelongsToRecord (record_from tip.header.epoch tip.end t saved)) old new) is w.writes; parts = tt }
+pub not_recorded : {T U E F : Type 0} (e : E) (result : Result U F) (tip : Tip) (table : List ℤ) (slot : Option SlotChange) (was saved : StoredModel) (old new : Trace) → table ≡ was.setup.params → slot ≡ first_change was.tools saved.tools → WritesRecord result (record_from tip.header.epoch tip.end table slot saved) old new → WritesRecord {T = T} (Err e) (record_of (ledger tip was) saved) old new
+not_recorded e result tip table slot was saved old new is slot_is w = record { writes = subst (λ (r : LogRecord). WritesOnly (BelongsToRecord r) old new) (record_is tip table slot was saved is slot_is) w.writes; parts = tt }
 
-pub recorded : {T U E F : Type 0} (t : T) (u : U) (tip : Tip) (table : List ℤ) (was saved : StoredModel) (old new : Trace) → table ≡ was.setup.params → WritesRecord {E = F} (Ok u) (record_from tip.header.epoch tip.end table saved) old new → WritesRecord {E = E} (Ok t) (record_of (ledger tip was) saved) old new
-recorded t u tip table was saved old new is w = record {
-  writes = subst (λ (x : List ℤ). WritesOnly (BelongsToRecord (record_from tip.header.epoch tip.end x saved)) old new) is w.writes;
-  parts = subst (λ (x : List ℤ). IsRecorded (record_from tip.header.epoch tip.end x saved) (reads new)) is w.parts;
+pub recorded : {T U E F : Type 0} (t : T) (u : U) (tip : Tip) (table : List ℤ) (slot : Option SlotChange) (was saved : StoredModel) (old new : Trace) → table ≡ was.setup.params → slot ≡ first_change was.tools saved.tools → WritesRecord {E = F} (Ok u) (record_from tip.header.epoch tip.end table slot saved) old new → WritesRecord {E = E} (Ok t) (record_of (ledger tip was) saved) old new
+recorded t u tip table slot was saved old new is slot_is w = record {
+  writes = subst (λ (r : LogRecord). WritesOnly (BelongsToRecord r) old new) (record_is tip table slot was saved is slot_is) w.writes;
+  parts = subst (λ (r : LogRecord). IsRecorded r (reads new)) (record_is tip table slot was saved is slot_is) w.parts;
 }
 
 -- what is stored with another half-done block

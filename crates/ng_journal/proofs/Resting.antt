@@ -7,7 +7,7 @@ use Rattle.ng_rig.specs.Calls.{HandOutSpec}
 use Rattle.ng_rig.specs.Continuation.{HasBesides}
 use Rattle.ng_rig.proofs.Running.{weaker, stop_now, one_image, hands}
 use Rattle.ng_layout.specs.declared.header.Header.{Header}
-use Rattle.ng_layout.specs.Stands.{stands, IsWritten}
+use Rattle.ng_layout.specs.Stands.{in_force, stands, IsWritten}
 use Rattle.ng_layout.specs.Stored.{DurableState}
 use Rattle.ng_log.specs.declared.log_end.LogEnd.{LogEnd}
 use Rattle.ng_log.specs.AtEnd.{EndsIn, IsAtEnd}
@@ -21,6 +21,7 @@ use Rattle.ng_journal.specs.Storing.{ledger_of}
 stands_for : (trace : Trace) (header : Header) (standing : DurableState) (given : List Item) (image : Image) (handed : List Item) → IsImageUnder trace header standing → image ≡ reads trace → handed ≡ given → StandsFor standing given image handed
 stands_for trace header standing given image handed at same is = record {
   state = ap stands same ∙ at.stands_for;
+  modern = record { header = header; force = ap in_force same ∙ at.force; format = at.format };
   written = subst IsWritten (sym same) at.written;
   handed_is = is;
 }
@@ -29,6 +30,7 @@ pub at_rest : {end : LogEnd} (trace : Trace) (header : Header) (standing : Durab
 at_rest {end = end} trace header standing at = record {
   synced = at.synced;
   force = at.image.force;
+  format = at.image.format;
   stands_for = ends-stand (reads trace) header standing end at.image;
   written = at.image.written;
 }

@@ -1,66 +1,85 @@
--- The exits of power on: a sync, what is found, a checkpoint of its recovered.
-use Rattle.std.proofs.Common.{◌≡◌, inl, inr, ⊎_elim, ℕ, ◌+◌, ◌≤◌, List, Some, Result, Ok, Err, refl, sym, ◌∙◌, ap, subst}
+-- The exits of power on: a sync, what is found, a checkpoint of its recovered, and over format 1 one more in format 2.
+use Rattle.std.proofs.Common.{◌≡◌, inl, inr, ⊎_elim, ℕ, ◌+◌, ◌<◌, ◌≤◌, List, ℤ, Option, Some, Result, Ok, Err, refl, sym, ◌∙◌, ap, subst, arith}
 use Rattle.std.specs.Option.{option_map}
 use Rattle.ng_num.specs.declared.fault.Fault.{Fault}
 use Rattle.ng_num.specs.declared.fault.Fault.TheVariants.{CountersUsed}
 use Rattle.ng_canon.specs.declared.item.Item.{Item}
 use Rattle.ng_rig.specs.Trace.{Image, Trace, Synced, reads, items}
 use Rattle.ng_rig.specs.Continuation.{IsContinuation, IsSynced}
+use Rattle.ng_rig.specs.Only.{WritesOnly}
 use Rattle.ng_rig.proofs.Running.{joined, weaker, on_sync, is_synced}
 use Rattle.ng_rig.proofs.Writes_only.{only_more, only_none, only_synced, only_wider}
+use Rattle.ng_layout.specs.declared.header.Format.{Format}
+use Rattle.ng_layout.specs.declared.header.Format.TheVariants.{One, Two}
 use Rattle.ng_layout.specs.declared.header.Header.{Header}
 use Rattle.ng_layout.specs.Limits.{greatest_count}
-use Rattle.ng_layout.specs.Stands.{in_force, stands, closed, IsWritten}
-use Rattle.ng_layout.specs.Stored.{StoredModel}
+use Rattle.ng_layout.specs.Stands.{in_force, stands, stands_beside, beside_header, beside_format, saved_beside, recovered, closed, IsWritten}
+use Rattle.ng_layout.specs.Stored.{StoredModel, DurableState}
 use Rattle.ng_log.specs.AtEnd.{no_records, IsAtEnd}
-use Rattle.ng_journal.specs.Private.CheckpointSteps.{IsOwnImage, WritesState, beside, CheckpointSpec}
-use Rattle.ng_journal.specs.AtRest.{IsEither, BelongsTo, next_header}
-use Rattle.ng_journal.specs.Recovery.{recovered_of, HasCause, BelongsToNext, Renews}
-use Rattle.ng_journal.specs.Private.RecoverySteps.{StandsUnder, IsRead, RestoreSpec}
+use Rattle.ng_journal.specs.Private.CheckpointSteps.{IsOwnImage, IsBegun, IsEitherUnder, MayFollow, WritesState, beside, CheckpointSpec}
+use Rattle.ng_journal.specs.AtRest.{BelongsTo, next_header, migrated}
+use Rattle.ng_journal.specs.Recovery.{recovered_of, epochs_for, HasCause, BelongsToRenewal, BelongsToNext, Renews, IsEitherBeside, IsFound, IsNextEpoch}
+use Rattle.ng_journal.specs.Journal.{StandsBeside}
+use Rattle.ng_journal.specs.Private.RecoverySteps.{StandsUnder, IsRead, RestoreSpec, ModernizeSpec, BelongsToModern, modern_by}
 
-abbrev Same : Trace → Image → List Item → Type 0
-Same old = IsEither (stands (reads old)) (recovered_of (stands (reads old))) (items old)
+-- what an image stands for beside a table, by the header in force
+pub beside-under : (tools : List ℤ) (image : Image) (h : Header) → in_force image ≡ Some h → stands_beside tools image ≡ beside_header tools (Some h) (stands image)
+unfolding stands_beside
+beside-under tools image h is = λ i. beside_header tools (is i) (stands image)
 
-synced_stops : (old : Trace) → IsWritten (reads old) → IsContinuation old (Synced old) (Same old)
-synced_stops old written = on_sync old (Same old) (λ image handed s.
-    let same : image ≡ reads old = λ i n. s.0 n i in
-    record { state = inl (ap stands same); written = subst IsWritten (sym same) written; handed_is = s.1 })
+-- a table beside it is the recovered's too
+recovered-beside : (tools : List ℤ) (f : Format) (x : DurableState) → recovered (beside_format tools f x) ≡ beside_format tools f (recovered x)
+recovered-beside tools One x = refl
+recovered-beside tools Two x = refl
 
--- a sync writes nothing
-sync_renews : (old new : Trace) → new ≡ Synced old → Renews old new
-sync_renews old new is =
-    let May = λ (n : ℕ) (bytes : List ℕ). BelongsToNext (reads old) n bytes in
-    subst (λ (l : Trace). Renews old l) (sym is) (only_synced May old old (only_none May old))
+module _ (tools : List ℤ) where
+  abbrev Same : Trace → Image → List Item → Type 0
+  Same old = IsEitherBeside tools (stands_beside tools (reads old)) (recovered_of (stands_beside tools (reads old))) (items old)
 
--- nothing but the sync was done, and a read failed
-pub exit_failed : {E : Type 0} (e : E) (saved : StoredModel) (old new : Trace) → new ≡ Synced old → RestoreSpec (Err e) saved old new
-exit_failed e saved old new is = record {
-  outcome = tt;
-  refused = tt;
-  renews = sync_renews old new is;
-  kept = λ written. record { stops = subst (λ (l : Trace). IsContinuation old l (Same old)) (sym is) (synced_stops old written); ready = tt };
-}
+  synced_stops : (old : Trace) → IsWritten (reads old) → IsContinuation old (Synced old) (Same old)
+  synced_stops old written = on_sync old (Same old) (λ image handed s.
+      let same : image ≡ reads old = λ i n. s.0 n i in
+      record { state = inl (ap (stands_beside tools) same); written = subst IsWritten (sym same) written; handed_is = s.1 })
 
--- or there is a reason to recover nothing
-pub exit_refused : {E : Type 0} (fault : Fault) (saved : StoredModel) (old new : Trace) → new ≡ Synced old → HasCause fault (reads old) → RestoreSpec {E = E} (Ok (Err fault)) saved old new
-exit_refused fault saved old new is cause = record {
-  outcome = cause;
-  refused = is;
-  renews = sync_renews old new is;
-  kept = λ written. record { stops = subst (λ (l : Trace). IsContinuation old l (Same old)) (sym is) (synced_stops old written); ready = tt };
-}
+  -- a sync writes nothing
+  sync_renews : (old new : Trace) → new ≡ Synced old → Renews tools old new
+  sync_renews old new is =
+      let May = λ (n : ℕ) (bytes : List ℕ). BelongsToNext tools (reads old) n bytes in
+      subst (λ (l : Trace). Renews tools old l) (sym is) (only_synced May old old (only_none May old))
 
-pub exit_found : {E : Type 0} (answer : Result Header Fault) (fault : Fault) (saved : StoredModel) (old mid new : Trace) → answer ≡ Err fault → mid ≡ Synced old → new ≡ mid → IsRead saved (reads mid) answer → RestoreSpec {E = E} (Ok (Err fault)) saved old new
-exit_found answer fault saved old mid new refused is same read =
-    exit_refused fault saved old new (same ∙ is) (subst (λ (l : Trace). HasCause fault (reads l)) is (subst (λ (a : Result Header Fault). IsRead saved (reads mid) a) refused read))
+  -- nothing but the sync was done, and a read failed
+  pub exit_failed : {E : Type 0} (e : E) (saved : StoredModel) (old new : Trace) → new ≡ Synced old → RestoreSpec tools (Err e) saved old new
+  exit_failed e saved old new is = record {
+    outcome = tt;
+    refused = tt;
+    renews = sync_renews old new is;
+    kept = λ written. record { stops = subst (λ (l : Trace). IsContinuation old l (Same old)) (sym is) (synced_stops old written); ready = tt };
+  }
+
+  -- or there is a reason to recover nothing
+  pub exit_refused : {E : Type 0} (fault : Fault) (saved : StoredModel) (old new : Trace) → new ≡ Synced old → HasCause fault (reads old) → RestoreSpec {E = E} tools (Ok (Err fault)) saved old new
+  exit_refused fault saved old new is cause = record {
+    outcome = cause;
+    refused = is;
+    renews = sync_renews old new is;
+    kept = λ written. record { stops = subst (λ (l : Trace). IsContinuation old l (Same old)) (sym is) (synced_stops old written); ready = tt };
+  }
+
+  pub exit_found : {E : Type 0} (answer : Result Header Fault) (fault : Fault) (saved : StoredModel) (old mid new : Trace) → answer ≡ Err fault → mid ≡ Synced old → new ≡ mid → IsRead saved (reads mid) answer → RestoreSpec {E = E} tools (Ok (Err fault)) saved old new
+  exit_found answer fault saved old mid new refused is same read =
+      exit_refused fault saved old new (same ∙ is) (subst (λ (l : Trace). HasCause fault (reads l)) is (subst (λ (a : Result Header Fault). IsRead saved (reads mid) a) refused read))
 
 under : (answer : Result Header Fault) (header : Header) (saved : StoredModel) (image : Image) → answer ≡ Ok header → IsRead saved image answer → StandsUnder header saved image
 under answer header saved image is read = subst (λ (a : Result Header Fault). IsRead saved image a) is read
 
-pub exit_used : {E : Type 0} (answer : Result Header Fault) (header : Header) (saved : StoredModel) (old mid new : Trace) → answer ≡ Ok header → mid ≡ Synced old → new ≡ mid → IsRead saved (reads mid) answer → greatest_count ≤ header.epoch → RestoreSpec {E = E} (Ok (Err CountersUsed)) saved old new
-exit_used answer header saved old mid new sound is same read last =
+-- the same once more, of a device that hasn't changed
+pub found_under : (answer : Result Header Fault) (header : Header) (saved : StoredModel) (mid now : Trace) → answer ≡ Ok header → now ≡ mid → IsRead saved (reads mid) answer → StandsUnder header saved (reads now)
+found_under answer header saved mid now sound same read = under answer header saved (reads now) sound (subst (λ (l : Trace). IsRead saved (reads l) answer) (sym same) read)
+
+pub exit_used : {E : Type 0} (tools : List ℤ) (answer : Result Header Fault) (header : Header) (saved : StoredModel) (old mid new : Trace) → answer ≡ Ok header → mid ≡ Synced old → new ≡ mid → IsRead saved (reads mid) answer → greatest_count < header.epoch + epochs_for header.format → RestoreSpec {E = E} tools (Ok (Err CountersUsed)) saved old new
+exit_used tools answer header saved old mid new sound is same read last =
     let u = under answer header saved (reads mid) sound read in
-    exit_refused CountersUsed saved old new (same ∙ is) (subst (λ (l : Trace). HasCause CountersUsed (reads l)) is (record { header = header; force = u.force; last = last; standing = beside saved header.area (reads mid); sound = u.state }))
+    exit_refused tools CountersUsed saved old new (same ∙ is) (subst (λ (l : Trace). HasCause CountersUsed (reads l)) is (record { header = header; force = u.force; last = last; standing = beside saved header.area (reads mid); sound = u.state }))
 
 -- the header of the epoch after this one's, in the same area
 abbrev Next : Header → StoredModel → Header
@@ -69,82 +88,143 @@ Next header saved = next_header header header.area saved.length
 abbrev closed_of : StoredModel → StoredModel
 closed_of s = record s { half = option_map closed s.half }
 
--- a checkpoint of the recovered
-recovered_is : (header : Header) (found saved : StoredModel) (old mid : Trace) → mid ≡ Synced old → StandsUnder header found (reads mid) → saved ≡ closed_of found → recovered_of (stands (reads old)) ≡ Ok (beside saved header.area (reads mid))
-recovered_is header found saved old mid is u closed_is =
-    ap (λ (l : Trace). recovered_of (stands (reads l))) (sym is)
-    ∙ ap recovered_of u.state
-    ∙ ap (λ (s : StoredModel). Ok (beside s header.area (reads mid))) (sym closed_is)
-
-through : {T E : Type 0} (result : Result T E) (header : Header) (found saved : StoredModel) (old mid new : Trace) → mid ≡ Synced old → StandsUnder header found (reads mid) → saved ≡ closed_of found → IsWritten (reads old) → CheckpointSpec result (Next header saved) saved mid new → IsContinuation old new (Same old)
-through result header found saved old mid new is u closed_is written c =
-    let after = recovered_is header found saved old mid is u closed_is in
-    joined old mid new (Same old) (subst (λ (l : Trace). IsContinuation old l (Same old)) (sym is) (synced_stops old written))
-    (weaker mid new (IsEither (stands (reads mid)) (Ok (beside saved header.area (reads mid))) (items mid)) (Same old) c.stops
-    (λ image handed p. record {
-      state = ⊎_elim (λ before. inl (before ∙ ap (λ (l : Trace). stands (reads l)) is)) (λ made. inr (made ∙ sym after)) p.state;
-      written = p.written;
-      handed_is = p.handed_is ∙ ap items is;
-    }))
-
-own_on : (header : Header) (found : StoredModel) (old mid : Trace) → mid ≡ Synced old → StandsUnder header found (reads mid) → IsWritten (reads old) → IsOwnImage mid header
-own_on header found old mid is u written = record { synced = subst IsSynced (sym is) (is_synced old); force = u.force; written = subst (λ (l : Trace). IsWritten (reads l)) (sym is) written }
-
--- what a checkpoint writes of what was found is the recovered of what stood
-renewed : (header : Header) (found saved : StoredModel) (old now new : Trace) → now ≡ Synced old → StandsUnder header found (reads now) → saved ≡ closed_of found → WritesState (Next header saved) saved now new → Renews old new
-renewed header found saved old now new is u closed_is w =
-    let May = λ (n : ℕ) (bytes : List ℕ). BelongsToNext (reads old) n bytes in
-    let was : in_force (reads old) ≡ Some header = subst (λ (l : Trace). in_force (reads l) ≡ Some header) is u.force in
-    let after = recovered_is header found saved old now is u closed_is in
-    only_more May old now new (sync_renews old now is)
-    (only_wider (λ n bytes. BelongsTo (Next header saved) saved n bytes) May now new
-    (λ n bytes own. record { header = header; force = was; standing = beside saved header.area (reads now); is = after; own = own }) w)
-
 -- that is what this is
-next_is : (header next : Header) (found saved : StoredModel) (image : Image) → StandsUnder header found image → saved ≡ closed_of found → next ≡ next_header header header.area header.length → next ≡ Next header saved
+pub next_is : (header next : Header) (found saved : StoredModel) (image : Image) → StandsUnder header found image → saved ≡ closed_of found → next ≡ next_header header header.area header.length → next ≡ Next header saved
 next_is header next found saved image u closed_is is =
     let long : saved.length ≡ header.length = ap (λ (s : StoredModel). s.length) closed_is ∙ u.long in
     is ∙ ap (next_header header header.area) (sym long)
 
 -- What is promised of a checkpoint under it.
 abbrev pub Promised : {T E : Type 0} → Result T E → Header → StoredModel → Trace → Trace → Type 0
-Promised result next saved now new = (header : Header) → IsOwnImage now header → next.epoch ≡ header.epoch + 1 → CheckpointSpec result next saved now new
+Promised result next saved now new = (header : Header) → IsOwnImage now header → next.epoch ≡ header.epoch + 1 → MayFollow next header (reads now) → CheckpointSpec result header next saved now new
 
-done_by : {T E : Type 0} (result : Result T E) (header next : Header) (saved : StoredModel) (now new : Trace) → next ≡ Next header saved → IsOwnImage now header → Promised result next saved now new → CheckpointSpec result (Next header saved) saved now new
-done_by result header next saved now new is own c = subst (λ (h : Header). CheckpointSpec result h saved now new) is (c header own (ap (λ (h : Header). h.epoch) is))
+-- ---- what was found under a header, and its recovered
 
-pub exit_within : {T E F : Type 0} (e : E) (result : Result T F) (answer : Result Header Fault) (header next : Header) (found saved : StoredModel) (old mid now new : Trace) → answer ≡ Ok header → mid ≡ Synced old → now ≡ mid → IsRead found (reads mid) answer → saved ≡ closed_of found → next ≡ next_header header header.area header.length → WritesState next saved now new → Promised result next saved now new → RestoreSpec (Err e) saved old new
-exit_within e result answer header next found saved old mid now new sound is same read closed_is next_by writes c =
-    let u = under answer header found (reads now) sound (subst (λ (l : Trace). IsRead found (reads l) answer) (sym same) read) in
-    let to = next_is header next found saved (reads now) u closed_is next_by in
-    record {
+module _ (tools : List ℤ) (header : Header) (found saved : StoredModel) (old now : Trace) (is : now ≡ Synced old) (u : StandsUnder header found (reads now)) (closed_is : saved ≡ closed_of found) where
+  abbrev standing : DurableState
+  standing = beside saved header.area (reads now)
+
+  was : in_force (reads old) ≡ Some header
+  was = subst (λ (l : Trace). in_force (reads l) ≡ Some header) is u.force
+
+  raw : stands (reads old) ≡ Ok (beside found header.area (reads now))
+  raw = ap (λ (l : Trace). stands (reads l)) (sym is) ∙ u.state
+
+  -- the recovered of what stood, by itself and beside the table
+  recovered_is : recovered_of (stands (reads old)) ≡ Ok standing
+  recovered_is = ap recovered_of raw ∙ ap (λ (s : StoredModel). Ok (beside s header.area (reads now))) (sym closed_is)
+
+  before_is : stands_beside tools (reads old) ≡ beside_header tools (Some header) (stands (reads now))
+  before_is = beside-under tools (reads old) header was ∙ ap (λ (l : Trace). beside_header tools (Some header) (stands (reads l))) (sym is)
+
+  pub target_is : recovered_of (stands_beside tools (reads old)) ≡ Ok (beside_format tools header.format standing)
+  target_is =
+      ap recovered_of (beside-under tools (reads old) header was)
+      ∙ ap (λ (x : Result DurableState Fault). recovered_of (beside_header tools (Some header) x)) raw
+      ∙ ap (λ (x : DurableState). Ok x) (recovered-beside tools header.format (beside found header.area (reads now)))
+      ∙ ap (λ (s : StoredModel). Ok (beside_format tools header.format (beside s header.area (reads now)))) (sym closed_is)
+
+  own_on : IsWritten (reads old) → IsOwnImage now header
+  own_on written = record { synced = subst IsSynced (sym is) (is_synced old); force = u.force; written = subst (λ (l : Trace). IsWritten (reads l)) (sym is) written }
+
+  done_by : {T E : Type 0} (result : Result T E) (next : Header) (new : Trace) → next ≡ Next header saved → IsWritten (reads old) → Promised result next saved now new → CheckpointSpec result header (Next header saved) saved now new
+  done_by result next new is_next written c =
+      subst (λ (h : Header). CheckpointSpec result header h saved now new) is_next (c header (own_on written) (ap (λ (h : Header). h.epoch) is_next) (inl (ap (λ (h : Header). h.format) is_next)))
+
+  -- each stop of the checkpoint, beside the table
+  through : {T E : Type 0} (result : Result T E) (new : Trace) → IsWritten (reads old) → CheckpointSpec result header (Next header saved) saved now new → IsContinuation old new (Same tools old)
+  through result new written c =
+      joined old now new (Same tools old) (subst (λ (l : Trace). IsContinuation old l (Same tools old)) (sym is) (synced_stops tools old written))
+      (weaker now new (IsEitherUnder header (Next header saved) (stands (reads now)) (Ok standing) (items now)) (Same tools old) c.stops
+      (λ image handed p. record {
+        state = ⊎_elim
+            (λ b. inl (beside-under tools image header b.0 ∙ ap (beside_header tools (Some header)) b.1 ∙ sym before_is))
+            (λ a. inr (beside-under tools image (Next header saved) a.0 ∙ ap (beside_header tools (Some (Next header saved))) a.1 ∙ sym target_is))
+            p.state;
+        written = p.written;
+        handed_is = p.handed_is ∙ ap items is;
+      }))
+
+  -- what a checkpoint writes of what was found is the recovered of what stood
+  May : ℕ → List ℕ → Type 0
+  May n bytes = BelongsToNext tools (reads old) n bytes
+
+  renewed : (next : Header) (new : Trace) → next ≡ Next header saved → WritesState next saved now new → Renews tools old new
+  renewed next new is_next writes =
+      let w = subst (λ (h : Header). WritesState h saved now new) is_next writes in
+      only_more (λ n bytes. BelongsToNext tools (reads old) n bytes) old now new (sync_renews tools old now is)
+      (only_wider (λ n bytes. BelongsTo (Next header saved) saved n bytes) (λ n bytes. BelongsToNext tools (reads old) n bytes) now new
+      (λ n bytes own. record { header = header; force = was; standing = standing; is = recovered_is; own = inl own }) w)
+
+  -- and so is what is written then in format 2
+  renewed_again : (next : Header) (mid new : Trace) → next ≡ Next header saved → WritesState next saved now mid → WritesOnly (λ n bytes. BelongsToModern tools next saved n bytes) mid new → Renews tools old new
+  renewed_again next mid new is_next writes modern =
+      let w = subst (λ (h : Header). WritesOnly (λ n bytes. BelongsToModern tools h saved n bytes) mid new) is_next modern in
+      only_more (λ n bytes. BelongsToNext tools (reads old) n bytes) old mid new (renewed next mid is_next writes)
+      (only_wider (λ n bytes. BelongsToModern tools (Next header saved) saved n bytes) (λ n bytes. BelongsToNext tools (reads old) n bytes) mid new
+      (λ n bytes own. record { header = header; force = was; standing = standing; is = recovered_is; own = inr own }) w)
+
+  pub within : {T E F : Type 0} (e : E) (result : Result T F) (next : Header) (kept : StoredModel) (new : Trace) → next ≡ Next header saved → WritesState next saved now new → Promised result next saved now new → RestoreSpec tools (Err e) kept old new
+  within e result next kept new is_next writes c = record {
+    outcome = tt;
+    refused = tt;
+    renews = renewed next new is_next writes;
+    kept = λ written. record { stops = through result new written (done_by result next new is_next written c); ready = tt };
+  }
+
+  -- what is made of it in format 2
+  module _ {T F : Type 0} (v : T) (next : Header) (mid new : Trace) (is_next : next ≡ Next header saved) (writes : WritesState next saved now mid) (c : Promised {E = F} (Ok v) next saved now mid) where
+    abbrev ok : Result T F
+    ok = Ok v
+
+    first : IsWritten (reads old) → CheckpointSpec {E = F} (Ok v) header (Next header saved) saved now mid
+    first written = done_by ok next mid is_next written c
+
+    again : {G : Type 0} (result : Result Header G) → (written : IsWritten (reads old)) → ModernizeSpec tools result (Next header saved) standing mid new → IsContinuation old new (Same tools old)
+    again result written m =
+        joined old mid new (Same tools old) (through ok mid written (first written))
+        (weaker mid new (StandsBeside tools (beside_format tools header.format standing) (items mid)) (Same tools old) m.stops
+        (λ image handed p. record { state = inr (p.state ∙ sym target_is); written = p.written; handed_is = p.handed_is ∙ (first written).items_are ∙ ap items is }))
+
+    abbrev Modern : {G : Type 0} → Result Header G → Type 0
+    Modern result = (standing : DurableState) → IsBegun mid next standing → standing.saved ≡ saved → ModernizeSpec tools result next standing mid new
+
+    made : {G : Type 0} (result : Result Header G) → (written : IsWritten (reads old)) → Modern result → ModernizeSpec tools result (Next header saved) standing mid new
+    made result written m =
+        subst (λ (h : Header). ModernizeSpec tools result h standing mid new) is_next (m standing (subst (λ (h : Header). IsBegun mid h standing) (sym is_next) (first written).at) refl)
+
+    pub exit_modern : {G E : Type 0} (e : E) (result : Result Header G) (kept : StoredModel) → WritesOnly (λ n bytes. BelongsToModern tools next saved n bytes) mid new → Modern result → RestoreSpec tools (Err e) kept old new
+    exit_modern e result kept modern m = record {
       outcome = tt;
       refused = tt;
-      renews = renewed header found saved old now new (same ∙ is) u closed_is (subst (λ (h : Header). WritesState h saved now new) to writes);
-      kept = λ written.
-          let d = done_by result header next saved now new to (own_on header found old now (same ∙ is) u written) c in
-          record { stops = through result header found saved old now new (same ∙ is) u closed_is written d; ready = tt };
+      renews = renewed_again next mid new is_next writes modern;
+      kept = λ written. record { stops = again result written (made result written m); ready = tt };
     }
 
-pub exit_restored : {T F : Type 0} (v : T) (answer : Result Header Fault) (header next : Header) (found saved : StoredModel) (old mid now new : Trace) → answer ≡ Ok header → mid ≡ Synced old → now ≡ mid → IsRead found (reads mid) answer → saved ≡ closed_of found → next ≡ next_header header header.area header.length → WritesState next saved now new → Promised {E = F} (Ok v) next saved now new → RestoreSpec {E = F} (Ok (Ok next)) saved old new
-exit_restored {F = F} v answer header next found saved old mid now new sound is same read closed_is next_by writes c =
-    let ok : Result _ F = Ok v in
-    let u = under answer header found (reads now) sound (subst (λ (l : Trace). IsRead found (reads l) answer) (sym same) read) in
-    let after = recovered_is header found saved old now (same ∙ is) u closed_is in
-    let to = next_is header next found saved (reads now) u closed_is next_by in
-    record {
-      outcome = (record { program = (beside saved header.area (reads now)).program; is = after }, record { before = header; force = subst (λ (l : Trace). in_force (reads l) ≡ Some header) (same ∙ is) u.force; next = ap (λ (h : Header). h.epoch) to });
-      refused = tt;
-      renews = renewed header found saved old now new (same ∙ is) u closed_is (subst (λ (h : Header). WritesState h saved now new) to writes);
-      kept = λ written.
-          let d = done_by ok header next saved now new to (own_on header found old now (same ∙ is) u written) c in
-          record {
-            stops = through ok header found saved old now new (same ∙ is) u closed_is written d;
-            ready = record {
-              standing = beside saved header.area (reads now);
-              at = subst (λ (h : Header). IsAtEnd new h (beside saved header.area (reads now)) no_records) (sym to) d.at;
-              is = after;
-              saved_is = refl;
-            };
-          };
-    }
+    pub exit_restored : {G E : Type 0} (last : Header) (kept : StoredModel) → WritesOnly (λ n bytes. BelongsToModern tools next saved n bytes) mid new → Modern {G = G} (Ok last) → last ≡ modern_by next.format next → kept ≡ saved_beside tools next.format saved → RestoreSpec {E = E} tools (Ok (Ok last)) kept old new
+    exit_restored {G = G} last kept modern m last_is kept_is =
+        let is_kept : kept ≡ saved_beside tools header.format saved = kept_is ∙ ap (λ (h : Header). saved_beside tools h.format saved) is_next in
+        let is_last : last ≡ modern_by header.format (Next header saved) = last_is ∙ ap (λ (h : Header). modern_by h.format h) is_next in
+        let told : Result Header G = Ok last in
+        record {
+          outcome = (
+            record { program = standing.program; is = target_is ∙ (λ i. Ok (record { saved = sym is_kept i; program = standing.program })) },
+            record { before = header; force = was; next = ap (λ (h : Header). h.epoch) is_last ∙ modern_epoch header.format (Next header saved) header.epoch refl; format = ap (λ (h : Header). h.format) is_last ∙ modern_format header.format (Next header saved) refl },
+          );
+          refused = tt;
+          renews = renewed_again next mid new is_next writes modern;
+          kept = λ written.
+              let d = made told written m in
+              record {
+                stops = again told written d;
+                ready = record { standing = beside_format tools header.format standing; at = d.at; is = target_is; saved_is = is_kept };
+              };
+        }
+      where
+        modern_epoch : (f : Format) (h : Header) (e : ℕ) → h.epoch ≡ e + 1 → (modern_by f h).epoch ≡ e + epochs_for f
+        modern_epoch One h e is = omega arith
+        modern_epoch Two h e is = is
+
+        modern_format : (f : Format) (h : Header) → h.format ≡ f → (modern_by f h).format ≡ Two
+        modern_format One h is = refl
+        modern_format Two h is = is

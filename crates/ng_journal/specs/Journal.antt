@@ -1,5 +1,5 @@
 -- A journal as its callers see it, and what its calls leave (own).
-use Rattle.std.specs.Prelude.{◌≡◌, ◌⊎◌, ◌≤◌, ◌+◌, ◌%◌, ◌^◌, ℕ, Bool, true, false, List, [], ◌∷◌, ◌++◌, Result, Ok, Err, OnOk}
+use Rattle.std.specs.Prelude.{◌≡◌, ◌⊎◌, ◌≤◌, ◌+◌, ◌%◌, ◌^◌, ℕ, ℤ, Bool, true, false, List, [], ◌∷◌, ◌++◌, Result, Ok, Err, OnOk}
 use Rattle.ng_num.specs.declared.fault.Fault.{Fault}
 use Rattle.ng_num.specs.declared.fault.Fault.TheVariants.{DeviceFailed}
 use Rattle.ng_canon.specs.declared.item.Item.{Item}
@@ -7,9 +7,10 @@ use Rattle.ng_rig.specs.Trace.{Image, Trace, items}
 use Rattle.ng_rig.specs.Continuation.{IsContinuation}
 use Rattle.ng_layout.specs.declared.header.Header.{Header}
 use Rattle.ng_layout.specs.Header.{IsValidHeader}
+use Rattle.ng_layout.specs.declared.header.Format.TheVariants.{Two}
 use Rattle.ng_layout.specs.Limits.{greatest_count}
 use Rattle.ng_layout.specs.Areas.{log_size_of, least_size}
-use Rattle.ng_layout.specs.Stands.{stands, IsWritten}
+use Rattle.ng_layout.specs.Stands.{stands, stands_beside, IsModern, IsWritten}
 use Rattle.ng_layout.specs.Storable.{IsStorable}
 use Rattle.ng_layout.specs.Stored.{StoredModel, DurableState}
 use Rattle.ng_log.specs.declared.log_end.LogEnd.{LogEnd}
@@ -24,10 +25,11 @@ pub record JournalModel (R : Type 0) : Type 0 where
   pub saved : StoredModel
   pub broken : Bool
 
--- The header is within its limits and names a program of this length; its log ends here, within its sectors, of which each record has one at least.
+-- The header is of format 2, within its limits, and names a program of this length; its log ends here, within its sectors, of which each record has one at least.
 pub record IsTip (length : ℕ) (header : Header) (end : LogEnd) : Type 0 where
   pub lawful : IsValidHeader header
   pub long : length ≡ header.length
+  pub format : header.format ≡ Two
   pub within : end.sector ≤ log_size_of header
   pub number : end.number ≤ end.sector
 
@@ -49,9 +51,16 @@ pub record CommitSpec {R T E : Type 0} (result : Result T E) (journal : JournalM
   pub items_are : items new ≡ items old
   pub at : OnOk result (IsDurablyAt new journal after)
 
--- An image stands for this and has no record of an epoch to come; this was handed out.
+-- An image of either format stands for this beside a table and has no record of an epoch to come; this was handed out.
+pub record StandsBeside (tools : List ℤ) (standing : DurableState) (given : List Item) (image : Image) (handed : List Item) : Type 0 where
+  pub state : stands_beside tools image ≡ Ok standing
+  pub written : IsWritten image
+  pub handed_is : handed ≡ given
+
+-- An image of format 2 stands for this and has no record of an epoch to come; this was handed out.
 pub record StandsFor (standing : DurableState) (given : List Item) (image : Image) (handed : List Item) : Type 0 where
   pub state : stands image ≡ Ok standing
+  pub modern : IsModern image
   pub written : IsWritten image
   pub handed_is : handed ≡ given
 

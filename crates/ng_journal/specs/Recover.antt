@@ -1,14 +1,13 @@
 -- What `recover` answers (own).
-use Rattle.std.specs.Prelude.{◌≡◌, ◌⊎◌, ℕ, Result, Ok, Err, IfOk}
+use Rattle.std.specs.Prelude.{◌≡◌, ◌⊎◌, ℕ, ℤ, List, Result, Ok, Err, IfOk}
 use Rattle.ng_num.specs.declared.fault.Fault.{Fault}
 use Rattle.ng_num.specs.declared.fault.Fault.TheVariants.{NotFormatted, Damaged, CountersUsed, DeviceFailed, OutOfMemory}
 use Rattle.ng_rig.specs.Trace.{Image, Trace, Synced, reads, items}
 use Rattle.ng_rig.specs.Continuation.{IsContinuation}
-use Rattle.ng_layout.specs.Stands.{stands, IsWritten}
+use Rattle.ng_layout.specs.Stands.{stands_beside, IsWritten}
 use Rattle.ng_layout.specs.Stored.{StoredModel, DurableState}
-use Rattle.ng_journal.specs.AtRest.{IsEither}
 use Rattle.ng_journal.specs.Journal.{JournalModel, IsDurablyAt}
-use Rattle.ng_journal.specs.Recovery.{recovered_of, HasCause, IsFound, IsNextEpoch, Renews}
+use Rattle.ng_journal.specs.Recovery.{recovered_of, HasCause, IsFound, IsNextEpoch, Renews, IsEitherBeside}
 
 abbrev pub RecoverResult : Type 0 → Type 0
 RecoverResult R = Result (JournalModel R × StoredModel) (Fault × R)
@@ -28,11 +27,11 @@ abbrev pub BeginsEpoch : {R : Type 0} → JournalModel R → Image → Type 0
 BeginsEpoch journal image = IsNextEpoch journal.header image
 
 -- what was found, or why nothing was
-abbrev pub FoundByRecover : {R : Type 0} → RecoverResult R → Image → Type 0
-FoundByRecover (Ok x) image = IsFound x.1 image × BeginsEpoch x.0 image
-FoundByRecover (Err (OutOfMemory, rig)) image = Unit {0}
-FoundByRecover (Err (DeviceFailed, rig)) image = Unit {0}
-FoundByRecover (Err (fault, rig)) image = HasCause fault image
+abbrev pub FoundByRecover : {R : Type 0} → List ℤ → RecoverResult R → Image → Type 0
+FoundByRecover tools (Ok x) image = IsFound tools x.1 image × BeginsEpoch x.0 image
+FoundByRecover tools (Err (OutOfMemory, rig)) image = Unit {0}
+FoundByRecover tools (Err (DeviceFailed, rig)) image = Unit {0}
+FoundByRecover tools (Err (fault, rig)) image = HasCause fault image
 
 -- A refusal for what the device holds leaves it as it was, with one sync more.
 abbrev pub LeavesAlone : {R : Type 0} → RecoverResult R → Trace → Trace → Type 0
@@ -42,22 +41,22 @@ LeavesAlone (Err (DeviceFailed, rig)) old new = Unit {0}
 LeavesAlone (Err (fault, rig)) old new = new ≡ Synced old
 
 -- the journal rests with the recovered of what stood
-pub record IsJournalRecovered {R : Type 0} (journal : JournalModel R) (old new : Trace) : Type 0 where
+pub record IsJournalRecovered {R : Type 0} (tools : List ℤ) (journal : JournalModel R) (old new : Trace) : Type 0 where
   pub standing : DurableState
   pub rests : IsDurablyAt new journal standing
-  pub is : recovered_of (stands (reads old)) ≡ Ok standing
+  pub is : recovered_of (stands_beside tools (reads old)) ≡ Ok standing
 
 -- Each stop since stands for what stood before or for its recovered.
-pub record JournalKeepsAll {R : Type 0} (result : RecoverResult R) (old new : Trace) : Type 0 where
-  pub stops : IsContinuation old new (IsEither (stands (reads old)) (recovered_of (stands (reads old))) (items old))
-  pub ready : IfOk result (λ x. IsJournalRecovered x.0 old new)
+pub record JournalKeepsAll {R : Type 0} (tools : List ℤ) (result : RecoverResult R) (old new : Trace) : Type 0 where
+  pub stops : IsContinuation old new (IsEitherBeside tools (stands_beside tools (reads old)) (recovered_of (stands_beside tools (reads old))) (items old))
+  pub ready : IfOk result (λ x. IsJournalRecovered tools x.0 old new)
 
 -- What is found, or why nothing is, and what is written, over any image; what stops leave over one that only this journal wrote.
-pub record RecoverSpec {R : Type 0} (result : RecoverResult R) (old new : Trace) : Type 0 where
-  pub finds : FoundByRecover result (reads old)
+pub record RecoverSpec {R : Type 0} (tools : List ℤ) (result : RecoverResult R) (old new : Trace) : Type 0 where
+  pub finds : FoundByRecover tools result (reads old)
   pub refused : LeavesAlone result old new
-  pub renews : Renews old new
-  pub kept : IsWritten (reads old) → JournalKeepsAll result old new
+  pub renews : Renews tools old new
+  pub kept : IsWritten (reads old) → JournalKeepsAll tools result old new
 
 abbrev pub recover_fault : {R : Type 0} → RecoverResult R → Result ℕ Fault
 recover_fault (Ok x) = Ok 0

@@ -1,25 +1,33 @@
 -- What power on finds and leaves (own).
-use Rattle.std.specs.Prelude.{◌≡◌, ◌+◌, ◌≤◌, ℕ, List, Some, Result, Ok, Err}
+use Rattle.std.specs.Prelude.{◌≡◌, ◌⊎◌, ◌+◌, ◌<◌, ℕ, ℤ, List, Some, Result, Ok, Err}
+use Rattle.ng_canon.specs.declared.item.Item.{Item}
 use Rattle.ng_num.specs.declared.fault.Fault.{Fault}
 use Rattle.ng_num.specs.declared.fault.Fault.TheVariants.{NotFormatted, Damaged, CountersUsed}
 use Rattle.ng_rig.specs.Trace.{Image, Trace, reads}
 use Rattle.ng_rig.specs.Only.{WritesOnly}
+use Rattle.ng_layout.specs.declared.header.Format.{Format}
+use Rattle.ng_layout.specs.declared.header.Format.TheVariants.{One, Two}
 use Rattle.ng_layout.specs.declared.header.Header.{Header}
 use Rattle.ng_layout.specs.Limits.{greatest_count}
-use Rattle.ng_layout.specs.Stands.{in_force, stands, recovered}
+use Rattle.ng_layout.specs.Stands.{in_force, stands, stands_beside, recovered, IsWritten}
 use Rattle.ng_layout.specs.Stored.{StoredModel, DurableState}
-use Rattle.ng_journal.specs.AtRest.{BelongsTo, next_header}
+use Rattle.ng_journal.specs.AtRest.{BelongsTo, next_header, migrated}
 
 -- the recovered of what stands, where something does
 abbrev pub recovered_of : Result DurableState Fault → Result DurableState Fault
 recovered_of (Ok s) = Ok (recovered s)
 recovered_of (Err e) = Err e
 
--- the epoch in force is the last
+-- how many epochs a power on takes: over format 1 one more, in which it becomes format 2
+abbrev pub epochs_for : Format → ℕ
+epochs_for One = 2
+epochs_for Two = 1
+
+-- so many epochs are past the last one
 pub record HasLastEpoch (image : Image) : Type 0 where
   pub header : Header
   pub force : in_force image ≡ Some header
-  pub last : greatest_count ≤ header.epoch
+  pub last : greatest_count < header.epoch + epochs_for header.format
   pub standing : DurableState
   pub sound : stands image ≡ Ok standing
 
@@ -30,25 +38,42 @@ HasCause Damaged image = stands image ≡ Err Damaged
 HasCause CountersUsed image = HasLastEpoch image
 HasCause _ image = ⊥
 
--- this is the recovered of what stands
-pub record IsFound (saved : StoredModel) (image : Image) : Type 0 where
+-- this is the recovered of what stands beside the table of the settings
+pub record IsFound (tools : List ℤ) (saved : StoredModel) (image : Image) : Type 0 where
   pub program : List ℕ
-  pub is : recovered_of (stands image) ≡ Ok (record { saved = saved; program = program })
+  pub is : recovered_of (stands_beside tools image) ≡ Ok (record { saved = saved; program = program })
 
--- the header is of the epoch after the one in force
+-- the header is of format 2, and of the epoch after the one in force, or over format 1 of the second after it
 pub record IsNextEpoch (header : Header) (image : Image) : Type 0 where
   pub before : Header
   pub force : in_force image ≡ Some before
-  pub next : header.epoch ≡ before.epoch + 1
+  pub next : header.epoch ≡ before.epoch + epochs_for before.format
+  pub format : header.format ≡ Two
 
--- These bytes belong in sector n where the recovered of what stands is stored under the epoch after the one in force.
-pub record BelongsToNext (image : Image) (n : ℕ) (bytes : List ℕ) : Type 0 where
+-- These bytes belong in sector n where this is stored under the epoch after a header, and over format 1 with a table in format 2 under the one after that.
+abbrev pub BelongsToRenewal : List ℤ → Header → StoredModel → ℕ → List ℕ → Type 0
+BelongsToRenewal tools header saved n bytes =
+    let next = next_header header header.area saved.length in
+    BelongsTo next saved n bytes ⊎ ((header.format ≡ One) × BelongsTo (migrated next) (record saved { tools = tools }) n bytes)
+
+-- the same of the recovered of what stands
+pub record BelongsToNext (tools : List ℤ) (image : Image) (n : ℕ) (bytes : List ℕ) : Type 0 where
   pub header : Header
   pub force : in_force image ≡ Some header
   pub standing : DurableState
   pub is : recovered_of (stands image) ≡ Ok standing
-  pub own : BelongsTo (next_header header header.area standing.saved.length) standing.saved n bytes
+  pub own : BelongsToRenewal tools header standing.saved n bytes
 
 -- Only what belongs there is written, and nothing is handed out.
-abbrev pub Renews : Trace → Trace → Type 0
-Renews old new = WritesOnly (BelongsToNext (reads old)) old new
+abbrev pub Renews : List ℤ → Trace → Trace → Type 0
+Renews tools old new = WritesOnly (BelongsToNext tools (reads old)) old new
+
+-- An image stands for one of the two beside the table of the settings, and has no record of an epoch to come; nothing was handed out.
+pub record IsEitherBeside (tools : List ℤ) (before after : Result DurableState Fault) (given : List Item) (image : Image) (handed : List Item) : Type 0 where
+  pub state : (stands_beside tools image ≡ before) ⊎ (stands_beside tools image ≡ after)
+  pub written : IsWritten image
+  pub handed_is : handed ≡ given
+
+-- The table may be any, but over a header in force of format 1 it is the one that is given.
+abbrev pub IsTableOver : List ℤ → List ℤ → Image → Type 0
+IsTableOver given table image = (header : Header) → in_force image ≡ Some header → header.format ≡ One → table ≡ given

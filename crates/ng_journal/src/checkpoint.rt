@@ -1,15 +1,21 @@
 //! A whole state written under the next epoch.
-ghost use Rattle.std.specs.Prelude.{◌≡◌, ◌≤◌, ◌<◌, ◌+◌, ◌%◌, Some};
+ghost use Rattle.std.specs.Prelude.{◌≡◌, ◌≤◌, ◌<◌, ◌+◌, ◌%◌, [], Some};
+ghost use Rattle.ng_rig.specs.Trace.{reads};
+ghost use Rattle.ng_layout.specs.declared.header.Format.TheVariants.{One};
 ghost use Rattle.ng_rig.specs.Calls.{IfHonest, FailureCountSpec};
 ghost use Rattle.ng_layout.specs.Limits.{greatest_count};
-ghost use Rattle.ng_layout.specs.Areas.{least_size, snapshot_size};
+ghost use Rattle.ng_layout.specs.Areas.{least_size, snapshot_size, tools_size};
 ghost use Rattle.ng_layout.specs.Storable.{IsStorable};
 ghost use Rattle.ng_layout.specs.Header.{header_in, HoldsHeader, IsValidHeader};
 ghost use Rattle.ng_layout.specs.declared.header.Header.{Header};
-ghost use Rattle.ng_journal.specs.Private.CheckpointSteps.{WritesArea, IsOwnImage, CheckpointSpec, StoresState};
-ghost use Rattle.ng_journal.specs.AtRest.{next_header};
+ghost use Rattle.ng_journal.specs.Private.CheckpointSteps.{WritesArea, WritesAreas, MayFollow, IsOwnImage, CheckpointSpec, StoresState};
+ghost use Rattle.ng_layout.specs.Snapshot.{HoldsToolPart};
+ghost use Rattle.ng_journal.specs.Private.Overwrites.{Overwrites};
+ghost use Rattle.ng_journal.specs.AtRest.{next_header, migrated};
 
-use ng_layout::{BYTES, Header, SNAPSHOT_SIZE, Stored, snapshot_first};
+use ng_layout::{
+    BYTES, Format, Header, SNAPSHOT_SIZE, Stored, TOOLS_SIZE, snapshot_first, tools_first,
+};
 use ng_rig::{Failed, Rig};
 use std::alloc::Allocator;
 
@@ -33,6 +39,44 @@ fn write_snapshot<R: Rig, A: Allocator + Copy + Drop>(
     Ok(())
 }
 
+/// Writes the sectors of a tool area, the first of them here.
+fn write_tools<R: Rig, A: Allocator + Copy + Drop>(
+    rig: &mut R,
+    first: usize,
+    stored: &Stored<A>,
+) -> Result<(), Failed>
+    requires sectors { least_size ≤ R.sectors rig.old }
+    requires within { first + tools_size ≤ least_size }
+    ensures tools { IfHonest (R.honest rig.old) (R.honest rig.new) (Overwrites result first tools_size (HoldsToolPart stored.now) (R.trace rig.old) (R.trace rig.new)) }
+    ensures size { R.sectors rig.new ≡ R.sectors rig.old }
+    ensures failures { FailureCountSpec result (R.failed rig.old) (R.failed rig.new) }
+{
+    for part in 0..TOOLS_SIZE {
+        rig.write(first + part, &stored.tool_sector(part))?;
+    }
+    Ok(())
+}
+
+/// Writes what is stored to the areas of a header: its snapshot, and in format 2 its tool table.
+fn write_areas<R: Rig, A: Allocator + Copy + Drop>(
+    rig: &mut R,
+    next: Header,
+    stored: &Stored<A>,
+) -> Result<(), Failed>
+    requires sectors { least_size ≤ R.sectors rig.old }
+    requires count { stored.now.entries ≤ greatest_count }
+    requires storable { IsStorable stored.now }
+    ensures areas { IfHonest (R.honest rig.old) (R.honest rig.new) (WritesAreas result next stored.now (R.trace rig.old) (R.trace rig.new)) }
+    ensures size { R.sectors rig.new ≡ R.sectors rig.old }
+    ensures failures { FailureCountSpec result (R.failed rig.old) (R.failed rig.new) }
+{
+    write_snapshot(rig, snapshot_first(next.epoch), stored)?;
+    match next.format {
+        Format::One => Ok(()),
+        Format::Two => write_tools(rig, tools_first(next.epoch), stored),
+    }
+}
+
 /// The sector of a header that is within its limits.
 #[tactic(auto, unfolding(ng_layout::specs::Header::header_in))]
 pub(crate) fn header_sector(header: Header) -> [u8; BYTES]
@@ -49,9 +93,23 @@ pub(crate) fn next_header(header: Header, area: u64, length: u64) -> Header
     ensures { result ≡ next_header header area length }
 {
     Header {
+        format: header.format,
         epoch: header.epoch + 1,
         area,
         length,
+    }
+}
+
+/// The header of format 2 after one of format 1.
+pub(crate) fn migrated(header: Header) -> Header
+    requires { header.epoch < greatest_count }
+    ensures { result ≡ migrated header }
+{
+    Header {
+        format: Format::Two,
+        epoch: header.epoch + 1,
+        area: header.area,
+        length: header.length,
     }
 }
 
@@ -66,13 +124,14 @@ pub(crate) fn checkpoint<R: Rig, A: Allocator + Copy + Drop>(
     requires long { stored.now.length ≡ next.length }
     requires count { stored.now.entries ≤ greatest_count }
     requires storable { IsStorable stored.now }
+    requires tools { next.format ≡ One → stored.now.tools ≡ [] }
     ensures stops { IfHonest (R.honest rig.old) (R.honest rig.new) ((header : Header) → IsOwnImage (R.trace rig.old) header → next.epoch ≡ header.epoch + 1
-        → CheckpointSpec result next stored.now (R.trace rig.old) (R.trace rig.new)) }
+        → MayFollow next header (reads (R.trace rig.old)) → CheckpointSpec result header next stored.now (R.trace rig.old) (R.trace rig.new)) }
     ensures stores { IfHonest (R.honest rig.old) (R.honest rig.new) (StoresState result next stored.now (R.trace rig.old) (R.trace rig.new)) }
     ensures size { R.sectors rig.new ≡ R.sectors rig.old }
     ensures failures { FailureCountSpec result (R.failed rig.old) (R.failed rig.new) }
 {
-    write_snapshot(rig, snapshot_first(next.epoch), stored)?;
+    write_areas(rig, next, stored)?;
     rig.sync()?;
     rig.write((next.epoch % 2) as usize, &header_sector(next))?;
     rig.sync()

@@ -2,7 +2,7 @@
 ghost use Rattle.std.specs.Prelude.{◌≡◌, ◌≤◌, ◌<◌, ◌+◌, ◌⊎◌, ◌↔◌, replicate, IsErrOf, IfErr};
 ghost use Rattle.ng_num.specs.declared.fault.Fault.TheVariants.{DeviceFailed, NotFormatted};
 ghost use Rattle.ng_rig.specs.Calls.{IfHonest, FailureCountSpec};
-ghost use Rattle.ng_layout.specs.Areas.{header_count, log_size, log_first, snapshot_first, snapshot_size, least_size};
+ghost use Rattle.ng_layout.specs.Areas.{header_count, shortest_log, log_first, snapshot_first, snapshot_size, tools_size, least_size};
 ghost use Rattle.ng_layout.specs.Limits.{sector_size};
 ghost use Rattle.ng_layout.specs.Snapshot.{HoldsPart};
 ghost use Rattle.ng_layout.specs.Stored.{fresh_stored};
@@ -12,8 +12,8 @@ ghost use Rattle.ng_journal.specs.Journal.{CountsFailure};
 
 use crate::checkpoint::header_sector;
 use ng_layout::{
-    BYTES, HEADERS, Header, LEAST_SIZE, LOG_FIRST, LONGEST_LOG, SNAPSHOT_SIZE, fresh_sector,
-    snapshot_first,
+    BYTES, Format, HEADERS, Header, LEAST_SIZE, LOG_FIRST, SHORTEST_LOG, SNAPSHOT_SIZE, TOOLS_SIZE,
+    fresh_sector, snapshot_first, tools_first,
 };
 use ng_num::Fault;
 use ng_rig::{Failed, Rig};
@@ -42,11 +42,11 @@ fn clear_headers<R: Rig>(rig: &mut R) -> Result<(), Failed>
 /// Takes all parts of records away.
 fn clear_log<R: Rig>(rig: &mut R) -> Result<(), Failed>
     requires { least_size ≤ R.sectors rig.old }
-    ensures clears { IfHonest (R.honest rig.old) (R.honest rig.new) (Overwrites result log_first log_size IsEmpty (R.trace rig.old) (R.trace rig.new)) }
+    ensures clears { IfHonest (R.honest rig.old) (R.honest rig.new) (Overwrites result log_first shortest_log IsEmpty (R.trace rig.old) (R.trace rig.new)) }
     ensures size { R.sectors rig.new ≡ R.sectors rig.old }
     ensures failures { FailureCountSpec result (R.failed rig.old) (R.failed rig.new) }
 {
-    for n in 0..LONGEST_LOG {
+    for n in 0..SHORTEST_LOG {
         rig.write(LOG_FIRST + n, &empty_sector())?;
     }
     Ok(())
@@ -66,6 +66,20 @@ fn write_fresh_snapshot<R: Rig>(rig: &mut R, first: usize) -> Result<(), Failed>
     Ok(())
 }
 
+/// Writes a tool area of a fresh controller, which has no slots.
+fn clear_tools<R: Rig>(rig: &mut R, first: usize) -> Result<(), Failed>
+    requires sectors { least_size ≤ R.sectors rig.old }
+    requires within { first + tools_size ≤ least_size }
+    ensures clears { IfHonest (R.honest rig.old) (R.honest rig.new) (Overwrites result first tools_size IsEmpty (R.trace rig.old) (R.trace rig.new)) }
+    ensures size { R.sectors rig.new ≡ R.sectors rig.old }
+    ensures failures { FailureCountSpec result (R.failed rig.old) (R.failed rig.new) }
+{
+    for n in 0..TOOLS_SIZE {
+        rig.write(first + n, &empty_sector())?;
+    }
+    Ok(())
+}
+
 /// Makes a device fresh that is large enough.
 fn make_fresh<R: Rig>(rig: &mut R) -> Result<(), Failed>
     requires { least_size ≤ R.sectors rig.old }
@@ -74,6 +88,7 @@ fn make_fresh<R: Rig>(rig: &mut R) -> Result<(), Failed>
     ensures failures { FailureCountSpec result (R.failed rig.old) (R.failed rig.new) }
 {
     let header = Header {
+        format: Format::Two,
         epoch: 1,
         area: 0,
         length: 0,
@@ -81,6 +96,7 @@ fn make_fresh<R: Rig>(rig: &mut R) -> Result<(), Failed>
     clear_headers(rig)?;
     clear_log(rig)?;
     write_fresh_snapshot(rig, snapshot_first(header.epoch))?;
+    clear_tools(rig, tools_first(header.epoch))?;
     rig.sync()?;
     rig.write(1, &header_sector(header))?;
     rig.sync()

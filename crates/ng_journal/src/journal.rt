@@ -1,25 +1,29 @@
 //! The journal of a device.
-ghost use Rattle.std.specs.Prelude.{◌≡◌, ◌≤◌, ◌<◌, ◌⊎◌, ◌↔◌, false, true, Some, length, OnOk, IfOk, IfErr, IsSome, IsErrOf, IsErrAnd};
+ghost use Rattle.std.specs.Prelude.{◌≡◌, ◌≤◌, ◌<◌, ◌⊎◌, ◌↔◌, ℤ, List, false, true, [], Some, length, OnOk, IfOk, IfErr, IsSome, IsErrOf, IsErrAnd};
 ghost use Rattle.ng_num.specs.declared.fault.Fault.TheVariants.{DeviceFailed, NotFormatted, CountersUsed, ProgramTooLong, OutOfMemory};
 ghost use Rattle.ng_rig.specs.Calls.{IfHonest, HandOutSpec};
 ghost use Rattle.ng_layout.specs.Areas.{least_size};
 ghost use Rattle.ng_layout.specs.Limits.{greatest_count, longest_program};
 ghost use Rattle.ng_params.specs.Numbers.{parameter_count};
 ghost use Rattle.ng_layout.specs.Storable.{IsStorableHalf, IsStorable};
+ghost use Rattle.ng_offsets.specs.Tools.{IsOneSlotFrom};
 ghost use Rattle.ng_layout.specs.Stored.{DurableState};
 ghost use Rattle.ng_log.specs.AtEnd.{no_records};
 ghost use Rattle.ng_journal.specs.Recover.{RecoverSpec, IsRecoveryFault, recover_rig, recover_fault};
 ghost use Rattle.ng_journal.specs.Journal.{CountsFailure};
+ghost use Rattle.ng_journal.specs.Recovery.{IsTableOver};
+ghost use Rattle.ng_rig.specs.Trace.{reads};
 ghost use Rattle.ng_journal.specs.Loads.{StoresLoad};
 ghost use Rattle.ng_journal.specs.Storing.{Commit, Open, Load, UsesUp, IsFullFor, StoresRecord, ledger_of};
 
 use crate::checkpoint::next_header;
 use crate::loading::load;
 use crate::recovery::restore;
-use crate::storing::{Tip, changes_between, store, store_half, take_changed};
+use crate::storing::{Tip, changes_between, slot_between, store, store_half, take_changed};
 use ng_canon::Item;
 use ng_layout::{GREATEST_COUNT, Half, LEAST_SIZE, LONGEST_PROGRAM, Stored, spare_area};
 use ng_num::Fault;
+use ng_offsets::Tools;
 use ng_rig::{Failed, Rig};
 use std::alloc::{AllocError, Allocator};
 use std::marker::Model;
@@ -49,14 +53,17 @@ impl<R: Rig, A: Allocator + Copy + Drop> Model for Journal<R, A> {
 ///
 /// What stands is the snapshot of the header in force with the complete records after it. The log ends at its beginning then.
 ///
+/// A device of format 1 is given the table, and is of format 2 then; of any other the table isn't looked at.
+///
 /// J2 for fewer than 1,710 sectors, with no call of the device, and where no header is valid; J3 where what stands is
-/// damaged; J4 where the epoch would be beyond its limit: all before any write. J1 where the device failed. M1 where
+/// damaged; J4 where an epoch would be beyond its limit, of format 1 the one after the next: all before any write. J1 where the device failed. M1 where
 /// memory is wanting, before any call of the device. The device is handed back with each of them.
 pub fn recover<R: Rig, A: Allocator + Copy + Drop>(
     alloc: A,
     mut rig: R,
+    tools: &Tools,
 ) -> Result<(Journal<R, A>, Stored<A>), (Fault, R)>
-    ensures recovers { let after = recover_rig result in least_size ≤ R.sectors rig → IfHonest (R.honest rig) (R.honest after) (RecoverSpec result (R.trace rig) (R.trace after)) }
+    ensures recovers { let after = recover_rig result in least_size ≤ R.sectors rig → (table : List ℤ) → IsTableOver tools.now table (reads (R.trace rig)) → IfHonest (R.honest rig) (R.honest after) (RecoverSpec table result (R.trace rig) (R.trace after)) }
     ensures journal { IfOk result (λ x. (x.0.broken ≡ false) × (x.0.saved ≡ x.1) × IsStorable x.1) }
     ensures end { IfOk result (λ x. x.0.end ≡ no_records) }
     ensures small { R.sectors rig < least_size → IsErrAnd result (λ e. (e.0 ≡ NotFormatted) × (e.1 ≡ rig)) }
@@ -72,7 +79,9 @@ pub fn recover<R: Rig, A: Allocator + Copy + Drop>(
         Ok(both) => both,
         Err(_) => return Err((Fault::OutOfMemory, rig)),
     };
-    match restore(&mut rig, &mut stored) {
+    // called for its contract: each length is within its limits, and there are no more than may be stored
+    let _ = tools.slots();
+    match restore(&mut rig, tools, &mut stored) {
         Err(Failed) => Err((Fault::DeviceFailed, rig)),
         Ok(Err(fault)) => Err((fault, rig)),
         Ok(Ok(header)) => {
@@ -90,7 +99,7 @@ pub fn recover<R: Rig, A: Allocator + Copy + Drop>(
 
 /// Two of what is stored of a fresh controller: one for the journal and one for its caller.
 fn two_fresh<A: Allocator + Copy + Drop>(alloc: A) -> Result<(Stored<A>, Stored<A>), AllocError>
-    ensures { IfOk result (λ x. (length x.0.setup.params ≡ parameter_count) × (length x.1.setup.params ≡ parameter_count)) }
+    ensures { IfOk result (λ x. (length x.0.setup.params ≡ parameter_count) × (length x.1.setup.params ≡ parameter_count) × (x.0.tools ≡ [])) }
 {
     Ok((Stored::fresh(alloc)?, Stored::fresh(alloc)?))
 }
@@ -129,6 +138,7 @@ impl<R: Rig, A: Allocator + Copy + Drop> Journal<R, A> {
         requires whole { self.old.broken ≡ false }
         requires storable { IsStorable stored.now }
         requires program { stored.now.length ≡ self.old.saved.length }
+        requires tools { IsOneSlotFrom self.old.saved.tools stored.now.tools }
         ensures stops { IfHonest (R.honest self.old.rig) (R.honest self.new.rig) ((before : DurableState) → IsDurablyAt (R.trace self.old.rig) self.old before
             → CommitSpec result self.new before (record before { saved = stored.now }) (R.trace self.old.rig) (R.trace self.new.rig)) }
         ensures stores { IfHonest (R.honest self.old.rig) (R.honest self.new.rig) (StoresRecord result (ledger_of self.old) stored.now (R.trace self.old.rig) (R.trace self.new.rig)) }
@@ -142,10 +152,11 @@ impl<R: Rig, A: Allocator + Copy + Drop> Journal<R, A> {
         ensures failures { CountsFailure result (R.failed self.old.rig) (R.failed self.new.rig) }
     {
         let count = changes_between(&self.stored, stored);
+        let slot = slot_between(&self.stored, stored);
         if stored.entries > GREATEST_COUNT || self.is_used_up_by(count) {
             return Err(Fault::CountersUsed);
         }
-        match store(&mut self.rig, self.tip, &self.stored, stored, count) {
+        match store(&mut self.rig, self.tip, &self.stored, stored, count, slot) {
             Ok(tip) => {
                 take_changed(&mut self.stored, stored, count);
                 self.tip = tip;

@@ -3,6 +3,7 @@ ghost use Rattle.std.specs.Prelude.{◌≡◌, ◌≤◌, ◌<◌, ◌+◌, leng
 ghost use Rattle.ng_rig.specs.Calls.{IfHonest, FailureCountSpec};
 ghost use Rattle.ng_layout.specs.Limits.{greatest_count, longest_program};
 ghost use Rattle.ng_layout.specs.Areas.{program_first, least_size, greatest_area};
+ghost use Rattle.ng_layout.specs.declared.header.Format.TheVariants.{Two};
 ghost use Rattle.ng_layout.specs.Storable.{IsStorable};
 ghost use Rattle.ng_journal.specs.Private.CheckpointSteps.{IsOwnImage};
 ghost use Rattle.ng_journal.specs.Private.LoadSteps.{WritesText, LoadSpec};
@@ -42,6 +43,7 @@ pub(crate) fn load<R: Rig, A: Allocator + Copy + Drop>(
     requires count { stored.now.entries ≤ greatest_count }
     requires storable { IsStorable stored.now }
     requires long { stored.now.length ≡ length text.now }
+    requires format { header.format ≡ Two }
     ensures stops { IfHonest (R.honest rig.old) (R.honest rig.new) (IsOwnImage (R.trace rig.old) header → LoadSpec result header (record { saved = stored.now; program = text.now }) (R.trace rig.old) (R.trace rig.new)) }
     ensures stores { IfHonest (R.honest rig.old) (R.honest rig.new) (StoresLoad result header (record { saved = stored.now; program = text.now }) (R.trace rig.old) (R.trace rig.new)) }
     ensures size { R.sectors rig.new ≡ R.sectors rig.old }

@@ -1,5 +1,6 @@
 //! What a device holds: the header in force and its snapshot.
-ghost use Rattle.std.specs.Prelude.{◌≡◌, ◌≤◌, ◌<◌, ◌+◌, ◌*◌, ◌%◌, true, length, IfOk, IfSome};
+ghost use Rattle.std.specs.Prelude.{◌≡◌, ◌≤◌, ◌<◌, ◌+◌, ◌*◌, ◌%◌, true, [], length, IfOk, IfSome};
+ghost use Rattle.ng_layout.specs.declared.header.Format.TheVariants.{One};
 ghost use Rattle.std.specs.Bool.{OnTrue};
 ghost use Rattle.ng_rig.specs.Calls.{IfHonest, FailureCountSpec};
 ghost use Rattle.ng_layout.specs.Limits.{greatest_count};
@@ -8,16 +9,18 @@ ghost use Rattle.ng_layout.specs.Header.{header_in, IsValidHeader};
 ghost use Rattle.ng_layout.specs.Report.{decoded_state_of};
 ghost use Rattle.ng_layout.specs.StateField.{field_at};
 ghost use Rattle.ng_layout.specs.Sound.{IsSound};
-ghost use Rattle.ng_layout.specs.Areas.{snapshot_first, least_size, snapshot_size};
+ghost use Rattle.ng_layout.specs.Areas.{least_size, snapshot_size};
 ghost use Rattle.ng_layout.specs.Stands.{in_force, newer};
-ghost use Rattle.ng_layout.specs.Storable.{IsStorable};
+ghost use Rattle.ng_layout.specs.Storable.{IsStorable, IsStorableTools};
 ghost use Rattle.ng_log.specs.Reading.{ReadSpec};
-ghost use Rattle.ng_journal.specs.Private.SnapshotRead.{IsTableOf, IsSnapshotOf};
+ghost use Rattle.ng_journal.specs.Private.SnapshotRead.{IsTableOf, IsToolsOf, IsSnapshotOf};
 
 use ng_layout::{
-    DecodedState, Header, SNAPSHOT_SIZE, StateField, Stored, VALUES, snapshot_first, take_values,
+    BYTES, DecodedState, Format, Header, SNAPSHOT_SIZE, StateField, Stored, VALUES, snapshot_first,
+    take_area, take_values, tools_first,
 };
 use ng_log::read_sector;
+use ng_offsets::Tools;
 use ng_params::Params;
 use ng_rig::{Failed, Rig};
 use std::alloc::Allocator;
@@ -63,21 +66,39 @@ pub(crate) fn header_in_force<R: Rig>(rig: &mut R) -> Result<Option<Header>, Fai
     Ok(newer(even, odd))
 }
 
-/// What the state field of a sector says.
-#[tactic(auto)]
-fn read_decoded_state<R: Rig>(
+/// What the first sector of a snapshot says by its state field.
+fn decoded_state_of_snapshot(sector: &[u8; BYTES], length: u64) -> Option<DecodedState>
+    ensures value { result ≡ decoded_state_of length (field_at sector.now) }
+    ensures sound { IfSome result (IsSound length) }
+{
+    StateField::read(sector).report(length)
+}
+
+/// Takes over the tool table of a header, by the first sector of its snapshot; false where that is damaged. In format 1 there is none.
+fn read_tools<R: Rig>(
     rig: &mut R,
-    sector: usize,
-    length: u64,
-) -> Result<Option<DecodedState>, Failed>
-    requires { sector < R.sectors rig.old }
-    ensures read { IfHonest (R.honest rig.old) (R.honest rig.new) (ReadSpec result (λ image report. report ≡ decoded_state_of length (field_at (image sector))) (R.trace rig.old) (R.trace rig.new)) }
-    ensures sound { IfOk result (λ report. IfSome report (IsSound length)) }
+    header: Header,
+    first: &[u8; BYTES],
+    tools: &mut Tools,
+) -> Result<bool, Failed>
+    requires room { least_size ≤ R.sectors rig.old }
+    requires none { tools.old ≡ [] }
+    ensures read { IfHonest (R.honest rig.old) (R.honest rig.new) (ReadSpec result (IsToolsOf header first.now tools.new) (R.trace rig.old) (R.trace rig.new)) }
+    // without honesty too
+    ensures storable { IfOk result (λ is_whole. OnTrue is_whole (IsStorableTools tools.new)) }
+    ensures none { IfOk result (λ is_whole. OnTrue is_whole (header.format ≡ One → tools.new ≡ [])) }
     ensures size { R.sectors rig.new ≡ R.sectors rig.old }
     ensures failures { FailureCountSpec result (R.failed rig.old) (R.failed rig.new) }
 {
-    let bytes = read_sector(rig, sector)?;
-    Ok(StateField::read(&bytes).report(length))
+    match header.format {
+        Format::One => Ok(true),
+        Format::Two => {
+            let area = tools_first(header.epoch);
+            let lower = read_sector(rig, area)?;
+            let upper = read_sector(rig, area + 1)?;
+            Ok(take_area(tools, first, &lower, &upper))
+        }
+    }
 }
 
 /// Takes over the parameters of a snapshot area; false where one is beyond the range.
@@ -113,7 +134,9 @@ pub(crate) fn read_snapshot<R: Rig, A: Allocator + Copy + Drop>(
     requires room { least_size ≤ R.sectors rig.old }
     requires lawful { IsValidHeader header }
     requires long { length stored.old.setup.params ≡ parameter_count }
-    ensures read { IfHonest (R.honest rig.old) (R.honest rig.new) (ReadSpec result (IsSnapshotOf (snapshot_first header.epoch) header.length stored.new) (R.trace rig.old) (R.trace rig.new)) }
+    requires none { stored.old.tools ≡ [] }
+    ensures read { IfHonest (R.honest rig.old) (R.honest rig.new) (ReadSpec result (IsSnapshotOf header stored.new) (R.trace rig.old) (R.trace rig.new)) }
+    ensures none { IfOk result (λ is_whole. OnTrue is_whole (header.format ≡ One → stored.new.tools ≡ [])) }
     // without honesty too
     ensures storable { IfOk result (λ is_whole. OnTrue is_whole (IsStorable stored.new)) }
     ensures count { IfOk result (λ is_whole. OnTrue is_whole (stored.new.entries ≤ greatest_count)) }
@@ -122,14 +145,19 @@ pub(crate) fn read_snapshot<R: Rig, A: Allocator + Copy + Drop>(
     ensures failures { FailureCountSpec result (R.failed rig.old) (R.failed rig.new) }
 {
     let first = snapshot_first(header.epoch);
-    match read_decoded_state(rig, first, header.length)? {
+    let bytes = read_sector(rig, first)?;
+    match decoded_state_of_snapshot(&bytes, header.length) {
         None => Ok(false),
         Some(report) => {
             let is_whole = read_table(rig, first, &mut stored.state.params)?;
-            if is_whole {
+            if !is_whole {
+                return Ok(false);
+            }
+            let has_tools = read_tools(rig, header, &bytes, &mut stored.tools)?;
+            if has_tools {
                 stored.take_decoded_state(report, header.length);
             }
-            Ok(is_whole)
+            Ok(has_tools)
         }
     }
 }

@@ -1,19 +1,27 @@
 //! Power on: what the device holds, written again under the next epoch with nothing open.
-ghost use Rattle.std.specs.Prelude.{◌≡◌, ◌≤◌, ◌<◌, ◌+◌, length, IfOk, IfErr, OnOk};
+ghost use Rattle.std.specs.Prelude.{◌≡◌, ◌≤◌, ◌<◌, ◌+◌, ℤ, List, [], length, IfOk, IfErr, OnOk};
 ghost use Rattle.ng_rig.specs.Calls.{IfHonest, FailureCountSpec};
 ghost use Rattle.ng_layout.specs.Limits.{greatest_count};
 ghost use Rattle.ng_params.specs.Numbers.{parameter_count};
 ghost use Rattle.ng_layout.specs.Areas.{least_size};
 ghost use Rattle.ng_layout.specs.Header.{IsValidHeader};
-ghost use Rattle.ng_layout.specs.Storable.{IsStorable};
+ghost use Rattle.ng_layout.specs.Storable.{IsStorable, IsStorableTools};
 ghost use Rattle.ng_log.specs.Reading.{ReadSpec};
-ghost use Rattle.ng_journal.specs.Private.RecoverySteps.{IsRead, IsRefusal, RestoreSpec};
+ghost use Rattle.ng_rig.specs.Only.{WritesOnly};
+ghost use Rattle.ng_rig.specs.Trace.{reads};
+ghost use Rattle.ng_layout.specs.declared.header.Format.TheVariants.{One, Two};
+ghost use Rattle.ng_layout.specs.Stored.{DurableState};
+ghost use Rattle.ng_layout.specs.Stands.{saved_beside};
+ghost use Rattle.ng_journal.specs.Recovery.{epochs_for, IsTableOver};
+ghost use Rattle.ng_journal.specs.Private.CheckpointSteps.{IsBegun};
+ghost use Rattle.ng_journal.specs.Private.RecoverySteps.{IsRead, IsRefusal, RestoreSpec, ModernizeSpec, BelongsToModern, modern_by};
 
-use crate::checkpoint::{checkpoint, next_header};
+use crate::checkpoint::{checkpoint, migrated, next_header};
 use crate::reading::{header_in_force, read_snapshot};
-use ng_layout::{GREATEST_COUNT, Header, Stored};
+use ng_layout::{Format, GREATEST_COUNT, Header, Stored};
 use ng_log::read_log;
 use ng_num::Fault;
+use ng_offsets::Tools;
 use ng_rig::{Failed, Rig};
 use std::alloc::Allocator;
 
@@ -24,6 +32,8 @@ fn found<R: Rig, A: Allocator + Copy + Drop>(
 ) -> Result<Result<Header, Fault>, Failed>
     requires room { least_size ≤ R.sectors rig.old }
     requires long { length stored.old.setup.params ≡ parameter_count }
+    requires none { stored.old.tools ≡ [] }
+    ensures none { IfOk result (λ answer. IfOk answer (λ header. header.format ≡ One → stored.new.tools ≡ [])) }
     ensures read { IfHonest (R.honest rig.old) (R.honest rig.new) (ReadSpec result (IsRead stored.new) (R.trace rig.old) (R.trace rig.new)) }
     // without honesty too
     ensures lawful { IfOk result (λ answer. IfOk answer IsValidHeader) }
@@ -49,15 +59,69 @@ fn found<R: Rig, A: Allocator + Copy + Drop>(
     }
 }
 
-/// Writes again, under the next epoch and with nothing open, what the device stands for. `Err` where the device
-/// failed; else the new header, or why nothing was recovered: before any write.
+/// Stores in format 2, with a tool table, what stands under a header of format 1 whose log has no record; of format 2 nothing is written.
+fn modernize<R: Rig, A: Allocator + Copy + Drop>(
+    rig: &mut R,
+    header: Header,
+    tools: &Tools,
+    stored: &mut Stored<A>,
+) -> Result<Header, Failed>
+    requires room { least_size ≤ R.sectors rig.old }
+    requires lawful { IsValidHeader header }
+    requires epoch { header.format ≡ One → header.epoch < greatest_count }
+    requires long { stored.old.length ≡ header.length }
+    requires count { stored.old.entries ≤ greatest_count }
+    requires storable { IsStorable stored.old }
+    requires tools { IsStorableTools tools.now }
+    ensures stops { IfHonest (R.honest rig.old) (R.honest rig.new) ((table : List ℤ) → (header.format ≡ One → table ≡ tools.now) → (standing : DurableState) → IsBegun (R.trace rig.old) header standing → standing.saved ≡ stored.old
+        → ModernizeSpec table result header standing (R.trace rig.old) (R.trace rig.new)) }
+    ensures writes { IfHonest (R.honest rig.old) (R.honest rig.new) ((table : List ℤ) → (header.format ≡ One → table ≡ tools.now) → WritesOnly (λ n bytes. BelongsToModern table header stored.old n bytes) (R.trace rig.old) (R.trace rig.new)) }
+    ensures header { IfOk result (λ last. last ≡ modern_by header.format header) }
+    ensures saved { (table : List ℤ) → (header.format ≡ One → table ≡ tools.now) → OnOk result (stored.new ≡ saved_beside table header.format stored.old) }
+    // without honesty too
+    ensures lawful { IfOk result IsValidHeader }
+    ensures format { IfOk result (λ last. last.format ≡ Two) }
+    ensures storable { OnOk result (IsStorable stored.new) }
+    ensures count { OnOk result (stored.new.entries ≡ stored.old.entries) }
+    ensures same { IfOk result (λ last. (last.length ≡ header.length) × (stored.new.length ≡ stored.old.length)) }
+    ensures size { R.sectors rig.new ≡ R.sectors rig.old }
+    ensures failures { FailureCountSpec result (R.failed rig.old) (R.failed rig.new) }
+{
+    match header.format {
+        Format::Two => Ok(header),
+        Format::One => {
+            stored.take_tools(tools);
+            let last = migrated(header);
+            checkpoint(rig, last, stored)?;
+            Ok(last)
+        }
+    }
+}
+
+/// How many epochs a power on takes.
+fn epochs_for(format: Format) -> u64
+    ensures value { result ≡ epochs_for format }
+    ensures few { result ≤ 2 }
+{
+    match format {
+        Format::One => 2,
+        Format::Two => 1,
+    }
+}
+
+/// Writes again, under the next epoch and with nothing open, what the device stands for, and over format 1 under the one after that in
+/// format 2 with the table of the settings. `Err` where the device failed; else the new header, or why nothing was recovered: before any write.
 pub(crate) fn restore<R: Rig, A: Allocator + Copy + Drop>(
     rig: &mut R,
+    tools: &Tools,
     stored: &mut Stored<A>,
 ) -> Result<Result<Header, Fault>, Failed>
     requires room { least_size ≤ R.sectors rig.old }
     requires long { length stored.old.setup.params ≡ parameter_count }
-    ensures restores { IfHonest (R.honest rig.old) (R.honest rig.new) (RestoreSpec result stored.new (R.trace rig.old) (R.trace rig.new)) }
+    requires none { stored.old.tools ≡ [] }
+    requires tools { IsStorableTools tools.now }
+    ensures format { IfOk result (λ answer. IfOk answer (λ header. header.format ≡ Two)) }
+    ensures restores { IfHonest (R.honest rig.old) (R.honest rig.new) ((table : List ℤ) → IsTableOver tools.now table (reads (R.trace rig.old)) → RestoreSpec table result stored.new (R.trace rig.old) (R.trace rig.new)) }
     // without honesty too
     ensures lawful { IfOk result (λ answer. IfOk answer IsValidHeader) }
     ensures storable { IfOk result (λ answer. OnOk answer (IsStorable stored.new)) }
@@ -71,13 +135,14 @@ pub(crate) fn restore<R: Rig, A: Allocator + Copy + Drop>(
     match found(rig, stored)? {
         Err(fault) => Ok(Err(fault)),
         Ok(header) => {
-            if header.epoch >= GREATEST_COUNT {
+            if header.epoch + epochs_for(header.format) > GREATEST_COUNT {
                 return Ok(Err(Fault::CountersUsed));
             }
             stored.close();
             let next = next_header(header, header.area, header.length);
             checkpoint(rig, next, stored)?;
-            Ok(Ok(next))
+            let last = modernize(rig, next, tools, stored)?;
+            Ok(Ok(last))
         }
     }
 }

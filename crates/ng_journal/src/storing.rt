@@ -8,6 +8,7 @@ ghost use Rattle.ng_layout.specs.Storable.{IsStorableHalf, IsStorable};
 ghost use Rattle.ng_layout.specs.Stored.{DurableState};
 ghost use Rattle.ng_log.specs.Appends.{WritesRecord};
 ghost use Rattle.ng_log.specs.AtEnd.{IsAtEnd, no_records};
+ghost use Rattle.ng_offsets.specs.Tools.{first_change, IsOneSlotFrom};
 ghost use Rattle.ng_params.specs.Differences.{differences};
 ghost use Rattle.ng_journal.specs.Journal.{IsTip};
 ghost use Rattle.ng_journal.specs.Private.Records.{IsRoom, MakeRoomSpec, StoreRecordSpec, StoresRoom, ledger};
@@ -16,6 +17,7 @@ ghost use Rattle.ng_journal.specs.Storing.{HasRoomFor, IsFullFor, StoresRecord, 
 use crate::checkpoint::{checkpoint, next_header};
 use ng_layout::{Half, Header, Stored, parts_for};
 use ng_log::{LogEnd, append};
+use ng_offsets::SlotChange;
 use ng_params::difference_count;
 use ng_rig::{Failed, Rig};
 use std::alloc::Allocator;
@@ -57,6 +59,16 @@ pub(crate) fn changes_between<A: Allocator + Copy + Drop>(
     ensures few { result ≤ parameter_count }
 {
     difference_count(&old.state.params, &stored.state.params)
+}
+
+/// The slot whose change makes the one tool table of the other.
+pub(crate) fn slot_between<A: Allocator + Copy + Drop>(
+    old: &Stored<A>,
+    stored: &Stored<A>,
+) -> Option<SlotChange>
+    ensures { result ≡ first_change old.now.tools stored.now.tools }
+{
+    old.tools.change_to(&stored.tools)
 }
 
 /// Makes what is stored equal to another, from which its table differs in so many parameters: with none, the table stays. It takes no
@@ -115,9 +127,12 @@ fn append_to<R: Rig, A: Allocator + Copy + Drop>(
     old: &Stored<A>,
     stored: &Stored<A>,
     count: usize,
+    slot: Option<SlotChange>,
 ) -> Result<Tip, Failed>
     requires sectors { least_size ≤ R.sectors rig.old }
     requires tip { IsTip stored.now.length tip.header tip.end }
+    requires slot { slot ≡ first_change old.now.tools stored.now.tools }
+    requires one { IsOneSlotFrom old.now.tools stored.now.tools }
     requires table { length old.now.setup.params ≡ parameter_count }
     requires count { count ≡ length (differences old.now.setup.params stored.now.setup.params) }
     requires few { count ≤ parameter_count }
@@ -125,14 +140,22 @@ fn append_to<R: Rig, A: Allocator + Copy + Drop>(
     requires entries { stored.now.entries ≤ greatest_count }
     requires storable { IsStorable stored.now }
     ensures appends { IfHonest (R.honest rig.old) (R.honest rig.new) ((before : DurableState) → IsAtEnd (R.trace rig.old) tip.header before tip.end
-        → before.saved.setup.params ≡ old.now.setup.params → StoreRecordSpec result before stored.now (R.trace rig.old) (R.trace rig.new)) }
+        → before.saved.setup.params ≡ old.now.setup.params → before.saved.tools ≡ old.now.tools → StoreRecordSpec result before stored.now (R.trace rig.old) (R.trace rig.new)) }
     ensures writes { IfHonest (R.honest rig.old) (R.honest rig.new) (WritesRecord result (record_of (ledger tip old.now) stored.now) (R.trace rig.old) (R.trace rig.new)) }
     // without honesty too
     ensures tip { IfOk result (λ t. IsTip stored.now.length t.header t.end) }
     ensures size { R.sectors rig.new ≡ R.sectors rig.old }
     ensures failures { FailureCountSpec result (R.failed rig.old) (R.failed rig.new) }
 {
-    let end = append(rig, tip.header, tip.end, &old.state.params, stored, count)?;
+    let end = append(
+        rig,
+        tip.header,
+        tip.end,
+        &old.state.params,
+        stored,
+        count,
+        slot,
+    )?;
     Ok(Tip {
         header: tip.header,
         end,
@@ -147,9 +170,12 @@ pub(crate) fn store<R: Rig, A: Allocator + Copy + Drop>(
     old: &Stored<A>,
     stored: &Stored<A>,
     count: usize,
+    slot: Option<SlotChange>,
 ) -> Result<Tip, Failed>
     requires sectors { least_size ≤ R.sectors rig.old }
     requires tip { IsTip old.now.length tip.header tip.end }
+    requires slot { slot ≡ first_change old.now.tools stored.now.tools }
+    requires one { IsOneSlotFrom old.now.tools stored.now.tools }
     requires count { count ≡ length (differences old.now.setup.params stored.now.setup.params) }
     requires few { count ≤ parameter_count }
     requires epoch { IsFullFor tip.header tip.end count → tip.header.epoch < greatest_count }
@@ -167,7 +193,7 @@ pub(crate) fn store<R: Rig, A: Allocator + Copy + Drop>(
     ensures failures { FailureCountSpec result (R.failed rig.old) (R.failed rig.new) }
 {
     let tip = make_room(rig, tip, old, count)?;
-    append_to(rig, tip, old, stored, count)
+    append_to(rig, tip, old, stored, count, slot)
 }
 
 /// The same for another half-done block beside what is stored, which it takes over.
@@ -197,5 +223,5 @@ pub(crate) fn store_half<R: Rig, A: Allocator + Copy + Drop>(
 {
     let tip = make_room(rig, tip, stored, 0)?;
     stored.take_half(half);
-    append_to(rig, tip, stored, stored, 0)
+    append_to(rig, tip, stored, stored, 0, None)
 }

@@ -1,17 +1,23 @@
 -- What images stand for, where they agree on the sectors that matter, and under a new header.
-use Rattle.std.proofs.Common.{◌≡◌, ◌≢◌, ◌⊎◌, inl, inr, ⊎_elim, ℕ, zero, suc, ◌+◌, ◌%◌, ◌<◌, ◌≤◌, ◌==◌, ◌&&◌, nat_lt, nat_le, Bool, true, false, if◌then◌else◌, List, [], Option, Some, None, refl, sym, ◌∙◌, ap, subst, arith}
+use Rattle.std.proofs.Common.{◌≡◌, ◌≢◌, ◌⊎◌, inl, inr, ⊎_elim, ℕ, zero, suc, ◌+◌, ◌%◌, ◌<◌, ◌≤◌, ◌==◌, ◌&&◌, nat_lt, nat_le, Bool, true, false, if◌then◌else◌, List, [], Option, Some, None, ℤ, Result, Ok, Err, lit≤, refl, sym, ◌∙◌, ap, subst, arith}
 use Rattle.std.proofs.lemmas.Bool.{cases_eq}
 use Rattle.std.proofs.lemmas.Bool.Decides.{nat_tests}
 use Rattle.ng_layout.specs.Fields.{number_at}
 use Rattle.ng_layout.specs.Limits.{greatest_count, longest_program}
+use Rattle.ng_layout.specs.Codes.{format_of}
+use Rattle.ng_layout.specs.Tools.{tools_in}
+use Rattle.ng_layout.specs.declared.header.Format.{Format}
+use Rattle.ng_layout.specs.declared.header.Format.TheVariants.{One, Two}
 use Rattle.ng_layout.specs.declared.header.Header.{Header}
-use Rattle.ng_layout.specs.Header.{header_at, is_marked, header_in}
-use Rattle.ng_layout.specs.Areas.{log_size, log_size_under, log_first, snapshot_first, snapshot_size, program_first, program_size, greatest_area}
+use Rattle.ng_layout.specs.Header.{header_at, is_marked, header_by, header_in}
+use Rattle.ng_layout.specs.Areas.{log_size, log_size_of, shortest_log, tools_first, tools_size, log_first, snapshot_first, snapshot_size, program_first, program_size, greatest_area}
 use Rattle.ng_layout.specs.Log.{PartHeader, LogPosition, is_part, parts_stand, parts_for, with_record, next, after_step, run}
-use Rattle.ng_layout.proofs.Spares.{IsSpare, SameButSpare}
+use Rattle.ng_layout.proofs.Spares.{IsSpare, SameButSpare, IsInTail, SameButTail}
 use Rattle.ng_layout.specs.Report.{and_then}
 use Rattle.ng_layout.specs.Sectors.{program_text}
-use Rattle.ng_layout.specs.Stands.{stretch, newer, in_force, snapshot, standing, durable_state_under, by_header, stands, epoch_in_force, IsWritten}
+use Rattle.ng_layout.specs.Stands.{stretch, newer, in_force, snapshot, standing, durable_state_under, by_header, stands, stands_beside, beside_header, epoch_in_force, IsModern, IsWritten}
+use Rattle.ng_layout.specs.Stored.{DurableState}
+use Rattle.ng_num.specs.declared.fault.Fault.{Fault}
 
 abbrev Image : Type 0
 Image = ℕ → List ℕ
@@ -31,12 +37,19 @@ choice false x y is = absurd (cc)
 within_parts : (k e a l : ℕ) (marked : Bool) → (marked && (nat_le 1 e && nat_le e greatest_count && nat_le a 1 && nat_le l longest_program) && (e % 2 == k)) ≡ true → (1 ≤ e) × (e ≤ greatest_count) × (a ≤ 1) × (l ≤ longest_program) × (e % 2 ≡ k)
 within_parts k e a l marked is = (grind (arith, nat_tests), grind (arith, nat_tests), grind (arith, nat_tests), grind (arith, nat_tests), grind (arith, nat_tests))
 
+by-within : (k : ℕ) (sector : List ℕ) (x h : Header) → header_by k sector x ≡ Some h → IsWithin k h
+by-within k sector x h is =
+    let c = choice _ x h is in
+    let p = within_parts k x.epoch x.area x.length (is_marked sector) c.0 in
+    subst (λ (x : Header). IsWithin k x) c.1 (record { counted = p.0; few = p.1; area = p.2; length = p.3; here = p.4 })
+
 pub header-within : (k : ℕ) (sector : List ℕ) (h : Header) → header_in k sector ≡ Some h → IsWithin k h
 unfolding header_in
-header-within k sector h is =
-    let c = choice _ (header_at sector) h is in
-    let p = within_parts k (header_at sector).epoch (header_at sector).area (header_at sector).length (is_marked sector) c.0 in
-    subst (λ (x : Header). IsWithin k x) c.1 (record { counted = p.0; few = p.1; area = p.2; length = p.3; here = p.4 })
+header-within k sector h is = go (format_of (number_at 4 8 sector)) is
+  where
+    go : (o : Option Format) → and_then o (λ format. header_by k sector (header_at format sector)) ≡ Some h → IsWithin k h
+    go None none = absurd (cc)
+    go (Some format) some = by-within k sector (header_at format sector) h some
 
 -- the header in force is one of the two, and the other's epoch isn't above its own
 pub record IsForce (a b : Option Header) (h : Header) : Type 0 where
@@ -131,20 +144,49 @@ pub stretch-at : (first size : ℕ) (image : Image) (n : ℕ) → n < size → s
 unfolding stretch
 stretch-at first size image n lt = let e : nat_lt n size ≡ true = grind (arith, nat_tests) in rw e refl
 
+-- the logs of both formats
+pub log-short : (f : Format) → 1020 ≤ log_size f
+log-short One = lit≤ tt
+log-short Two = lit≤ tt
+
+pub log-long : (f : Format) → log_size f ≤ 1024
+log-long One = lit≤ tt
+log-long Two = lit≤ tt
+
+log_long : (h : Header) → log_size_of h ≤ 1024
+log_long h = log-long h.format
+
 -- The sectors that decide aren't spare.
-header_decides : (h : Header) (n : ℕ) → n < 2 → IsSpare h n → ⊥
-header_decides h n lt spare = ⊎_elim (λ s. omega (arith, s.from)) (λ s. omega (arith, s.from)) spare
+pub header_decides : (h : Header) (n : ℕ) → n < 2 → IsSpare h n → ⊥
+header_decides h n lt spare = elim spare [ inl s ↦ omega (arith, s.from) | inr (inl s) ↦ omega (arith, s.from) | inr (inr s) ↦ let from = s.1.from in omega arith ]
 
-snapshot_decides : (h : Header) (j : ℕ) → j < snapshot_size → IsSpare h (snapshot_first h.epoch + j) → ⊥
-snapshot_decides h j lt spare = ⊎_elim
-    (λ s. elim (cases_eq (h.epoch % 2) 0) [ inl even ↦ omega (arith, s.from, s.to) | inr odd ↦ omega (arith, s.from, s.to) ])
-    (λ s. omega (arith, s.from)) spare
+pub snapshot_decides : (h : Header) (j : ℕ) → j < snapshot_size → IsSpare h (snapshot_first h.epoch + j) → ⊥
+snapshot_decides h j lt spare = elim spare [
+  | inl s ↦ elim (cases_eq (h.epoch % 2) 0) [ inl even ↦ omega (arith, s.from, s.to) | inr odd ↦ omega (arith, s.from, s.to) ]
+  | inr (inl s) ↦ omega (arith, s.from)
+  | inr (inr s) ↦ let from = s.1.from in omega arith
+]
 
-program_decides : (h : Header) (j : ℕ) → h.area ≤ greatest_area → j < program_size h.area → IsSpare h (program_first h.area + j) → ⊥
-program_decides h j area lt spare = ⊎_elim (λ s. omega (arith, s.to)) (λ s. omega (arith, s.from, s.to)) spare
+pub tools_decide : (h : Header) (j : ℕ) → h.area ≤ greatest_area → j < tools_size → IsSpare h (tools_first h.epoch + j) → ⊥
+tools_decide h j area lt spare = elim spare [
+  | inl s ↦ omega (arith, s.to)
+  | inr (inl s) ↦ omega (arith, s.to)
+  | inr (inr s) ↦ let from = s.1.from in let to = s.1.to in elim (cases_eq (h.epoch % 2) 0) [ inl even ↦ omega arith | inr odd ↦ omega arith ]
+]
 
-log_decides : (h : Header) (j : ℕ) → j < log_size → IsSpare h (log_first + j) → ⊥
-log_decides h j lt spare = ⊎_elim (λ s. omega (arith, s.to)) (λ s. omega (arith, s.to)) spare
+pub program_decides : (h : Header) (j : ℕ) → h.area ≤ greatest_area → j < program_size h.area → IsSpare h (program_first h.area + j) → ⊥
+program_decides h j area lt spare = elim spare [
+  | inl s ↦ omega (arith, s.to)
+  | inr (inl s) ↦ omega (arith, s.from, s.to)
+  | inr (inr s) ↦ let from = s.1.from in omega arith
+]
+
+pub log_decides : (h : Header) (j : ℕ) → j < log_size_of h → IsSpare h (log_first + j) → ⊥
+log_decides h j lt spare = elim spare [
+  | inl s ↦ let most = log_long h in omega (arith, s.to)
+  | inr (inl s) ↦ omega (arith, s.to)
+  | inr (inr s) ↦ let from = s.1.from in let short : log_size_of h ≡ 1020 = ap log_size s.0 in omega arith
+]
 
 pub same-at : (h : Header) (image base : Image) → SameButSpare h image base → (n : ℕ) → (IsSpare h n → ⊥) → image n ≡ base n
 same-at h image base same n decides = ⊎_elim (λ spare. absurd (decides spare)) (λ e. e) (same.each n)
@@ -152,11 +194,16 @@ same-at h image base same n decides = ⊎_elim (λ spare. absurd (decides spare)
 pub force-frame : (h : Header) (image base : Image) → SameButSpare h image base → in_force image ≡ in_force base
 force-frame h image base same = force-same image base (same-at h image base same 0 (header_decides h 0 (omega arith))) (same-at h image base same 1 (header_decides h 1 (omega arith)))
 
-pub log-frame : (h : Header) (image base : Image) → SameButSpare h image base → (m : ℕ) → m < log_size → image (log_first + m) ≡ base (log_first + m)
+pub log-frame : (h : Header) (image base : Image) → SameButSpare h image base → (m : ℕ) → m < log_size_of h → image (log_first + m) ≡ base (log_first + m)
 log-frame h image base same m lt = same-at h image base same (log_first + m) (log_decides h m lt)
 
 pub program-frame : (h : Header) (image base : Image) → h.area ≤ greatest_area → SameButSpare h image base → (m : ℕ) → m < program_size h.area → image (program_first h.area + m) ≡ base (program_first h.area + m)
 program-frame h image base area same m lt = same-at h image base same (program_first h.area + m) (program_decides h m area lt)
+
+-- what the header in force decides
+pub under : (image : Image) (h : Header) → in_force image ≡ Some h → stands image ≡ durable_state_under h (stretch (snapshot_first h.epoch) snapshot_size image) (stretch (tools_first h.epoch) tools_size image) (stretch (program_first h.area) (program_size h.area) image) (stretch log_first (log_size_of h) image)
+unfolding stands
+under image h is = λ i. by_header (is i) (λ x. durable_state_under x (stretch (snapshot_first x.epoch) snapshot_size image) (stretch (tools_first x.epoch) tools_size image) (stretch (program_first x.area) (program_size x.area) image) (stretch log_first (log_size_of x) image))
 
 -- Where images agree on all sectors but the spare ones, they stand for the same.
 pub stands-frame : (h : Header) (image base : Image) → in_force base ≡ Some h → SameButSpare h image base → stands image ≡ stands base
@@ -165,26 +212,16 @@ stands-frame h image base is same =
     let within = force-within base h is in
     let force = force-frame h image base same ∙ is in
     let area = stretch-same (snapshot_first h.epoch) snapshot_size image base (λ j lt. same-at h image base same (snapshot_first h.epoch + j) (snapshot_decides h j lt)) in
+    let tools = stretch-same (tools_first h.epoch) tools_size image base (λ j lt. same-at h image base same (tools_first h.epoch + j) (tools_decide h j within.area lt)) in
     let text = stretch-same (program_first h.area) (program_size h.area) image base (program-frame h image base within.area same) in
-    let log = stretch-same log_first log_size image base (log-frame h image base same) in
-    (λ i. by_header (force i) (λ x. durable_state_under x (stretch (snapshot_first x.epoch) snapshot_size image) (stretch (program_first x.area) (program_size x.area) image) (stretch log_first log_size image)))
-    ∙ (λ i. durable_state_under h (area i) (text i) (log i))
-    ∙ sym (λ i. by_header (is i) (λ x. durable_state_under x (stretch (snapshot_first x.epoch) snapshot_size base) (stretch (program_first x.area) (program_size x.area) base) (stretch log_first log_size base)))
-
--- The log of the header in force is the longest one.
-log_under : (o : Option Header) → log_size_under o ≡ log_size
-log_under None = refl
-log_under (Some h) = refl
-
-pub is-written : (image : Image) → ((m : ℕ) → m < log_size → number_at 8 0 (image (log_first + m)) ≤ epoch_in_force (in_force image)) → IsWritten image
-is-written image past = record { past = λ m lt. past m (subst (λ (k : ℕ). m < k) (log_under (in_force image)) lt) }
-
-pub written-past : (image : Image) → IsWritten image → (m : ℕ) → m < log_size → number_at 8 0 (image (log_first + m)) ≤ epoch_in_force (in_force image)
-written-past image written m lt = written.past m (subst (λ (k : ℕ). m < k) (sym (log_under (in_force image))) lt)
+    let log = stretch-same log_first (log_size_of h) image base (log-frame h image base same) in
+    under image h force
+    ∙ (λ i. durable_state_under h (area i) (tools i) (text i) (log i))
+    ∙ sym (under base h is)
 
 pub written-frame : (h : Header) (image base : Image) → SameButSpare h image base → IsWritten base → IsWritten image
 written-frame h image base same written =
-    is-written image (λ m lt. subst (λ (e : ℕ). number_at 8 0 (image (log_first + m)) ≤ e) (sym (ap epoch_in_force (force-frame h image base same))) (subst (λ (s : List ℕ). number_at 8 0 s ≤ epoch_in_force (in_force base)) (sym (log-frame h image base same m lt)) (written-past base written m lt)))
+    record { past = λ m lt. subst (λ (e : ℕ). number_at 8 0 (image (log_first + m)) ≤ e) (sym (ap epoch_in_force (force-frame h image base same))) (subst (λ (s : List ℕ). number_at 8 0 s ≤ epoch_in_force (in_force base)) (sym (log-frame h image base same m (let short = log-short h.format in omega arith))) (written.past m lt)) }
 
 -- A log whose first part is of another epoch holds no record of this one.
 first_part : (row : Image) (at : ℕ) (l : PartHeader) (n : ℕ) → number_at 8 0 (row (at + 0)) ≢ l.epoch → parts_stand row at l (suc n) ≡ false
@@ -199,16 +236,16 @@ first_part row at l (suc n) other = let e = first_part row at l n other in rw e 
 no_record : (parts p : ℕ) (a b : Bool) (q : LogPosition) → b ≡ false → (if (parts == p) && a && b then Some q else None) ≡ None
 no_record parts p a b q is = grind (arith, nat_tests)
 
-pub no-next : (size length : ℕ) (row : Image) (epoch : ℕ) (p : LogPosition) → p.at ≡ 0 → number_at 8 0 (row 0) ≢ epoch → next size length row epoch p ≡ None
+pub no-next : (format : Format) (length : ℕ) (row : Image) (epoch : ℕ) (p : LogPosition) → p.at ≡ 0 → number_at 8 0 (row 0) ≢ epoch → next format length row epoch p ≡ None
 unfolding next
-no-next size length row epoch p start other =
+no-next format length row epoch p start other =
     let parts = number_at 2 18 (row p.at) in
     let changes = number_at 2 20 (row p.at) in
-    let q : LogPosition = record { at = p.at + parts; number = p.number + 1; found = and_then p.found (λ before. with_record length row p.at changes before) } in
+    let q : LogPosition = record { at = p.at + parts; number = p.number + 1; found = and_then p.found (λ before. with_record format length row p.at changes before) } in
     let stand = parts_stand row p.at (record { epoch = epoch; number = p.number; part = 0; parts = parts; changes = changes }) parts in
     elim (cases_eq parts 0) [
-      | inl none ↦ no_parts parts changes (nat_le (p.at + parts) size) stand q none
-      | inr some ↦ no_record parts (parts_for changes) (nat_le (p.at + parts) size) stand q (absent parts some)
+      | inl none ↦ no_parts parts changes (nat_le (p.at + parts) (log_size format)) stand q none
+      | inr some ↦ no_record parts (parts_for changes) (nat_le (p.at + parts) (log_size format)) stand q (absent parts some)
     ]
   where
     no_parts : (parts changes : ℕ) (a b : Bool) (q : LogPosition) → parts ≡ 0 → (if (parts == parts_for changes) && a && b then Some q else None) ≡ None
@@ -219,28 +256,75 @@ no-next size length row epoch p start other =
     absent (suc n) some = first_part row p.at _ n (subst (λ (k : ℕ). number_at 8 0 (row (k + 0)) ≢ epoch) (sym start) other)
 
 -- With no record in it, the snapshot and the program are what stands.
-pub standing-none : (h : Header) (area text log : Image) → number_at 8 0 (log 0) ≢ h.epoch → durable_state_under h area text log ≡ standing (snapshot h.length area) (program_text h.length text) h.length
-unfolding durable_state_under run
-standing-none h area text log other =
-    let start : LogPosition = record { at = 0; number = 0; found = snapshot h.length area } in
-    let none = no-next log_size h.length log h.epoch start refl other in
-    λ i. standing (after_step (none i) (λ q. run 1023 log_size h.length log h.epoch q) start).found (program_text h.length text) h.length
+one-run : (n : ℕ) (format : Format) (length : ℕ) (log : Image) (epoch : ℕ) (p : LogPosition) → next format length log epoch p ≡ None → run n format length log epoch p ≡ p
+unfolding run
+one-run zero format length log epoch p none = refl
+one-run (suc n) format length log epoch p none = λ i. after_step (none i) (λ q. run n format length log epoch q) p
+
+pub standing-none : (h : Header) (area tools text log : Image) → number_at 8 0 (log 0) ≢ h.epoch → durable_state_under h area tools text log ≡ standing (snapshot h.format h.length area tools) (program_text h.length text) h.length
+unfolding durable_state_under
+standing-none h area tools text log other =
+    let start : LogPosition = record { at = 0; number = 0; found = snapshot h.format h.length area tools } in
+    let none = one-run (log_size_of h) h.format h.length log h.epoch start (no-next h.format h.length log h.epoch start refl other) in
+    λ i. standing (none i).found (program_text h.length text) h.length
 
 -- An image under this header that has no record of its epoch.
-pub stands-snapshot : (image : Image) (h : Header) → in_force image ≡ Some h → number_at 8 0 (image log_first) ≢ h.epoch → stands image ≡ standing (snapshot h.length (stretch (snapshot_first h.epoch) snapshot_size image)) (program_text h.length (stretch (program_first h.area) (program_size h.area) image)) h.length
-unfolding stands
+pub stands-snapshot : (image : Image) (h : Header) → in_force image ≡ Some h → number_at 8 0 (image log_first) ≢ h.epoch → stands image ≡ standing (snapshot h.format h.length (stretch (snapshot_first h.epoch) snapshot_size image) (stretch (tools_first h.epoch) tools_size image)) (program_text h.length (stretch (program_first h.area) (program_size h.area) image)) h.length
 stands-snapshot image h is other =
-    let first : stretch log_first log_size image 0 ≡ image (log_first + 0) = stretch-at log_first log_size image 0 (omega arith) in
-    (λ i. by_header (is i) (λ x. durable_state_under x (stretch (snapshot_first x.epoch) snapshot_size image) (stretch (program_first x.area) (program_size x.area) image) (stretch log_first log_size image)))
-    ∙ standing-none h (stretch (snapshot_first h.epoch) snapshot_size image) (stretch (program_first h.area) (program_size h.area) image) (stretch log_first log_size image) (λ e. other (ap (number_at 8 0) (sym first) ∙ e))
+    let first : stretch log_first (log_size_of h) image 0 ≡ image (log_first + 0) = stretch-at log_first (log_size_of h) image 0 (let short = log-short h.format in omega arith) in
+    under image h is
+    ∙ standing-none h (stretch (snapshot_first h.epoch) snapshot_size image) (stretch (tools_first h.epoch) tools_size image) (stretch (program_first h.area) (program_size h.area) image) (stretch log_first (log_size_of h) image) (λ e. other (ap (number_at 8 0) (sym first) ∙ e))
 
 -- Over an image that has no part of an epoch still to come, a newer header finds none of its own.
-pub none-of-new : (base : Image) (h : Header) → in_force base ≡ Some h → IsWritten base → (m : ℕ) → m < log_size → number_at 8 0 (base (log_first + m)) ≤ h.epoch
-none-of-new base h is written m lt = subst (λ (e : ℕ). number_at 8 0 (base (log_first + m)) ≤ e) (ap epoch_in_force is) (written-past base written m lt)
+pub none-of-new : (base : Image) (h : Header) → in_force base ≡ Some h → IsWritten base → (m : ℕ) → m < shortest_log → number_at 8 0 (base (log_first + m)) ≤ h.epoch
+none-of-new base h is written m lt = subst (λ (e : ℕ). number_at 8 0 (base (log_first + m)) ≤ e) (ap epoch_in_force is) (written.past m lt)
 
 -- and there is none of one to come after it
-pub written-new : (image base : Image) (h new : Header) → in_force base ≡ Some h → in_force image ≡ Some new → h.epoch ≤ new.epoch → IsWritten base → ((m : ℕ) → m < log_size → image (log_first + m) ≡ base (log_first + m)) → IsWritten image
-written-new image base h new is now later written same = is-written image (λ m lt.
-    let e : number_at 8 0 (image (log_first + m)) ≡ number_at 8 0 (base (log_first + m)) = ap (number_at 8 0) (same m lt) in
-    let below = none-of-new base h is written m lt in
-    subst (λ (x : ℕ). number_at 8 0 (image (log_first + m)) ≤ x) (sym (ap epoch_in_force now)) (omega arith))
+pub written-new : (image base : Image) (h new : Header) → in_force base ≡ Some h → in_force image ≡ Some new → h.epoch ≤ new.epoch → IsWritten base → ((m : ℕ) → m < shortest_log → image (log_first + m) ≡ base (log_first + m)) → IsWritten image
+written-new image base h new is now later written same = record {
+  past = λ m lt.
+      let e : number_at 8 0 (image (log_first + m)) ≡ number_at 8 0 (base (log_first + m)) = ap (number_at 8 0) (same m lt) in
+      let below = none-of-new base h is written m lt in
+      subst (λ (x : ℕ). number_at 8 0 (image (log_first + m)) ≤ x) (sym (ap epoch_in_force now)) (omega arith);
+}
+
+-- In format 1, where the log has no record, its last sectors decide nothing.
+no_tools : (f : Format) (length : ℕ) (row area other : Image) → f ≡ One → snapshot f length row area ≡ snapshot f length row other
+unfolding snapshot
+no_tools One length row area other is = refl
+no_tools Two length row area other is = absurd (cc)
+
+module _ (h : Header) (image base : Image) (is : in_force base ≡ Some h) (same : SameButTail h image base) where
+  tail-at : (n : ℕ) → n < 1706 → (IsSpare h n → ⊥) → image n ≡ base n
+  tail-at n lt decides = elim (same.each n) [ inl spare ↦ absurd (decides spare) | inr (inl tail) ↦ absurd (omega (arith, tail.from)) | inr (inr e) ↦ e ]
+
+  pub tail-force : in_force image ≡ Some h
+  tail-force = force-same image base (tail-at 0 (omega arith) (header_decides h 0 (omega arith))) (tail-at 1 (omega arith) (header_decides h 1 (omega arith))) ∙ is
+
+  tail-log : (m : ℕ) → m < shortest_log → image (log_first + m) ≡ base (log_first + m)
+  tail-log m lt = tail-at (log_first + m) (omega arith) (log_decides h m (let short = log-short h.format in omega arith))
+
+  pub tail-written : IsWritten base → IsWritten image
+  tail-written written = written-new image base h h is tail-force (omega arith) written tail-log
+
+  pub tail-stands : h.format ≡ One → number_at 8 0 (base log_first) ≢ h.epoch → stands image ≡ stands base
+  tail-stands one other =
+      let within = force-within base h is in
+      let area = stretch-same (snapshot_first h.epoch) snapshot_size image base (λ j lt. tail-at (snapshot_first h.epoch + j) (omega arith) (snapshot_decides h j lt)) in
+      let text = stretch-same (program_first h.area) (program_size h.area) image base (λ j lt. tail-at (program_first h.area + j) (let w = within.area in omega arith) (program_decides h j within.area lt)) in
+      let tools = no_tools h.format h.length (stretch (snapshot_first h.epoch) snapshot_size base) (stretch (tools_first h.epoch) tools_size image) (stretch (tools_first h.epoch) tools_size base) one in
+      let first : image log_first ≡ base log_first = tail-log 0 (omega arith) in
+      stands-snapshot image h tail-force (λ e. other (ap (number_at 8 0) (sym first) ∙ e))
+      ∙ (λ i. standing (snapshot h.format h.length (area i) (stretch (tools_first h.epoch) tools_size image)) (program_text h.length (text i)) h.length)
+      ∙ (λ i. standing (tools i) (program_text h.length (stretch (program_first h.area) (program_size h.area) base)) h.length)
+      ∙ sym (stands-snapshot base h is other)
+
+-- what stands beside a table, whatever that is
+pub modern-beside : (tools : List ℤ) (image : Image) → IsModern image → stands_beside tools image ≡ stands image
+unfolding stands_beside
+modern-beside tools image m = (λ i. beside_header tools (m.force i) (stands image)) ∙ by (stands image) m.header.format m.format
+  where
+    by : (x : Result DurableState Fault) (f : Format) → f ≡ Two → beside_header tools (Some (record m.header { format = f })) x ≡ x
+    by (Ok s) Two is = refl
+    by (Ok s) One is = absurd (cc)
+    by (Err e) f is = refl

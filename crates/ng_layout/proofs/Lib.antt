@@ -7,3 +7,4 @@ pub mod Snapshots
 pub mod Soundness
 pub mod Spares
 pub mod Tables
+pub mod ToolTables

@@ -6,7 +6,7 @@ use Rattle.byteorder.specs.Endian.{little_number, little_bytes}
 use Rattle.byteorder.specs.Numbers.{little_number-reads_back, length-bytes_low_first, little_from-take}
 use Rattle.std.specs.Int.{w64, cast_signed}
 use Rattle.ng_layout.specs.Fields.{number_at, signed_at, bytes_at, SameBelow, SameFrom, Puts}
-use Rattle.ng_layout.specs.StateField.{triple_at, kept_at, codes_at, half_at}
+use Rattle.ng_layout.specs.StateField.{triple_at, kept_at, codes_at, half_at, field_at}
 
 -- a number written to a part of a row that begins at a place
 module _ (w at x size : ℕ) (xs ys : List ℕ) (sized : length xs ≡ size) (room : at + w ≤ size) (is : ys ≡ little_bytes w x ++ drop w (mid_of at (size - at) xs)) where
@@ -147,6 +147,37 @@ half-below at old new s le =
     let place = triple-below 176 at old new s (omega arith) in
     let text = bytes-below 256 200 at old new s (omega arith) in
     λ i. record { source = source i; opened = opened i; at_known = known i; length = long i; index = index i; at = place i; text = text i }
+
+pub field-below : (at : ℕ) (old new : List ℕ) → SameBelow at old new → 456 ≤ at → field_at new ≡ field_at old
+unfolding field_at
+field-below at old new s le =
+    let entries = number-below 8 0 at old new s (omega arith) in
+    let place = number-below 8 8 at old new s (omega arith) in
+    let point = triple-below 16 at old new s (omega arith) in
+    let feed = number-below 8 40 at old new s (omega arith) in
+    let speed = number-below 8 48 at old new s (omega arith) in
+    let g92 = triple-below 56 at old new s (omega arith) in
+    let origin = triple-below 80 at old new s (omega arith) in
+    let tool = signed-below 104 at old new s (omega arith) in
+    let kept = kept-below at old new s (omega arith) in
+    let codes = codes-below at old new s (omega arith) in
+    let selected = number-below 2 158 at old new s (omega arith) in
+    let held = number-below 2 160 at old new s (omega arith) in
+    let half = half-below at old new s (omega arith) in
+    λ i. record { entries = entries i; place = place i; point = point i; feed = feed i; speed = speed i; g92 = g92 i; origin = origin i; tool_length = tool i; kept = kept i; codes = codes i; selected_slot = selected i; spindle_slot = held i; half = half i }
+
+-- the same of what stands from a place on
+pub below-drop : (o at : ℕ) (old new : List ℕ) → SameBelow (o + at) old new → SameBelow at (drop o old) (drop o new)
+below-drop o at old new s = record { same = sym (drop-take o at new) ∙ ap (λ (l : List ℕ). drop o l) s.same ∙ drop-take o at old }
+
+pub bytes-drop : (n o k : ℕ) (l : List ℕ) → bytes_at n (o + k) l ≡ bytes_at n k (drop o l)
+unfolding bytes_at
+bytes-drop n o k l =
+    let place : k + o ≡ o + k = omega arith in
+    ap (λ (x : List ℕ). take n x) (ap (λ (m : ℕ). drop m l) (sym place) ∙ sym (swap k o l))
+  where
+    swap : (k m : ℕ) (l : List ℕ) → drop k (drop m l) ≡ drop (k + m) l
+    swap k m l = let e : m + k ≡ k + m = omega arith in drop-drop k m l ∙ ap (λ (x : ℕ). drop x l) e
 
 -- bytes copied to a part of a row
 pub put-bytes : (n at : ℕ) (xs ys : List ℕ) → at + n ≤ length xs → length ys ≡ n → Puts (bytes_at n at) at (at + n) ys xs (put_mid at (at + n - at) xs ys)

@@ -1,13 +1,22 @@
 -- Rows of sectors that hold a table or a text, read as a whole.
-use Rattle.std.proofs.Common.{◌≡◌, ◌⊎◌, inl, inr, ℕ, zero, suc, ◌+◌, ◌*◌, ◌/◌, ◌%◌, ◌<◌, ◌≤◌, ◌&&◌, nat_le, Bool, true, false, List, map, length, get_or, ℤ, pos, unsigned_abs, Some, None, if◌then◌else◌, refl, sym, ◌∙◌, ap, subst, arith}
+use Rattle.std.proofs.Common.{◌≡◌, ◌⊎◌, inl, inr, ℕ, zero, suc, ◌+◌, ◌*◌, ◌/◌, ◌%◌, ◌<◌, ◌≤◌, ◌&&◌, nat_le, Bool, true, false, List, [], ◌∷◌, ◌++◌, map, take, length, get_or, ℤ, pos, unsigned_abs, Option, Some, None, if◌then◌else◌, refl, sym, ◌∙◌, ap, subst, arith}
 use Rattle.std.specs.List.{range_with_len, list_all}
 use Rattle.std.proofs.lemmas.Bool.Decides.{nat_tests}
 use Rattle.std.proofs.lemmas.List.FromFn.{fill_by_all}
 use Rattle.ng_num.specs.Range.{IsCount, greatest}
 use Rattle.ng_layout.specs.Fields.{signed_at}
-use Rattle.ng_layout.specs.Report.{and_then}
+use Rattle.ng_layout.specs.Fields.{number_at}
+use Rattle.ng_layout.specs.Report.{and_then, up_to}
+use Rattle.ng_offsets.specs.Tools.{IsToolLength}
+use Rattle.ng_layout.specs.Tools.{tool_length_of, lengths_in, tools_in}
+use Rattle.ng_layout.specs.declared.header.Format.{Format}
+use Rattle.ng_layout.specs.declared.header.Format.TheVariants.{One, Two}
+use Rattle.std.specs.List.{All}
+use Rattle.std.proofs.lemmas.List.{take_more, take_all}
+use Rattle.std.proofs.Common.{add-one}
+use Rattle.ng_layout.proofs.ToolTables.{length-back}
 use Rattle.ng_layout.specs.Sectors.{values, program_text, HoldsValues, TakesValues, IsBeyond, HoldsText}
-use Rattle.ng_layout.specs.Snapshot.{decoded_state_in, HoldsPart}
+use Rattle.ng_layout.specs.Snapshot.{decoded_state_in, HoldsPart, HoldsLengths, HoldsToolPart}
 use Rattle.ng_layout.proofs.Tables.{TableTo}
 use Rattle.ng_layout.specs.Stands.{all_counts, snapshot}
 use Rattle.ng_layout.specs.Stored.{StoredModel}
@@ -119,14 +128,45 @@ values-whole table row long each = table-whole table row (record {
     parts : (p : ℕ) → p ≡ 64 * (p / 64) + p % 64
     parts p = omega arith
 
--- A row whose sectors hold a snapshot's parts is that snapshot.
-pub snapshot-new : (saved : StoredModel) (row : Row) → length saved.setup.params ≡ 5399 → ((part : ℕ) → part < 86 → HoldsPart saved part (row part)) → snapshot saved.length row ≡ Some (record { report = decoded_state_in saved; params = saved.setup.params })
+-- Rows whose sectors hold a snapshot's parts and a tool area's are that snapshot.
+pub snapshot-new : (format : Format) (saved : StoredModel) (row area : Row) → length saved.setup.params ≡ 5399 → ((part : ℕ) → part < 86 → HoldsPart saved part (row part)) → tools_in format (row 0) area ≡ Some saved.tools
+    → snapshot format saved.length row area ≡ Some (record { report = decoded_state_in saved; params = saved.setup.params; tools = saved.tools })
 unfolding snapshot
-snapshot-new saved row long each =
+snapshot-new format saved row area long each table_is =
     let report = (each 0 (omega arith)).report refl in
     let table = values-whole saved.setup.params row long (λ i lt. (each (1 + i) (omega arith)).values i refl) in
     let counted : all_counts (values 5399 row) ≡ Some saved.setup.params = table.counted ∙ ap (λ (xs : List ℤ). Some xs) (sym table.is) in
-    λ i. and_then (report i) (λ r. and_then (counted i) (λ xs. Some (record { report = r; params = xs })))
+    λ i. and_then (report i) (λ r. and_then (counted i) (λ xs. and_then (table_is i) (λ tools. Some (record { report = r; params = xs; tools = tools }))))
+
+-- A tool area whose sectors hold a table is that table.
+module _ (tools : List ℤ) (area : Row) (each : (part : ℕ) → part < 2 → HoldsLengths tools (64 * part) (area part)) (long : All IsToolLength tools) (few : length tools ≤ 64) where
+  one-length : (n : ℕ) → n < length tools → tool_length_of (signed_at (8 * (n % 64)) (area (n / 64))) ≡ Some (get_or tools n (pos 0))
+  one-length n lt =
+      let is : signed_at (8 * (n % 64)) (area (n / 64)) ≡ get_or tools (64 * (n / 64) + n % 64) (pos 0) = (each (n / 64) (omega arith)).each (n % 64) (omega arith) (omega arith) in
+      let place : 64 * (n / 64) + n % 64 ≡ n = omega arith in
+      ap tool_length_of (is ∙ ap (λ (k : ℕ). get_or tools k (pos 0)) place) ∙ length-back (get_or tools n (pos 0)) (long n (pos 0) lt)
+
+  lengths-to : (n : ℕ) → n ≤ length tools → lengths_in area n ≡ Some (take n tools)
+  unfolding lengths_in
+  lengths-to zero le = refl
+  lengths-to (suc n) le =
+      let rest = lengths-to n (omega arith) in
+      let one = one-length n (omega arith) in
+      (λ i. and_then (rest i) (λ earlier. and_then (one i) (λ tool. Some (earlier ++ tool ∷ [])))) ∙ ap (λ (l : List ℤ). Some l) (sym (take_more tools n (pos 0) (omega arith)) ∙ ap (λ (k : ℕ). take k tools) (add-one n))
+
+  pub lengths-whole : lengths_in area (length tools) ≡ Some tools
+  lengths-whole = lengths-to (length tools) (omega arith) ∙ ap (λ (l : List ℤ). Some l) (take_all (length tools) tools (omega arith))
+
+up-to : (limit n : ℕ) → n ≤ limit → up_to limit n ≡ Some n
+up-to limit n le = grind (arith, nat_tests)
+
+-- what a format has of a table: none in format 1
+pub tools-new : (format : Format) (saved : StoredModel) (first : List ℕ) (area : Row) → number_at 2 456 first ≡ length saved.tools → length saved.tools ≤ 64 → All IsToolLength saved.tools → (format ≡ One → saved.tools ≡ []) → (format ≡ Two → (part : ℕ) → part < 2 → HoldsToolPart saved part (area part)) → tools_in format first area ≡ Some saved.tools
+tools-new One saved first area slots few long none parts = ap (λ (l : List ℤ). Some l) (sym (none refl))
+tools-new Two saved first area slots few long none parts =
+    (λ i. and_then (up_to 64 (slots i)) (λ n. lengths_in area n))
+    ∙ ap (λ (o : Option ℕ). and_then o (λ n. lengths_in area n)) (up-to 64 (length saved.tools) few)
+    ∙ lengths-whole saved.tools area (parts refl) long few
 
 -- A row whose sectors hold a text is that text.
 pub text-whole : (text : List ℕ) (row : Row) → ((j : ℕ) → 512 * j < length text → HoldsText text (512 * j) (row j)) → program_text (length text) row ≡ text

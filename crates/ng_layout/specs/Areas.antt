@@ -1,5 +1,8 @@
--- What lies where on a device: sectors 0 and 1 hold headers, then come two snapshot areas, two program areas, the log (own).
-use Rattle.std.specs.Prelude.{ℕ, ◌+◌, ◌-◌, ◌*◌, ◌%◌, Option, Some, None}
+-- What lies where on a device: sectors 0 and 1 hold headers, then come two snapshot areas, two program areas, the log; in format 2 the log
+-- is shorter, and two tool areas come after it (own).
+use Rattle.std.specs.Prelude.{ℕ, ◌+◌, ◌-◌, ◌*◌, ◌%◌}
+use Rattle.ng_layout.specs.declared.header.Format.{Format}
+use Rattle.ng_layout.specs.declared.header.Format.TheVariants.{One, Two}
 use Rattle.ng_layout.specs.declared.header.Header.{Header}
 
 -- how many sectors hold headers
@@ -34,19 +37,31 @@ spare_area area = 1 - area
 abbrev pub log_first : ℕ
 log_first = 686
 
+-- how many sectors the log of a format has
+abbrev pub log_size : Format → ℕ
+log_size One = 1024
+log_size Two = 1020
+
 -- the most sectors of a log
-abbrev pub log_size : ℕ
-log_size = 1024
+abbrev pub longest_log : ℕ
+longest_log = 1024
+
+-- how many sectors are the log's in each format
+abbrev pub shortest_log : ℕ
+shortest_log = 1020
 
 -- how many sectors a device needs
 abbrev pub least_size : ℕ
-least_size = log_first + log_size
+least_size = log_first + longest_log
 
--- how many sectors the log of this header's format has; each header is of format 1, whose log has the most
+-- how many sectors the log of this header's format has
 abbrev pub log_size_of : Header → ℕ
-log_size_of h = log_size
+log_size_of h = log_size h.format
 
--- how many sectors the log of the header in force has; where none is, the most
-abbrev pub log_size_under : Option Header → ℕ
-log_size_under None = log_size
-log_size_under (Some h) = log_size_of h
+-- how many sectors a tool area has, in format 2
+abbrev pub tools_size : ℕ
+tools_size = 2
+
+-- the first sector of the tool area of an epoch
+abbrev pub tools_first : ℕ → ℕ
+tools_first epoch = log_first + shortest_log + tools_size * (epoch % 2)

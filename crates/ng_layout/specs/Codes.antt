@@ -16,6 +16,8 @@ use Rattle.ng_state.specs.declared.modes.Retract.{Retract}
 use Rattle.ng_state.specs.declared.modes.Retract.TheVariants.{OldZ, ToR}
 use Rattle.ng_state.specs.declared.modes.PathMode.{PathMode}
 use Rattle.ng_state.specs.declared.modes.PathMode.TheVariants.{Exact, ExactStop, Continuous}
+use Rattle.ng_layout.specs.declared.header.Format.{Format}
+use Rattle.ng_layout.specs.declared.header.Format.TheVariants.{One, Two}
 use Rattle.ng_layout.specs.declared.half.Source.{Source}
 use Rattle.ng_layout.specs.declared.half.Source.TheVariants.{Program, Mdi}
 use Rattle.ng_layout.specs.declared.half.Opened.{Opened}
@@ -25,6 +27,14 @@ use Rattle.ng_layout.specs.declared.half.Opened.TheVariants.{Segment, Approach}
 abbrev pub among : {X : Type 0} → List (ℕ × X) → ℕ → Option X
 among [] code = None
 among (entry ∷ entries) code = if code == entry.0 then Some entry.1 else among entries code
+
+-- the format of a device
+abbrev pub format_of : ℕ → Option Format
+format_of code = among ((1, One) ∷ (2, Two) ∷ []) code
+
+abbrev pub code_of_format : Format → ℕ
+code_of_format One = 1
+code_of_format Two = 2
 
 abbrev pub motion_of : ℕ → Option Motion
 motion_of code = among ((0, Traverse) ∷ (1, Feed) ∷ (2, ClockwiseArc) ∷ (3, CounterclockwiseArc) ∷ (80, Off) ∷ (81, Drilling) ∷ (82, DrillingWithDwell) ∷ (83, PeckDrilling) ∷ (85, Boring) ∷ (86, BoringWithStop) ∷ (89, BoringWithDwell) ∷ []) code

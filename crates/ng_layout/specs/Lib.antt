@@ -14,5 +14,6 @@ pub mod Stands
 pub mod StateField
 pub mod Storable
 pub mod Stored
+pub mod Tools
 pub mod Writing
 pub mod Private

@@ -13,6 +13,21 @@ longest_program = 131_072
 abbrev pub greatest_slot : ℕ
 greatest_slot = 64
 
+-- how many tool lengths a sector holds
+abbrev pub sector_lengths : ℕ
+sector_lengths = 64
+
+-- the byte of a snapshot's first sector at which the number of slots stands
+abbrev pub slots_at : ℕ
+slots_at = 456
+
+-- the bytes of a record's first part at which the slot that changes stands, and its length
+abbrev pub slot_at : ℕ
+slot_at = 488
+
+abbrev pub slot_length_at : ℕ
+slot_length_at = 496
+
 -- of the bytes of a half-done block's text
 abbrev pub longest_text : ℕ
 longest_text = 256

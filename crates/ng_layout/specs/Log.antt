@@ -3,7 +3,10 @@ use Rattle.std.specs.Prelude.{ℕ, zero, suc, ◌+◌, ◌-◌, ◌*◌, ◌/◌
 use Rattle.ng_params.specs.Numbers.{index_of}
 use Rattle.ng_params.specs.Changes.{with_changes}
 use Rattle.ng_params.specs.declared.change.Change.{Change}
+use Rattle.ng_layout.specs.Areas.{log_size}
 use Rattle.ng_layout.specs.Limits.{content_first, change_size, part_changes}
+use Rattle.ng_layout.specs.Tools.{tools_after}
+use Rattle.ng_layout.specs.declared.header.Format.{Format}
 use Rattle.ng_layout.specs.Fields.{number_at, signed_at}
 use Rattle.ng_layout.specs.StateField.{field_at}
 use Rattle.ng_layout.specs.Report.{and_then, count_of, decoded_state_of}
@@ -34,10 +37,11 @@ unfoldable pub changes_of : (ℕ → List ℕ) → ℕ → ℕ → Option (List 
 changes_of row at zero = Some []
 changes_of row at (suc n) = and_then (changes_of row at n) (λ earlier. and_then (change_at (row (at + 1 + n / part_changes)) (content_first + change_size * (n % part_changes))) (λ change. Some (earlier ++ change ∷ [])))
 
--- a report with the parameters beside it
+-- a report with the parameters and the tools beside it
 pub record ReplayState : Type 0 where
   pub report : DecodedStateModel
   pub params : List ℤ
+  pub tools : List ℤ
 
 -- where a record begins, its number, and what was found before it; nothing where that is damaged
 pub record LogPosition : Type 0 where
@@ -45,22 +49,23 @@ pub record LogPosition : Type 0 where
   pub number : ℕ
   pub found : Option ReplayState
 
--- what is found with a record: its state field, and the parameters with its changes
-abbrev pub with_record : ℕ → (ℕ → List ℕ) → ℕ → ℕ → ReplayState → Option ReplayState
-with_record length row at changes before =
-    and_then (decoded_state_of length (field_at (drop content_first (row at)))) (λ report. and_then (changes_of row at changes) (λ made. Some (record { report = report; params = with_changes before.params made })))
+-- what is found with a record: its state field, and the parameters and the tools with its changes
+abbrev pub with_record : Format → ℕ → (ℕ → List ℕ) → ℕ → ℕ → ReplayState → Option ReplayState
+with_record format length row at changes before =
+    and_then (decoded_state_of length (field_at (drop content_first (row at)))) (λ report. and_then (changes_of row at changes) (λ made. and_then (tools_after format (row at) before.tools) (λ tools.
+    Some (record { report = report; params = with_changes before.params made; tools = tools }))))
 
 -- how many parts a record of so many changes has
 abbrev pub parts_for : ℕ → ℕ
 parts_for changes = 1 + (changes + (part_changes - 1)) / part_changes
 
--- the place after the record that begins here, where it is complete and within a log of so many sectors
-unfoldable pub next : ℕ → ℕ → (ℕ → List ℕ) → ℕ → LogPosition → Option LogPosition
-next size length row epoch p =
+-- the place after the record that begins here, where it is complete and within the log of its format
+unfoldable pub next : Format → ℕ → (ℕ → List ℕ) → ℕ → LogPosition → Option LogPosition
+next format length row epoch p =
     let parts = number_at 2 18 (row p.at) in
     let changes = number_at 2 20 (row p.at) in
-    if (parts == parts_for changes) && nat_le (p.at + parts) size && parts_stand row p.at (record { epoch = epoch; number = p.number; part = 0; parts = parts; changes = changes }) parts
-    then Some (record { at = p.at + parts; number = p.number + 1; found = and_then p.found (λ before. with_record length row p.at changes before) })
+    if (parts == parts_for changes) && nat_le (p.at + parts) (log_size format) && parts_stand row p.at (record { epoch = epoch; number = p.number; part = 0; parts = parts; changes = changes }) parts
+    then Some (record { at = p.at + parts; number = p.number + 1; found = and_then p.found (λ before. with_record format length row p.at changes before) })
     else None
 
 abbrev pub after_step : Option LogPosition → (LogPosition → LogPosition) → LogPosition → LogPosition
@@ -68,6 +73,6 @@ after_step None go p = p
 after_step (Some q) go p = go q
 
 -- the place after at most so many complete records
-unfoldable pub run : ℕ → ℕ → ℕ → (ℕ → List ℕ) → ℕ → LogPosition → LogPosition
-run zero size length row epoch p = p
-run (suc n) size length row epoch p = after_step (next size length row epoch p) (λ q. run n size length row epoch q) p
+unfoldable pub run : ℕ → Format → ℕ → (ℕ → List ℕ) → ℕ → LogPosition → LogPosition
+run zero format length row epoch p = p
+run (suc n) format length row epoch p = after_step (next format length row epoch p) (λ q. run n format length row epoch q) p

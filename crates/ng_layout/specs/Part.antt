@@ -1,9 +1,10 @@
 -- What a part of a record holds, as it is written and as it is read (own).
-use Rattle.std.specs.Prelude.{◌≡◌, ◌+◌, ◌-◌, ◌*◌, ℕ, zero, suc, Bool, true, List, [], ◌∷◌, ◌++◌, length, take, drop, ℤ, Option, Some, None, MatchBool}
+use Rattle.std.specs.Prelude.{◌≡◌, ◌+◌, ◌-◌, ◌*◌, ℕ, zero, suc, Bool, true, List, [], ◌∷◌, ◌++◌, length, take, drop, ℤ, pos, Option, Some, None, MatchBool}
 use Rattle.ng_params.specs.Changes.{with_changes}
 use Rattle.ng_params.specs.declared.change.Change.{Change}
-use Rattle.ng_layout.specs.Limits.{label_size, content_first, content_size, change_size, part_changes}
-use Rattle.ng_layout.specs.Fields.{number_at, AreZero}
+use Rattle.ng_offsets.specs.declared.tools.SlotChange.{SlotChange}
+use Rattle.ng_layout.specs.Limits.{sector_size, label_size, content_first, content_size, change_size, part_changes, slot_at, slot_length_at}
+use Rattle.ng_layout.specs.Fields.{number_at, signed_at, AreZero}
 use Rattle.ng_layout.specs.StateField.{field_at}
 use Rattle.ng_layout.specs.Report.{and_then, decoded_state_of}
 use Rattle.ng_layout.specs.Log.{PartHeader, is_part, change_at}
@@ -33,10 +34,23 @@ pub record HoldsLabel (l : PartHeader) (sector : List ℕ) : Type 0 where
   pub is : is_part l sector ≡ true
   pub gap : AreZero (content_first - label_size) label_size sector
 
--- Its content is the state field of what is stored, which says that again.
-pub record HoldsState (saved : StoredModel) (sector : List ℕ) : Type 0 where
-  pub field : HoldsDecodedState (decoded_state_in saved) content_size (drop content_first sector)
+-- the number of the slot that changes, and the length that it takes; 0 where none does
+abbrev pub slot_number : Option SlotChange → ℕ
+slot_number None = 0
+slot_number (Some change) = change.slot
+
+abbrev pub slot_length : Option SlotChange → ℤ
+slot_length None = pos 0
+slot_length (Some change) = change.length
+
+-- Its content is the state field of what is stored, which says that again, and the slot that changes, with 0 in each byte that none of these names.
+pub record HoldsState (saved : StoredModel) (change : Option SlotChange) (sector : List ℕ) : Type 0 where
+  pub field : HoldsDecodedState (decoded_state_in saved) (drop content_first sector)
   pub report : decoded_state_of saved.length (field_at (drop content_first sector)) ≡ Some (decoded_state_in saved)
+  pub slot : number_at 2 slot_at sector ≡ slot_number change
+  pub tool : signed_at slot_length_at sector ≡ slot_length change
+  pub between : AreZero (slot_length_at - (slot_at + 2)) (slot_at + 2) sector
+  pub rest : AreZero (sector_size - (slot_length_at + 8)) (slot_length_at + 8) sector
 
 -- Its content is these changes, which are read again, and 0 in each byte after the last one.
 pub record HoldsChanges (changes : List Change) (sector : List ℕ) : Type 0 where
@@ -44,9 +58,9 @@ pub record HoldsChanges (changes : List Change) (sector : List ℕ) : Type 0 whe
   pub rest : AreZero (content_size - change_size * length changes) (content_first + change_size * length changes) sector
 
 -- The sector is written with this part of a record: the state field in the first one, its piece of all changes in each other.
-pub record HoldsRecordPart (l : PartHeader) (saved : StoredModel) (all : List Change) (sector : List ℕ) : Type 0 where
+pub record HoldsRecordPart (l : PartHeader) (saved : StoredModel) (all : List Change) (change : Option SlotChange) (sector : List ℕ) : Type 0 where
   pub label : HoldsLabel l sector
-  pub state : l.part ≡ 0 → HoldsState saved sector
+  pub state : l.part ≡ 0 → HoldsState saved change sector
   pub changes : (i : ℕ) → l.part ≡ 1 + i → HoldsChanges (piece i all) sector
 
 -- the first n changes of a part are made in a table

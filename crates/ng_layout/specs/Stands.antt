@@ -1,5 +1,5 @@
 -- What an image of a device stands for (own).
-use Rattle.std.specs.Prelude.{ℕ, ◌+◌, ◌<◌, ◌≤◌, nat_lt, nat_le, List, [], ℤ, unsigned_abs, Option, Some, None, is_some, Result, Ok, Err, if◌then◌else◌}
+use Rattle.std.specs.Prelude.{◌≡◌, ℕ, ◌+◌, ◌<◌, ◌≤◌, nat_lt, nat_le, List, [], ℤ, unsigned_abs, Option, Some, None, is_some, Result, Ok, Err, if◌then◌else◌}
 use Rattle.std.specs.Option.{option_map}
 use Rattle.std.specs.List.{list_all}
 use Rattle.ng_num.specs.Range.{greatest}
@@ -12,9 +12,12 @@ use Rattle.ng_layout.specs.declared.header.Header.{Header}
 use Rattle.ng_layout.specs.Header.{header_in}
 use Rattle.ng_layout.specs.Report.{and_then, decoded_state_of}
 use Rattle.ng_layout.specs.Sectors.{values, program_text}
-use Rattle.ng_layout.specs.Areas.{snapshot_size, snapshot_first, program_size, program_first, log_first, log_size_of, log_size_under}
+use Rattle.ng_layout.specs.Areas.{snapshot_size, snapshot_first, tools_size, tools_first, program_size, program_first, log_first, log_size_of, shortest_log}
+use Rattle.ng_layout.specs.Tools.{tools_in}
+use Rattle.ng_layout.specs.declared.header.Format.{Format}
+use Rattle.ng_layout.specs.declared.header.Format.TheVariants.{One, Two}
 use Rattle.ng_layout.specs.Log.{ReplayState, run}
-use Rattle.ng_layout.specs.Stored.{HalfModel, DurableState}
+use Rattle.ng_layout.specs.Stored.{HalfModel, StoredModel, DurableState}
 
 -- so many sectors of an image from the first on, and nothing past them
 unfoldable pub stretch : ℕ → ℕ → (ℕ → List ℕ) → ℕ → List ℕ
@@ -34,37 +37,64 @@ in_force image = newer (header_in 0 (image 0)) (header_in 1 (image 1))
 abbrev pub all_counts : List ℤ → Option (List ℤ)
 all_counts params = if list_all (λ n. nat_le (unsigned_abs n) greatest) params then Some params else None
 
--- what a snapshot says
-unfoldable pub snapshot : ℕ → (ℕ → List ℕ) → Option ReplayState
-snapshot length row = and_then (decoded_state_of length (field_at (row 0))) (λ report. and_then (all_counts (values parameter_count row)) (λ params. Some (record { report = report; params = params })))
+-- what a snapshot and its tool area say
+unfoldable pub snapshot : Format → ℕ → (ℕ → List ℕ) → (ℕ → List ℕ) → Option ReplayState
+snapshot format length row area =
+    and_then (decoded_state_of length (field_at (row 0))) (λ report. and_then (all_counts (values parameter_count row)) (λ params. and_then (tools_in format (row 0) area) (λ tools.
+    Some (record { report = report; params = params; tools = tools }))))
 
 -- what was found, with the program
 abbrev pub standing : Option ReplayState → List ℕ → ℕ → Result DurableState Fault
 standing None program length = Err Damaged
 standing (Some f) program length = Ok (record {
-  saved = record { entries = f.report.entries; setup = record { params = f.params; machine = f.report.machine }; place = f.report.place; length = length; half = f.report.half };
+  saved = record { entries = f.report.entries; setup = record { params = f.params; machine = f.report.machine }; tools = f.tools; place = f.report.place; length = length; half = f.report.half };
   program = program;
 })
 
--- what a header, its snapshot, its program and the log stand for
-unfoldable pub durable_state_under : Header → (ℕ → List ℕ) → (ℕ → List ℕ) → (ℕ → List ℕ) → Result DurableState Fault
-durable_state_under h area text log = standing (run (log_size_of h) (log_size_of h) h.length log h.epoch (record { at = 0; number = 0; found = snapshot h.length area })).found (program_text h.length text) h.length
+-- what a header, its snapshot, its tool area, its program and the log stand for
+unfoldable pub durable_state_under : Header → (ℕ → List ℕ) → (ℕ → List ℕ) → (ℕ → List ℕ) → (ℕ → List ℕ) → Result DurableState Fault
+durable_state_under h area tools text log =
+    standing (run (log_size_of h) h.format h.length log h.epoch (record { at = 0; number = 0; found = snapshot h.format h.length area tools })).found (program_text h.length text) h.length
 
 abbrev pub by_header : Option Header → (Header → Result DurableState Fault) → Result DurableState Fault
 by_header None f = Err NotFormatted
 by_header (Some h) f = f h
 
+-- what an image stands for by itself: a device of format 1 has no tool table
 unfoldable pub stands : (ℕ → List ℕ) → Result DurableState Fault
-stands image = by_header (in_force image) (λ h. durable_state_under h (stretch (snapshot_first h.epoch) snapshot_size image) (stretch (program_first h.area) (program_size h.area) image) (stretch log_first (log_size_of h) image))
+stands image = by_header (in_force image) (λ h. durable_state_under h (stretch (snapshot_first h.epoch) snapshot_size image) (stretch (tools_first h.epoch) tools_size image) (stretch (program_first h.area) (program_size h.area) image) (stretch log_first (log_size_of h) image))
 
 -- the epoch in force, 0 where none is
 abbrev pub epoch_in_force : Option Header → ℕ
 epoch_in_force None = 0
 epoch_in_force (Some h) = h.epoch
 
--- No part in the log of the header in force is of an epoch that is still to come. Each image that the journal leaves is such.
+-- a table beside what is stored in a format that has none
+abbrev pub saved_beside : List ℤ → Format → StoredModel → StoredModel
+saved_beside tools One s = record s { tools = tools }
+saved_beside tools Two s = s
+
+abbrev pub beside_format : List ℤ → Format → DurableState → DurableState
+beside_format tools format s = record s { saved = saved_beside tools format s.saved }
+
+abbrev pub beside_header : List ℤ → Option Header → Result DurableState Fault → Result DurableState Fault
+beside_header tools None x = x
+beside_header tools (Some h) (Ok s) = Ok (beside_format tools h.format s)
+beside_header tools (Some h) (Err e) = Err e
+
+-- what an image stands for beside the table of the settings, which counts where the header in force is of format 1
+unfoldable pub stands_beside : List ℤ → (ℕ → List ℕ) → Result DurableState Fault
+stands_beside tools image = beside_header tools (in_force image) (stands image)
+
+-- The header in force is of format 2, so no table of the settings counts.
+pub record IsModern (image : ℕ → List ℕ) : Type 0 where
+  pub header : Header
+  pub force : in_force image ≡ Some header
+  pub format : header.format ≡ Two
+
+-- No part in the sectors that are the log's in each format is of an epoch that is still to come. Each image that the journal leaves is such.
 pub record IsWritten (image : ℕ → List ℕ) : Type 0 where
-  pub past : (m : ℕ) → m < log_size_under (in_force image) → number_at 8 0 (image (log_first + m)) ≤ epoch_in_force (in_force image)
+  pub past : (m : ℕ) → m < shortest_log → number_at 8 0 (image (log_first + m)) ≤ epoch_in_force (in_force image)
 
 -- nothing open: where something was, it isn't known where the machine stands
 abbrev pub closed : HalfModel → HalfModel

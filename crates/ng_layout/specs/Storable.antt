@@ -1,8 +1,11 @@
 -- What can be stored: the states that an interpreter reaches (own).
-use Rattle.std.specs.Prelude.{◌≡◌, ◌≤◌, ◌≤ℤ◌, pos, length, IsSome, IsNone, IfSome}
+use Rattle.std.specs.Prelude.{◌≡◌, ◌≤◌, ◌≤ℤ◌, ℤ, pos, List, length, IsSome, IsNone, IfSome}
+use Rattle.std.specs.List.{All}
 use Rattle.ng_state.specs.declared.machine.Machine.{Machine}
 use Rattle.ng_layout.specs.Limits.{greatest_slot, longest_text, longest_program}
 use Rattle.ng_params.specs.Numbers.{parameter_count}
+use Rattle.ng_offsets.specs.Tools.{AreTools, IsSlotChange, IsToolLength}
+use Rattle.ng_offsets.specs.declared.tools.SlotChange.{SlotChange}
 use Rattle.ng_layout.specs.Stored.{HalfModel, StoredModel}
 
 -- feed and speed aren't negative, and slots have their numbers
@@ -17,8 +20,19 @@ pub record IsStorableHalf (half : HalfModel) : Type 0 where
   pub unknown : IsSome half.opened → IsNone half.at
   pub text : length half.text ≤ longest_text
 
+-- no more slots than there may be, each of a length within its limits
+abbrev pub IsStorableTools : List ℤ → Type 0
+IsStorableTools tools = AreTools tools
+
+-- a change of a table that can be stored
+pub record IsStorableChange (tools : List ℤ) (change : SlotChange) : Type 0 where
+  pub slot : IsSlotChange tools change
+  pub most : change.slot ≤ greatest_slot
+  pub tool : IsToolLength change.length
+
 pub record IsStorable (saved : StoredModel) : Type 0 where
   pub table : length saved.setup.params ≡ parameter_count
+  pub tools : IsStorableTools saved.tools
   pub machine : IsStorableMachine saved.setup.machine
   pub half : IfSome saved.half IsStorableHalf
   pub place : saved.place ≤ saved.length

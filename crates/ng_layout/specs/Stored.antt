@@ -1,5 +1,5 @@
 -- What is stored of a controller (own).
-use Rattle.std.specs.Prelude.{ℕ, List, Option, None}
+use Rattle.std.specs.Prelude.{ℕ, ℤ, List, [], Option, None}
 use Rattle.ng_num.specs.declared.point.Point.{Point}
 use Rattle.ng_state.specs.State.{StateModel, fresh as fresh_setup}
 use Rattle.ng_state.specs.declared.machine.Machine.{Machine}
@@ -25,16 +25,18 @@ pub record DecodedStateModel : Type 0 where
 pub record StoredModel : Type 0 where
   pub entries : ℕ
   pub setup : StateModel
+  -- the lengths of slots 1, 2 and so on
+  pub tools : List ℤ
   pub place : ℕ
   pub length : ℕ
   pub half : Option HalfModel
 
 abbrev pub fresh_stored : StoredModel
-fresh_stored = record { entries = 0; setup = fresh_setup; place = 0; length = 0; half = None }
+fresh_stored = record { entries = 0; setup = fresh_setup; tools = []; place = 0; length = 0; half = None }
 
--- what a state field says beside parameters and the length of a program
+-- what a state field says beside parameters, tools and the length of a program
 abbrev pub with_decoded_state : StoredModel → DecodedStateModel → ℕ → StoredModel
-with_decoded_state s r length = record { entries = r.entries; setup = record { params = s.setup.params; machine = r.machine }; place = r.place; length = length; half = r.half }
+with_decoded_state s r length = record { entries = r.entries; setup = record { params = s.setup.params; machine = r.machine }; tools = s.tools; place = r.place; length = length; half = r.half }
 
 -- all of it
 pub record DurableState : Type 0 where

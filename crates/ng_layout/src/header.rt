@@ -1,16 +1,13 @@
 //! The header of an epoch: what names the snapshot and the program in force.
 ghost use Rattle.std.specs.Prelude.{◌≡◌, ◌≤◌, IfSome};
 
-use crate::areas::{GREATEST_AREA, LONGEST_LOG};
+use crate::areas::{GREATEST_AREA, LONGEST_LOG, SHORTEST_LOG};
 use crate::bytes::{get_u32, get_u64, put_u32, put_u64};
 use crate::report::GREATEST_COUNT;
 use crate::sectors::BYTES;
 
 /// The text that a header begins with.
 const MAGIC: &[u8; 8] = b"RS274NGC";
-
-/// The format of the device.
-const FORMAT: u32 = 1;
 
 /// The bytes at which its numbers begin.
 const FORMAT_AT: usize = 8;
@@ -24,9 +21,54 @@ const LENGTH_AT: usize = 32;
 /// The most bytes of a program.
 pub const LONGEST_PROGRAM: u64 = 131_072;
 
+/// The format of a device.
+#[derive(Clone, Copy, Debug, PartialEq, Eq)]
+pub enum Format {
+    /// Without a tool table: it is only read, and made into the other when power comes on.
+    One,
+    /// With a tool table.
+    Two,
+}
+
+impl Format {
+    ghost use Rattle.ng_layout.specs.Areas.{log_size, longest_log};
+    ghost use Rattle.ng_layout.specs.Codes.{format_of, code_of_format};
+
+    fn of(number: u32) -> Option<Format>
+        ensures { result ≡ format_of number }
+    {
+        match number {
+            1 => Some(Format::One),
+            2 => Some(Format::Two),
+            _ => None,
+        }
+    }
+
+    fn number(self) -> u32
+        ensures { result ≡ code_of_format self }
+    {
+        match self {
+            Format::One => 1,
+            Format::Two => 2,
+        }
+    }
+
+    /// How many sectors its log has, from `LOG_FIRST` on.
+    pub fn log_size(self) -> usize
+        ensures value { result ≡ log_size self }
+        ensures most { result ≤ longest_log }
+    {
+        match self {
+            Format::One => LONGEST_LOG,
+            Format::Two => SHORTEST_LOG,
+        }
+    }
+}
+
 /// The header of an epoch (own).
 #[derive(Clone, Copy, Debug, PartialEq, Eq)]
 pub struct Header {
+    pub format: Format,
     /// 1 to 1,000,000,000,000.
     pub epoch: u64,
     /// The program area in force, 0 or 1.
@@ -37,7 +79,7 @@ pub struct Header {
 
 impl Header {
     ghost use Rattle.ng_layout.specs.Header.{is_valid_header, header_in, IsValidHeader, HoldsHeader};
-    ghost use Rattle.ng_layout.specs.Areas.{log_size, log_size_of};
+    ghost use Rattle.ng_layout.specs.Areas.{longest_log, log_size_of};
 
     /// The header that sector `k` holds; none where it isn't valid.
     #[tactic(auto, unfolding(crate::specs::Header::header_in, crate::specs::Header::header_at, crate::specs::Header::is_marked))]
@@ -45,9 +87,9 @@ impl Header {
         ensures value { result ≡ header_in k sector.now }
         ensures lawful { IfSome result IsValidHeader }
     {
-        let is_marked = get_u64(sector, 0) == get_u64(MAGIC, 0)
-            && get_u32(sector, FORMAT_AT) == FORMAT;
+        let is_marked = get_u64(sector, 0) == get_u64(MAGIC, 0);
         let header = Header {
+            format: Format::of(get_u32(sector, FORMAT_AT))?,
             epoch: get_u64(sector, EPOCH_AT),
             area: get_u64(sector, AREA_AT),
             length: get_u64(sector, LENGTH_AT),
@@ -68,12 +110,12 @@ impl Header {
             && self.length <= LONGEST_PROGRAM
     }
 
-    /// How many sectors its log has, from `LOG_FIRST` on: `LONGEST_LOG` in the one format that there is.
+    /// How many sectors its log has, from `LOG_FIRST` on.
     pub fn log_size(self) -> usize
         ensures value { result ≡ log_size_of self }
-        ensures most { result ≤ log_size }
+        ensures most { result ≤ longest_log }
     {
-        LONGEST_LOG
+        self.format.log_size()
     }
 
     /// The sector that holds it, in which what it doesn't name is 0.
@@ -82,7 +124,7 @@ impl Header {
     {
         let mut sector = [0; BYTES];
         put_u64(&mut sector, 0, get_u64(MAGIC, 0));
-        put_u32(&mut sector, FORMAT_AT, FORMAT);
+        put_u32(&mut sector, FORMAT_AT, self.format.number());
         put_u64(&mut sector, EPOCH_AT, self.epoch);
         put_u64(&mut sector, AREA_AT, self.area);
         put_u64(&mut sector, LENGTH_AT, self.length);

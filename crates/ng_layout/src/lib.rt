@@ -16,18 +16,20 @@ mod part;
 mod report;
 mod sectors;
 mod stored;
+mod tools;
 mod writing;
 
 pub use areas::{
-    HEADERS, LEAST_SIZE, LOG_FIRST, LONGEST_LOG, SNAPSHOT_SIZE, program_first, snapshot_first,
-    spare_area,
+    HEADERS, LEAST_SIZE, LOG_FIRST, LONGEST_LOG, SHORTEST_LOG, SNAPSHOT_SIZE, TOOLS_SIZE,
+    program_first, snapshot_first, spare_area, tools_first,
 };
 pub use field::{CodeField, HalfField, KeptField, StateField, Triple};
 pub use half::{Half, LONGEST_TEXT, Opened, Source, text_from};
-pub use header::{Header, LONGEST_PROGRAM};
+pub use header::{Format, Header, LONGEST_PROGRAM};
 pub use part::{
     CHANGES, PartLabel, changes_part, decoded_state_of_part, first_part, parts_for, take_changes,
 };
 pub use report::{DecodedState, GREATEST_COUNT};
 pub use sectors::{BYTES, VALUES, take_values, text_sector};
 pub use stored::{Stored, fresh_sector};
+pub use tools::{take_area, take_slot};

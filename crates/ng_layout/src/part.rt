@@ -2,11 +2,12 @@
 //!
 //! A record holds the whole state field in its first part, and its changes of parameters in the others, as many
 //! in each but the last as it has room for. Each part begins with the same label but for its own number.
-ghost use Rattle.std.specs.Prelude.{◌≡◌, ◌≤◌, ◌+◌, length, drop, replicate, IfSome};
-ghost use Rattle.ng_layout.specs.Limits.{greatest_count, sector_size, label_size, content_first, change_size, part_changes, record_changes, record_parts};
-ghost use Rattle.ng_layout.specs.Fields.{bytes_at, SameBelow, SameFrom, Puts};
+ghost use Rattle.std.specs.Prelude.{◌≡◌, ◌≤◌, ◌+◌, ◌-◌, length, drop, replicate, IfSome};
+ghost use Rattle.ng_num.specs.Range.{IsCount};
+ghost use Rattle.ng_layout.specs.Limits.{greatest_count, sector_size, label_size, content_first, change_size, part_changes, record_changes, record_parts, slot_at, slot_length_at};
+ghost use Rattle.ng_layout.specs.Fields.{number_at, signed_at, bytes_at, SameBelow, SameFrom, Puts};
 ghost use Rattle.ng_layout.specs.Log.{is_part, change_at, parts_for};
-ghost use Rattle.ng_layout.specs.Part.{label_of, label_at, HoldsLabel, HoldsState, HoldsChanges, MakesOrDamaged};
+ghost use Rattle.ng_layout.specs.Part.{label_of, label_at, slot_number, slot_length, HoldsLabel, HoldsState, HoldsChanges, MakesOrDamaged};
 ghost use Rattle.ng_layout.specs.Report.{decoded_state_of};
 ghost use Rattle.ng_layout.specs.Sound.{IsSound};
 ghost use Rattle.ng_layout.specs.StateField.{free_byte, field_size, field_at};
@@ -18,6 +19,7 @@ use crate::report::DecodedState;
 use crate::sectors::BYTES;
 use crate::stored::Stored;
 use ng_num::Num;
+use ng_offsets::SlotChange;
 use ng_params::{Change, Index, Params};
 use std::alloc::Allocator;
 
@@ -43,6 +45,11 @@ const CHANGES_AT: usize = 20;
 
 /// The byte of a change at which its value begins.
 const VALUE_AT: usize = 2;
+
+/// The bytes of a first part at which the slot that changes stands, and its length.
+const SLOT_AT: usize = 488;
+
+const SLOT_LENGTH_AT: usize = 496;
 
 /// What a part says of itself (own).
 #[derive(Clone, Copy, Debug, PartialEq, Eq)]
@@ -109,16 +116,47 @@ pub fn parts_for(changes: usize) -> usize
     1 + (changes + CHANGES - 1) / CHANGES
 }
 
-/// The first part of a record of what is stored, in which what no field names is 0; its label says part 0. It takes no memory.
-pub fn first_part<A: Allocator + Copy + Drop>(label: PartLabel, stored: &Stored<A>) -> [u8; BYTES]
+/// The first part of a record of what is stored, and of the slot that changes with it, in which what no field names is 0; its label says
+/// part 0. It takes no memory.
+pub fn first_part<A: Allocator + Copy + Drop>(
+    label: PartLabel,
+    stored: &Stored<A>,
+    change: Option<SlotChange>,
+) -> [u8; BYTES]
     requires count { stored.now.entries ≤ greatest_count }
     requires storable { IsStorable stored.now }
     ensures label { HoldsLabel (label_of label) result }
-    ensures state { HoldsState stored.now result }
+    ensures state { HoldsState stored.now change result }
 {
     let mut sector = label.sector();
     put_content(&mut sector, &stored.field());
+    put_change(&mut sector, change);
     sector
+}
+
+/// Puts the slot that changes after a state field, and its length; 0 where none does. All before it stays.
+fn put_change(sector: &mut [u8; BYTES], change: Option<SlotChange>)
+    ensures below { SameBelow slot_at sector.old sector.new }
+    ensures slot { number_at 2 slot_at sector.new ≡ slot_number change }
+    ensures tool { signed_at slot_length_at sector.new ≡ slot_length change }
+    ensures between { bytes_at (slot_length_at - (slot_at + 2)) (slot_at + 2) sector.new ≡ bytes_at (slot_length_at - (slot_at + 2)) (slot_at + 2) sector.old }
+    ensures beyond { SameFrom (slot_length_at + 8) sector.old sector.new }
+{
+    let (slot, length) = change_numbers(change);
+    put_u16(sector, SLOT_AT, slot);
+    put_i64(sector, SLOT_LENGTH_AT, length);
+}
+
+/// The number of the slot that changes and the length that it takes; 0 where none does.
+fn change_numbers(change: Option<SlotChange>) -> (u16, i64)
+    ensures slot { result.0 ≡ slot_number change }
+    ensures tool { result.1 ≡ slot_length change }
+    ensures range { IsCount result.1 }
+{
+    match change {
+        Some(change) => (u16::from(change.slot), change.length.nm()),
+        None => (0, 0),
+    }
 }
 
 /// Puts a state field after a label. The byte of the content that it leaves free stays, and so do all after it.

@@ -1,21 +1,24 @@
 //! What is stored of a controller.
-ghost use Rattle.std.specs.Prelude.{◌≡◌, ◌≤◌, ◌<◌, ◌-◌, length, Some, IfOk};
+ghost use Rattle.std.specs.Prelude.{◌≡◌, ◌≤◌, ◌<◌, ◌+◌, ◌-◌, length, Some, IfOk};
 ghost use Rattle.std.specs.Option.{option_map};
-ghost use Rattle.ng_layout.specs.Limits.{greatest_count, sector_size};
+ghost use Rattle.ng_layout.specs.Limits.{greatest_count, greatest_slot, sector_size, slots_at};
 ghost use Rattle.ng_params.specs.Numbers.{parameter_count};
-ghost use Rattle.ng_layout.specs.Areas.{snapshot_size};
-ghost use Rattle.ng_layout.specs.Fields.{AreZero};
-ghost use Rattle.ng_layout.specs.StateField.{free_byte, field_size, field_at};
+ghost use Rattle.ng_layout.specs.Areas.{snapshot_size, tools_size};
+ghost use Rattle.ng_layout.specs.Fields.{number_at, AreZero};
+ghost use Rattle.ng_layout.specs.StateField.{free_byte, field_at};
 ghost use Rattle.ng_layout.specs.Storable.{IsStorable};
 ghost use Rattle.ng_layout.specs.Report.{decoded_state_of};
-ghost use Rattle.ng_layout.specs.Snapshot.{decoded_state_in, HoldsPart};
+ghost use Rattle.ng_layout.specs.Snapshot.{decoded_state_in, HoldsPart, HoldsToolPart};
 ghost use Rattle.ng_layout.specs.Stored.{fresh_stored};
 ghost use Rattle.ng_layout.specs.Writing.{field_of};
 
+use crate::bytes::put_u16;
 use crate::field::StateField;
 use crate::half::Half;
 use crate::report::DecodedState;
 use crate::sectors::{BYTES, VALUES, copy_table, fresh_values_sector, values_sector};
+use crate::tools::{LENGTHS, SLOTS_AT, lengths_sector};
+use ng_offsets::Tools;
 use ng_state::{Machine, State};
 use std::alloc::{AllocError, Allocator};
 use std::marker::Model;
@@ -26,6 +29,8 @@ pub struct Stored<A: Allocator> {
     /// The number of entries that were committed.
     pub entries: u64,
     pub state: State<A>,
+    /// The lengths of slots 1, 2 and so on.
+    pub tools: Tools,
     /// The byte of the program at which the next line begins.
     pub place: u64,
     /// The number of bytes of the program.
@@ -38,7 +43,7 @@ impl<A: Allocator> Model for Stored<A> {
 
     ghost Value = { StoredModel };
 
-    ghost view = { λ s. record { entries = s.entries; setup = s.state; place = s.place; length = s.length; half = s.half } };
+    ghost view = { λ s. record { entries = s.entries; setup = s.state; tools = s.tools; place = s.place; length = s.length; half = s.half } };
 }
 
 impl<A: Allocator + Copy + Drop> Stored<A> {
@@ -53,13 +58,14 @@ impl<A: Allocator + Copy + Drop> Stored<A> {
         Ok(Stored {
             entries: 0,
             state: State::fresh(alloc)?,
+            tools: Tools::new(),
             place: 0,
             length: 0,
             half: None,
         })
     }
 
-    /// Takes over what a state field says beside a program of this length; the parameters stay.
+    /// Takes over what a state field says beside a program of this length; the parameters and the tools stay.
     pub fn take_decoded_state(&mut self, report: DecodedState, length: u64)
         ensures { self.new ≡ with_decoded_state self.old report length }
     {
@@ -81,6 +87,13 @@ impl<A: Allocator + Copy + Drop> Stored<A> {
                 half.at = None;
             }
         }
+    }
+
+    /// Takes over a tool table; all else stays. It takes no memory.
+    pub fn take_tools(&mut self, tools: &Tools)
+        ensures { self.new ≡ record self.old { tools = tools.now } }
+    {
+        self.tools = tools.copy();
     }
 
     /// Takes over a half-done block; all else stays. It takes no memory.
@@ -106,6 +119,7 @@ impl<A: Allocator + Copy + Drop> Stored<A> {
         ensures { self.new ≡ other.now }
     {
         self.state.machine = other.state.machine;
+        self.tools = other.tools.copy();
         self.entries = other.entries;
         self.place = other.place;
         self.length = other.length;
@@ -138,10 +152,18 @@ impl<A: Allocator + Copy + Drop> Stored<A> {
         ensures { HoldsPart self.now part result }
     {
         if part == 0 {
-            state_sector(&self.field())
+            first_sector(&self.field(), self.tools.slots())
         } else {
             values_sector(&self.state.params, VALUES * (part - 1))
         }
+    }
+
+    /// The sector of a tool area that holds this part of its tool table. What no slot has is 0.
+    pub fn tool_sector(&self, part: usize) -> [u8; BYTES]
+        requires part { part < tools_size }
+        ensures { HoldsToolPart self.now part result }
+    {
+        lengths_sector(&self.tools, LENGTHS * part)
     }
 }
 
@@ -151,19 +173,22 @@ pub fn fresh_sector(part: usize) -> [u8; BYTES]
     ensures { HoldsPart fresh_stored part result }
 {
     if part == 0 {
-        state_sector(&StateField::of(0, 0, &Machine::fresh(), None))
+        first_sector(&StateField::of(0, 0, &Machine::fresh(), None), 0)
     } else {
         fresh_values_sector(VALUES * (part - 1))
     }
 }
 
-/// The sector that holds a state field, in which all else is 0.
-fn state_sector(field: &StateField) -> [u8; BYTES]
+/// The sector that holds a state field and a number of slots, in which all else is 0.
+fn first_sector(field: &StateField, slots: usize) -> [u8; BYTES]
+    requires { slots ≤ greatest_slot }
     ensures field { field_at result ≡ field.now }
     ensures gap { AreZero 1 free_byte result }
-    ensures rest { AreZero (sector_size - field_size) field_size result }
+    ensures slots { number_at 2 slots_at result ≡ slots }
+    ensures rest { AreZero (sector_size - (slots_at + 2)) (slots_at + 2) result }
 {
     let mut sector = [0; BYTES];
     field.write(&mut sector);
+    put_u16(&mut sector, SLOTS_AT, slots as u16);
     sector
 }

@@ -1,9 +1,14 @@
 -- A record's parts written one after the other, and a sync.
-use Rattle.std.proofs.Common.{◌≡◌, ◌≢◌, inl, inr, ⊎_elim, ℕ, ◌+◌, ◌-◌, ◌<◌, ◌≤◌, List, length, ℤ, Result, Ok, Err, sym, ◌∙◌, ap, subst, arith}
+use Rattle.std.proofs.Common.{◌≡◌, ◌≢◌, inl, inr, ⊎_elim, ℕ, ◌+◌, ◌-◌, ◌<◌, ◌≤◌, List, length, ℤ, Option, Result, Ok, Err, sym, ◌∙◌, ap, subst, arith}
+use Rattle.std.specs.Prelude.{IfSome}
 use Rattle.std.proofs.lemmas.Bool.{cases_lt}
 use Rattle.std.proofs.lemmas.Bool.Decides.{nat_tests}
 use Rattle.ng_canon.specs.declared.item.Item.{Item}
 use Rattle.ng_params.specs.Changes.{with_changes}
+use Rattle.ng_offsets.specs.Tools.{with_change}
+use Rattle.ng_offsets.specs.declared.tools.SlotChange.{SlotChange}
+use Rattle.ng_layout.specs.Storable.{IsStorableChange}
+use Rattle.ng_layout.specs.declared.header.Format.TheVariants.{Two}
 use Rattle.ng_params.specs.declared.change.Change.{Change}
 use Rattle.ng_rig.specs.Trace.{Image, Trace, Wrote, Synced, reads, items}
 use Rattle.ng_rig.specs.Calls.{WriteSpec}
@@ -22,15 +27,15 @@ use Rattle.ng_params.specs.Differences.{differences}
 use Rattle.ng_log.specs.Records.{LogRecord, size_of, label, IsPartOf, BelongsToRecord, record_at}
 use Rattle.ng_params.proofs.Differing.{differences-restore}
 use Rattle.ng_log.proofs.Runs.{part_label}
-use Rattle.ng_log.proofs.Ending.{IsBlend, IsNext, blend-stands, blend-written, blend-ends}
+use Rattle.ng_log.proofs.Ending.{IsBlend, IsNext, blend-force, blend-stands, blend-written, blend-ends}
 
 -- the part that belongs to a sector
-pub is_part_of : (e : LogRecord) (k : ℕ) (bytes : List ℕ) → k < size_of e → HoldsRecordPart (label e k) e.saved e.changes bytes → IsPartOf e (e.at + k) bytes
+pub is_part_of : (e : LogRecord) (k : ℕ) (bytes : List ℕ) → k < size_of e → HoldsRecordPart (label e k) e.saved e.changes e.slot bytes → IsPartOf e (e.at + k) bytes
 is_part_of e k bytes lt holds =
     let back : k ≡ e.at + k - e.at = omega arith in
-    record { from = omega arith; to = omega arith; holds = subst (λ (n : ℕ). HoldsRecordPart (label e n) e.saved e.changes bytes) back holds }
+    record { from = omega arith; to = omega arith; holds = subst (λ (n : ℕ). HoldsRecordPart (label e n) e.saved e.changes e.slot bytes) back holds }
 
-pub first_of : (e : LogRecord) (l : PartHeader) (bytes : List ℕ) → l ≡ label e 0 → HoldsLabel l bytes → HoldsState e.saved bytes → IsPartOf e (e.at + 0) bytes
+pub first_of : (e : LogRecord) (l : PartHeader) (bytes : List ℕ) → l ≡ label e 0 → HoldsLabel l bytes → HoldsState e.saved e.slot bytes → IsPartOf e (e.at + 0) bytes
 first_of e l bytes is labelled state = is_part_of e 0 bytes (omega arith) (record {
   label = subst (λ (x : PartHeader). HoldsLabel x bytes) is labelled;
   state = λ zero_is. state;
@@ -53,9 +58,12 @@ labelled_as e part parts count n part_is parts_are count_is =
     λ i. record { epoch = e.epoch; number = e.number; part = part_is i; parts = all i; changes = count_is i }
 
 -- the record of a table's differences is the next one
-pub next_of : (image : Image) (header : Header) (before : DurableState) (end : LogEnd) (table : List ℤ) (saved : StoredModel) (count : ℕ) → EndsIn image header before end → before.saved.setup.params ≡ table → length table ≡ 5399 → length saved.setup.params ≡ 5399 → count ≡ length (differences table saved.setup.params) → end.sector + parts_for count ≤ log_size_of header → saved.length ≡ header.length → IsNext image header before end saved (differences table saved.setup.params)
-next_of image header before end table saved count was params_are all_old all_new count_is room long = record {
+pub next_of : (image : Image) (header : Header) (before : DurableState) (end : LogEnd) (table : List ℤ) (slot : Option SlotChange) (saved : StoredModel) (count : ℕ) → header.format ≡ Two → IfSome slot (IsStorableChange before.saved.tools) → with_change slot before.saved.tools ≡ saved.tools → EndsIn image header before end → before.saved.setup.params ≡ table → length table ≡ 5399 → length saved.setup.params ≡ 5399 → count ≡ length (differences table saved.setup.params) → end.sector + parts_for count ≤ log_size_of header → saved.length ≡ header.length → IsNext image header before end saved (differences table saved.setup.params) slot
+next_of image header before end table slot saved count two lawful slot_is was params_are all_old all_new count_is room long = record {
   was = was;
+  two = two;
+  lawful = lawful;
+  slot_is = slot_is;
   room = subst (λ (n : ℕ). end.sector + parts_for n ≤ log_size_of header) count_is room;
   long = long;
   restored = ap (λ (t : List ℤ). with_changes t (differences table saved.setup.params)) params_are ∙ differences-restore table saved.setup.params all_old all_new;
@@ -111,17 +119,18 @@ pub record_synced : {T U E F : Type 0} (v : T) (u : U) (e : LogRecord) (old mid 
 record_synced {F = F} v u e old mid new w is = subst (λ (l : Trace). WritesRecord {E = F} (Ok u) e old l) (sym is) (record { writes = only_synced (BelongsToRecord e) old mid w.writes; parts = w.parts })
 
 -- The stops of all that.
-module _ (old : Trace) (header : Header) (before : DurableState) (end : LogEnd) (saved : StoredModel) (changes : List Change) (at : IsAtEnd old header before end) (next : IsNext (reads old) header before end saved changes) where
+module _ (old : Trace) (header : Header) (before : DurableState) (end : LogEnd) (saved : StoredModel) (changes : List Change) (slot : Option SlotChange) (at : IsAtEnd old header before end) (next : IsNext (reads old) header before end saved changes slot) where
   abbrev e : LogRecord
-  e = record_at header.epoch end saved changes
+  e = record_at header.epoch end saved changes slot
 
   blend : (image : Image) (handed : List Item) → IsMixOf old (BelongsToRecord e) image handed → IsBlend (reads old) image e
   blend image handed b = record { each = λ n. ⊎_elim (λ may. inl (at.synced.one n (image n) may)) (λ there. inr there) (b.each n) }
 
   either : (image : Image) (handed : List Item) → IsMixOf old (BelongsToRecord e) image handed → IsEither (Ok before) (Ok (record before { saved = saved })) (items old) image handed
   either image handed b = record {
-    state = blend-stands (reads old) image header before end saved changes next (blend image handed b);
-    written = blend-written (reads old) image header before end saved changes next (blend image handed b);
+    state = blend-stands (reads old) image header before end saved changes slot next (blend image handed b);
+    modern = record { header = header; force = blend-force (reads old) image header before end saved changes slot next (blend image handed b); format = next.two };
+    written = blend-written (reads old) image header before end saved changes slot next (blend image handed b);
     handed_is = b.handed_is;
   }
 
@@ -141,7 +150,7 @@ module _ (old : Trace) (header : Header) (before : DurableState) (end : LogEnd) 
     items_are = w.writes.items_are;
     at = record {
       synced = is_synced mid;
-      image = blend-ends (reads old) (reads mid) header before end saved changes next (blend (reads mid) (items mid) (reads_blend (BelongsToRecord e) old mid w.writes)) w.parts;
+      image = blend-ends (reads old) (reads mid) header before end saved changes slot next (blend (reads mid) (items mid) (reads_blend (BelongsToRecord e) old mid w.writes)) w.parts;
     };
   }
 

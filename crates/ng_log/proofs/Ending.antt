@@ -1,17 +1,22 @@
 -- What images stand for whose log ends somewhere, and what those do in which some parts of a record have lasted.
-use Rattle.std.proofs.Common.{◌≡◌, ◌⊎◌, inl, inr, ⊎_elim, ℕ, ◌+◌, ◌-◌, ◌<◌, ◌≤◌, List, length, Some, Ok, sym, ◌∙◌, ap, subst, arith}
+use Rattle.std.proofs.Common.{◌≡◌, ◌⊎◌, inl, inr, ⊎_elim, ℕ, ◌+◌, ◌-◌, ◌<◌, ◌≤◌, List, length, Option, Some, Ok, sym, ◌∙◌, ap, subst, arith}
+use Rattle.std.specs.Prelude.{IfSome}
 use Rattle.ng_params.specs.Changes.{with_changes}
 use Rattle.ng_params.specs.declared.change.Change.{Change}
 use Rattle.ng_rig.specs.Trace.{Image, Trace, reads}
 use Rattle.ng_rig.specs.Continuation.{IsSynced}
 use Rattle.ng_layout.specs.declared.header.Header.{Header}
 use Rattle.ng_layout.specs.Fields.{number_at}
-use Rattle.ng_layout.specs.Areas.{log_size_of, log_first, program_first, program_size, snapshot_first, snapshot_size}
+use Rattle.ng_layout.specs.Areas.{log_size, log_size_of, log_first, program_first, program_size, snapshot_first, snapshot_size, tools_first, tools_size}
 use Rattle.ng_layout.specs.Log.{LogPosition}
 use Rattle.ng_layout.specs.Sectors.{program_text}
 use Rattle.ng_layout.specs.Stands.{by_header, epoch_in_force, in_force, IsWritten, snapshot, standing, durable_state_under, stands, stretch}
 use Rattle.ng_layout.specs.Stored.{StoredModel, DurableState}
-use Rattle.ng_layout.proofs.Images.{force-same, force-within, stretch-at, stretch-same, is-written, written-past}
+use Rattle.ng_layout.proofs.Images.{under, force-same, force-within, stretch-at, stretch-same}
+use Rattle.ng_layout.specs.Storable.{IsStorableChange}
+use Rattle.ng_layout.specs.declared.header.Format.TheVariants.{Two}
+use Rattle.ng_offsets.specs.Tools.{with_change}
+use Rattle.ng_offsets.specs.declared.tools.SlotChange.{SlotChange}
 use Rattle.ng_log.specs.declared.log_end.LogEnd.{LogEnd}
 use Rattle.ng_log.specs.AtEnd.{replay_state_in, position_of, end_after, EndsIn, IsAtEnd}
 use Rattle.ng_log.specs.Records.{LogRecord, size_of, IsPartOf, BelongsToRecord, record_at}
@@ -20,22 +25,22 @@ use Rattle.ng_log.proofs.Mixture.{Mixture, place_before, position_after_record, 
 use Rattle.ng_log.proofs.Runs.{ends-longest, part-says, run-longest}
 
 -- the longest run decides
-pub stands-longest : (image : Image) (header : Header) (last : LogPosition) → in_force image ≡ Some header → IsLongest (log_size_of header) header.length (log_of header image) header.epoch (beginning image header) last → last.at ≤ log_size_of header
+pub stands-longest : (image : Image) (header : Header) (last : LogPosition) → in_force image ≡ Some header → IsLongest header.format header.length (log_of header image) header.epoch (beginning image header) last → last.at ≤ log_size_of header
     → stands image ≡ standing last.found (program_text header.length (stretch (program_first header.area) (program_size header.area) image)) header.length
-unfolding stands durable_state_under
+unfolding durable_state_under
 stands-longest image header last force l room =
-    (λ i. by_header (force i) (λ x. durable_state_under x (stretch (snapshot_first x.epoch) snapshot_size image) (stretch (program_first x.area) (program_size x.area) image) (stretch log_first (log_size_of x) image)))
-    ∙ ap (λ (p : LogPosition). standing p.found (program_text header.length (stretch (program_first header.area) (program_size header.area) image)) header.length) (run-longest (log_size_of header) header.length (log_of header image) header.epoch (beginning image header) last l room)
+    under image header force
+    ∙ ap (λ (p : LogPosition). standing p.found (program_text header.length (stretch (program_first header.area) (program_size header.area) image)) header.length) (run-longest header.format header.length (log_of header image) header.epoch (beginning image header) last l room)
 
 -- a run that leads to what is stored
-pub stands-saved : (image : Image) (header : Header) (saved : StoredModel) (program : List ℕ) (end : LogEnd) → in_force image ≡ Some header → IsLongest (log_size_of header) header.length (log_of header image) header.epoch (beginning image header) (position_of end saved) → end.sector ≤ log_size_of header → program_text header.length (stretch (program_first header.area) (program_size header.area) image) ≡ program → saved.length ≡ header.length
+pub stands-saved : (image : Image) (header : Header) (saved : StoredModel) (program : List ℕ) (end : LogEnd) → in_force image ≡ Some header → IsLongest header.format header.length (log_of header image) header.epoch (beginning image header) (position_of end saved) → end.sector ≤ log_size_of header → program_text header.length (stretch (program_first header.area) (program_size header.area) image) ≡ program → saved.length ≡ header.length
     → stands image ≡ Ok (record { saved = saved; program = program })
 stands-saved image header saved program end force l room text long =
     stands-longest image header (position_of end saved) force l room
     ∙ (λ i. Ok (record { saved = record saved { length = sym long i }; program = text i }))
 
 pub ends-stand : (image : Image) (header : Header) (standing : DurableState) (end : LogEnd) → EndsIn image header standing end → stands image ≡ Ok standing
-ends-stand image header standing end e = stands-saved image header standing.saved standing.program end e.force (ends-longest (log_size_of header) header.length (log_of header image) header.epoch (beginning image header) (position_of end standing.saved) e.ends) e.ends.room e.program e.long
+ends-stand image header standing end e = stands-saved image header standing.saved standing.program end e.force (ends-longest header.format header.length (log_of header image) header.epoch (beginning image header) (position_of end standing.saved) e.ends) e.ends.room e.program e.long
 
 -- a device whose log ends somewhere is at rest, and stands for that alone
 pub at-end : (trace : Trace) (header : Header) (standing : DurableState) (end : LogEnd) → IsAtEnd trace header standing end → IsSynced trace × (in_force (reads trace) ≡ Some header) × (stands (reads trace) ≡ Ok standing) × IsWritten (reads trace)
@@ -46,31 +51,35 @@ pub record IsBlend (base image : Image) (e : LogRecord) : Type 0 where
   pub each : (n : ℕ) → (image n ≡ base n) ⊎ BelongsToRecord e n (image n)
 
 -- a record to be written after the end of a log
-pub record IsNext (base : Image) (header : Header) (before : DurableState) (end : LogEnd) (saved : StoredModel) (changes : List Change) : Type 0 where
+pub record IsNext (base : Image) (header : Header) (before : DurableState) (end : LogEnd) (saved : StoredModel) (changes : List Change) (slot : Option SlotChange) : Type 0 where
   pub was : EndsIn base header before end
-  pub room : end.sector + size_of (record_at header.epoch end saved changes) ≤ log_size_of header
+  pub two : header.format ≡ Two
+  pub lawful : IfSome slot (IsStorableChange before.saved.tools)
+  pub slot_is : with_change slot before.saved.tools ≡ saved.tools
+  pub room : end.sector + size_of (record_at header.epoch end saved changes slot) ≤ log_size_of header
   pub long : saved.length ≡ header.length
   pub restored : with_changes before.saved.setup.params changes ≡ saved.setup.params
 
-module _ (base image : Image) (header : Header) (before : DurableState) (end : LogEnd) (saved : StoredModel) (changes : List Change) (n : IsNext base header before end saved changes) (b : IsBlend base image (record_at header.epoch end saved changes)) where
+module _ (base image : Image) (header : Header) (before : DurableState) (end : LogEnd) (saved : StoredModel) (changes : List Change) (slot : Option SlotChange) (n : IsNext base header before end saved changes slot) (b : IsBlend base image (record_at header.epoch end saved changes slot)) where
   abbrev e : LogRecord
-  e = record_at header.epoch end saved changes
+  e = record_at header.epoch end saved changes slot
 
-  outside : (m : ℕ) → m < log_first → image m ≡ base m
-  outside m lt = ⊎_elim (λ same. same) (λ there. absurd (omega (arith, there.log))) (b.each m)
+  outside : (m : ℕ) → (m < log_first) ⊎ (1706 ≤ m) → image m ≡ base m
+  outside m out = ⊎_elim (λ same. same) (λ there. absurd (let room = n.room in let short : log_size_of header ≡ 1020 = ap log_size n.two in ⊎_elim (λ low. omega (arith, there.log)) (λ high. omega (arith, there.log, there.part.to)) out)) (b.each m)
 
-  force : in_force image ≡ Some header
-  force = force-same image base (outside 0 (omega arith)) (outside 1 (omega arith)) ∙ n.was.force
+  pub blend-force : in_force image ≡ Some header
+  blend-force = force-same image base (outside 0 (inl (omega arith))) (outside 1 (inl (omega arith))) ∙ n.was.force
 
   start : beginning image header ≡ beginning base header
   start =
-      let area = stretch-same (snapshot_first header.epoch) snapshot_size image base (λ j lt. outside (snapshot_first header.epoch + j) (omega arith)) in
-      λ i. record { at = 0; number = 0; found = snapshot header.length (area i) }
+      let area = stretch-same (snapshot_first header.epoch) snapshot_size image base (λ j lt. outside (snapshot_first header.epoch + j) (inl (omega arith))) in
+      let tools = stretch-same (tools_first header.epoch) tools_size image base (λ j lt. outside (tools_first header.epoch + j) (inr (omega arith))) in
+      λ i. record { at = 0; number = 0; found = snapshot header.format header.length (area i) (tools i) }
 
   text : program_text header.length (stretch (program_first header.area) (program_size header.area) image) ≡ before.program
   text =
       let within = (force-within base header n.was.force).area in
-      ap (program_text header.length) (stretch-same (program_first header.area) (program_size header.area) image base (λ j lt. outside (program_first header.area + j) (omega arith))) ∙ n.was.program
+      ap (program_text header.length) (stretch-same (program_first header.area) (program_size header.area) image base (λ j lt. outside (program_first header.area + j) (inl (omega arith)))) ∙ n.was.program
 
   in_log : (m : ℕ) → m < log_size_of header → (log_of header image m ≡ log_of header base m) ⊎ IsPartOf e m (log_of header image m)
   in_log m lt =
@@ -81,43 +90,46 @@ module _ (base image : Image) (header : Header) (before : DurableState) (end : L
       (λ p. inr (subst (IsPartOf e m) (sym there) (subst (λ (k : ℕ). IsPartOf e k (image (log_first + m))) back p.part)))
       (b.each (log_first + m))
 
-  was_at : EndsAt (log_size_of header) saved.length (log_of header base) header.epoch (beginning base header) (place_before e (replay_state_in before.saved))
-  was_at = subst (λ (k : ℕ). EndsAt (log_size_of header) k (log_of header base) header.epoch (beginning base header) (place_before e (replay_state_in before.saved))) (sym n.long) n.was.ends
+  was_at : EndsAt header.format saved.length (log_of header base) header.epoch (beginning base header) (place_before e (replay_state_in before.saved))
+  was_at = subst (λ (k : ℕ). EndsAt header.format k (log_of header base) header.epoch (beginning base header) (place_before e (replay_state_in before.saved))) (sym n.long) n.was.ends
 
-  mixture : Mixture (log_size_of header) (log_of header base) (log_of header image) (beginning base header) e (replay_state_in before.saved)
-  mixture = record { ends = was_at; room = n.room; each = in_log }
+  mixture : Mixture header.format (log_of header base) (log_of header image) (beginning base header) e (replay_state_in before.saved)
+  mixture = record { ends = was_at; room = n.room; two = n.two; lawful = n.lawful; each = in_log }
 
   after_is : position_after_record e (replay_state_in before.saved) ≡ position_of (end_after end (length changes)) saved
-  after_is = let restored = n.restored in λ i. record { at = end.sector + size_of e; number = end.number + 1; found = Some (record { report = (replay_state_in saved).report; params = restored i }) }
+  after_is = let restored = n.restored in let slot_is = n.slot_is in λ i. record { at = end.sector + size_of e; number = end.number + 1; found = Some (record { report = (replay_state_in saved).report; params = restored i; tools = slot_is i }) }
 
   -- an image with some of the record's parts and not others stands for the old or for the new
   pub blend-stands : (stands image ≡ Ok before) ⊎ (stands image ≡ Ok (record before { saved = saved }))
   blend-stands = ⊎_elim
-      (λ old. inl (stands-saved image header before.saved before.program end force
-      (subst (λ (k : ℕ). IsLongest (log_size_of header) k (log_of header image) header.epoch (beginning image header) (position_of end before.saved)) n.long (subst (λ (p : LogPosition). IsLongest (log_size_of header) saved.length (log_of header image) header.epoch p (position_of end before.saved)) (sym start) old))
+      (λ old. inl (stands-saved image header before.saved before.program end blend-force
+      (subst (λ (k : ℕ). IsLongest header.format k (log_of header image) header.epoch (beginning image header) (position_of end before.saved)) n.long (subst (λ (p : LogPosition). IsLongest header.format saved.length (log_of header image) header.epoch p (position_of end before.saved)) (sym start) old))
       n.was.ends.room text n.was.long))
-      (λ new. inr (stands-saved image header saved before.program (end_after end (length changes)) force
-      (subst (λ (k : ℕ). IsLongest (log_size_of header) k (log_of header image) header.epoch (beginning image header) (position_of (end_after end (length changes)) saved)) n.long (subst (λ (p : LogPosition). IsLongest (log_size_of header) saved.length (log_of header image) header.epoch p (position_of (end_after end (length changes)) saved)) (sym start) (subst (IsLongest (log_size_of header) saved.length (log_of header image) header.epoch (beginning base header)) after_is new)))
+      (λ new. inr (stands-saved image header saved before.program (end_after end (length changes)) blend-force
+      (subst (λ (k : ℕ). IsLongest header.format k (log_of header image) header.epoch (beginning image header) (position_of (end_after end (length changes)) saved)) n.long (subst (λ (p : LogPosition). IsLongest header.format saved.length (log_of header image) header.epoch p (position_of (end_after end (length changes)) saved)) (sym start) (subst (IsLongest header.format saved.length (log_of header image) header.epoch (beginning base header)) after_is new)))
       n.room text n.long))
-      (mixture-longest (log_size_of header) (log_of header base) (log_of header image) (beginning base header) e (replay_state_in before.saved) mixture)
+      (mixture-longest header.format (log_of header base) (log_of header image) (beginning base header) e (replay_state_in before.saved) mixture)
 
   -- and has no part of an epoch to come
   pub blend-written : IsWritten image
-  blend-written = is-written image (λ m lt.
-      let in_time : epoch_in_force (in_force base) ≡ header.epoch = ap epoch_in_force n.was.force in
-      subst (λ (k : ℕ). number_at 8 0 (image (log_first + m)) ≤ k) (sym (ap epoch_in_force force)) (⊎_elim
-      (λ same. omega (arith, ap (number_at 8 0) same, written-past base n.was.written m lt, in_time))
-      (λ p. omega (arith, (part-says _ (image (log_first + m)) p.part.holds.label.is).epoch))
-      (b.each (log_first + m))))
+  blend-written = record {
+    past = λ m lt.
+        let in_time : epoch_in_force (in_force base) ≡ header.epoch = ap epoch_in_force n.was.force in
+        subst (λ (k : ℕ). number_at 8 0 (image (log_first + m)) ≤ k) (sym (ap epoch_in_force blend-force)) (⊎_elim
+        (λ same. omega (arith, ap (number_at 8 0) same, n.was.written.past m lt, in_time))
+        (λ p. omega (arith, (part-says _ (image (log_first + m)) p.part.holds.label.is).epoch))
+        (b.each (log_first + m)));
+  }
 
   -- with all of them its log ends after the record
   pub blend-ends : ((j : ℕ) → j < size_of e → IsPartOf e (end.sector + j) (image (log_first + (end.sector + j)))) → EndsIn image header (record before { saved = saved }) (end_after end (length changes))
   blend-ends all = record {
-    force = force;
+    force = blend-force;
+    format = n.two;
     written = blend-written;
     ends =
-        let ends = mixture-ends (log_size_of header) (log_of header base) (log_of header image) (beginning base header) e (replay_state_in before.saved) mixture (λ j lt. let room = n.room in subst (IsPartOf e (end.sector + j)) (sym (stretch-at log_first (log_size_of header) image (end.sector + j) (omega arith))) (all j lt)) in
-        subst (λ (k : ℕ). EndsAt (log_size_of header) k (log_of header image) header.epoch (beginning image header) (position_of (end_after end (length changes)) saved)) n.long (subst (λ (p : LogPosition). EndsAt (log_size_of header) saved.length (log_of header image) header.epoch p (position_of (end_after end (length changes)) saved)) (sym start) (subst (EndsAt (log_size_of header) saved.length (log_of header image) header.epoch (beginning base header)) after_is ends));
+        let ends = mixture-ends header.format (log_of header base) (log_of header image) (beginning base header) e (replay_state_in before.saved) mixture (λ j lt. let room = n.room in subst (IsPartOf e (end.sector + j)) (sym (stretch-at log_first (log_size_of header) image (end.sector + j) (omega arith))) (all j lt)) in
+        subst (λ (k : ℕ). EndsAt header.format k (log_of header image) header.epoch (beginning image header) (position_of (end_after end (length changes)) saved)) n.long (subst (λ (p : LogPosition). EndsAt header.format saved.length (log_of header image) header.epoch p (position_of (end_after end (length changes)) saved)) (sym start) (subst (EndsAt header.format saved.length (log_of header image) header.epoch (beginning base header)) after_is ends));
     program = text;
     long = n.long;
   }

@@ -3,10 +3,11 @@ use Rattle.std.proofs.Common.{◌≡◌, ◌⊎◌, inl, inr, ℕ, zero, suc, �
 use Rattle.std.proofs.lemmas.Bool.{cases_eq}
 use Rattle.std.proofs.lemmas.Bool.Decides.{nat_tests}
 use Rattle.ng_rig.specs.Trace.{Trace, Image, reads}
+use Rattle.ng_layout.specs.declared.header.Format.{Format}
 use Rattle.ng_layout.specs.declared.header.Header.{Header}
 use Rattle.ng_layout.specs.declared.part.PartLabel.{PartLabel}
 use Rattle.ng_layout.specs.Fields.{number_at}
-use Rattle.ng_layout.specs.Areas.{log_size_of, log_first}
+use Rattle.ng_layout.specs.Areas.{log_size, log_size_of, log_first}
 use Rattle.ng_layout.specs.Log.{PartHeader, is_part, LogPosition, after_step, parts_stand, parts_for, with_record, next, run}
 use Rattle.ng_layout.specs.Part.{label_of, label_at}
 use Rattle.ng_layout.specs.Report.{and_then}
@@ -61,20 +62,20 @@ module _ (header : Header) (end : LogEnd) (old : StoredModel) (image : Image) wh
   here = position_of end old
 
   abbrev after : Option LogPosition
-  after = next (log_size_of header) header.length log header.epoch here
+  after = next header.format header.length log header.epoch here
 
   in_log : (m : ℕ) → m < log_size_of header → log m ≡ from_log image m
   in_log m lt = stretch-at log_first (log_size_of header) image m lt
 
   pub none_at_end : end.sector ≡ log_size_of header → after ≡ None
-  none_at_end is = torn-first (log_size_of header) header.length log header.epoch here (λ lt. absurd (omega arith))
+  none_at_end is = torn-first header.format header.length log header.epoch here (λ lt. absurd (omega arith))
 
   -- by the sector that stands there, and its label
   module _ (first : PartHeader) (sector : List ℕ) (lt : end.sector < log_size_of header) (is : sector ≡ from_log image end.sector) (says : Says first sector) where
     head : log end.sector ≡ sector
     head = in_log end.sector lt ∙ sym is
 
-    module _ (m : LogPosition) (s : Step (log_size_of header) header.length log header.epoch here m) where
+    module _ (m : LogPosition) (s : Step header.format header.length log header.epoch here m) where
       same_parts : first.parts ≡ s.parts
       same_parts = sym says.parts ∙ ap (number_at 2 18) (sym head) ∙ s.parts_are
 
@@ -96,7 +97,7 @@ module _ (header : Header) (end : LogEnd) (old : StoredModel) (image : Image) wh
 
     pub none_of_first : begins first header end ≡ false → after ≡ None
     none_of_first off = not_some after (λ m e.
-        let s = step-from (log_size_of header) header.length log header.epoch here m e in
+        let s = step-from header.format header.length log header.epoch here m e in
         let never : true ≡ false = sym (begins_true first header end (step_begins m s)) ∙ off in
         cc)
 
@@ -109,7 +110,7 @@ module _ (header : Header) (end : LogEnd) (old : StoredModel) (image : Image) wh
 
       pub none_of_parts : parts_stand (from_log image) end.sector first first.parts ≡ false → after ≡ None
       none_of_parts off = not_some after (λ m e.
-          let s = step-from (log_size_of header) header.length log header.epoch here m e in
+          let s = step-from header.format header.length log header.epoch here m e in
           let found : parts_stand log end.sector (part_label header.epoch end.number 0 first.parts first.changes) first.parts ≡ true = subst (λ (k : ℕ). parts_stand log end.sector (part_label header.epoch end.number 0 first.parts k) first.parts ≡ true) (sym (same_changes m s)) (subst (λ (n : ℕ). parts_stand log end.sector (part_label header.epoch end.number 0 n s.changes) n ≡ true) (sym (same_parts m s)) s.stand) in
           let stand : parts_stand log end.sector first first.parts ≡ true = subst (λ (l : PartHeader). parts_stand log end.sector l first.parts ≡ true) (sym first_is) found in
           let never : true ≡ false = sym stand ∙ framed ∙ off in
@@ -125,8 +126,8 @@ module _ (header : Header) (end : LogEnd) (old : StoredModel) (image : Image) wh
           | inr some ↦ later j (omega arith) before
         ])
 
-        step_on : after ≡ Some (position_after header.length log here first.parts first.changes)
-        step_on = step-to (log_size_of header) header.length log header.epoch here (position_after header.length log here first.parts first.changes) (record {
+        step_on : after ≡ Some (position_after header.format header.length log here first.parts first.changes)
+        step_on = step-to header.format header.length log header.epoch here (position_after header.format header.length log here first.parts first.changes) (record {
           parts = first.parts;
           changes = first.changes;
           parts_are = ap (number_at 2 18) head ∙ says.parts;
@@ -137,13 +138,13 @@ module _ (header : Header) (end : LogEnd) (old : StoredModel) (image : Image) wh
           is = refl;
         })
 
-        found_is : with_record header.length log end.sector first.changes (replay_state_in old) ≡ with_record header.length (from_log image) end.sector first.changes (replay_state_in old)
-        found_is = record-frame header.length log (from_log image) end.sector first.changes (replay_state_in old) (λ j before. let room = b.room in let counted = b.counted in in_log (end.sector + j) (omega arith))
+        found_is : with_record header.format header.length log end.sector first.changes (replay_state_in old) ≡ with_record header.format header.length (from_log image) end.sector first.changes (replay_state_in old)
+        found_is = record-frame header.format header.length log (from_log image) end.sector first.changes (replay_state_in old) (λ j before. let room = b.room in let counted = b.counted in in_log (end.sector + j) (omega arith))
 
-        pub damaged_record : (new : StoredModel) → FindsRecord header.length end.sector first.changes old new image false → IsDamaged (log_size_of header) header.length log header.epoch here
-        damaged_record new none = record { place = position_after header.length log here first.parts first.changes; step = step_on; damaged = found_is ∙ none }
+        pub damaged_record : (new : StoredModel) → FindsRecord header.format header.length end.sector first.changes old new image false → IsDamaged header.format header.length log header.epoch here
+        damaged_record new none = record { place = position_after header.format header.length log here first.parts first.changes; step = step_on; damaged = found_is ∙ none }
 
-        pub one_record : (new : StoredModel) → FindsRecord header.length end.sector first.changes old new image true → after ≡ Some (position_of (record { sector = end.sector + first.parts; number = end.number + 1 }) new)
+        pub one_record : (new : StoredModel) → FindsRecord header.format header.length end.sector first.changes old new image true → after ≡ Some (position_of (record { sector = end.sector + first.parts; number = end.number + 1 }) new)
         one_record new found = let made = found_is ∙ found.0 in step_on ∙ (λ i. Some (record { at = end.sector + first.parts; number = end.number + 1; found = made i }))
 
 -- what was read of the later parts, of a device that has not changed
@@ -151,8 +152,8 @@ pub parts_at : (at : ℕ) (first : PartHeader) (begun mid : Trace) (b v : Bool) 
 parts_at at first begun mid b v same is t = subst (λ (x : Bool). LaterPartsStand at first (reads begun) x) is (subst (λ (l : Trace). LaterPartsStand at first (reads l) b) same t)
 
 -- a record that was taken, or not, of a device that has not changed
-pub taken_at : (length : ℕ) (first : List ℕ) (at changes : ℕ) (old new : StoredModel) (begun mid : Trace) (b v : Bool) → mid ≡ begun → b ≡ v → TakesRecord length first at changes old new (reads mid) b → first ≡ from_log (reads begun) at → FindsRecord length at changes old new (reads begun) v
-taken_at length first at changes old new begun mid b v same is t = subst (λ (x : Bool). TakesRecord length first at changes old new (reads begun) x) is (subst (λ (l : Trace). TakesRecord length first at changes old new (reads l) b) same t)
+pub taken_at : (format : Format) (length : ℕ) (first : List ℕ) (at changes : ℕ) (old new : StoredModel) (begun mid : Trace) (b v : Bool) → mid ≡ begun → b ≡ v → TakesRecord format length first at changes old new (reads mid) b → first ≡ from_log (reads begun) at → FindsRecord format length at changes old new (reads begun) v
+taken_at format length first at changes old new begun mid b v same is t = subst (λ (x : Bool). TakesRecord format length first at changes old new (reads begun) x) is (subst (λ (l : Trace). TakesRecord format length first at changes old new (reads l) b) same t)
 
 -- Runs of records, and one that is damaged after them.
 
@@ -160,39 +161,39 @@ by_cases : (o : Option LogPosition) → (o ≡ None) ⊎ ((m : LogPosition) × (
 by_cases None = inl refl
 by_cases (Some m) = inr (m, refl)
 
-module _ (size length : ℕ) (log : Image) (epoch : ℕ) where
-  next_none : (p m : LogPosition) → next size length log epoch p ≡ Some m → p.found ≡ None → m.found ≡ None
+module _ (format : Format) (length : ℕ) (log : Image) (epoch : ℕ) where
+  next_none : (p m : LogPosition) → next format length log epoch p ≡ Some m → p.found ≡ None → m.found ≡ None
   next_none p m is none =
-      let s = step-from size length log epoch p m is in
-      ap (λ (x : LogPosition). x.found) s.is ∙ (λ i. and_then (none i) (λ before. with_record length log p.at s.changes before))
+      let s = step-from format length log epoch p m is in
+      ap (λ (x : LogPosition). x.found) s.is ∙ (λ i. and_then (none i) (λ before. with_record format length log p.at s.changes before))
 
-  run_none : (fuel : ℕ) (p : LogPosition) → p.found ≡ None → (run fuel size length log epoch p).found ≡ None
+  run_none : (fuel : ℕ) (p : LogPosition) → p.found ≡ None → (run fuel format length log epoch p).found ≡ None
   unfolding run
   run_none zero p none = none
-  run_none (suc n) p none = elim (by_cases (next size length log epoch p)) [
-    | inl last ↦ ap (λ (o : Option LogPosition). (after_step o (λ q. run n size length log epoch q) p).found) last ∙ none
-    | inr on ↦ ap (λ (o : Option LogPosition). (after_step o (λ q. run n size length log epoch q) p).found) on.1 ∙ run_none n on.0 (next_none p on.0 on.1 none)
+  run_none (suc n) p none = elim (by_cases (next format length log epoch p)) [
+    | inl last ↦ ap (λ (o : Option LogPosition). (after_step o (λ q. run n format length log epoch q) p).found) last ∙ none
+    | inr on ↦ ap (λ (o : Option LogPosition). (after_step o (λ q. run n format length log epoch q) p).found) on.1 ∙ run_none n on.0 (next_none p on.0 on.1 none)
   ]
 
-  run_damaged : (fuel n : ℕ) (p q m : LogPosition) → Reaches n size length log epoch p q → next size length log epoch q ≡ Some m → m.found ≡ None → n < fuel → (run fuel size length log epoch p).found ≡ None
+  run_damaged : (fuel n : ℕ) (p q m : LogPosition) → Reaches n format length log epoch p q → next format length log epoch q ≡ Some m → m.found ≡ None → n < fuel → (run fuel format length log epoch p).found ≡ None
   unfolding run
   run_damaged zero n p q m r is none lt = absurd (omega arith)
-  run_damaged (suc fuel) zero p q m same is none lt = ap (λ (o : Option LogPosition). (after_step o (λ x. run fuel size length log epoch x) p).found) (ap (next size length log epoch) same ∙ is) ∙ run_none fuel m none
-  run_damaged (suc fuel) (suc n) p q m r is none lt = ap (λ (o : Option LogPosition). (after_step o (λ x. run fuel size length log epoch x) p).found) r.1 ∙ run_damaged fuel n r.0 q m r.2 is none (omega arith)
+  run_damaged (suc fuel) zero p q m same is none lt = ap (λ (o : Option LogPosition). (after_step o (λ x. run fuel format length log epoch x) p).found) (ap (next format length log epoch) same ∙ is) ∙ run_none fuel m none
+  run_damaged (suc fuel) (suc n) p q m r is none lt = ap (λ (o : Option LogPosition). (after_step o (λ x. run fuel format length log epoch x) p).found) r.1 ∙ run_damaged fuel n r.0 q m r.2 is none (omega arith)
 
-  pub runs_damaged : (p q : LogPosition) → RunsTo size length log epoch p q → IsDamaged size length log epoch q → (run size size length log epoch p).found ≡ None
+  pub runs_damaged : (p q : LogPosition) → RunsTo format length log epoch p q → IsDamaged format length log epoch q → (run (log_size format) format length log epoch p).found ≡ None
   runs_damaged p q r d =
-      let far = reaches-at size length r.records log epoch p q r.reached in
-      let on = step-at size length log epoch q d.place (step-from size length log epoch q d.place d.step) in
-      run_damaged size r.records p q d.place r.reached d.step d.damaged (omega (arith, far, on.0, on.1))
+      let far = reaches-at format length r.records log epoch p q r.reached in
+      let on = step-at format length log epoch q d.place (step-from format length log epoch q d.place d.step) in
+      run_damaged (log_size format) r.records p q d.place r.reached d.step d.damaged (omega (arith, far, on.0, on.1))
 
-  pub runs_none : (p : LogPosition) → RunsTo size length log epoch p p
+  pub runs_none : (p : LogPosition) → RunsTo format length log epoch p p
   runs_none p = record { records = 0; reached = refl }
 
-  pub runs_more : (p q m : LogPosition) → RunsTo size length log epoch p q → next size length log epoch q ≡ Some m → RunsTo size length log epoch p m
-  runs_more p q m r is = record { records = suc r.records; reached = reaches-step size length r.records log epoch p q m r.reached is }
+  pub runs_more : (p q m : LogPosition) → RunsTo format length log epoch p q → next format length log epoch q ≡ Some m → RunsTo format length log epoch p m
+  runs_more p q m r is = record { records = suc r.records; reached = reaches-step format length r.records log epoch p q m r.reached is }
 
-  pub runs_end : (p q : LogPosition) → RunsTo size length log epoch p q → next size length log epoch q ≡ None → IsLongest size length log epoch p q
+  pub runs_end : (p q : LogPosition) → RunsTo format length log epoch p q → next format length log epoch q ≡ None → IsLongest format length log epoch p q
   runs_end p q r none = record { records = r.records; reached = r.reached; none = none }
 
 -- what was read, at the variant that it is

@@ -7,6 +7,9 @@ use Rattle.ng_rig.specs.Trace.{Trace, Image, reads}
 use Rattle.ng_layout.specs.Log.{PartHeader, is_part, parts_stand, changes_of, ReplayState}
 use Rattle.ng_layout.specs.Part.{changes_in, Makes}
 use Rattle.ng_layout.specs.Report.{and_then, decoded_state_of}
+use Rattle.ng_layout.specs.Tools.{tools_after}
+use Rattle.ng_layout.specs.declared.header.Format.{Format}
+use Rattle.std.specs.Prelude.{MatchBool}
 use Rattle.ng_layout.specs.StateField.{field_at}
 use Rattle.ng_layout.specs.Areas.{log_first}
 use Rattle.ng_layout.specs.Stored.{DecodedStateModel, StoredModel}
@@ -79,39 +82,53 @@ damaged_part log at i count changes sector old mid before lt count_is there none
 -- All that a record says.
 
 -- the parameters read, with what the state field says
-abbrev pub taken : List ℤ → DecodedStateModel → ℕ → StoredModel
-taken table r length = record { entries = r.entries; setup = record { params = table; machine = r.machine }; place = r.place; length = length; half = r.half }
+abbrev pub taken : List ℤ → List ℤ → DecodedStateModel → ℕ → StoredModel
+taken table tools r length = record { entries = r.entries; setup = record { params = table; machine = r.machine }; tools = tools; place = r.place; length = length; half = r.half }
 
 -- what the state field of a record's first part says, where that was read
-module _ (length at changes : ℕ) (old new : StoredModel) (image : Image) (sector : List ℕ) (o : Option DecodedStateModel) (there : sector ≡ from_log image at) (is : o ≡ decoded_state_of length (field_at (drop 32 sector))) where
+module _ (format : Format) (length at changes : ℕ) (old new : StoredModel) (image : Image) (sector : List ℕ) (o : Option DecodedStateModel) (there : sector ≡ from_log image at) (is : o ≡ decoded_state_of length (field_at (drop 32 sector))) where
   reported : (v : Option DecodedStateModel) → o ≡ v → decoded_state_of length (field_at (drop 32 (from_log image at))) ≡ v
   reported v o_is = ap (λ (s : List ℕ). decoded_state_of length (field_at (drop 32 s))) (sym there) ∙ sym is ∙ o_is
 
-  pub no_report : o ≡ None → FindsRecord length at changes old new image false
+  pub no_report : o ≡ None → FindsRecord format length at changes old new image false
   no_report none =
       let e = reported None none in
-      λ i. and_then (e i) (λ report. and_then (changes_of (from_log image) at changes) (λ made. Some (record { report = report; params = with_changes old.setup.params made })))
+      λ i. and_then (e i) (λ report. and_then (changes_of (from_log image) at changes) (λ made. and_then (tools_after format (from_log image at) old.tools) (λ tools. Some (record { report = report; params = with_changes old.setup.params made; tools = tools }))))
 
   module _ (r : DecodedStateModel) (some : o ≡ Some r) where
-    no_changes_made : changes_of (from_log image) at changes ≡ None → FindsRecord length at changes old new image false
+    -- the slot that changes is out of its range
+    pub no_slot : (tools : List ℤ) (was : List ℤ) (b : Bool) → b ≡ false → was ≡ old.tools → MatchBool b (tools_after format sector was ≡ Some tools) (tools_after format sector was ≡ None) → FindsRecord format length at changes old new image false
+    no_slot tools was b off was_is made =
+        let e = reported (Some r) some in
+        let none : tools_after format sector was ≡ None = subst (λ (x : Bool). MatchBool x (tools_after format sector was ≡ Some tools) (tools_after format sector was ≡ None)) off made in
+        let t : tools_after format (from_log image at) old.tools ≡ None = (λ i. tools_after format (sym there i) (sym was_is i)) ∙ none in
+        (λ i. and_then (e i) (λ report. and_then (changes_of (from_log image) at changes) (λ made. and_then (t i) (λ tools. Some (record { report = report; params = with_changes old.setup.params made; tools = tools }))))) ∙ never (changes_of (from_log image) at changes)
+      where
+        never : (o : Option (List Change)) → and_then o (λ made. and_then {B = ReplayState} None (λ (tools : List ℤ). Some (record { report = r; params = with_changes old.setup.params made; tools = tools }))) ≡ None
+        never None = refl
+        never (Some x) = refl
+
+    no_changes_made : changes_of (from_log image) at changes ≡ None → FindsRecord format length at changes old new image false
     no_changes_made none =
         let e = reported (Some r) some in
-        λ i. and_then (e i) (λ report. and_then (none i) (λ made. Some (record { report = report; params = with_changes old.setup.params made })))
+        λ i. and_then (e i) (λ report. and_then (none i) (λ made. and_then (tools_after format (from_log image at) old.tools) (λ tools. Some (record { report = report; params = with_changes old.setup.params made; tools = tools }))))
 
-    all_taken : (table : List ℤ) → MakesAll (from_log image) at changes old.setup.params table → new ≡ taken table r length → FindsRecord length at changes old new image true
-    all_taken table m after =
+    all_taken : (table tools : List ℤ) → MakesAll (from_log image) at changes old.setup.params table → tools_after format (from_log image at) old.tools ≡ Some tools → new ≡ taken table tools r length → FindsRecord format length at changes old new image true
+    all_taken table tools m t after =
         let e = reported (Some r) some in
-        let same : ◌≡◌ {A = ReplayState} (record { report = r; params = with_changes old.setup.params m.changes }) (replay_state_in new) = (λ i. record { report = r; params = (sym m.is) i }) ∙ ap replay_state_in (sym after) in (
-          (λ i. and_then (e i) (λ report. and_then (m.there i) (λ made. Some (record { report = report; params = with_changes old.setup.params made })))) ∙ ap (λ (f : ReplayState). Some f) same,
+        let same : ◌≡◌ {A = ReplayState} (record { report = r; params = with_changes old.setup.params m.changes; tools = tools }) (replay_state_in new) = (λ i. record { report = r; params = (sym m.is) i; tools = tools }) ∙ ap replay_state_in (sym after) in (
+          (λ i. and_then (e i) (λ report. and_then (m.there i) (λ made. and_then (t i) (λ tools. Some (record { report = report; params = with_changes old.setup.params made; tools = tools }))))) ∙ ap (λ (f : ReplayState). Some f) same,
           ap (λ (s : StoredModel). s.length) after,
         )
 
-    pub exit_all : (was table : List ℤ) (b : Bool) → b ≡ true → was ≡ old.setup.params → MakesAllOrDamaged at changes was table image b → new ≡ taken table r length → FindsRecord length at changes old new image b
-    exit_all was table b whole params_are made after =
+    pub exit_all : (was table was_tools tools : List ℤ) (b s : Bool) → b ≡ true → s ≡ true → was ≡ old.setup.params → was_tools ≡ old.tools → MakesAllOrDamaged at changes was table image b → MatchBool s (tools_after format sector was_tools ≡ Some tools) (tools_after format sector was_tools ≡ None) → new ≡ taken table tools r length → FindsRecord format length at changes old new image b
+    exit_all was table was_tools tools b s whole slot params_are tools_are made slot_made after =
+        let some_tools : tools_after format sector was_tools ≡ Some tools = subst (λ (x : Bool). MatchBool x (tools_after format sector was_tools ≡ Some tools) (tools_after format sector was_tools ≡ None)) slot slot_made in
+        let t : tools_after format (from_log image at) old.tools ≡ Some tools = (λ i. tools_after format (sym there i) (sym tools_are i)) ∙ some_tools in
         let m : MakesAll (from_log image) at changes old.setup.params table = subst (λ (t : List ℤ). MakesAll (from_log image) at changes t table) params_are (subst (λ (x : Bool). MakesAllOrDamaged at changes was table image x) whole made) in
-        subst (λ (x : Bool). FindsRecord length at changes old new image x) (sym whole) (all_taken table m after)
+        subst (λ (x : Bool). FindsRecord format length at changes old new image x) (sym whole) (all_taken table tools m t after)
 
-    pub exit_not_all : (was table : List ℤ) (b : Bool) → b ≡ false → MakesAllOrDamaged at changes was table image b → FindsRecord length at changes old new image b
+    pub exit_not_all : (was table : List ℤ) (b : Bool) → b ≡ false → MakesAllOrDamaged at changes was table image b → FindsRecord format length at changes old new image b
     exit_not_all was table b broken made =
         let none : changes_of (from_log image) at changes ≡ None = subst (λ (x : Bool). MakesAllOrDamaged at changes was table image x) broken made in
-        subst (λ (x : Bool). FindsRecord length at changes old new image x) (sym broken) (no_changes_made none)
+        subst (λ (x : Bool). FindsRecord format length at changes old new image x) (sym broken) (no_changes_made none)

@@ -9,14 +9,15 @@ use Rattle.ng_layout.specs.Areas.{log_size_of, program_first, program_size}
 use Rattle.ng_layout.specs.Log.{ReplayState, LogPosition, parts_for}
 use Rattle.ng_layout.specs.Sectors.{program_text}
 use Rattle.ng_layout.specs.Snapshot.{decoded_state_in}
-use Rattle.ng_layout.specs.Stands.{stretch, in_force, stands, IsWritten}
+use Rattle.ng_layout.specs.Stands.{stretch, in_force, stands, IsModern, IsWritten}
+use Rattle.ng_layout.specs.declared.header.Format.TheVariants.{Two}
 use Rattle.ng_layout.specs.Stored.{StoredModel, DurableState}
 use Rattle.ng_log.specs.declared.log_end.LogEnd.{LogEnd}
 use Rattle.ng_log.specs.Runs.{log_of, beginning, EndsAt}
 
 -- what a run of records finds where it leads to this
 abbrev pub replay_state_in : StoredModel → ReplayState
-replay_state_in s = record { report = decoded_state_in s; params = s.setup.params }
+replay_state_in s = record { report = decoded_state_in s; params = s.setup.params; tools = s.tools }
 
 abbrev pub position_of : LogEnd → StoredModel → LogPosition
 position_of end saved = record { at = end.sector; number = end.number; found = Some (replay_state_in saved) }
@@ -29,11 +30,12 @@ no_records = record { sector = 0; number = 0 }
 abbrev pub end_after : LogEnd → ℕ → LogEnd
 end_after end changes = record { sector = end.sector + parts_for changes; number = end.number + 1 }
 
--- The image stands under this header for this; its log ends here and has no part of the epoch after, nor any of an epoch to come.
+-- The image stands under this header, of format 2, for this; its log ends here and has no part of the epoch after, nor any of an epoch to come.
 pub record EndsIn (image : Image) (header : Header) (standing : DurableState) (end : LogEnd) : Type 0 where
   pub force : in_force image ≡ Some header
+  pub format : header.format ≡ Two
   pub written : IsWritten image
-  pub ends : EndsAt (log_size_of header) header.length (log_of header image) header.epoch (beginning image header) (position_of end standing.saved)
+  pub ends : EndsAt header.format header.length (log_of header image) header.epoch (beginning image header) (position_of end standing.saved)
   pub program : program_text header.length (stretch (program_first header.area) (program_size header.area) image) ≡ standing.program
   pub long : standing.saved.length ≡ header.length
 
@@ -42,8 +44,9 @@ pub record IsAtEnd (trace : Trace) (header : Header) (standing : DurableState) (
   pub synced : IsSynced trace
   pub image : EndsIn (reads trace) header standing end
 
--- An image stands for one of the two and has no record of an epoch to come; nothing was handed out.
+-- An image of format 2 stands for one of the two and has no record of an epoch to come; nothing was handed out.
 pub record IsEither (before after : Result DurableState Fault) (given : List Item) (image : Image) (handed : List Item) : Type 0 where
   pub state : (stands image ≡ before) ⊎ (stands image ≡ after)
+  pub modern : IsModern image
   pub written : IsWritten image
   pub handed_is : handed ≡ given

@@ -1,5 +1,6 @@
 -- A record, and the sectors that hold it (own).
-use Rattle.std.specs.Prelude.{◌<◌, ◌≤◌, ◌+◌, ◌-◌, ℕ, List, ℤ, length}
+use Rattle.std.specs.Prelude.{◌<◌, ◌≤◌, ◌+◌, ◌-◌, ℕ, List, ℤ, length, Option}
+use Rattle.ng_offsets.specs.declared.tools.SlotChange.{SlotChange}
 use Rattle.ng_params.specs.declared.change.Change.{Change}
 use Rattle.ng_layout.specs.Log.{PartHeader, parts_for}
 use Rattle.ng_layout.specs.Part.{HoldsRecordPart}
@@ -15,6 +16,7 @@ pub record LogRecord : Type 0 where
   pub at : ℕ
   pub saved : StoredModel
   pub changes : List Change
+  pub slot : Option SlotChange
 
 -- how many sectors it takes
 abbrev pub size_of : LogRecord → ℕ
@@ -28,7 +30,7 @@ label r n = record { epoch = r.epoch; number = r.number; part = n; parts = size_
 pub record IsPartOf (r : LogRecord) (m : ℕ) (bytes : List ℕ) : Type 0 where
   pub from : r.at ≤ m
   pub to : m < r.at + size_of r
-  pub holds : HoldsRecordPart (label r (m - r.at)) r.saved r.changes bytes
+  pub holds : HoldsRecordPart (label r (m - r.at)) r.saved r.changes r.slot bytes
 
 -- sector n of a device is one of the record's, and these bytes are the part that belongs there
 pub record BelongsToRecord (r : LogRecord) (n : ℕ) (bytes : List ℕ) : Type 0 where
@@ -36,9 +38,9 @@ pub record BelongsToRecord (r : LogRecord) (n : ℕ) (bytes : List ℕ) : Type 0
   pub part : IsPartOf r (n - log_first) bytes
 
 -- the record that says this, at the end of a log
-abbrev pub record_at : ℕ → LogEnd → StoredModel → List Change → LogRecord
-record_at epoch end saved changes = record { epoch = epoch; number = end.number; at = end.sector; saved = saved; changes = changes }
+abbrev pub record_at : ℕ → LogEnd → StoredModel → List Change → Option SlotChange → LogRecord
+record_at epoch end saved changes slot = record { epoch = epoch; number = end.number; at = end.sector; saved = saved; changes = changes; slot = slot }
 
--- the record that makes this of an older table
-abbrev pub record_from : ℕ → LogEnd → List ℤ → StoredModel → LogRecord
-record_from epoch end old saved = record_at epoch end saved (differences old saved.setup.params)
+-- the record that makes this of older parameters, with the slot that changes
+abbrev pub record_from : ℕ → LogEnd → List ℤ → Option SlotChange → StoredModel → LogRecord
+record_from epoch end old slot saved = record_at epoch end saved (differences old saved.setup.params) slot

@@ -6,11 +6,12 @@ ghost use Rattle.std.specs.Bool.{OnTrue};
 ghost use Rattle.ng_rig.specs.Calls.{IfHonest, FailureCountSpec};
 ghost use Rattle.ng_layout.specs.Limits.{greatest_count, longest_program, record_changes};
 ghost use Rattle.ng_params.specs.Numbers.{parameter_count};
+ghost use Rattle.ng_layout.specs.declared.header.Format.TheVariants.{One};
 ghost use Rattle.ng_layout.specs.Header.{IsValidHeader};
-ghost use Rattle.ng_layout.specs.Areas.{log_size_of, least_size, log_size};
+ghost use Rattle.ng_layout.specs.Areas.{log_size_of, least_size, longest_log};
 ghost use Rattle.ng_layout.specs.Log.{parts_for};
 ghost use Rattle.ng_layout.specs.Part.{label_of};
-ghost use Rattle.ng_layout.specs.Storable.{IsStorable};
+ghost use Rattle.ng_layout.specs.Storable.{IsStorable, IsStorableTools};
 ghost use Rattle.ng_log.specs.Reading.{ReadSpec, IsRunOf};
 ghost use Rattle.ng_log.specs.Private.ReadSteps.{begins, LaterPartsStand, MakesAllOrDamaged, TakesRecord, IsNextOf, IsOn, Goes};
 
@@ -18,7 +19,7 @@ use crate::log_end::LogEnd;
 use crate::reading::read_sector;
 use ng_layout::{
     BYTES, CHANGES, Header, LOG_FIRST, PartLabel, Stored, decoded_state_of_part, parts_for,
-    take_changes,
+    take_changes, take_slot,
 };
 use ng_params::Params;
 use ng_rig::{Failed, Rig};
@@ -51,7 +52,7 @@ fn begins_record(first: PartLabel, header: Header, end: LogEnd) -> bool
 /// Whether the parts of a record stand after its first one, which is in this sector of the log.
 fn later_parts_stand<R: Rig>(rig: &mut R, at: usize, first: PartLabel) -> Result<bool, Failed>
     requires sectors { least_size ≤ R.sectors rig.old }
-    requires room { at + first.parts ≤ log_size }
+    requires room { at + first.parts ≤ longest_log }
     ensures read { IfHonest (R.honest rig.old) (R.honest rig.new)
         (ReadSpec result (LaterPartsStand at (label_of first)) (R.trace rig.old) (R.trace rig.new)) }
     ensures size { R.sectors rig.new ≡ R.sectors rig.old }
@@ -76,7 +77,7 @@ fn take_all_changes<R: Rig, A: Allocator + Copy + Drop>(
 ) -> Result<bool, Failed>
     requires sectors { least_size ≤ R.sectors rig.old }
     requires few { changes ≤ record_changes }
-    requires room { at + parts_for changes ≤ log_size }
+    requires room { at + parts_for changes ≤ longest_log }
     requires long { length table.old ≡ parameter_count }
     ensures read { IfHonest (R.honest rig.old) (R.honest rig.new)
         (ReadSpec result (MakesAllOrDamaged at changes table.old table.new) (R.trace rig.old) (R.trace rig.new)) }
@@ -101,29 +102,34 @@ fn take_record<R: Rig, A: Allocator + Copy + Drop>(
     first: &[u8; BYTES],
     at: usize,
     changes: usize,
-    program: u64,
+    header: Header,
     stored: &mut Stored<A>,
 ) -> Result<bool, Failed>
     requires sectors { least_size ≤ R.sectors rig.old }
     requires few { changes ≤ record_changes }
-    requires room { at + parts_for changes ≤ log_size }
-    requires program { program ≤ longest_program }
+    requires room { at + parts_for changes ≤ longest_log }
+    requires program { header.length ≤ longest_program }
+    requires tools { IsStorableTools stored.old.tools }
     requires long { length stored.old.setup.params ≡ parameter_count }
     ensures read { IfHonest (R.honest rig.old) (R.honest rig.new)
-        (ReadSpec result (TakesRecord program first.now at changes stored.old stored.new) (R.trace rig.old) (R.trace rig.new)) }
+        (ReadSpec result (TakesRecord header.format header.length first.now at changes stored.old stored.new) (R.trace rig.old) (R.trace rig.new)) }
     // without honesty too
     ensures storable { IfOk result (λ whole. OnTrue whole (IsStorable stored.new)) }
     ensures count { IfOk result (λ whole. OnTrue whole (stored.new.entries ≤ greatest_count)) }
-    ensures long { IfOk result (λ whole. OnTrue whole (stored.new.length ≡ program)) }
+    ensures long { IfOk result (λ whole. OnTrue whole (stored.new.length ≡ header.length)) }
+    ensures none { IfOk result (λ whole. OnTrue whole (header.format ≡ One → stored.new.tools ≡ stored.old.tools)) }
     ensures size { R.sectors rig.new ≡ R.sectors rig.old }
     ensures failures { FailureCountSpec result (R.failed rig.old) (R.failed rig.new) }
 {
-    match decoded_state_of_part(first, program) {
+    match decoded_state_of_part(first, header.length) {
         None => Ok(false),
         Some(report) => {
+            if !take_slot(header.format, &mut stored.tools, first) {
+                return Ok(false);
+            }
             let is_whole = take_all_changes(rig, at, changes, &mut stored.state.params)?;
             if is_whole {
-                stored.take_decoded_state(report, program);
+                stored.take_decoded_state(report, header.length);
             }
             Ok(is_whole)
         }
@@ -151,6 +157,7 @@ fn next_record<R: Rig, A: Allocator + Copy + Drop>(
     ensures storable { IfOk result (λ next. Goes next (IsStorable stored.new)) }
     ensures count { IfOk result (λ next. Goes next (stored.new.entries ≤ greatest_count)) }
     ensures long { IfOk result (λ next. Goes next (stored.new.length ≡ header.length)) }
+    ensures none { IfOk result (λ next. Goes next (header.format ≡ One → stored.new.tools ≡ stored.old.tools)) }
     ensures size { R.sectors rig.new ≡ R.sectors rig.old }
     ensures failures { FailureCountSpec result (R.failed rig.old) (R.failed rig.new) }
 {
@@ -171,7 +178,7 @@ fn next_record<R: Rig, A: Allocator + Copy + Drop>(
         &sector,
         end.sector,
         first.changes as usize,
-        header.length,
+        header,
         stored,
     )?;
     if !is_whole {
@@ -206,6 +213,7 @@ pub fn read_log<R: Rig, A: Allocator + Copy + Drop>(
     ensures storable { IfOk result (λ end. IfSome end (λ e. IsStorable stored.new)) }
     ensures count { IfOk result (λ end. IfSome end (λ e. stored.new.entries ≤ greatest_count)) }
     ensures long { IfOk result (λ end. IfSome end (λ e. stored.new.length ≡ header.length)) }
+    ensures none { IfOk result (λ end. IfSome end (λ e. header.format ≡ One → stored.new.tools ≡ stored.old.tools)) }
     ensures size { R.sectors rig.new ≡ R.sectors rig.old }
     ensures failures { FailureCountSpec result (R.failed rig.old) (R.failed rig.new) }
 {

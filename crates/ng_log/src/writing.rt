@@ -1,11 +1,13 @@
 //! A record written after the last one.
-ghost use Rattle.std.specs.Prelude.{◌≡◌, ◌≤◌, ◌+◌, length, IfOk};
+ghost use Rattle.std.specs.Prelude.{◌≡◌, ◌≤◌, ◌+◌, length, IfOk, IfSome};
 ghost use Rattle.ng_rig.specs.Calls.{IfHonest, FailureCountSpec};
 ghost use Rattle.ng_layout.specs.Limits.{greatest_count, part_changes};
 ghost use Rattle.ng_params.specs.Numbers.{parameter_count};
-ghost use Rattle.ng_layout.specs.Areas.{log_size_of, least_size, log_size};
+ghost use Rattle.ng_layout.specs.Areas.{log_size_of, least_size, longest_log};
 ghost use Rattle.ng_layout.specs.Log.{parts_for};
-ghost use Rattle.ng_layout.specs.Storable.{IsStorable};
+ghost use Rattle.ng_offsets.specs.Tools.{with_change};
+ghost use Rattle.ng_layout.specs.declared.header.Format.TheVariants.{Two};
+ghost use Rattle.ng_layout.specs.Storable.{IsStorable, IsStorableChange};
 ghost use Rattle.ng_layout.specs.Stored.{DurableState};
 ghost use Rattle.ng_log.specs.Appends.{WritesRecord, AppendSpec};
 ghost use Rattle.ng_log.specs.AtEnd.{end_after, IsAtEnd};
@@ -17,6 +19,7 @@ use arrayvec::ArrayVec;
 use ng_layout::{
     CHANGES, Header, LOG_FIRST, PartLabel, Stored, changes_part, first_part, parts_for,
 };
+use ng_offsets::SlotChange;
 use ng_params::{Change, Params, next_differences};
 use ng_rig::{Failed, Rig};
 use std::alloc::Allocator;
@@ -41,15 +44,16 @@ fn write_parts<R: Rig, A: Allocator + Copy + Drop>(
     old: &Params<A>,
     stored: &Stored<A>,
     count: usize,
+    slot: Option<SlotChange>,
 ) -> Result<(), Failed>
     requires sectors { least_size ≤ R.sectors rig.old }
     requires count { count ≡ length (differences old.now stored.now.setup.params) }
     requires few { count ≤ parameter_count }
-    requires room { end.sector + parts_for count ≤ log_size }
+    requires room { end.sector + parts_for count ≤ longest_log }
     requires entries { stored.now.entries ≤ greatest_count }
     requires storable { IsStorable stored.now }
     ensures writes { IfHonest (R.honest rig.old) (R.honest rig.new)
-        (WritesRecord result (record_from epoch end old.now stored.now) (R.trace rig.old) (R.trace rig.new)) }
+        (WritesRecord result (record_from epoch end old.now slot stored.now) (R.trace rig.old) (R.trace rig.new)) }
     ensures size { R.sectors rig.new ≡ R.sectors rig.old }
     ensures failures { FailureCountSpec result (R.failed rig.old) (R.failed rig.new) }
 {
@@ -61,7 +65,7 @@ fn write_parts<R: Rig, A: Allocator + Copy + Drop>(
         parts: parts as u16,
         changes: count as u16,
     };
-    rig.write(LOG_FIRST + end.sector, &first_part(first, stored))?;
+    rig.write(LOG_FIRST + end.sector, &first_part(first, stored, slot))?;
     let mut from = 0;
     for part in 1..parts {
         let (changes, next) = next_changes(old, stored, from);
@@ -80,7 +84,8 @@ fn write_parts<R: Rig, A: Allocator + Copy + Drop>(
 
 /// Writes what is stored as a record after the end of a log, syncs it, and gives the log's end after it. It takes no memory (own).
 ///
-/// `old` is the table that stands, and `count` says in how many parameters that of `stored` differs from it (`difference_count`).
+/// `old` is the table that stands, and `count` says in how many parameters that of `stored` differs from it (`difference_count`); `slot`
+/// what changes of the tool table that stands. In format 1 nothing is written.
 /// Fails where a write or the sync fails. Then some of the record's parts may have been written, and a stop leaves what stood or the whole
 /// record.
 pub fn append<R: Rig, A: Allocator + Copy + Drop>(
@@ -90,6 +95,7 @@ pub fn append<R: Rig, A: Allocator + Copy + Drop>(
     old: &Params<A>,
     stored: &Stored<A>,
     count: usize,
+    slot: Option<SlotChange>,
 ) -> Result<LogEnd, Failed>
     requires sectors { least_size ≤ R.sectors rig.old }
     requires table { length old.now ≡ parameter_count }
@@ -100,16 +106,17 @@ pub fn append<R: Rig, A: Allocator + Copy + Drop>(
     requires entries { stored.now.entries ≤ greatest_count }
     requires storable { IsStorable stored.now }
     requires long { stored.now.length ≡ header.length }
+    requires format { header.format ≡ Two }
     ensures appends { IfHonest (R.honest rig.old) (R.honest rig.new) ((before : DurableState) → IsAtEnd (R.trace rig.old) header before end
-        → before.saved.setup.params ≡ old.now → AppendSpec result header before stored.now (R.trace rig.old) (R.trace rig.new)) }
+        → before.saved.setup.params ≡ old.now → IfSome slot (IsStorableChange before.saved.tools) → with_change slot before.saved.tools ≡ stored.now.tools → AppendSpec result header before stored.now (R.trace rig.old) (R.trace rig.new)) }
     // whatever stands on the device
     ensures writes { IfHonest (R.honest rig.old) (R.honest rig.new)
-        (WritesRecord result (record_from header.epoch end old.now stored.now) (R.trace rig.old) (R.trace rig.new)) }
+        (WritesRecord result (record_from header.epoch end old.now slot stored.now) (R.trace rig.old) (R.trace rig.new)) }
     ensures end { IfOk result (λ after. after ≡ end_after end count) }
     ensures size { R.sectors rig.new ≡ R.sectors rig.old }
     ensures failures { FailureCountSpec result (R.failed rig.old) (R.failed rig.new) }
 {
-    write_parts(rig, header.epoch, end, old, stored, count)?;
+    write_parts(rig, header.epoch, end, old, stored, count, slot)?;
     rig.sync()?;
     Ok(LogEnd {
         sector: end.sector + parts_for(count),

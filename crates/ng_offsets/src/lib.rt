@@ -21,4 +21,4 @@ pub use named::Named;
 pub use new_offsets::NewOffsets;
 pub use offsets::Offsets;
 pub use shift::Shift;
-pub use tools::{SLOTS, Tools};
+pub use tools::{SLOTS, SlotChange, Tools};

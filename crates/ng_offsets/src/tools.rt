@@ -1,5 +1,5 @@
 ghost use Rattle.std.specs.Prelude.{◌≡◌, ◌≤◌, ◌<◌, [], ◌∷◌, ◌++◌, length};
-ghost use Rattle.ng_offsets.specs.Tools.{length_of_slot};
+ghost use Rattle.ng_offsets.specs.Tools.{length_of_slot, with_slot, first_change, AreTools, IsSlotChange, IsToolLength};
 
 use arrayvec::ArrayVec;
 use ng_num::Len;
@@ -7,6 +7,14 @@ use std::marker::Model;
 
 /// The most slots that a tool table has.
 pub const SLOTS: usize = 64;
+
+/// A tool length for a slot, which a table has or has next.
+#[derive(Clone, Copy, Debug, PartialEq, Eq)]
+pub struct SlotChange {
+    /// From 1.
+    pub slot: u8,
+    pub length: Len,
+}
 
 /// The tool table: the tool lengths of slots 1, 2 and so on (NISTIR 6556, 3.2.3, in this project's profile).
 /// Contracts see the list of their nanometres.
@@ -17,10 +25,13 @@ pub struct Tools {
 
 impl Model for Tools {
     ghost use Rattle.std.specs.Prelude.{List, ℤ};
+    ghost use Rattle.ng_offsets.specs.Tools.{AreTools};
 
     ghost Value = { List ℤ };
 
     ghost view = { λ t. t.lengths.items };
+
+    ghost invariant = { λ t. AreTools t.lengths.items };
 }
 
 impl Tools {
@@ -37,6 +48,7 @@ impl Tools {
     pub fn slots(&self) -> usize
         ensures value { result ≡ length self.now }
         ensures range { result ≤ SLOTS }
+        ensures tools { AreTools self.now }
     {
         self.lengths.len()
     }
@@ -53,11 +65,54 @@ impl Tools {
         }
     }
 
-    /// Adds the next slot. The caller sees to it that there are fewer than 64.
+    /// Adds the next slot. The caller sees to it that there are fewer than 64, and that it is a tool's length.
     pub fn push(&mut self, tool_length: Len)
-        requires { length self.old < SLOTS }
+        requires room { length self.old < SLOTS }
+        requires tool { IsToolLength tool_length }
         ensures { self.new ≡ self.old ++ tool_length ∷ [] }
     {
         self.lengths.push(tool_length);
+    }
+
+    /// A slot takes a length; the one after the last is added.
+    pub fn set(&mut self, change: SlotChange)
+        requires slot { IsSlotChange self.old change }
+        requires room { change.slot ≤ SLOTS }
+        requires tool { IsToolLength change.length }
+        ensures { self.new ≡ with_slot change self.old }
+    {
+        let slot = change.slot as usize;
+        if slot == self.lengths.len() + 1 {
+            self.lengths.push(change.length);
+        } else {
+            self.lengths[slot - 1] = change.length;
+        }
+    }
+
+    /// A table equal to this one.
+    pub fn copy(&self) -> Tools
+        ensures { result ≡ self.now }
+    {
+        let mut copy = Tools::new();
+        for n in 0..self.lengths.len() {
+            copy.push(self.lengths[n]);
+        }
+        copy
+    }
+
+    /// The first slot that another table has and this one hasn't, or with another length; none where there is no such slot.
+    pub fn change_to(&self, other: &Tools) -> Option<SlotChange>
+        ensures { result ≡ first_change self.now other.now }
+    {
+        for n in 0..other.lengths.len() {
+            let length = other.lengths[n];
+            if n >= self.lengths.len() || self.lengths[n] != length {
+                return Some(SlotChange {
+                    slot: n as u8 + 1,
+                    length,
+                });
+            }
+        }
+        None
     }
 }

@@ -21,7 +21,7 @@ use Rattle.ng_core.specs.Runs.{PassesAsSession}
 use Rattle.ng_core.specs.Model.{ControllerModel, IsAtRestWith}
 use Rattle.ng_run.specs.Endings.{ended_by, status_of}
 use Rattle.ng_run.specs.Talks.{AreBrokenOff, AreTicks, Exchange, Hears, IsAnswered, IsBegun, events_in, events_of, replies_in, words_in, words_of}
-use Rattle.ng_core.specs.AnsweredEvents.{AreAnsweredEvents}
+use Rattle.ng_core.specs.AnsweredEvents.{AreAnsweredEvents, answered_at}
 use Rattle.ng_run.specs.declared.ending.ConsoleEnd.{ConsoleEnd}
 use Rattle.ng_run.specs.declared.ending.ConsoleEnd.TheVariants.{NotPowered}
 use Rattle.ng_run.specs.declared.ending.ConsoleAbort.{ConsoleAbort}
@@ -60,7 +60,8 @@ EndsConversation (Err Input) broken rest begun written = (begun ≡ []) × (writ
 EndsConversation {A} (Err Output) broken rest begun written = (last : Exchange A) × (begun ≡ last ∷ []) × IsBegun last written
 
 -- A text is heard and answered in turn: the events that it asks are given, and the words of the answers are written. Over an honest
--- device each stop leaves what stands after some of these events, and the items handed out are the session's.
+-- device each stop leaves what stands after those that came of the events answered by then, or after the one under way too, and the items
+-- handed out are the session's.
 pub record Conversation {R : Type 0} (A : Type 0) (honest : R → Type 0) (trace : R → Trace) (failed sectors : R → ℕ) (ended : Result ConsoleEnd ConsoleAbort) (text old new : Option (List ℕ)) (before after : ControllerModel R) : Type 0 where
   pub answered : List (Exchange A)
   pub begun : List (Exchange A)
@@ -72,7 +73,8 @@ pub record Conversation {R : Type 0} (A : Type 0) (honest : R → Type 0) (trace
   pub tells : Appends old new (words_in answered ++ written)
   pub closes : EndsConversation ended after.journal.broken rest begun written
   pub passes : before.journal.broken ≡ false → IfHonest (honest before.journal.rig) (honest after.journal.rig) ((program : List ℕ) → IsAtRestWith (trace before.journal.rig) before program
-      → PassesAsSession trace (events_in (answered ++ begun)) (replies_in (answered ++ begun)) before.equipment (program_session_of program before) (trace before.journal.rig) after)
+      → PassesAsSession trace (events_in (answered ++ begun)) (replies_in (answered ++ begun))
+      (answered_at honest trace failed sectors (events_in (answered ++ begun)) (replies_in (answered ++ begun)) before after given) before.equipment (program_session_of program before) (trace before.journal.rig) after)
 
 -- ---- the console
 

@@ -148,6 +148,7 @@ steady_base equipment program s (event.Mdi text) quiet drops = absurd (let z : t
 steady_base equipment program s (event.Reference point) quiet drops = absurd quiet
 steady_base equipment program s event.Resume quiet drops = absurd quiet
 steady_base equipment program s event.Abandon quiet drops = absurd quiet
+steady_base equipment program s (event.Tool slot nm) quiet drops = absurd quiet
 steady_base equipment program s (event.OptionalStop wanted) quiet drops = refl
 steady_base equipment program s (event.BlockDelete on) quiet drops = absurd (let z : true ≡ false = drops in cc)
 steady_base equipment program s event.Status quiet drops = refl
@@ -176,7 +177,7 @@ plan_answered {A} equipment program s t e ps quiet dropped next plan = elim (cas
 pub planned_done : (equipment : Equipment) (program : List ℕ) (s : SessionModel) (p : PlannedModel) (on : IsPlannedOn equipment (record { stored = s.stored; block_delete = s.block_delete }) p)
     → p.first ≡ first_kind (lines_before program s.stored.place) → done_of equipment program s.stored source.Program p.prepared.block.text s.block_delete ≡ Ok on.does
 unfolding done_of
-planned_done equipment program s p on kind = subst (λ (k : LineKind). executed_after (terms_of equipment s.block_delete) k s.stored.setup p.prepared.block.text ≡ Ok on.does) kind on.does_is
+planned_done equipment program s p on kind = subst (λ (k : LineKind). executed_after (terms_of equipment s.stored.tools s.block_delete) k s.stored.setup p.prepared.block.text ≡ Ok on.does) kind on.does_is
 
 pub planned_begins : (equipment : Equipment) (program : List ℕ) (s : SessionModel) (p : PlannedModel) → IsPlannedOn equipment (record { stored = s.stored; block_delete = s.block_delete }) p
     → p.first ≡ first_kind (lines_before program s.stored.place)
@@ -217,7 +218,7 @@ last_copied r xs is = by r (subst (λ (o : Option PlannedModel). MatchOption o (
 -- ---- a line is planned
 
 pub planned_by : (equipment : Equipment) (base : Base) (p : PlannedModel) (text : List ℕ) (does : Done) → p.place ≡ base.stored.place → (base.stored.place ≡ 0 → p.first ≡ Blank)
-    → executed_after (terms_of equipment base.block_delete) p.first base.stored.setup text ≡ Ok does → p.prepared.block ≡ begun base.stored source.Program text base.block_delete p.next does
+    → executed_after (terms_of equipment base.stored.tools base.block_delete) p.first base.stored.setup text ≡ Ok does → p.prepared.block ≡ begun base.stored source.Program text base.block_delete p.next does
     → IsReady base.stored p.prepared → IsPlannedOn equipment base p
 planned_by equipment base p text does place beginning does_is begun_is ready =
     let read : text ≡ p.prepared.block.text = sym (ap (λ (c : CurrentBlockModel). c.text) begun_is) in
@@ -225,7 +226,7 @@ planned_by equipment base p text does place beginning does_is begun_is ready =
       place = place;
       beginning = λ none. beginning (sym place ∙ none);
       does = does;
-      does_is = subst (λ (t : List ℕ). executed_after (terms_of equipment base.block_delete) p.first base.stored.setup t ≡ Ok does) read does_is;
+      does_is = subst (λ (t : List ℕ). executed_after (terms_of equipment base.stored.tools base.block_delete) p.first base.stored.setup t ≡ Ok does) read does_is;
       begun_is = subst (λ (t : List ℕ). p.prepared.block ≡ begun base.stored source.Program t base.block_delete p.next does) read begun_is;
       ready = ready;
     }

@@ -1,23 +1,24 @@
 -- The law of cuts.
-use Rattle.std.proofs.Common.{◌≡◌, ◌⊎◌, ◌≤◌, ◌<◌, ℕ, ◌==◌, Bool, true, false, not, ◌||◌, if◌then◌else◌, Option, None, Some, List, [], ◌∷◌, ◌++◌, length, Result, Ok, Err, refl, sym, ap, subst, ◌∙◌, inl, inr, arith, append_assoc, length-append}
+use Rattle.std.proofs.Common.{◌≡◌, ◌⊎◌, ℕ, ℤ, ◌==◌, Bool, true, false, not, ◌||◌, if◌then◌else◌, Option, None, Some, List, [], ◌∷◌, ◌++◌, length, Result, Ok, Err, refl, sym, ap, subst, ◌∙◌, inl, inr, arith, append_assoc, length-append}
 use Rattle.std.specs.Prelude.{Contains}
 use Rattle.std.specs.Option.{is_some}
 use Rattle.std.proofs.lemmas.List.{append-nil}
-use Rattle.std.proofs.lemmas.List.Elements.{Contains-append_left, Contains-append_right, Contains-append_cases}
+use Rattle.std.proofs.lemmas.List.Elements.{Contains-append_left, Contains-append_right}
 use Rattle.ng_num.specs.declared.fault.Fault.{Fault}
 use Rattle.ng_num.specs.declared.point.Point.{Point}
 use Rattle.ng_canon.specs.declared.item.Item.{Item}
+use Rattle.ng_canon.specs.declared.segment.Segment.{Segment}
 use Rattle.ng_block.specs.Effects.{Done}
 use Rattle.ng_text.specs.Programs.{ProgramLineModel, program_line_at}
 use Rattle.ng_layout.specs.Stored.{StoredModel, HalfModel, DurableState}
 use Rattle.ng_layout.specs.declared.half.Source.TheVariants as source
 use Rattle.ng_layout.specs.declared.half.Opened.{Opened}
 use Rattle.ng_layout.specs.declared.half.Opened.TheVariants as open_part
-use Rattle.ng_session.specs.Entries.{Equipment, Entry, done_of, done_again}
-use Rattle.ng_session.specs.Session.{CurrentBlockModel, SessionModel, Transition, idleness, is_running, is_idle, accepts_load, is_at_rest, refuses_mdi, mdi_by, load_unless, load_refusal, reference_unless, reference_refusal, abandon_unless, abandon_refusal, resume_by, resume_from, resume_half, opening_reply, begin, begin_by, end, open_next, opening_of, hand_next, item_of, step}
+use Rattle.ng_session.specs.Entries.{Equipment, Entry, Block, Approached, done_of, done_again}
+use Rattle.ng_session.specs.Session.{CurrentBlockModel, SessionModel, Transition, answers, entry_on, idleness, is_running, is_idle, accepts_load, is_at_rest, refuses_mdi, mdi_by, load_unless, load_refusal, reference_unless, reference_refusal, abandon_unless, abandon_refusal, tool_unless, tool_refusal, resume_by, resume_from, resume_half, opening_reply, begin, begin_by, end, open_next, opening_of, hand_next, first_of, item_of, step}
 use Rattle.ng_session.specs.Fold.{after, items, after_all, items_all, IsBlock, FollowsFold, FollowFold}
-use Rattle.ng_session.specs.Runs.{ProgramSession, session_at_power_on, leads_to, session_of_transition, replies_of, items_of, entries_of, session_after, crash_in, crash_after, done_count, dones, given_by, lines_given}
-use Rattle.ng_session.specs.Cuts.{UncommittedTail, Nothing_open, Approach_open, Segment_open, IsCut, CrashAfterEvents, CrashWithinEvent}
+use Rattle.ng_session.specs.Runs.{ProgramSession, CrashState, session_at_power_on, leads_to, session_of_transition, replies_of, items_of, entries_of, entry_of, under_way, session_after, crash_in, crash_after, done_count, dones, given_by, lines_given}
+use Rattle.ng_session.specs.Cuts.{UncommittedTail, Nothing_open, Approach_open, Segment_open, IsCut, CrashAfterEvents}
 use Rattle.ng_session.specs.declared.activity.Activity.{Activity}
 use Rattle.ng_session.specs.declared.activity.Activity.TheVariants as activity
 use Rattle.ng_session.specs.declared.reply.Reply.{Reply}
@@ -29,23 +30,23 @@ use Rattle.ng_session.specs.declared.stage.Stage.TheVariants as stage
 use Rattle.ng_session.proofs.Worked.{IsFresh, IsMidst, IsWorked, Tied, way_is}
 use Rattle.ng_session.proofs.Tying.{Next, Stays, Adds, Ties, next_step}
 
--- what is worked may follow the entries
+-- what is worked may follow the entries, where it comes next
 
 block_follows : (q : Equipment) (lines : List (List ℕ)) (p : DurableState) (given : List Item) (x : StoredModel) (c : CurrentBlockModel) (done : Done) → IsBlock q lines p c.source c.text c.block_delete done
-    → IsFresh p given x c done ⊎ IsMidst q p given x c done → UncommittedTail q lines p x given
+    → IsFresh p given x c done ⊎ IsMidst q p given x c done → UncommittedTail q lines p (Block c.source c.text c.block_delete ∷ []) x given
 block_follows q lines p given x c done is (inl f) = rw (f.stands, f.given_is) Nothing_open
-block_follows q lines p given x c done is (inr m) = rw (m.stands, m.given_is) (Segment_open c.source c.text c.block_delete done m.before m.segment c.left m.begun c.items is m.split m.rest)
+block_follows q lines p given x c done is (inr m) = rw (m.stands, m.given_is) (Segment_open c.source c.text c.block_delete done m.before m.segment c.left m.begun c.items [] refl is m.split m.rest)
 
-stage_follows : (q : Equipment) (lines : List (List ℕ)) (p : DurableState) (given : List Item) (x : StoredModel) (c : CurrentBlockModel) (g : Stage) → IsWorked q lines p given x c g → UncommittedTail q lines p x given
+stage_follows : (q : Equipment) (lines : List (List ℕ)) (p : DurableState) (given : List Item) (x : StoredModel) (c : CurrentBlockModel) (g : Stage) → IsWorked q lines p given x c g → UncommittedTail q lines p (entry_on c g ∷ []) x given
 stage_follows q lines p given x c (stage.ToApproach a) w = rw (w.stands, w.given_is) Nothing_open
 stage_follows q lines p given x c (stage.OnApproach a) w =
     let r = w.resumed in
     let same : record p.saved { half = Some (record r.half { at = None; opened = Some open_part.Approach }) } ≡ x =
     (λ i. let z : StoredModel = record p.saved { half = Some (record { text = sym r.text i; source = sym r.source i; index = sym r.index i; at = None; opened = Some open_part.Approach }) } in z) ∙ sym w.stands in
-    subst (λ (y : StoredModel). UncommittedTail q lines p y given) same (Approach_open r.half a given c.items r.held (way_is q p c a r) w.rest)
+    subst (λ (y : StoredModel). UncommittedTail q lines p (Approached ∷ []) y given) same (Approach_open r.half a given c.items [] refl r.held (way_is q p c a r) w.rest)
 stage_follows q lines p given x c stage.OnBlock w = block_follows q lines p given x c w.done w.block w.stage
 
-follows_of : (q : Equipment) (lines : List (List ℕ)) (p : DurableState) (given : List Item) (x : StoredModel) (activity : Activity) (o : Option CurrentBlockModel) → Tied q lines p given x activity o → UncommittedTail q lines p x given
+follows_of : (q : Equipment) (lines : List (List ℕ)) (p : DurableState) (given : List Item) (x : StoredModel) (activity : Activity) (o : Option CurrentBlockModel) → Tied q lines p given x activity o → UncommittedTail q lines p (entry_of o) x given
 follows_of q lines p given x activity None t = rw (t.0, t.1) Nothing_open
 follows_of q lines p given x activity (Some c) t = stage_follows q lines p given x c c.stage t
 
@@ -74,16 +75,16 @@ Told lines events = (text : List ℕ) → Contains (lines_given events) text →
 -- a run of a session that is tied to the fold ends in a cut
 abbrev Cuts : {A : Type 0} → Equipment → List (List ℕ) → DurableState → List Item → ProgramSession → List (Event A) → Type 0
 Cuts q lines x before s events = (es : List Entry) (given h : List Item) → FollowFold q lines x es → h ≡ (before ++ items_all q x es) ++ given → s.program ≡ (after_all q x es).program
-    → Ties q lines (after_all q x es) given s.session → IsCut q lines x before (es ++ entries_of q s events) (crash_after q s h events)
+    → Ties q lines (after_all q x es) given s.session → IsCut q lines x before (es ++ entries_of q s events) (under_way q s events) (crash_after q s h events)
 
 cut_next : {A : Type 0} (q : Equipment) (lines : List (List ℕ)) (x : DurableState) (before : List Item) (es : List Entry) (given h : List Item) (s : ProgramSession) (e : Event A) (events : List (Event A))
     → FollowFold q lines x es → h ≡ (before ++ items_all q x es) ++ given → Next q lines (after_all q x es) given (leads_to q s e) → Cuts q lines x before (session_of_transition (leads_to q s e)) events
-    → IsCut q lines x before (es ++ entries_of q s (e ∷ events)) (crash_after q s h (e ∷ events))
+    → IsCut q lines x before (es ++ entries_of q s (e ∷ events)) (under_way q s (e ∷ events)) (crash_after q s h (e ∷ events))
 cut_next q lines x before es given h s e events lawful is (Stays none same t) ih =
     let more = ih es (given ++ (leads_to q s e).items) (h ++ (leads_to q s e).items) lawful
     (ap (λ l. l ++ (leads_to q s e).items) is ∙ append_assoc (before ++ items_all q x es) given (leads_to q s e).items) same t in
-    subst (IsCut q lines x before (es ++ entries_of q s (e ∷ events))) (sym (left_split q s h e events))
-    (subst (λ l. IsCut q lines x before (es ++ (l ++ entries_of q (session_of_transition (leads_to q s e)) events)) (crash_after q (session_of_transition (leads_to q s e)) (h ++ (leads_to q s e).items) events)) (sym none) more)
+    subst (IsCut q lines x before (es ++ entries_of q s (e ∷ events)) (under_way q s (e ∷ events))) (sym (left_split q s h e events))
+    (subst (λ l. IsCut q lines x before (es ++ (l ++ entries_of q (session_of_transition (leads_to q s e)) events)) (under_way q s (e ∷ events)) (crash_after q (session_of_transition (leads_to q s e)) (h ++ (leads_to q s e).items) events)) (sym none) more)
 cut_next q lines x before es given h s e events lawful is (Adds d one none may same all t) ih =
     let es' = es ++ d ∷ [] in
     let there : after_all q x es' ≡ after q (after_all q x es) d = after_all-more q x es d in
@@ -94,8 +95,8 @@ cut_next q lines x before es given h s e events lawful is (Adds d one none may s
     (subst (λ z. Ties q lines z [] (leads_to q s e).next) (sym there) t) in
     let entries : es' ++ entries_of q (session_of_transition (leads_to q s e)) events ≡ es ++ entries_of q s (e ∷ events) =
     append_assoc es (d ∷ []) (entries_of q (session_of_transition (leads_to q s e)) events) ∙ ap (λ l. es ++ (l ++ entries_of q (session_of_transition (leads_to q s e)) events)) (sym one) in
-    subst (IsCut q lines x before (es ++ entries_of q s (e ∷ events))) (sym (left_split q s h e events))
-    (subst (λ l. IsCut q lines x before l (crash_after q (session_of_transition (leads_to q s e)) (h ++ (leads_to q s e).items) events)) entries more)
+    subst (IsCut q lines x before (es ++ entries_of q s (e ∷ events)) (under_way q s (e ∷ events))) (sym (left_split q s h e events))
+    (subst (λ l. IsCut q lines x before l (under_way q s (e ∷ events)) (crash_after q (session_of_transition (leads_to q s e)) (h ++ (leads_to q s e).items) events)) entries more)
 
 cut_events : {A : Type 0} (q : Equipment) (lines : List (List ℕ)) (x : DurableState) (before : List Item) (s : ProgramSession) (events : List (Event A)) → Told lines events → Cuts q lines x before s events
 cut_events q lines x before s [] told es given h lawful is same t = rw (append-nil es) (record {
@@ -139,6 +140,10 @@ counts_reference P s point None = refl
 counts_abandon : (P : List ℕ) (s : SessionModel) (o : Option Fault) → Counts (abandon_unless P s o)
 counts_abandon P s (Some f) = refl
 counts_abandon P s None = refl
+
+counts_tool : (P : List ℕ) (s : SessionModel) (slot : ℕ) (nm : ℤ) (o : Option Fault) → Counts (tool_unless P s slot nm o)
+counts_tool P s slot nm (Some f) = refl
+counts_tool P s slot nm None = refl
 
 counts_by : (P : List ℕ) (s : SessionModel) (half : HalfModel) (from : Point) (r : Result Done Fault) → Counts (resume_by P s half from r)
 counts_by P s half from (Ok done) = refl
@@ -187,6 +192,7 @@ counts q P s (event.Mdi text) =
 counts q P s (event.Reference point) = counts_reference P s point (reference_refusal q.geometry s point)
 counts q P s event.Resume = counts_if (not (is_at_rest s)) _ _ refl (counts_half q P s s.stored.half)
 counts q P s event.Abandon = counts_abandon P s (abandon_refusal s)
+counts q P s (event.Tool slot nm) = counts_tool P s slot nm (tool_refusal s slot nm)
 counts q P s (event.OptionalStop wanted) = refl
 counts q P s (event.BlockDelete on) = refl
 counts q P s event.Status = refl
@@ -201,54 +207,87 @@ pub crash_after_events : (A : Type 0) → CrashAfterEvents A
 crash_after_events A q x before events =
     (cut_events q (lines_given events) x before (session_at_power_on x) events (λ text c. c) [] [] before tt (sym (append-nil (before ++ []) ∙ append-nil before)) refl (refl, refl, inl refl), counts_all q (session_at_power_on x) events)
 
--- ---- within an event
+-- ---- what is under way comes next
 
-done_once : (r : Reply) → done_count r ≤ 1
-done_once (reply.Done n) = omega arith
-done_once reply.Going = omega arith
-done_once reply.Held = omega arith
-done_once reply.Idle = omega arith
-done_once reply.Stopped = omega arith
-done_once reply.Begun = omega arith
-done_once reply.Taken = omega arith
-done_once reply.Moved = omega arith
-done_once (reply.Opened n) = omega arith
-done_once reply.Approaching = omega arith
-done_once (reply.Status shown) = omega arith
-done_once (reply.Refused f) = omega arith
+-- the entry that a session comes to next stays the one that it comes to, until it is committed
+abbrev Keeps : Entry → Transition → Type 0
+Keeps next out = ((out.entries ≡ []) × (entry_of out.next.current ≡ next ∷ [])) ⊎ (out.entries ≡ next ∷ [])
 
--- the entries of one event more
-entries_more : {A : Type 0} (q : Equipment) (s : ProgramSession) (events : List (Event A)) (e : Event A)
-    → entries_of q s (events ++ e ∷ []) ≡ entries_of q s events ++ (leads_to q (session_after q s events) e).entries
-entries_more q s [] e = append-nil (leads_to q s e).entries
-entries_more q s (d ∷ events) e =
-    ap (λ (l : List Entry). (leads_to q s d).entries ++ l) (entries_more q (session_of_transition (leads_to q s d)) events e)
-    ∙ sym (append_assoc (leads_to q s d).entries (entries_of q (session_of_transition (leads_to q s d)) events) (leads_to q (session_after q (session_of_transition (leads_to q s d)) events) e).entries)
+keeps_if : (next : Entry) (b : Bool) (x y : Transition) → Keeps next x → Keeps next y → Keeps next (if b then x else y)
+keeps_if next true x y p q = p
+keeps_if next false x y p q = q
 
-either_line : (front old new : List (List ℕ)) (text : List ℕ) → (Contains old text → Contains new text) → Contains front text ⊎ Contains old text → Contains (front ++ new) text
-either_line front old new text more (inl there) = Contains-append_left front new text there
-either_line front old new text more (inr there) = Contains-append_right front new text (more there)
+-- an answer that leaves the block as it is
+keeps_block : (P : List ℕ) (r : Reply) (u : SessionModel) (next : Entry) → entry_of u.current ≡ next ∷ [] → Keeps next (answers P r u)
+keeps_block P r u next is = inl (refl, is)
 
-lines_more : {A : Type 0} (events : List (Event A)) (e : Event A) → Told (lines_given (events ++ e ∷ [])) events
-lines_more [] e text c = absurd (let few : c.0 < 0 = c.1 in omega (arith, few))
-lines_more (d ∷ events) e text c =
-    either_line (given_by d) (lines_given events) (lines_given (events ++ e ∷ [])) text (lines_more events e text) (Contains-append_cases (given_by d) (lines_given events) text c)
+keeps_work : (q : Equipment) (P : List ℕ) (s : SessionModel) (c : CurrentBlockModel) (g : Stage) (its : List Item) (left : List Segment)
+    → Keeps (entry_on c g) (hand_next q P (record s { current = Some (record c { stage = g; items = its; left = left }) }) (first_of its))
+keeps_work q P s c g (item ∷ its) left = inl (refl, refl)
+keeps_work q P s c (stage.ToApproach a) [] left = inl (refl, refl)
+keeps_work q P s c (stage.OnApproach a) [] left = inr refl
+keeps_work q P s c stage.OnBlock [] (segment ∷ left) = inl (refl, refl)
+keeps_work q P s c stage.OnBlock [] [] = inr refl
 
-cut_all : {A : Type 0} (q : Equipment) (lines : List (List ℕ)) (x : DurableState) (events : List (Event A)) → Told lines events → IsCut q lines x [] (entries_of q (session_at_power_on x) events) (crash_after q (session_at_power_on x) [] events)
-cut_all q lines x events told = cut_events q lines x [] (session_at_power_on x) events told [] [] [] tt refl refl (refl, refl, inl refl)
+keeps : {A : Type 0} (q : Equipment) (P : List ℕ) (s : SessionModel) (c : CurrentBlockModel) (e : Event A) → Keeps (entry_on c c.stage) (step q P (record s { current = Some c }) e)
+keeps q P s c (event.Load text) = inl (refl, refl)
+keeps q P s c event.Start = inl (refl, refl)
+keeps q P s c event.Hold = keeps_if _ (is_running s.activity || true) _ _ (inl (refl, refl)) (inl (refl, refl))
+keeps q P s c event.Continue =
+    keeps_if _ s.held _ _ (inl (refl, refl)) (keeps_if _ (is_running s.activity || true) _ _ (inl (refl, refl)) (keeps_if _ (is_idle s.activity) _ _ (inl (refl, refl)) (inl (refl, refl))))
+keeps q P s c (event.Mdi text) = inl (refl, refl)
+keeps q P s c (event.Reference point) = inl (refl, refl)
+keeps q P s c event.Resume = inl (refl, refl)
+keeps q P s c event.Abandon = inl (refl, refl)
+keeps q P s c (event.Tool slot nm) = inl (refl, refl)
+keeps q P s c (event.OptionalStop wanted) = inl (refl, refl)
+keeps q P s c (event.BlockDelete on) = inl (refl, refl)
+keeps q P s c event.Status = inl (refl, refl)
+keeps q P s c event.Tick = keeps_if _ s.held _ _ (inl (refl, refl)) (keeps_work q P s c c.stage c.items c.left)
 
-pub cuts_within_event : (A : Type 0) → CrashWithinEvent A
-cuts_within_event A q x events e left (inl is) =
-    let lines = lines_given (events ++ e ∷ []) in
-    let entries = entries_of q (session_at_power_on x) events in
-    ([], omega arith, subst (λ (l : List Entry). IsCut q lines x [] l left) (sym (append-nil entries)) (subst (IsCut q lines x [] entries) (sym is) (cut_all q lines x events (lines_more events e))))
-cuts_within_event A q x events e left (inr is) =
-    let lines = lines_given (events ++ e ∷ []) in
-    let last = session_after q (session_at_power_on x) events in
-    let once = done_once (leads_to q last e).reply in
-    let counted = counts q last.program last.session e in (
-      (leads_to q last e).entries,
-      omega arith,
-      subst (λ (l : List Entry). IsCut q lines x [] l left) (entries_more q (session_at_power_on x) events e)
-          (subst (IsCut q lines x [] (entries_of q (session_at_power_on x) (events ++ e ∷ []))) (sym is) (cut_all q lines x (events ++ e ∷ []) (λ text c. c))),
-    )
+-- what a session commits and then has under way begins with what it has under way now
+abbrev pub Follows : {A : Type 0} → Equipment → ProgramSession → Entry → List (Event A) → Type 0
+Follows q s next events = (later : List Entry) × (entries_of q s events ++ under_way q s events ≡ next ∷ later)
+
+follow_next : {A : Type 0} (q : Equipment) (s : ProgramSession) (next : Entry) (e : Event A) (events : List (Event A)) → Keeps next (leads_to q s e)
+    → (entry_of (leads_to q s e).next.current ≡ next ∷ [] → Follows q (session_of_transition (leads_to q s e)) next events) → Follows q s next (e ∷ events)
+follow_next q s next e events (inl k) on =
+    let rest = on k.1 in
+    let after = session_of_transition (leads_to q s e) in
+    (rest.0, ap (λ (l : List Entry). (l ++ entries_of q after events) ++ under_way q after events) k.0 ∙ rest.1)
+follow_next q s next e events (inr k) on =
+    let after = session_of_transition (leads_to q s e) in
+    (entries_of q after events ++ under_way q after events, ap (λ (l : List Entry). (l ++ entries_of q after events) ++ under_way q after events) k)
+
+same_head : (a b : Entry) (more : List Entry) → a ∷ [] ≡ b ∷ more → a ≡ b
+same_head a b more is = cc
+
+keeps_of : {A : Type 0} (q : Equipment) (P : List ℕ) (s : SessionModel) (o : Option CurrentBlockModel) (next : Entry) (more : List Entry) (e : Event A) → entry_of o ≡ next ∷ more → Keeps next (step q P (record s { current = o }) e)
+keeps_of q P s None next more e is = absurd (let z : [] ≡ next ∷ more = is in cc)
+keeps_of q P s (Some c) next more e is = subst (λ (n : Entry). Keeps n (step q P (record s { current = Some c }) e)) (same_head (entry_on c c.stage) next more is) (keeps q P s c e)
+
+follow_all : {A : Type 0} (q : Equipment) (s : ProgramSession) (next : Entry) (more : List Entry) (events : List (Event A)) → entry_of s.session.current ≡ next ∷ more → Follows q s next events
+follow_all q s next more [] is = (more, is)
+follow_all q s next more (e ∷ events) is =
+    follow_next q s next e events (keeps_of q s.program s.session s.session.current next more e is) (λ there. follow_all q (session_of_transition (leads_to q s e)) next [] events there)
+
+tail_later : {A : Type 0} (q : Equipment) (lines : List (List ℕ)) (x : DurableState) (s : ProgramSession) (events : List (Event A)) (saved : StoredModel) (given : List Item) → UncommittedTail q lines x (entry_of s.session.current) saved given
+    → UncommittedTail q lines x (entries_of q s events ++ under_way q s events) saved given
+tail_later q lines x s events _ _ Nothing_open = Nothing_open
+tail_later q lines x s events _ _ (Approach_open half approach begun left later next held way whole) =
+    let more = follow_all q s Approached later events next in
+    Approach_open half approach begun left more.0 more.1 held way whole
+tail_later q lines x s events _ _ (Segment_open from text block_delete done before segment rest begun left later next is split whole) =
+    let more = follow_all q s (Block from text block_delete) later events next in
+    Segment_open from text block_delete done before segment rest begun left more.0 more.1 is split whole
+
+-- a cut after some events is one too where all that comes of later ones comes next
+pub cut_later : {A : Type 0} (q : Equipment) (lines : List (List ℕ)) (x : DurableState) (before : List Item) (entries : List Entry) (s : ProgramSession) (events : List (Event A)) (left : CrashState)
+    → IsCut q lines x before entries (entry_of s.session.current) left → IsCut q lines x before entries (entries_of q s events ++ under_way q s events) left
+cut_later q lines x before entries s events left cut = record {
+  lawful = cut.lawful;
+  program = cut.program;
+  more = cut.more;
+  items = cut.items;
+  follows = tail_later q lines (after_all q x entries) s events left.standing.saved cut.more cut.follows;
+}

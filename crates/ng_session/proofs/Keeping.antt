@@ -1,14 +1,15 @@
 -- What is held ready of a block, and a session that has none.
-use Rattle.std.proofs.Common.{◌≡◌, ◌≢◌, ◌≤◌, ◌<◌, ◌+◌, Bool, true, not, ◌&&◌, List, [], ◌∷◌, Option, None, Some, refl, sym, ◌∙◌, ap, subst, arith}
+use Rattle.std.proofs.Common.{◌≡◌, ◌≢◌, ◌≤◌, ◌<◌, ◌+◌, ℕ, ℤ, length, Bool, true, not, ◌&&◌, List, [], ◌∷◌, Option, None, Some, refl, sym, ◌∙◌, ap, subst, arith}
 use Rattle.std.specs.Option.{is_none, option_map}
 use Rattle.std.specs.Prelude.{unwrap_or}
 use Rattle.ng_layout.specs.Stored.{HalfModel, StoredModel}
 use Rattle.ng_canon.specs.declared.geometry.Geometry.{Geometry}
 use Rattle.ng_canon.specs.declared.segment.Segment.{Segment}
+use Rattle.ng_offsets.specs.Tools.{AreTools}
 use Rattle.ng_layout.specs.Storable.{IsStorableHalf, IsStorable}
 use Rattle.ng_session.specs.Session.{SessionModel, after_current_block, committed_on, opened_on, next_opened}
 use Rattle.ng_session.specs.SessionInvariant.{Prepared, block_of, IsNextEntry, IsReady, IsBeforeBlock, IsReadyOn, IsSessionInvariant}
-use Rattle.ng_session.proofs.Standing.{half_storable}
+use Rattle.ng_session.proofs.Standing.{half_storable, tool_storable}
 use Rattle.ng_session.specs.declared.stage.Approach.{Approach}
 use Rattle.ng_session.specs.declared.stage.Stage.{Stage}
 use Rattle.ng_session.specs.declared.stage.Stage.TheVariants as stage
@@ -38,7 +39,7 @@ opened_ready geometry x half p (stage.ToApproach a) is r = record {
   between = r.between;
   held = r.held;
   between_is = r.between_is;
-  first = record { count = r.first.count; same = r.first.same; storable = r.first.storable };
+  first = record { count = r.first.count; same = r.first.same; tools = r.first.tools; storable = r.first.storable };
   second = r.second;
   after_is = r.after_is;
 }
@@ -46,15 +47,15 @@ opened_ready geometry x half p (stage.OnApproach a) is r = subst (IsReadyOn (rec
   between = r.between;
   held = r.held;
   between_is = r.between_is;
-  first = record { count = r.first.count; same = r.first.same; storable = r.first.storable };
+  first = record { count = r.first.count; same = r.first.same; tools = r.first.tools; storable = r.first.storable };
   second = r.second;
   after_is = r.after_is;
 })
 opened_ready geometry x half p stage.OnBlock is r = by p.block.left
   where
     by : (left : List Segment) → IsReadyOn (record x { half = Some half }) (record p { block = next_opened geometry p.block left }) (next_opened geometry p.block left).stage
-    by [] = subst (IsReadyOn (record x { half = Some half }) p) (sym is) (record { next = record { count = r.next.count; same = r.next.same; storable = r.next.storable }; after_is = r.after_is })
-    by (segment ∷ left) = subst (IsReadyOn (record x { half = Some half }) (record p { block = next_opened geometry p.block (segment ∷ left) })) (sym is) (record { next = record { count = r.next.count; same = r.next.same; storable = r.next.storable }; after_is = r.after_is })
+    by [] = subst (IsReadyOn (record x { half = Some half }) p) (sym is) (record { next = record { count = r.next.count; same = r.next.same; tools = r.next.tools; storable = r.next.storable }; after_is = r.after_is })
+    by (segment ∷ left) = subst (IsReadyOn (record x { half = Some half }) (record p { block = next_opened geometry p.block (segment ∷ left) })) (sym is) (record { next = record { count = r.next.count; same = r.next.same; tools = r.next.tools; storable = r.next.storable }; after_is = r.after_is })
 
 pub kept_open : (geometry : Geometry) (x : StoredModel) (half : HalfModel) (p r : Prepared) → IsSessionInvariant x (Some p) → IsStorableHalf half → r ≡ record p { block = opened_on geometry p.block p.block.stage } → IsSessionInvariant (record x { half = Some half }) (Some r)
 kept_open geometry x half p r k waits is = record {
@@ -67,6 +68,12 @@ kept_open geometry x half p r k waits is = record {
 pub kept_report : (x y : StoredModel) (o : Option Prepared) → option_map block_of o ≡ None → y.entries ≤ 1_000_000_000_000 → IsStorable y → IsSessionInvariant y o
 kept_report x y None none count storable = record { count = count; storable = storable; next = tt }
 kept_report x y (Some p) none count storable = cc
+
+-- a session with no block, another table and another number of entries
+pub kept_tools : (x : StoredModel) (o : Option Prepared) (tools : List ℤ) (entries : ℕ) → option_map block_of o ≡ None → entries ≤ 1_000_000_000_000 → AreTools tools → IsSessionInvariant x o
+    → IsSessionInvariant (record x { entries = entries; tools = tools }) o
+kept_tools x None tools entries none count few kept = record { count = count; storable = tool_storable x tools entries kept.storable few; next = tt }
+kept_tools x (Some p) tools entries none count few kept = cc
 
 -- the approach is committed
 pub kept_between : (x between : StoredModel) (p r : Prepared) (a : Approach) → x.entries < 1_000_000_000_000 → IsBeforeBlock x p a → p.approached ≡ Some between → r.after ≡ p.after → after_current_block between r.block ≡ after_current_block between p.block

@@ -1,9 +1,9 @@
 pub mod ShortLines
 pub mod Firsts
 pub mod Worked
+pub mod ToolSlots
 pub mod Tying
 pub mod Cutting
-pub mod Living
 pub mod Keeping
 pub mod Limits
 pub mod Standing

@@ -232,9 +232,9 @@ own_framed (Some flow) s r own = tt
 pub own_done : (equipment : Equipment) (program : List ℕ) (x : StoredModel) (source : Source) (text : List ℕ) (block_delete : Bool) → RefusesOwn (done_of equipment program x source text block_delete)
 unfolding done_of
 own_done equipment program x Program text block_delete =
-    own_framed (percent_at (lines_before program x.place) text) x.setup (executed_unless_deleted (terms_of equipment block_delete) x.setup text) (own_unless_deleted (terms_of equipment block_delete) x.setup text)
-own_done equipment program x Mdi text block_delete = own_unless_deleted (terms_of equipment block_delete) x.setup text
+    own_framed (percent_at (lines_before program x.place) text) x.setup (executed_unless_deleted (terms_of equipment x.tools block_delete) x.setup text) (own_unless_deleted (terms_of equipment x.tools block_delete) x.setup text)
+own_done equipment program x Mdi text block_delete = own_unless_deleted (terms_of equipment x.tools block_delete) x.setup text
 
 pub own_again : (equipment : Equipment) (x : StoredModel) (text : List ℕ) → RefusesOwn (done_again equipment x text)
 unfolding done_again
-own_again equipment x text = own_line x.setup equipment.tools equipment.geometry text
+own_again equipment x text = own_line x.setup x.tools equipment.geometry text

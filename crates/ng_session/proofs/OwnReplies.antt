@@ -1,5 +1,5 @@
 -- What a session refuses, it refuses for its own causes: its replies tell neither of memory nor of a counter or a failed device.
-use Rattle.std.proofs.Common.{◌≡◌, ◌==◌, ℕ, Bool, true, false, not, ◌||◌, if◌then◌else◌, nat_lt, List, length, Option, Some, None, Result, Ok, Err, refl}
+use Rattle.std.proofs.Common.{◌≡◌, ◌==◌, ℕ, ℤ, Bool, true, false, not, ◌||◌, if◌then◌else◌, nat_lt, List, length, Option, Some, None, Result, Ok, Err, refl}
 use Rattle.std.specs.Option.{is_some, is_none}
 use Rattle.ng_num.specs.declared.fault.Fault.{Fault}
 use Rattle.ng_num.specs.declared.point.Point.{Point}
@@ -10,12 +10,14 @@ use Rattle.ng_text.specs.Programs.{ProgramLineModel, lines_before, program_line_
 use Rattle.ng_block.specs.Effects.{Done}
 use Rattle.ng_canon.specs.Inside.{is_inside}
 use Rattle.ng_layout.specs.Limits.{longest_program}
+use Rattle.ng_offsets.specs.Tools.{is_tool_length}
+use Rattle.ng_layout.specs.Tools.{takes_slot}
 use Rattle.ng_layout.specs.Stored.{HalfModel}
 use Rattle.ng_layout.specs.declared.half.Opened.{Opened}
 use Rattle.ng_layout.specs.declared.half.Opened.TheVariants as open_part
 use Rattle.ng_layout.specs.declared.half.Source.TheVariants as source
 use Rattle.ng_session.specs.Entries.{Equipment, done_of, done_again}
-use Rattle.ng_session.specs.Session.{SessionModel, Transition, step, start, hold, resume_held, mdi, mdi_by, refuses_mdi, load, load_unless, load_refusal, reference, reference_unless, reference_refusal, abandon, abandon_unless, abandon_refusal, resume, resume_half, resume_from, resume_by, tick, begin, begin_by, open_part_of, opening_of, opening_reply, item_of, commit, idleness, accepts_load, is_at_rest, is_idle, is_running, if_some, hand_out}
+use Rattle.ng_session.specs.Session.{SessionModel, Transition, step, start, hold, resume_held, mdi, mdi_by, refuses_mdi, load, load_unless, load_refusal, reference, reference_unless, reference_refusal, abandon, abandon_unless, abandon_refusal, tool, tool_unless, tool_refusal, resume, resume_half, resume_from, resume_by, tick, begin, begin_by, open_part_of, opening_of, opening_reply, item_of, commit, idleness, accepts_load, is_at_rest, is_idle, is_running, if_some, hand_out}
 use Rattle.ng_session.specs.declared.activity.Activity.{Activity}
 use Rattle.ng_session.specs.declared.activity.Activity.TheVariants as activity
 use Rattle.ng_session.specs.declared.event.Event.{Event}
@@ -94,6 +96,15 @@ own_abandon : (program : List ℕ) (s : SessionModel) → TellsOwn (abandon prog
 own_abandon program s =
     own_abandon_unless program s (abandon_refusal s) (own_unless (not (is_at_rest s)) _ _ refl (own_unless (is_none s.stored.half) _ _ refl tt))
 
+own_tool_unless : (program : List ℕ) (s : SessionModel) (slot : ℕ) (nm : ℤ) (o : Option Fault) → IsOwn o → TellsOwn (tool_unless program s slot nm o).reply
+own_tool_unless program s slot nm None own = tt
+own_tool_unless program s slot nm (Some fault) own = own
+
+own_tool : (program : List ℕ) (s : SessionModel) (slot : ℕ) (nm : ℤ) → TellsOwn (tool program s slot nm).reply
+own_tool program s slot nm =
+    own_tool_unless program s slot nm (tool_refusal s slot nm)
+    (own_unless (not (accepts_load s)) _ _ refl (own_unless (not (takes_slot s.stored.tools slot)) _ _ refl (own_unless (not (is_tool_length nm)) _ _ refl tt)))
+
 own_resume_by : (program : List ℕ) (s : SessionModel) (half : HalfModel) (from : Point) (r : Result Done Fault) → RefusesOwn r → TellsOwn (resume_by program s half from r).reply
 own_resume_by program s half from (Ok done) own = tt
 own_resume_by program s half from (Err fault) own = own
@@ -153,6 +164,7 @@ own_step equipment program s (event.Mdi text) = own_mdi equipment program s text
 own_step equipment program s (event.Reference point) = own_reference equipment program s point
 own_step equipment program s event.Resume = own_resume equipment program s
 own_step equipment program s event.Abandon = own_abandon program s
+own_step equipment program s (event.Tool slot nm) = own_tool program s slot nm
 own_step equipment program s (event.OptionalStop wanted) = tt
 own_step equipment program s (event.BlockDelete on) = tt
 own_step equipment program s event.Status = tt

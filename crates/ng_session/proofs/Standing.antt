@@ -35,6 +35,7 @@ use Rattle.ng_block.specs.declared.effect.Effect.{Effect}
 use Rattle.ng_block.specs.declared.effect.ProgramFlow.{ProgramFlow}
 use Rattle.ng_block.specs.declared.effect.ProgramFlow.TheVariants.{GoesOn}
 use Rattle.ng_layout.specs.Limits.{longest_program}
+use Rattle.ng_offsets.specs.Tools.{AreTools}
 use Rattle.ng_layout.specs.Storable.{IsStorableMachine, IsStorableHalf, IsStorable}
 use Rattle.ng_layout.specs.Stored.{HalfModel, StoredModel}
 use Rattle.ng_layout.specs.declared.half.Source.{Source}
@@ -139,12 +140,14 @@ pub next_storable : (x : StoredModel) (next : ℕ) (source : Source) (e : Effect
 next_storable x next source e was within can = record {
   count = refl;
   same = refl;
+  tools = refl;
   storable = record {
     table = long-after x.setup.params e.changes.items ∙ was.table;
     machine = can;
     half = tt;
     place = place-within next x.place x.length source e.stop within was.place;
     program = was.program;
+    tools = was.tools;
   };
 }
 
@@ -155,18 +158,20 @@ load_storable x length_new was short = record {
   half = tt;
   place = omega arith;
   program = short;
+  tools = was.tools;
 }
 
 -- with a half-done block besides
 pub half_storable : (x : StoredModel) (half : HalfModel) → IsStorable x → IsStorableHalf half → IsStorable (record x { half = Some half })
-half_storable x half was waits = record { table = was.table; machine = was.machine; half = waits; place = was.place; program = was.program }
+half_storable x half was waits = record { table = was.table; machine = was.machine; half = waits; place = was.place; program = was.program; tools = was.tools }
 
 -- after an approach
 pub approach_storable : (x : StoredModel) (half : HalfModel) (point : Point) → IsStorable x → length half.text ≤ 256 → IsNextEntry x (reached x half point)
 approach_storable x half point was short = record {
   count = refl;
   same = refl;
-  storable = record { table = was.table; machine = was.machine; half = record { unknown = λ none. let e : false ≡ true = none in cc; text = short }; place = was.place; program = was.program };
+  tools = refl;
+  storable = record { table = was.table; machine = was.machine; half = record { unknown = λ none. let e : false ≡ true = none in cc; text = short }; place = was.place; program = was.program; tools = was.tools };
 }
 
 -- the machine is known to stand at a point
@@ -174,10 +179,10 @@ pub reference_storable : (x y : StoredModel) (point : Point) → IsStorable x �
 reference_storable x y point was is = subst IsStorable (sym is) (by x.half refl)
   where
     by : (o : Option HalfModel) → x.half ≡ o → IsStorable (referenced x point o)
-    by None held = record { table = was.table; machine = record { feed = was.machine.feed; speed = was.machine.speed; selected = was.machine.selected; held = was.machine.held }; half = tt; place = was.place; program = was.program }
+    by None held = record { table = was.table; machine = record { feed = was.machine.feed; speed = was.machine.speed; selected = was.machine.selected; held = was.machine.held }; half = tt; place = was.place; program = was.program; tools = was.tools }
     by (Some half) held =
         let waits : IsStorableHalf half = subst (λ (o : Option HalfModel). IfSome o IsStorableHalf) held was.half in
-        record { table = was.table; machine = was.machine; half = record { unknown = λ none. let e : false ≡ true = none in cc; text = waits.text }; place = was.place; program = was.program }
+        record { table = was.table; machine = was.machine; half = record { unknown = λ none. let e : false ≡ true = none in cc; text = waits.text }; place = was.place; program = was.program; tools = was.tools }
 
 -- a half-done block is given up
 pub abandon_storable : (x y : StoredModel) → IsStorable x → y ≡ after_abandon x → IsStorable y
@@ -185,4 +190,8 @@ abandon_storable x y was is = subst IsStorable (sym is) (by x.half)
   where
     by : (o : Option HalfModel) → IsStorable (abandoned x o)
     by None = was
-    by (Some half) = record { table = was.table; machine = record { feed = was.machine.feed; speed = was.machine.speed; selected = was.machine.selected; held = was.machine.held }; half = tt; place = was.place; program = was.program }
+    by (Some half) = record { table = was.table; machine = record { feed = was.machine.feed; speed = was.machine.speed; selected = was.machine.selected; held = was.machine.held }; half = tt; place = was.place; program = was.program; tools = was.tools }
+
+-- a table with a number of entries
+pub tool_storable : (x : StoredModel) (tools : List ℤ) (entries : ℕ) → IsStorable x → AreTools tools → IsStorable (record x { entries = entries; tools = tools })
+tool_storable x tools entries was few = record { table = was.table; machine = was.machine; half = was.half; place = was.place; program = was.program; tools = few }

@@ -1,5 +1,5 @@
 -- One event keeps what is worked tied to the fold.
-use Rattle.std.proofs.Common.{◌≡◌, ◌⊎◌, ◌≤◌, ℕ, ◌==◌, nat_lt, Bool, true, false, not, ◌&&◌, ◌||◌, if◌then◌else◌, List, [], ◌∷◌, ◌++◌, drop, length, Option, None, Some, Result, Ok, Err, refl, sym, ap, subst, ◌∙◌, inl, inr, arith}
+use Rattle.std.proofs.Common.{◌≡◌, ◌⊎◌, ◌≤◌, ℕ, ℤ, ◌==◌, nat_lt, Bool, true, false, not, ◌&&◌, ◌||◌, if◌then◌else◌, List, [], ◌∷◌, ◌++◌, drop, length, Option, None, Some, Result, Ok, Err, refl, sym, ap, subst, ◌∙◌, inl, inr, arith}
 use Rattle.std.specs.Prelude.{Contains}
 use Rattle.std.specs.Option.{is_some, is_none}
 use Rattle.std.proofs.lemmas.Bool.Decides.{nat_tests}
@@ -12,12 +12,14 @@ use Rattle.ng_canon.specs.declared.item.Item.{Item}
 use Rattle.ng_canon.specs.declared.segment.Segment.{Segment}
 use Rattle.ng_block.specs.Effects.{Done}
 use Rattle.ng_layout.specs.Limits.{longest_program}
+use Rattle.ng_offsets.specs.Tools.{is_tool_length}
+use Rattle.ng_layout.specs.Tools.{takes_slot}
 use Rattle.ng_text.specs.Programs.{ProgramLineModel, program_line_at, next_line_start}
 use Rattle.ng_layout.specs.Stored.{HalfModel, StoredModel, DurableState}
 use Rattle.ng_layout.specs.declared.half.Source.{Source}
 use Rattle.ng_layout.specs.declared.half.Source.TheVariants as source
-use Rattle.ng_session.specs.Entries.{Equipment, Entry, Block, Loaded, Referenced, Approached, Abandoned, done_of, done_again, place_after, after_block, after_load, after_reference, referenced, after_abandon, abandoned}
-use Rattle.ng_session.specs.Session.{CurrentBlockModel, SessionModel, Transition, answers, begun, next_place_after, is_running, is_idle, is_at_rest, accepts_load, refuses_mdi, start, hold, resume_held, mdi, mdi_by, load, load_unless, load_refusal, reference, reference_unless, reference_refusal, abandon, abandon_unless, abandon_refusal, resume, resume_by, resume_from, resume_half, begin, begin_by, end, hand_next, first_of, tick, step, session_status}
+use Rattle.ng_session.specs.Entries.{Equipment, Entry, Block, Loaded, Referenced, Approached, Abandoned, Tooled, done_of, done_again, place_after, after_block, after_load, after_reference, referenced, after_abandon, abandoned, after_tool}
+use Rattle.ng_session.specs.Session.{CurrentBlockModel, SessionModel, Transition, answers, begun, next_place_after, is_running, is_idle, is_at_rest, accepts_load, refuses_mdi, start, hold, resume_held, mdi, mdi_by, load, load_unless, load_refusal, reference, reference_unless, reference_refusal, abandon, abandon_unless, abandon_refusal, tool, tool_unless, tool_refusal, resume, resume_by, resume_from, resume_half, begin, begin_by, end, hand_next, first_of, tick, step, session_status}
 use Rattle.ng_session.specs.Fold.{first_to_do, after, items, items_done, items_on_way, durable_state_after, block_done, IsTextOf, IsGiven, IsLineAt, IsBlock, FollowsFold}
 use Rattle.ng_session.specs.Runs.{given_by}
 use Rattle.ng_session.specs.declared.activity.Activity.{Activity}
@@ -280,6 +282,27 @@ next_abandon q lines p given P s is t = by_refusal (abandon_refusal s) refl
         (subst (Tied q lines (after q p Abandoned) [] (after_abandon s.stored) s.activity) (sym none)
         (ap after_abandon at.0, refl, inr (ap (λ (o : Option HalfModel). (abandoned p.saved o).half) there)))
 
+next_tool : (q : Equipment) (lines : List (List ℕ)) (p : DurableState) (given : List Item) (P : List ℕ) (s : SessionModel) (slot : ℕ) (nm : ℤ) → P ≡ p.program → Ties q lines p given s → Next q lines p given (tool P s slot nm)
+next_tool q lines p given P s slot nm is t = by_refusal (tool_refusal s slot nm) refl
+  where
+    parts_of : (a b c : Bool) → (if not a then Some fault.Busy else if not b then Some fault.BadSlot else if not c then Some fault.OutOfRange else None) ≡ None → (a ≡ true) × (b ≡ true) × (c ≡ true)
+    parts_of true true true h = (refl, refl, refl)
+    parts_of true true false h = cc
+    parts_of true false c h = cc
+    parts_of false b c h = cc
+
+    by_refusal : (o : Option Fault) → tool_refusal s slot nm ≡ o → Next q lines p given (tool_unless P s slot nm o)
+    by_refusal (Some f) h = stays q lines p given P _ s is t
+    by_refusal None h =
+        let parts = parts_of (accepts_load s) (takes_slot s.stored.tools slot) (is_tool_length nm) h in
+        let none = rest_none s (and_left _ _ parts.0) in
+        let at = stands_at q lines p given s none t in
+        let half : p.saved.half ≡ None = ap (λ (x : StoredModel). x.half) (sym at.0) ∙ none_of s.stored.half (and_right _ _ parts.0) in
+        let slot_is : takes_slot p.saved.tools slot ≡ true = ap (λ (x : StoredModel). takes_slot x.tools slot) (sym at.0) ∙ parts.1 in
+        Adds (Tooled slot nm) refl refl (slot_is, parts.2, half) is at.1
+        (subst (Tied q lines (after q p (Tooled slot nm)) [] (after_tool s.stored slot nm) s.activity) (sym none)
+        (ap (λ (x : StoredModel). after_tool x slot nm) at.0, refl, inr half))
+
 place_same : (P : List ℕ) (place : ℕ) (from : Source) (done : Done) → place_after (next_place_after P place from) place from done.stop ≡ place_after (next_line_start P place) place from done.stop
 place_same P place source.Program done = refl
 place_same P place source.Mdi done = refl
@@ -371,6 +394,7 @@ next_step q lines p given P s (event.Mdi text) told is t = next_mdi q lines p gi
 next_step q lines p given P s (event.Reference point) told is t = next_reference q lines p given P s point is t
 next_step q lines p given P s event.Resume told is t = next_resume q lines p given P s is t
 next_step q lines p given P s event.Abandon told is t = next_abandon q lines p given P s is t
+next_step q lines p given P s (event.Tool slot nm) told is t = next_tool q lines p given P s slot nm is t
 next_step q lines p given P s (event.OptionalStop wanted) told is t = stays q lines p given P reply.Taken (record s { optional_stop = wanted }) is t
 next_step q lines p given P s (event.BlockDelete on) told is t = stays q lines p given P reply.Taken (record s { block_delete = on }) is t
 next_step q lines p given P s event.Status told is t = stays q lines p given P (reply.Status (session_status s)) s is t

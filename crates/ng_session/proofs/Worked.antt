@@ -196,14 +196,14 @@ all_given q p given x c done (inr m) =
     m.given_is ∙ ap (λ l. hand_all q m.before ++ l) whole ∙ sym (hand_all-more q m.before m.segment) ∙ ap (hand_all q) (sym m.split)
 
 -- what stands after the block
-leaves_block : (p : DurableState) (x : StoredModel) (c : CurrentBlockModel) (done : Done) → x.entries ≡ p.saved.entries → x.length ≡ p.saved.length → Leaves p c done
+leaves_block : (p : DurableState) (x : StoredModel) (c : CurrentBlockModel) (done : Done) → x.entries ≡ p.saved.entries → x.length ≡ p.saved.length → x.tools ≡ p.saved.tools → Leaves p c done
     → after_current_block x c ≡ after_block (next_line_start p.program p.saved.place) p.saved c.source done
-leaves_block p x c done entries length l = λ i. record { entries = entries i + 1; setup = l.setup i; place = l.place i; length = length i; half = None }
+leaves_block p x c done entries length tools l = λ i. record { entries = entries i + 1; setup = l.setup i; place = l.place i; length = length i; half = None; tools = tools i }
 
 pub after_is_it : (q : Equipment) (p : DurableState) (given : List Item) (x : StoredModel) (c : CurrentBlockModel) (done : Done) → Leaves p c done → IsFresh p given x c done ⊎ IsMidst q p given x c done
     → after_current_block x c ≡ after_block (next_line_start p.program p.saved.place) p.saved c.source done
-after_is_it q p given x c done l (inl f) = leaves_block p x c done (ap (λ (y : StoredModel). y.entries) f.stands) (ap (λ (y : StoredModel). y.length) f.stands) l
-after_is_it q p given x c done l (inr m) = leaves_block p x c done (ap (λ (y : StoredModel). y.entries) m.stands) (ap (λ (y : StoredModel). y.length) m.stands) l
+after_is_it q p given x c done l (inl f) = leaves_block p x c done (ap (λ (y : StoredModel). y.entries) f.stands) (ap (λ (y : StoredModel). y.length) f.stands) (ap (λ (y : StoredModel). y.tools) f.stands) l
+after_is_it q p given x c done l (inr m) = leaves_block p x c done (ap (λ (y : StoredModel). y.entries) m.stands) (ap (λ (y : StoredModel). y.length) m.stands) (ap (λ (y : StoredModel). y.tools) m.stands) l
 
 -- ---- the approach
 
@@ -230,13 +230,13 @@ way_done q p c a r =
     ap (durable_state_reached p) (way_is q p c a r)
     ∙ ap (λ (o : Option HalfModel). let z : DurableState = record p { saved = reached_by p.saved o a.to.point } in z) r.held
 
-again_same : (q : Equipment) (x y : StoredModel) (text : List ℕ) → x.setup ≡ y.setup → done_again q x text ≡ done_again q y text
+again_same : (q : Equipment) (x y : StoredModel) (text : List ℕ) → x.setup ≡ y.setup → x.tools ≡ y.tools → done_again q x text ≡ done_again q y text
 unfolding done_again
-again_same q x y text same = rw same refl
+again_same q x y text same tools = rw (same, tools) refl
 
 on_block : (q : Equipment) (lines : List (List ℕ)) (p : DurableState) (c : CurrentBlockModel) (a : Approach) (r : IsResumed q p c a) → IsBlock q lines (stands_reached p r.half a.to.point) c.source c.text c.block_delete r.done
 on_block q lines p c a r = record {
-  does = ap (done_again q (stands_reached p r.half a.to.point).saved) r.text ∙ again_same q (stands_reached p r.half a.to.point).saved p.saved r.half.text refl ∙ r.does;
+  does = ap (done_again q (stands_reached p r.half a.to.point).saved) r.text ∙ again_same q (stands_reached p r.half a.to.point).saved p.saved r.half.text refl refl ∙ r.does;
   text_is = (r.source, r.block_delete, (r.text, ap (λ (t : Rattle.ng_cycles.specs.declared.motion_state.MotionState.MotionState). Some t.point) r.to));
 }
 
@@ -252,6 +252,7 @@ worked_block q lines p x c a given w =
       place = p.saved.place;
       length = p.saved.length;
       half = Some (record { text = r.text i; source = r.source i; index = r.index i; at = Some a.to.point; opened = None });
+      tools = p.saved.tools;
     }) in
     subst (λ (z : DurableState). IsOnBlock q lines z [] (after_current_approach x c a.to.point) (record c { stage = stage.OnBlock; items = [] })) (sym (way_done q p (record c { items = [] }) a r))
     (record {

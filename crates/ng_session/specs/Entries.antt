@@ -19,39 +19,37 @@ use Rattle.ng_state.specs.State.{StateModel}
 use Rattle.ng_block.specs.declared.effect.ProgramFlow.{ProgramFlow}
 use Rattle.ng_state.specs.declared.machine.Machine.{Machine}
 use Rattle.ng_layout.specs.Stored.{HalfModel, StoredModel}
+use Rattle.ng_offsets.specs.Tools.{with_slot}
 use Rattle.ng_layout.specs.declared.half.Source.{Source}
 use Rattle.ng_layout.specs.declared.half.Source.TheVariants.{Program, Mdi}
 use Rattle.ng_text.specs.Programs.{lines_before}
 use Rattle.ng_session.specs.declared.stage.Approach.{Approach}
 
--- the tool table and the geometry: they stay as they are
+-- the geometry: it stays as it is
 pub record Equipment : Type 0 where
-  pub tools : List ℤ
   pub geometry : Geometry
 
 -- what is committed: a line of the program or of the operator, begun with block delete on or off; a program; the point at which the machine
--- stands; the way back to where a half-done block goes on; that such a block is given up
+-- stands; the way back to where a half-done block goes on; that such a block is given up; a tool's length, in a slot of the table
 pub data Entry : Type 0 where
   Block : Source → List ℕ → Bool → Entry
   Loaded : List ℕ → Entry
   Referenced : Point → Entry
   Approached : Entry
   Abandoned : Entry
+  Tooled : ℕ → ℤ → Entry
 
-abbrev pub terms_of : Equipment → Bool → TermsModel
-terms_of equipment block_delete = record { block_delete = block_delete; tools = equipment.tools; geometry = equipment.geometry }
+abbrev pub terms_of : Equipment → List ℤ → Bool → TermsModel
+terms_of equipment tools block_delete = record { block_delete = block_delete; tools = tools; geometry = equipment.geometry }
 
-abbrev pub equipment_of : TermsModel → Equipment
-equipment_of terms = record { tools = terms.tools; geometry = terms.geometry }
-
--- what a line does, or why it is refused: a line of the program is one after those before its place
+-- what a line does with the tool table that stands, or why it is refused: a line of the program is one after those before its place
 unfoldable pub done_of : Equipment → List ℕ → StoredModel → Source → List ℕ → Bool → Result Done Fault
-done_of equipment program x Program text block_delete = executed_in_program (terms_of equipment block_delete) (lines_before program x.place) x.setup text
-done_of equipment program x Mdi text block_delete = executed_unless_deleted (terms_of equipment block_delete) x.setup text
+done_of equipment program x Program text block_delete = executed_in_program (terms_of equipment x.tools block_delete) (lines_before program x.place) x.setup text
+done_of equipment program x Mdi text block_delete = executed_unless_deleted (terms_of equipment x.tools block_delete) x.setup text
 
 -- what a half-done block does from its beginning, or why it is refused: none is deleted and none is a percent line, since it had a segment
 unfoldable pub done_again : Equipment → StoredModel → List ℕ → Result Done Fault
-done_again equipment x text = executed x.setup equipment.tools equipment.geometry text
+done_again equipment x text = executed x.setup x.tools equipment.geometry text
 
 -- where the program goes on after a block: a line of the program goes on at the next one, and the program's end at its beginning
 abbrev pub place_by : ℕ → ℕ → Source → ℕ
@@ -64,12 +62,12 @@ place_after next place source stop = if is_end stop then 0 else place_by next pl
 -- what stands after a block, where the next line of the program begins at this place
 abbrev pub after_block : ℕ → StoredModel → Source → Done → StoredModel
 after_block next x source done =
-    record { entries = x.entries + 1; setup = done.setup; place = place_after next x.place source done.stop; length = x.length; half = None }
+    record { entries = x.entries + 1; setup = done.setup; place = place_after next x.place source done.stop; length = x.length; half = None; tools = x.tools }
 
 -- what stands after the load of a program of this length
 abbrev pub after_load : StoredModel → ℕ → StoredModel
 after_load x length =
-    record { entries = x.entries + 1; setup = record { params = cleared x.setup.params; machine = x.setup.machine }; place = 0; length = length; half = None }
+    record { entries = x.entries + 1; setup = record { params = cleared x.setup.params; machine = x.setup.machine }; place = 0; length = length; half = None; tools = x.tools }
 
 -- ---- a half-done block
 
@@ -91,15 +89,15 @@ placed_at point half = record half { at = Some point; opened = None }
 
 -- what stands after a reference: with a half-done block it says where that one's machine stands, and nothing else
 abbrev pub referenced : StoredModel → Point → Option HalfModel → StoredModel
-referenced x point None = record { entries = x.entries + 1; setup = placed x.setup point; place = x.place; length = x.length; half = None }
-referenced x point (Some half) = record { entries = x.entries + 1; setup = x.setup; place = x.place; length = x.length; half = Some (placed_at point half) }
+referenced x point None = record { entries = x.entries + 1; setup = placed x.setup point; place = x.place; length = x.length; half = None; tools = x.tools }
+referenced x point (Some half) = record { entries = x.entries + 1; setup = x.setup; place = x.place; length = x.length; half = Some (placed_at point half); tools = x.tools }
 
 abbrev pub after_reference : StoredModel → Point → StoredModel
 after_reference x point = referenced x point x.half
 
 -- what stands after an approach of a half-done block that ended at a point
 abbrev pub reached : StoredModel → HalfModel → Point → StoredModel
-reached x half point = record { entries = x.entries + 1; setup = x.setup; place = x.place; length = x.length; half = Some (placed_at point half) }
+reached x half point = record { entries = x.entries + 1; setup = x.setup; place = x.place; length = x.length; half = Some (placed_at point half); tools = x.tools }
 
 abbrev pub reached_by : StoredModel → Option HalfModel → Point → StoredModel
 reached_by x None point = x
@@ -118,8 +116,14 @@ given_up m half = record m { outputs = turned_off m.outputs; point = unwrap_or h
 
 abbrev pub abandoned : StoredModel → Option HalfModel → StoredModel
 abandoned x None = x
-abandoned x (Some half) = record { entries = x.entries + 1; setup = record { params = x.setup.params; machine = given_up x.setup.machine half }; place = x.place; length = x.length; half = None }
+abandoned x (Some half) = record { entries = x.entries + 1; setup = record { params = x.setup.params; machine = given_up x.setup.machine half }; place = x.place; length = x.length; half = None; tools = x.tools }
 
 -- what stands after a half-done block that is given up
 abbrev pub after_abandon : StoredModel → StoredModel
 after_abandon x = abandoned x x.half
+
+-- ---- the tool table
+
+-- what stands after a tool's length was put into a slot: the length in force stays until the next G43
+abbrev pub after_tool : StoredModel → ℕ → ℤ → StoredModel
+after_tool x slot nm = record x { entries = x.entries + 1; tools = with_slot (record { slot = slot; length = nm }) x.tools }

@@ -9,11 +9,13 @@ use Rattle.ng_canon.specs.declared.segment.Segment.{Segment}
 use Rattle.ng_step.specs.Hands.{hand}
 use Rattle.ng_block.specs.Effects.{Done}
 use Rattle.ng_layout.specs.Limits.{longest_program}
+use Rattle.ng_offsets.specs.Tools.{is_tool_length}
+use Rattle.ng_layout.specs.Tools.{takes_slot}
 use Rattle.ng_layout.specs.Stored.{HalfModel, StoredModel, DurableState}
 use Rattle.ng_layout.specs.declared.half.Source.{Source}
 use Rattle.ng_layout.specs.declared.half.Source.TheVariants as source
 use Rattle.ng_text.specs.Programs.{ProgramLineModel, program_line_at, next_line_start}
-use Rattle.ng_session.specs.Entries.{Equipment, Entry, Block, Loaded, Referenced, Approached, Abandoned, done_of, done_again, after_block, after_load, stance_before, hand_approach, after_reference, after_approach, after_abandon}
+use Rattle.ng_session.specs.Entries.{Equipment, Entry, Block, Loaded, Referenced, Approached, Abandoned, Tooled, done_of, done_again, after_block, after_load, stance_before, hand_approach, after_reference, after_approach, after_abandon, after_tool}
 use Rattle.ng_session.specs.declared.stage.Approach.{Approach}
 
 -- what a block does: the half-done one where there is one
@@ -62,6 +64,7 @@ after equipment x (Loaded text) = record { saved = after_load x.saved (length te
 after equipment x (Referenced point) = record x { saved = after_reference x.saved point }
 after equipment x Approached = durable_state_reached x (approach_in equipment x)
 after equipment x Abandoned = record x { saved = after_abandon x.saved }
+after equipment x (Tooled slot nm) = record x { saved = after_tool x.saved slot nm }
 
 -- ---- what an entry hands out
 
@@ -84,6 +87,7 @@ items equipment x (Loaded text) = []
 items equipment x (Referenced point) = []
 items equipment x Approached = items_on_way equipment (approach_in equipment x)
 items equipment x Abandoned = []
+items equipment x (Tooled slot nm) = []
 
 abbrev pub after_all : Equipment → DurableState → List Entry → DurableState
 after_all equipment x [] = x
@@ -124,6 +128,7 @@ FollowsFold equipment lines x (Loaded text) = (length text ≤ longest_program) 
 FollowsFold equipment lines x (Referenced point) = is_inside equipment.geometry point ≡ true
 FollowsFold equipment lines x Approached = (a : Approach) × (approach_in equipment x ≡ Some a)
 FollowsFold equipment lines x Abandoned = (half : HalfModel) × (x.saved.half ≡ Some half)
+FollowsFold equipment lines x (Tooled slot nm) = (takes_slot x.saved.tools slot ≡ true) × (is_tool_length nm ≡ true) × (x.saved.half ≡ None)
 
 abbrev pub FollowFold : Equipment → List (List ℕ) → DurableState → List Entry → Type 0
 FollowFold equipment lines x [] = Unit {0}

@@ -4,5 +4,4 @@ pub mod SessionInvariant
 pub mod Fold
 pub mod Runs
 pub mod Cuts
-pub mod Lives
 pub mod Planned

@@ -54,6 +54,7 @@ drops_plan (event.Mdi text) = true
 drops_plan (event.Reference point) = true
 drops_plan event.Resume = true
 drops_plan event.Abandon = true
+drops_plan (event.Tool slot nm) = true
 drops_plan (event.OptionalStop wanted) = false
 drops_plan (event.BlockDelete on) = true
 drops_plan event.Status = false
@@ -106,7 +107,7 @@ pub record IsPlannedOn (equipment : Equipment) (base : Base) (p : PlannedModel) 
   pub place : p.place ≡ base.stored.place
   pub beginning : p.place ≡ 0 → p.first ≡ Blank
   pub does : Done
-  pub does_is : executed_after (terms_of equipment base.block_delete) p.first base.stored.setup p.prepared.block.text ≡ Ok does
+  pub does_is : executed_after (terms_of equipment base.stored.tools base.block_delete) p.first base.stored.setup p.prepared.block.text ≡ Ok does
   pub begun_is : p.prepared.block ≡ begun base.stored source.Program p.prepared.block.text base.block_delete p.next does
   pub ready : IsReady base.stored p.prepared
 

@@ -1,9 +1,9 @@
 -- A session over a list of events (own).
-use Rattle.std.specs.Prelude.{ℕ, ◌+◌, List, [], ◌∷◌, ◌++◌}
+use Rattle.std.specs.Prelude.{ℕ, ◌+◌, List, [], ◌∷◌, ◌++◌, Option, Some, None}
 use Rattle.ng_canon.specs.declared.item.Item.{Item}
 use Rattle.ng_layout.specs.Stored.{DurableState}
 use Rattle.ng_session.specs.Entries.{Equipment, Entry}
-use Rattle.ng_session.specs.Session.{SessionModel, Transition, resting, step}
+use Rattle.ng_session.specs.Session.{CurrentBlockModel, SessionModel, Transition, resting, entry_on, step}
 use Rattle.ng_session.specs.declared.event.Event.{Event}
 use Rattle.ng_session.specs.declared.event.Event.TheVariants as event
 use Rattle.ng_session.specs.declared.reply.Reply.{Reply}
@@ -40,6 +40,15 @@ abbrev pub session_after : {A : Type 0} → Equipment → ProgramSession → Lis
 session_after equipment s [] = s
 session_after equipment s (event ∷ events) = session_after equipment (session_of_transition (leads_to equipment s event)) events
 
+-- the entry that the current block, or the approach before it, is committed as
+abbrev pub entry_of : Option CurrentBlockModel → List Entry
+entry_of None = []
+entry_of (Some c) = entry_on c c.stage ∷ []
+
+-- what is under way after some events
+abbrev pub under_way : {A : Type 0} → Equipment → ProgramSession → List (Event A) → List Entry
+under_way equipment s events = entry_of (session_after equipment s events).session.current
+
 -- what a cut of power leaves: what stands, and what was handed out
 pub record CrashState : Type 0 where
   pub standing : DurableState
@@ -54,7 +63,17 @@ crash_after equipment s before events = crash_in (session_after equipment s even
 
 abbrev pub done_count : Reply → ℕ
 done_count (reply.Done n) = 1
-done_count _ = 0
+done_count reply.Begun = 0
+done_count reply.Moved = 0
+done_count (reply.Opened index) = 0
+done_count reply.Approaching = 0
+done_count reply.Going = 0
+done_count reply.Held = 0
+done_count reply.Idle = 0
+done_count reply.Stopped = 0
+done_count reply.Taken = 0
+done_count (reply.Status status) = 0
+done_count (reply.Refused fault) = 0
 
 -- how many entries were acknowledged
 abbrev pub dones : List Reply → ℕ
@@ -71,6 +90,7 @@ given_by (event.Mdi text) = text ∷ []
 given_by (event.Reference point) = []
 given_by event.Resume = []
 given_by event.Abandon = []
+given_by (event.Tool slot nm) = []
 given_by (event.OptionalStop wanted) = []
 given_by (event.BlockDelete on) = []
 given_by event.Status = []

@@ -1,5 +1,5 @@
 -- What a session answers, hands out, commits and goes on to, for each event (own).
-use Rattle.std.specs.Prelude.{◌≡◌, ℕ, ◌+◌, ◌==◌, nat_lt, min, Bool, true, false, not, ◌&&◌, ◌||◌, if◌then◌else◌, Option, None, Some, unwrap_or, Result, Ok, Err, List, [], ◌∷◌, drop, length}
+use Rattle.std.specs.Prelude.{◌≡◌, ℕ, ℤ, ◌+◌, ◌==◌, nat_lt, min, Bool, true, false, not, ◌&&◌, ◌||◌, if◌then◌else◌, Option, None, Some, unwrap_or, Result, Ok, Err, List, [], ◌∷◌, drop, length}
 use Rattle.std.specs.Option.{is_some, is_none, option_map}
 use Rattle.ng_num.specs.declared.point.Point.{Point}
 use Rattle.ng_num.specs.declared.fault.Fault.{Fault}
@@ -15,13 +15,15 @@ use Rattle.ng_state.specs.State.{StateModel}
 use Rattle.ng_block.specs.declared.effect.ProgramFlow.{ProgramFlow}
 use Rattle.ng_block.specs.declared.effect.ProgramFlow.TheVariants as stop
 use Rattle.ng_layout.specs.Limits.{longest_program}
+use Rattle.ng_offsets.specs.Tools.{is_tool_length}
+use Rattle.ng_layout.specs.Tools.{takes_slot}
 use Rattle.ng_layout.specs.Stored.{HalfModel, StoredModel}
 use Rattle.ng_layout.specs.declared.half.Source.{Source}
 use Rattle.ng_layout.specs.declared.half.Source.TheVariants as source
 use Rattle.ng_layout.specs.declared.half.Opened.{Opened}
 use Rattle.ng_layout.specs.declared.half.Opened.TheVariants as open_part
 use Rattle.ng_text.specs.Programs.{ProgramLineModel, lines_before, program_line_at, next_line_start}
-use Rattle.ng_session.specs.Entries.{Equipment, Entry, Block, Loaded, Referenced, Approached, Abandoned, done_of, done_again, place_after, after_load, stance_before, hand_approach, after_reference, after_abandon}
+use Rattle.ng_session.specs.Entries.{Equipment, Entry, Block, Loaded, Referenced, Approached, Abandoned, Tooled, done_of, done_again, place_after, after_load, stance_before, hand_approach, after_reference, after_abandon, after_tool}
 use Rattle.ng_session.specs.declared.activity.Activity.{Activity}
 use Rattle.ng_session.specs.declared.activity.Activity.TheVariants as activity
 use Rattle.ng_session.specs.declared.reply.Reply.{Reply}
@@ -274,6 +276,23 @@ resume_half equipment program s (Some half) = resume_from equipment program s ha
 abbrev pub resume : Equipment → List ℕ → SessionModel → Transition
 resume equipment program s = if not (is_at_rest s) then refuses program fault.Busy s else resume_half equipment program s s.stored.half
 
+-- ---- the tool table
+
+-- why a tool's length isn't taken: the session isn't at rest or a block is half-done, there is no such slot, or it is no tool's length
+abbrev pub tool_refusal : SessionModel → ℕ → ℤ → Option Fault
+tool_refusal s slot nm =
+    if not (accepts_load s) then Some fault.Busy
+    else if not (takes_slot s.stored.tools slot) then Some fault.BadSlot
+    else if not (is_tool_length nm) then Some fault.OutOfRange
+    else None
+
+abbrev pub tool_unless : List ℕ → SessionModel → ℕ → ℤ → Option Fault → Transition
+tool_unless program s slot nm (Some fault) = refuses program fault s
+tool_unless program s slot nm None = commits program (Tooled slot nm) (record s { stored = after_tool s.stored slot nm })
+
+abbrev pub tool : List ℕ → SessionModel → ℕ → ℤ → Transition
+tool program s slot nm = tool_unless program s slot nm (tool_refusal s slot nm)
+
 -- ---- what the status shows
 
 -- a block with an open segment counts as half-done
@@ -385,7 +404,7 @@ activity_after source stop.Ends optional_stop before = activity.Idle
 
 -- what stands after the current block
 abbrev pub after_current_block : StoredModel → CurrentBlockModel → StoredModel
-after_current_block x c = record { entries = x.entries + 1; setup = c.setup; place = c.place; length = x.length; half = None }
+after_current_block x c = record { entries = x.entries + 1; setup = c.setup; place = c.place; length = x.length; half = None; tools = x.tools }
 
 -- what stands after the approach of the current block, which ends at a point
 abbrev pub after_current_approach : StoredModel → CurrentBlockModel → Point → StoredModel
@@ -395,6 +414,7 @@ after_current_approach x c point = record {
   place = x.place;
   length = x.length;
   half = Some (record { text = c.text; source = c.source; index = c.index; at = Some point; opened = None });
+  tools = x.tools;
 }
 
 abbrev pub approach_done : SessionModel → CurrentBlockModel → Approach → SessionModel
@@ -478,6 +498,7 @@ step equipment program s (event.Mdi text) = mdi equipment program s text
 step equipment program s (event.Reference point) = reference equipment program s point
 step equipment program s event.Resume = resume equipment program s
 step equipment program s event.Abandon = abandon program s
+step equipment program s (event.Tool slot nm) = tool program s slot nm
 step equipment program s (event.OptionalStop wanted) = answers program reply.Taken (record s { optional_stop = wanted })
 step equipment program s (event.BlockDelete on) = answers program reply.Taken (record s { block_delete = on })
 step equipment program s event.Status = answers program (reply.Status (session_status s)) s
@@ -509,6 +530,7 @@ TakesMemory equipment s (event.Mdi text) = (refuses_mdi s ≡ false) × (s.store
 TakesMemory equipment s (event.Reference point) = ⊥
 TakesMemory equipment s event.Resume = resume_refusal equipment s ≡ None
 TakesMemory equipment s event.Abandon = ⊥
+TakesMemory equipment s (event.Tool slot nm) = ⊥
 TakesMemory equipment s (event.OptionalStop wanted) = ⊥
 TakesMemory equipment s (event.BlockDelete on) = ⊥
 TakesMemory equipment s event.Status = ⊥
@@ -524,6 +546,7 @@ AsksDevice equipment s (event.Mdi text) = ⊥
 AsksDevice equipment s (event.Reference point) = reference_refusal equipment.geometry s point ≡ None
 AsksDevice equipment s event.Resume = (resume_refusal equipment s ≡ None) × IsProgramsLine s.stored.half
 AsksDevice equipment s event.Abandon = abandon_refusal s ≡ None
+AsksDevice equipment s (event.Tool slot nm) = tool_refusal s slot nm ≡ None
 AsksDevice equipment s (event.OptionalStop wanted) = ⊥
 AsksDevice equipment s (event.BlockDelete on) = ⊥
 AsksDevice equipment s event.Status = ⊥
@@ -539,6 +562,7 @@ NeedsProgramLine equipment s (event.Mdi text) = ⊥
 NeedsProgramLine equipment s (event.Reference point) = ⊥
 NeedsProgramLine equipment s event.Resume = (resume_refusal equipment s ≡ None) × IsProgramsLine s.stored.half
 NeedsProgramLine equipment s event.Abandon = ⊥
+NeedsProgramLine equipment s (event.Tool slot nm) = ⊥
 NeedsProgramLine equipment s (event.OptionalStop wanted) = ⊥
 NeedsProgramLine equipment s (event.BlockDelete on) = ⊥
 NeedsProgramLine equipment s event.Status = ⊥
@@ -554,6 +578,7 @@ IsQuiet (event.Mdi text) = Unit {0}
 IsQuiet (event.Reference point) = ⊥
 IsQuiet event.Resume = ⊥
 IsQuiet event.Abandon = ⊥
+IsQuiet (event.Tool slot nm) = ⊥
 IsQuiet (event.OptionalStop wanted) = Unit {0}
 IsQuiet (event.BlockDelete on) = Unit {0}
 IsQuiet event.Status = Unit {0}

@@ -4,37 +4,35 @@ ghost use Rattle.std.specs.Prelude.{◌≡◌, ℕ, List, IfOk, OnOk, OnErr};
 use crate::event::Event;
 use crate::reply::Reply;
 use crate::session::Session;
-use ng_block::Tools;
 use ng_canon::Geometry;
 use std::alloc::{AllocError, Allocator};
 
 impl<A: Allocator + Copy + Drop> Session<A> {
     ghost use Rattle.ng_session.specs.Session.{step, IsQuiet, TakesMemory};
 
-    /// Answers an event that neither writes to the device nor hands anything out: all but a Load, a Reference, a Resume, an Abandon and
-    /// a Tick. `AllocError` where the state after a line of the operator found no memory: nothing is changed then.
-    pub fn answer(
-        &mut self,
-        event: &Event<A>,
-        tools: &Tools,
-        geometry: &Geometry,
-    ) -> Result<Reply, AllocError>
+    /// Answers an event that neither writes to the device nor hands anything out: all but a Load, a Reference, a Resume, an Abandon, a
+    /// Tool and a Tick. `AllocError` where the state after a line of the operator found no memory: nothing is changed then.
+    pub fn answer(&mut self, event: &Event<A>, geometry: &Geometry) -> Result<Reply, AllocError>
         requires { IsQuiet event.now }
-        ensures reply { IfOk result (λ reply. (program : List ℕ) → reply ≡ (step (record { tools = tools.now; geometry = geometry.now }) program self.old event.now).reply) }
-        ensures next { OnOk result ((program : List ℕ) → self.new ≡ (step (record { tools = tools.now; geometry = geometry.now }) program self.old event.now).next) }
+        ensures reply { IfOk result (λ reply. (program : List ℕ) → reply ≡ (step (record { geometry = geometry.now }) program self.old event.now).reply) }
+        ensures next { OnOk result ((program : List ℕ) → self.new ≡ (step (record { geometry = geometry.now }) program self.old event.now).next) }
         ensures err { OnErr result (self.new ≡ self.old) }
-        ensures memory { OnErr result (TakesMemory (record { tools = tools.now; geometry = geometry.now }) self.old event.now) }
+        ensures memory { OnErr result (TakesMemory (record { geometry = geometry.now }) self.old event.now) }
     {
         match event {
             Event::Start => Ok(self.start()),
             Event::Hold => Ok(self.hold()),
             Event::Continue => Ok(self.resume_held()),
-            Event::Mdi(text) => self.mdi(text.bytes(), tools, geometry),
+            Event::Mdi(text) => self.mdi(text.bytes(), geometry),
             Event::OptionalStop(wanted) => Ok(self.set_optional_stop(*wanted)),
             Event::BlockDelete(on) => Ok(self.set_block_delete(*on)),
             Event::Status => Ok(Reply::Status(self.status())),
-            Event::Load(_) | Event::Reference(_) | Event::Resume | Event::Abandon | Event::Tick =>
-                unreachable!(),
+            Event::Load(_)
+            | Event::Reference(_)
+            | Event::Resume
+            | Event::Abandon
+            | Event::Tool(_, _)
+            | Event::Tick => unreachable!(),
         }
     }
 }

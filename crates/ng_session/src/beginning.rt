@@ -6,13 +6,13 @@ ghost use Rattle.ng_block.specs.Program.{executed_after};
 ghost use Rattle.ng_layout.specs.declared.half.Source.TheVariants as source;
 ghost use Rattle.ng_text.specs.Programs.{lines_before};
 ghost use Rattle.ng_layout.specs.Storable.{IsStorableMachine};
-ghost use Rattle.ng_session.specs.Entries.{equipment_of, done_of};
+ghost use Rattle.ng_session.specs.Entries.{done_of};
 
 use crate::activity::Activity;
 use crate::current_block::CurrentBlock;
 use crate::reply::Reply;
 use crate::session::Session;
-use ng_block::{Effect, Scratch, Terms, Tools};
+use ng_block::{Effect, Scratch, Terms};
 use ng_canon::Geometry;
 use ng_layout::{Source, Stored};
 use ng_num::Fault;
@@ -26,15 +26,21 @@ fn execute_alone<'p, A: Allocator + Copy + Drop>(
     places: &'p mut Scratch,
     stored: &Stored<A>,
     text: &[u8],
-    terms: &Terms<'_>,
+    block_delete: bool,
+    geometry: &Geometry,
 ) -> Result<&'p Effect, Fault>
-    ensures done { (program : List ℕ) → MatchResult result (λ e. done_of (equipment_of terms.now) program stored.now source.Mdi text.now terms.now.block_delete ≡ Ok (in_state stored.now.setup e.now)) (λ fault. done_of (equipment_of terms.now) program stored.now source.Mdi text.now terms.now.block_delete ≡ Err fault) }
+    ensures done { (program : List ℕ) → MatchResult result (λ e. done_of (record { geometry = geometry.now }) program stored.now source.Mdi text.now block_delete ≡ Ok (in_state stored.now.setup e.now)) (λ fault. done_of (record { geometry = geometry.now }) program stored.now source.Mdi text.now block_delete ≡ Err fault) }
     ensures short { OnOk result (length text.now ≤ 256) }
     ensures stands { IfOk result (λ e. IsStorableMachine stored.now.setup.machine → IsStorableMachine e.now.machine) }
 {
+    let terms = Terms {
+        block_delete,
+        tools: &stored.tools,
+        geometry,
+    };
     // called for its contract: a table has at most 64 slots, and no more are stored
-    let _ = terms.tools.slots();
-    match places.execute_unless_deleted(terms, &stored.state, text) {
+    let _ = stored.tools.slots();
+    match places.execute_unless_deleted(&terms, &stored.state, text) {
         Ok(effect) => Ok(effect),
         Err(fault) => Err(fault),
     }
@@ -48,16 +54,22 @@ pub(crate) fn execute_after_lines<'p, A: Allocator + Copy + Drop>(
     stored: &Stored<A>,
     first: LineKind,
     text: &[u8],
-    terms: &Terms<'_>,
+    block_delete: bool,
+    geometry: &Geometry,
 ) -> Result<&'p Effect, Fault>
-    ensures does { MatchResult result (λ e. executed_after terms.now first stored.now.setup text.now ≡ Ok (in_state stored.now.setup e.now)) (λ fault. executed_after terms.now first stored.now.setup text.now ≡ Err fault) }
-    ensures done { (program : List ℕ) → first ≡ first_kind (lines_before program stored.now.place) → MatchResult result (λ e. done_of (equipment_of terms.now) program stored.now source.Program text.now terms.now.block_delete ≡ Ok (in_state stored.now.setup e.now)) (λ fault. done_of (equipment_of terms.now) program stored.now source.Program text.now terms.now.block_delete ≡ Err fault) }
+    ensures does { MatchResult result (λ e. executed_after (record { block_delete = block_delete; tools = stored.now.tools; geometry = geometry.now }) first stored.now.setup text.now ≡ Ok (in_state stored.now.setup e.now)) (λ fault. executed_after (record { block_delete = block_delete; tools = stored.now.tools; geometry = geometry.now }) first stored.now.setup text.now ≡ Err fault) }
+    ensures done { (program : List ℕ) → first ≡ first_kind (lines_before program stored.now.place) → MatchResult result (λ e. done_of (record { geometry = geometry.now }) program stored.now source.Program text.now block_delete ≡ Ok (in_state stored.now.setup e.now)) (λ fault. done_of (record { geometry = geometry.now }) program stored.now source.Program text.now block_delete ≡ Err fault) }
     ensures short { OnOk result (length text.now ≤ 256) }
     ensures stands { IfOk result (λ e. IsStorableMachine stored.now.setup.machine → IsStorableMachine e.now.machine) }
 {
+    let terms = Terms {
+        block_delete,
+        tools: &stored.tools,
+        geometry,
+    };
     // called for its contract: a table has at most 64 slots, and no more are stored
-    let _ = terms.tools.slots();
-    match places.execute_after(terms, first, &stored.state, text) {
+    let _ = stored.tools.slots();
+    match places.execute_after(&terms, first, &stored.state, text) {
         Ok(effect) => Ok(effect),
         Err(fault) => Err(fault),
     }
@@ -71,14 +83,9 @@ impl<A: Allocator + Copy + Drop> Session<A> {
     /// line's own faults; nothing is changed then. `AllocError` where the state after the line found no memory: nothing is
     /// changed then either.
     #[tactic(auto, using(crate::proofs::Keeping::kept_ready))]
-    pub(crate) fn mdi(
-        &mut self,
-        text: &[u8],
-        tools: &Tools,
-        geometry: &Geometry,
-    ) -> Result<Reply, AllocError>
-        ensures reply { IfOk result (λ reply. (program : List ℕ) → reply ≡ (mdi (record { tools = tools.now; geometry = geometry.now }) program self.old text.now).reply) }
-        ensures next { OnOk result ((program : List ℕ) → self.new ≡ (mdi (record { tools = tools.now; geometry = geometry.now }) program self.old text.now).next) }
+    pub(crate) fn mdi(&mut self, text: &[u8], geometry: &Geometry) -> Result<Reply, AllocError>
+        ensures reply { IfOk result (λ reply. (program : List ℕ) → reply ≡ (mdi (record { geometry = geometry.now }) program self.old text.now).reply) }
+        ensures next { OnOk result ((program : List ℕ) → self.new ≡ (mdi (record { geometry = geometry.now }) program self.old text.now).next) }
         ensures err { OnErr result (self.new ≡ self.old) }
         ensures memory { OnErr result ((refuses_mdi self.old ≡ false) × (self.old.stored.setup.machine.point_known ≡ true)) }
     {
@@ -90,12 +97,13 @@ impl<A: Allocator + Copy + Drop> Session<A> {
         }
         let place = self.place();
         let block_delete = self.block_delete;
-        let terms = Terms {
+        let effect = match execute_alone(
+            &mut self.places,
+            &self.stored,
+            text,
             block_delete,
-            tools,
             geometry,
-        };
-        let effect = match execute_alone(&mut self.places, &self.stored, text, &terms) {
+        ) {
             Ok(effect) => effect,
             Err(fault) => return Ok(Reply::Refused(fault)),
         };
@@ -121,27 +129,22 @@ impl<A: Allocator + Copy + Drop> Session<A> {
         text: &[u8],
         next: u64,
         first: LineKind,
-        tools: &Tools,
         geometry: &Geometry,
     ) -> Result<Reply, AllocError>
         requires { next ≤ self.old.stored.length }
         ensures stored { OnOk result (self.new.stored ≡ self.old.stored) }
-        ensures reply { IfOk result (λ reply. (program : List ℕ) → first ≡ first_kind (lines_before program self.old.stored.place) → reply ≡ (begin (record { tools = tools.now; geometry = geometry.now }) program self.old (Some (record { text = text.now; next = next }))).reply) }
-        ensures next { OnOk result ((program : List ℕ) → first ≡ first_kind (lines_before program self.old.stored.place) → self.new ≡ (begin (record { tools = tools.now; geometry = geometry.now }) program self.old (Some (record { text = text.now; next = next }))).next) }
+        ensures reply { IfOk result (λ reply. (program : List ℕ) → first ≡ first_kind (lines_before program self.old.stored.place) → reply ≡ (begin (record { geometry = geometry.now }) program self.old (Some (record { text = text.now; next = next }))).reply) }
+        ensures next { OnOk result ((program : List ℕ) → first ≡ first_kind (lines_before program self.old.stored.place) → self.new ≡ (begin (record { geometry = geometry.now }) program self.old (Some (record { text = text.now; next = next }))).next) }
         ensures err { OnErr result (self.new ≡ self.old) }
     {
         let block_delete = self.block_delete;
-        let terms = Terms {
-            block_delete,
-            tools,
-            geometry,
-        };
         let effect = match execute_after_lines(
             &mut self.places,
             &self.stored,
             first,
             text,
-            &terms,
+            block_delete,
+            geometry,
         ) {
             Ok(effect) => effect,
             Err(fault) => {

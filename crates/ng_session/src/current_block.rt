@@ -106,6 +106,7 @@ fn after_block<A: Allocator + Copy + Drop>(
         place: place_after(next, stored.place, source, effect.stop),
         length: stored.length,
         half: None,
+        tools: stored.tools.copy(),
     })
 }
 
@@ -129,6 +130,7 @@ fn after_approach<A: Allocator + Copy + Drop>(
         place: stored.place,
         length: stored.length,
         half: Some(placed_at(to.point, half)),
+        tools: stored.tools.copy(),
     })
 }
 

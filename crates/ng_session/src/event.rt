@@ -1,7 +1,7 @@
 //! What a session is given.
 ghost use Rattle.std.specs.Prelude.{◌≡◌};
 
-use ng_num::Point;
+use ng_num::{Len, Point};
 use std::alloc::Allocator;
 use std::marker::Model;
 
@@ -54,6 +54,9 @@ pub enum Event<A: Allocator> {
     Resume,
     /// The half-done block is given up.
     Abandon,
+    /// A tool's length, for a slot of the table or the one after its last: another slot is refused with B14, a length below 0 or above 1 m
+    /// with E3.
+    Tool(u16, Len),
     /// Whether the program stops at M1.
     OptionalStop(bool),
     /// Whether lines that begin with a slash are deleted.
@@ -78,6 +81,7 @@ impl<A: Allocator> Event<A> {
             | Event::Reference(_)
             | Event::Resume
             | Event::Abandon
+            | Event::Tool(_, _)
             | Event::BlockDelete(_) => true,
             Event::Start
             | Event::Hold

@@ -4,12 +4,12 @@ ghost use Rattle.ng_block.specs.Effects.{in_state};
 ghost use Rattle.ng_layout.specs.Limits.{greatest_count};
 ghost use Rattle.ng_layout.specs.Storable.{IsStorableMachine, IsStorable};
 ghost use Rattle.ng_layout.specs.Stored.{with_decoded_state};
-ghost use Rattle.ng_session.specs.Entries.{equipment_of, done_again, turned_off, given_up};
+ghost use Rattle.ng_session.specs.Entries.{done_again, turned_off, given_up};
 
 use crate::current_block::CurrentBlock;
 use crate::reply::Reply;
 use crate::session::Session;
-use ng_block::{Effect, Scratch, Terms, Tools};
+use ng_block::{Effect, Scratch};
 use ng_canon::{Geometry, Outputs, Spindle};
 use ng_layout::{DecodedState, GREATEST_COUNT, Half, Source, Stored};
 use ng_num::{Fault, Point};
@@ -22,15 +22,15 @@ fn execute_again<'p, A: Allocator + Copy + Drop>(
     places: &'p mut Scratch,
     stored: &Stored<A>,
     half: &Half,
-    terms: &Terms<'_>,
+    geometry: &Geometry,
 ) -> Result<&'p Effect, Fault>
-    ensures done { MatchResult result (λ e. done_again (equipment_of terms.now) stored.now half.now.text ≡ Ok (in_state stored.now.setup e.now)) (λ fault. done_again (equipment_of terms.now) stored.now half.now.text ≡ Err fault) }
+    ensures done { MatchResult result (λ e. done_again (record { geometry = geometry.now }) stored.now half.now.text ≡ Ok (in_state stored.now.setup e.now)) (λ fault. done_again (record { geometry = geometry.now }) stored.now half.now.text ≡ Err fault) }
     ensures stands { IfOk result (λ e. IsStorableMachine stored.now.setup.machine → IsStorableMachine e.now.machine) }
 {
     // called for its contract: a table has at most 64 slots, and no more are stored
-    let _ = terms.tools.slots();
+    let _ = stored.tools.slots();
     let text = half.text.as_slice();
-    match places.execute(&stored.state, text, terms.tools, terms.geometry) {
+    match places.execute(&stored.state, text, &stored.tools, geometry) {
         Ok(effect) => Ok(effect),
         Err(fault) => Err(fault),
     }
@@ -158,8 +158,8 @@ impl<A: Allocator + Copy + Drop> Session<A> {
 
     /// Why no half-done block goes on now: K1 where the session isn't at rest, K4 where no block is half-done, K3 where it isn't known
     /// where its machine stands, then its line's own faults. The session stays as it is.
-    pub fn resume_refusal(&mut self, tools: &Tools, geometry: &Geometry) -> Option<Fault>
-        ensures refusal { result ≡ resume_refusal (record { tools = tools.now; geometry = geometry.now }) self.old }
+    pub fn resume_refusal(&mut self, geometry: &Geometry) -> Option<Fault>
+        ensures refusal { result ≡ resume_refusal (record { geometry = geometry.now }) self.old }
         ensures same { self.new ≡ self.old }
     {
         if !self.is_at_rest() {
@@ -171,12 +171,7 @@ impl<A: Allocator + Copy + Drop> Session<A> {
         if half.at.is_none() {
             return Some(Fault::PlaceUnknown);
         }
-        let terms = Terms {
-            block_delete: false,
-            tools,
-            geometry,
-        };
-        match execute_again(&mut self.places, &self.stored, &half, &terms) {
+        match execute_again(&mut self.places, &self.stored, &half, geometry) {
             Ok(_) => None,
             Err(fault) => Some(fault),
         }
@@ -241,18 +236,13 @@ impl<A: Allocator + Copy + Drop> Session<A> {
     /// nothing is changed then. `AllocError` where the states after it and after its approach found no memory: nothing is changed then
     /// either.
     #[tactic(auto, using(crate::proofs::Keeping::kept_again))]
-    pub fn resume(
-        &mut self,
-        next: u64,
-        tools: &Tools,
-        geometry: &Geometry,
-    ) -> Result<Reply, AllocError>
+    pub fn resume(&mut self, next: u64, geometry: &Geometry) -> Result<Reply, AllocError>
         requires { next ≤ self.old.stored.length }
         ensures stored { OnOk result (self.new.stored ≡ self.old.stored) }
-        ensures reply { IfOk result (λ reply. (program : List ℕ) → IfSome self.old.stored.half (λ half. next ≡ next_place_after program self.old.stored.place half.source) → reply ≡ (resume (record { tools = tools.now; geometry = geometry.now }) program self.old).reply) }
-        ensures next { OnOk result ((program : List ℕ) → IfSome self.old.stored.half (λ half. next ≡ next_place_after program self.old.stored.place half.source) → self.new ≡ (resume (record { tools = tools.now; geometry = geometry.now }) program self.old).next) }
+        ensures reply { IfOk result (λ reply. (program : List ℕ) → IfSome self.old.stored.half (λ half. next ≡ next_place_after program self.old.stored.place half.source) → reply ≡ (resume (record { geometry = geometry.now }) program self.old).reply) }
+        ensures next { OnOk result ((program : List ℕ) → IfSome self.old.stored.half (λ half. next ≡ next_place_after program self.old.stored.place half.source) → self.new ≡ (resume (record { geometry = geometry.now }) program self.old).next) }
         ensures err { OnErr result (self.new ≡ self.old) }
-        ensures memory { OnErr result (resume_refusal (record { tools = tools.now; geometry = geometry.now }) self.old ≡ None) }
+        ensures memory { OnErr result (resume_refusal (record { geometry = geometry.now }) self.old ≡ None) }
     {
         if !self.is_at_rest() {
             return Ok(Reply::Refused(Fault::Busy));
@@ -264,12 +254,7 @@ impl<A: Allocator + Copy + Drop> Session<A> {
         let Some(from) = half.at else {
             return Ok(Reply::Refused(Fault::PlaceUnknown));
         };
-        let terms = Terms {
-            block_delete: false,
-            tools,
-            geometry,
-        };
-        let effect = match execute_again(&mut self.places, &self.stored, half, &terms) {
+        let effect = match execute_again(&mut self.places, &self.stored, half, geometry) {
             Ok(effect) => effect,
             Err(fault) => return Ok(Reply::Refused(fault)),
         };

@@ -22,6 +22,7 @@ mod reply;
 mod session;
 mod stage;
 mod ticking;
+mod tooling;
 
 pub use activity::Activity;
 pub use event::{Event, Text};

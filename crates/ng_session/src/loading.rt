@@ -27,6 +27,7 @@ fn after_load<A: Allocator + Copy + Drop>(
         place: 0,
         length,
         half: None,
+        tools: stored.tools.copy(),
     })
 }
 

@@ -4,7 +4,6 @@ ghost use Rattle.std.specs.Option.{option_map};
 ghost use Rattle.ng_words.specs.declared.start.LineKind.TheVariants.{Blank};
 ghost use Rattle.ng_layout.specs.Limits.{greatest_count};
 ghost use Rattle.ng_layout.specs.Storable.{IsStorable};
-ghost use Rattle.ng_session.specs.Entries.{equipment_of};
 ghost use Rattle.ng_session.specs.Planned.{IsPlannedOn, base_after, base_at_end, ends_after, ends_at_end};
 ghost use Rattle.ng_session.specs.SessionInvariant.{IsReadyOn, block_of};
 
@@ -14,7 +13,7 @@ use crate::known_lines::KnownLines;
 use crate::planned::Planned;
 use crate::reply::Reply;
 use crate::session::Session;
-use ng_block::{ProgramFlow, Scratch, Terms, Tools};
+use ng_block::{ProgramFlow, Scratch};
 use ng_canon::Geometry;
 use ng_layout::{GREATEST_COUNT, Source, Stored};
 use ng_words::LineKind;
@@ -27,29 +26,23 @@ fn plan_line<A: Allocator + Copy + Drop>(
     first: LineKind,
     text: &[u8],
     next: u64,
-    terms: &Terms<'_>,
+    block_delete: bool,
+    geometry: &Geometry,
 ) -> Option<Planned<A>>
     requires count { base.now.entries ≤ greatest_count }
     requires storable { IsStorable base.now }
     requires within { next ≤ base.now.length }
     requires beginning { base.now.place ≡ 0 → first ≡ Blank }
-    ensures planned { IfSome result (λ p. IsPlannedOn (equipment_of terms.now) (record { stored = base.now; block_delete = terms.now.block_delete }) p) }
+    ensures planned { IfSome result (λ p. IsPlannedOn (record { geometry = geometry.now }) (record { stored = base.now; block_delete = block_delete }) p) }
     ensures first { IfSome result (λ p. p.first ≡ first) }
     ensures text { IfSome result (λ p. p.prepared.block.text ≡ text.now) }
     ensures next { IfSome result (λ p. p.next ≡ next) }
 {
-    let effect = match execute_after_lines(places, base, first, text, terms) {
+    let effect = match execute_after_lines(places, base, first, text, block_delete, geometry) {
         Ok(effect) => effect,
         Err(_) => return None,
     };
-    let begun = CurrentBlock::begun(
-        base,
-        Source::Program,
-        text,
-        terms.block_delete,
-        next,
-        effect,
-    );
+    let begun = CurrentBlock::begun(base, Source::Program, text, block_delete, next, effect);
     match begun {
         Ok(block) => Some(Planned {
             place: base.place,
@@ -124,27 +117,29 @@ impl<A: Allocator + Copy + Drop> Session<A> {
         text: &[u8],
         next: u64,
         first: LineKind,
-        tools: &Tools,
         geometry: &Geometry,
     )
-        requires plan { IsPlan (record { tools = tools.now; geometry = geometry.now }) (base_of self.old) lines.old.ahead }
+        requires plan { IsPlan (record { geometry = geometry.now }) (base_of self.old) lines.old.ahead }
         requires within { next ≤ self.old.stored.length }
         requires beginning { (base_at_end (base_of self.old) lines.old.ahead).stored.place ≡ 0 → first ≡ Blank }
         ensures session { self.new ≡ self.old }
         ensures before { lines.new.before ≡ lines.old.before }
-        ensures plan { IsPlan (record { tools = tools.now; geometry = geometry.now }) (base_of self.old) lines.new.ahead }
+        ensures plan { IsPlan (record { geometry = geometry.now }) (base_of self.old) lines.new.ahead }
         ensures holds { (program : List ℕ) → AreLinesOf program lines.old.ahead → IsLineBetween program (base_at_end (base_of self.old) lines.old.ahead).stored.place first text.now next → AreLinesOf program lines.new.ahead }
     {
-        let terms = Terms {
-            block_delete: self.block_delete,
-            tools,
-            geometry,
-        };
         let base = stored_at_end(&self.stored, &self.current, lines);
         if base.entries > GREATEST_COUNT {
             return;
         }
-        match plan_line(&mut self.places, base, first, text, next, &terms) {
+        match plan_line(
+            &mut self.places,
+            base,
+            first,
+            text,
+            next,
+            self.block_delete,
+            geometry,
+        ) {
             Some(planned) => lines.push(planned),
             None => lines.end(),
         }

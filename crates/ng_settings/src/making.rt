@@ -3,6 +3,7 @@ ghost use Rattle.std.specs.Prelude.{◌≡◌, ◌≤◌, true, false, nat_lt, l
 ghost use Rattle.std.specs.List.{filter_map};
 ghost use Rattle.toml.specs.Data.{as_integer};
 ghost use Rattle.toml.specs.View.{array_view};
+ghost use Rattle.ng_offsets.specs.Tools.{IsToolLength};
 ghost use Rattle.ng_settings.specs.Numbers.{listed};
 ghost use Rattle.ng_settings.specs.Causes.{is_beyond, are_beyond};
 ghost use Rattle.ng_settings.specs.Given.{IsAxisOf, IsMachine, IsMachineOf, IsInLimits};
@@ -60,7 +61,8 @@ fn period(microseconds: Whole) -> u32
 /// The tool length of a number.
 fn tool_length(nm: i64) -> Len
     requires { is_beyond (pos 0) (pos 1_000_000_000) nm ≡ false }
-    ensures { result ≡ nm }
+    ensures value { result ≡ nm }
+    ensures tool { IsToolLength result }
 {
     Len::of_nm(nm as i128).unwrap()
 }

@@ -1,16 +1,20 @@
 -- What the steps of a recovery find and leave.
-use Rattle.std.specs.Prelude.{◌≡◌, ◌⊎◌, Some, Result, Ok, Err, IfOk, IfErr}
+use Rattle.ng_canon.specs.declared.item.Item.{Item}
+use Rattle.std.specs.Prelude.{◌≡◌, ◌⊎◌, ℕ, ℤ, List, Some, Result, Ok, Err, IfOk, IfErr}
 use Rattle.ng_num.specs.declared.fault.Fault.{Fault}
 use Rattle.ng_num.specs.declared.fault.Fault.TheVariants.{NotFormatted, Damaged, CountersUsed}
 use Rattle.ng_rig.specs.Trace.{Image, Trace, Synced, reads, items}
 use Rattle.ng_rig.specs.Continuation.{IsContinuation}
+use Rattle.ng_layout.specs.declared.header.Format.{Format}
+use Rattle.ng_layout.specs.declared.header.Format.TheVariants.{One, Two}
 use Rattle.ng_layout.specs.declared.header.Header.{Header}
-use Rattle.ng_layout.specs.Stands.{in_force, stands, IsWritten}
+use Rattle.ng_layout.specs.Stands.{in_force, stands, stands_beside, beside_format, IsWritten}
 use Rattle.ng_layout.specs.Stored.{StoredModel, DurableState}
 use Rattle.ng_log.specs.AtEnd.{no_records, IsAtEnd}
-use Rattle.ng_journal.specs.AtRest.{IsEither}
+use Rattle.ng_journal.specs.AtRest.{BelongsTo, migrated}
+use Rattle.ng_journal.specs.Journal.{StandsBeside}
 use Rattle.ng_journal.specs.Private.CheckpointSteps.{beside}
-use Rattle.ng_journal.specs.Recovery.{HasCause, IsFound, IsNextEpoch, Renews, recovered_of}
+use Rattle.ng_journal.specs.Recovery.{HasCause, IsFound, IsNextEpoch, Renews, IsEitherBeside, recovered_of}
 
 -- the faults of what a device holds
 abbrev pub IsRefusal : Fault → Type 0
@@ -27,26 +31,41 @@ abbrev pub IsRead : StoredModel → Image → Result Header Fault → Type 0
 IsRead saved image (Ok header) = StandsUnder header saved image
 IsRead saved image (Err fault) = HasCause fault image
 
-abbrev pub RecoveryOutcome : Result Header Fault → StoredModel → Image → Type 0
-RecoveryOutcome (Ok header) saved image = IsFound saved image × IsNextEpoch header image
-RecoveryOutcome (Err fault) saved image = HasCause fault image
+abbrev pub RecoveryOutcome : List ℤ → Result Header Fault → StoredModel → Image → Type 0
+RecoveryOutcome tools (Ok header) saved image = IsFound tools saved image × IsNextEpoch header image
+RecoveryOutcome tools (Err fault) saved image = HasCause fault image
 
 -- at rest, under this header, with the recovered of what stood and no record
-pub record IsReady (header : Header) (saved : StoredModel) (old new : Trace) : Type 0 where
+pub record IsReady (tools : List ℤ) (header : Header) (saved : StoredModel) (old new : Trace) : Type 0 where
   pub standing : DurableState
   pub at : IsAtEnd new header standing no_records
-  pub is : recovered_of (stands (reads old)) ≡ Ok standing
+  pub is : recovered_of (stands_beside tools (reads old)) ≡ Ok standing
   pub saved_is : saved ≡ standing.saved
 
 -- Each stop since stands for what stood before or for its recovered.
-pub record KeepsStanding {E : Type 0} (result : Result (Result Header Fault) E) (saved : StoredModel) (old new : Trace) : Type 0 where
-  pub stops : IsContinuation old new (IsEither (stands (reads old)) (recovered_of (stands (reads old))) (items old))
-  pub ready : IfOk result (λ answer. IfOk answer (λ header. IsReady header saved old new))
+pub record KeepsStanding {E : Type 0} (tools : List ℤ) (result : Result (Result Header Fault) E) (saved : StoredModel) (old new : Trace) : Type 0 where
+  pub stops : IsContinuation old new (IsEitherBeside tools (stands_beside tools (reads old)) (recovered_of (stands_beside tools (reads old))) (items old))
+  pub ready : IfOk result (λ answer. IfOk answer (λ header. IsReady tools header saved old new))
 
 -- What is found, or why nothing is, and what is written, over any image: nothing where there is a reason to recover nothing. What stops
 -- leave over an image that only this journal wrote.
-pub record RestoreSpec {E : Type 0} (result : Result (Result Header Fault) E) (saved : StoredModel) (old new : Trace) : Type 0 where
-  pub outcome : IfOk result (λ answer. RecoveryOutcome answer saved (reads old))
+pub record RestoreSpec {E : Type 0} (tools : List ℤ) (result : Result (Result Header Fault) E) (saved : StoredModel) (old new : Trace) : Type 0 where
+  pub outcome : IfOk result (λ answer. RecoveryOutcome tools answer saved (reads old))
   pub refused : IfOk result (λ answer. IfErr answer (λ fault. new ≡ Synced old))
-  pub renews : Renews old new
-  pub kept : IsWritten (reads old) → KeepsStanding result saved old new
+  pub renews : Renews tools old new
+  pub kept : IsWritten (reads old) → KeepsStanding tools result saved old new
+
+-- what a header becomes in format 2
+abbrev pub modern_by : Format → Header → Header
+modern_by One header = migrated header
+modern_by Two header = header
+
+-- Each stop since stands for the same beside the table, after Ok in format 2, whose log has no record.
+pub record ModernizeSpec {E : Type 0} (tools : List ℤ) (result : Result Header E) (header : Header) (standing : DurableState) (old new : Trace) : Type 0 where
+  pub stops : IsContinuation old new (StandsBeside tools (beside_format tools header.format standing) (items old))
+  pub items_are : items new ≡ items old
+  pub at : IfOk result (λ last. IsAtEnd new last (beside_format tools header.format standing) no_records)
+
+-- what is written of it: in format 2 nothing
+abbrev pub BelongsToModern : List ℤ → Header → StoredModel → ℕ → List ℕ → Type 0
+BelongsToModern tools header saved n bytes = (header.format ≡ One) × BelongsTo (migrated header) (record saved { tools = tools }) n bytes

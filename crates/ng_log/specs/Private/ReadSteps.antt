@@ -3,6 +3,7 @@ use Rattle.std.specs.Prelude.{◌≡◌, ◌<◌, ◌≤◌, ◌+◌, ◌==◌, 
 use Rattle.ng_params.specs.Changes.{with_changes}
 use Rattle.ng_params.specs.declared.change.Change.{Change}
 use Rattle.ng_rig.specs.Trace.{Image}
+use Rattle.ng_layout.specs.declared.header.Format.{Format}
 use Rattle.ng_layout.specs.declared.header.Header.{Header}
 use Rattle.ng_layout.specs.Areas.{log_size_of, log_first}
 use Rattle.ng_layout.specs.Log.{PartHeader, LogPosition, is_part, parts_stand, parts_for, changes_of, with_record, next}
@@ -36,26 +37,26 @@ abbrev pub MakesAllOrDamaged : ℕ → ℕ → List ℤ → List ℤ → Image �
 MakesAllOrDamaged at n old new image whole = MatchBool whole (MakesAll (from_log image) at n old new) (changes_of (from_log image) at n ≡ None)
 
 -- what is stored is what is found with a record, or that is damaged
-abbrev pub FindsRecord : ℕ → ℕ → ℕ → StoredModel → StoredModel → Image → Bool → Type 0
-FindsRecord length at changes old new image whole =
-    let found = with_record length (from_log image) at changes (replay_state_in old) in
+abbrev pub FindsRecord : Format → ℕ → ℕ → ℕ → StoredModel → StoredModel → Image → Bool → Type 0
+FindsRecord format length at changes old new image whole =
+    let found = with_record format length (from_log image) at changes (replay_state_in old) in
     MatchBool whole ((found ≡ Some (replay_state_in new)) × (new.length ≡ length)) (found ≡ None)
 
 -- that holds where the record's first sector is this one
-abbrev pub TakesRecord : ℕ → List ℕ → ℕ → ℕ → StoredModel → StoredModel → Image → Bool → Type 0
-TakesRecord length first at changes old new image whole = first ≡ from_log image at → FindsRecord length at changes old new image whole
+abbrev pub TakesRecord : Format → ℕ → List ℕ → ℕ → ℕ → StoredModel → StoredModel → Image → Bool → Type 0
+TakesRecord format length first at changes old new image whole = first ≡ from_log image at → FindsRecord format length at changes old new image whole
 
 -- it leads from what is stored to a place where what is found is damaged
-pub record IsDamaged (size length : ℕ) (log : Image) (epoch : ℕ) (p : LogPosition) : Type 0 where
+pub record IsDamaged (format : Format) (length : ℕ) (log : Image) (epoch : ℕ) (p : LogPosition) : Type 0 where
   pub place : LogPosition
-  pub step : next size length log epoch p ≡ Some place
+  pub step : next format length log epoch p ≡ Some place
   pub damaged : place.found ≡ None
 
 -- No complete record begins here; one does that is damaged; or what is stored now is what is found with it.
 abbrev pub IsNextOf : Header → LogEnd → StoredModel → StoredModel → Image → Next → Type 0
-IsNextOf header end old new image Last = (next (log_size_of header) header.length (log_of header image) header.epoch (position_of end old) ≡ None) × (new ≡ old)
-IsNextOf header end old new image Damaged = IsDamaged (log_size_of header) header.length (log_of header image) header.epoch (position_of end old)
-IsNextOf header end old new image (After after) = (next (log_size_of header) header.length (log_of header image) header.epoch (position_of end old) ≡ Some (position_of after new)) × (new.length ≡ header.length)
+IsNextOf header end old new image Last = (next header.format header.length (log_of header image) header.epoch (position_of end old) ≡ None) × (new ≡ old)
+IsNextOf header end old new image Damaged = IsDamaged header.format header.length (log_of header image) header.epoch (position_of end old)
+IsNextOf header end old new image (After after) = (next header.format header.length (log_of header image) header.epoch (position_of end old) ≡ Some (position_of after new)) × (new.length ≡ header.length)
 
 -- it is within the log, and further on than another
 pub record IsFurther (header : Header) (from to : LogEnd) : Type 0 where

@@ -1,5 +1,12 @@
 use Rattle.ng_core.proofs.Accounting.{accounts}
+use Rattle.ng_core.proofs.Guarding.{counts_acknowledged, none_taken_away}
 use Rattle.ng_core.proofs.laws.accounts.Goals as goal
 
-pub returns : goal.returns
-returns g c = accounts g.R.Rig.honest g.R.Rig.trace g.R.Rig.failed g.R.Rig.sectors
+pub returns-clause-cuts : goal.returns-clause-cuts
+returns-clause-cuts g c = accounts g.R.Rig.honest g.R.Rig.trace g.R.Rig.failed g.R.Rig.sectors
+
+pub returns-clause-counts : goal.returns-clause-counts
+returns-clause-counts g c = counts_acknowledged g.R.Rig.trace
+
+pub returns-clause-keeps : goal.returns-clause-keeps
+returns-clause-keeps g c = none_taken_away g.R.Rig.honest g.R.Rig.trace g.R.Rig.failed g.R.Rig.sectors

@@ -1,8 +1,9 @@
-use Rattle.std.proofs.Common.{◌≡◌, ℕ, Ok, Err, refl, sym, ◌∙◌, ap, subst}
+use Rattle.std.proofs.Common.{◌≡◌, ℕ, ℤ, List, Ok, Err, refl, sym, ◌∙◌, ap, subst}
 use Rattle.std.specs.Result.{IsErrAnd}
 use Rattle.ng_num.specs.declared.fault.Fault.{Fault}
 use Rattle.ng_rig.specs.Trace.{Trace}
 use Rattle.ng_settings.specs.declared.standard.Settings.{Settings}
+use Rattle.ng_core.specs.Headline.{BeginsPast}
 use Rattle.ng_core.specs.Powers.{PowerOnResult, PowerOnSpec}
 use Rattle.ng_rig.proofs.Promise.{meaning}
 use Rattle.ng_layout.specs.Storable.{IsStorable}
@@ -14,12 +15,12 @@ use Rattle.ng_core.proofs.power.power_on.Goals as goal
 
 pub returns-clause-gives : goal.returns-clause-gives
 returns-clause-gives g c =
-    let equipment : Equipment = record { tools = c.args.settings.tools; geometry = c.args.settings.geometry } in
+    let equipment : Equipment = record { geometry = c.args.settings.geometry } in
     let journal = c.in_ok-journal.ensures.journal in
     let stored = ap (λ (s : SessionModel). s.stored) c.new.ensures in
     record {
-      powers = λ room. meaning (c.in_ok-journal.ensures.recovers room)
-          (λ r. powered c.in_ok-journal.journal c.in_ok-journal.stored c.new.result c.in-Ok.lines equipment _ _ stored journal.1 c.in-Ok.ensures.holds r);
+      powers = λ room tools table. meaning (c.in_ok-journal.ensures.recovers room tools table)
+          (λ r. powered tools c.in_ok-journal.journal c.in_ok-journal.stored c.new.result c.in-Ok.lines equipment _ _ stored journal.1 c.in-Ok.ensures.holds r);
       rests = (journal.0, c.new.ensures ∙ ap (λ x. resting x) (sym journal.1), subst IsStorable (sym stored) journal.2);
       equipment = refl;
       small = λ few. absurd (c.in_ok-journal.ensures.small few);
@@ -40,7 +41,7 @@ pub returns-in_err-journal-clause-gives : goal.returns-in_err-journal-clause-giv
 returns-in_err-journal-clause-gives g c =
     let told = c.in_err-journal.ensures in
     gave g.R.Rig.honest g.R.Rig.trace g.R.Rig.failed g.R.Rig.sectors c.args.settings c.args.rig c.in_err-journal.field-0.0 c.from_residual.result c.from_residual.ensures.1 (record {
-      powers = λ room. meaning (told.recovers room) (λ r. record { recovers = r; rests = λ written. tt });
+      powers = λ room tools table. meaning (told.recovers room tools table) (λ r. record { recovers = r; rests = λ written. tt });
       rests = tt;
       equipment = tt;
       small = told.small;
@@ -51,7 +52,18 @@ returns-in_err-journal-clause-gives g c =
     })
 
 pub returns-clause-past : goal.returns-clause-past
-returns-clause-past g c = λ room.
+returns-clause-past g c = λ room tools table.
     let journal = c.in_ok-journal.ensures.journal in
-    meaning ((returns-clause-gives g c).powers room)
-    (λ p. begins_past _ g.R.Rig.honest g.R.Rig.trace g.R.Rig.failed g.R.Rig.sectors _ (g.R.Rig.trace c.args.rig) _ (refl, journal.0, c.new.ensures ∙ ap (λ x. resting x) (sym journal.1)) p)
+    meaning ((returns-clause-gives g c).powers room tools table)
+    (λ p. begins_past _ tools g.R.Rig.honest g.R.Rig.trace g.R.Rig.failed g.R.Rig.sectors _ (g.R.Rig.trace c.args.rig) _ (refl, journal.0, c.new.ensures ∙ ap (λ x. resting x) (sym journal.1)) p)
+
+-- a fault begins no past
+none_begun : {R : Type 0} (A : Type 0) (tools : List ℤ) (honest : R → Type 0) (trace : R → Trace) (failed sectors : R → ℕ) (e : Fault × R) (answer : PowerOnResult R) (old : Trace)
+    → IsErrAnd answer (λ f. f ≡ e) → BeginsPast A tools honest trace failed sectors answer old
+none_begun A tools honest trace failed sectors e (Ok c) old is = absurd is
+none_begun A tools honest trace failed sectors e (Err f) old is = λ written. tt
+
+pub returns-in_err-journal-clause-past : goal.returns-in_err-journal-clause-past
+returns-in_err-journal-clause-past g c = λ room tools table.
+    meaning ((returns-in_err-journal-clause-gives g c).powers room tools table)
+    (λ p. none_begun _ tools g.R.Rig.honest g.R.Rig.trace g.R.Rig.failed g.R.Rig.sectors c.in_err-journal.field-0.0 c.from_residual.result (g.R.Rig.trace c.args.rig) c.from_residual.ensures.1)

@@ -1,35 +1,35 @@
 use Rattle.std.proofs.Common.{sym, ◌∙◌, ap}
 use Rattle.std.proofs.lemmas.Result.{err_from_is_err_and}
 use Rattle.ng_layout.specs.Areas.{snapshot_first}
-use Rattle.ng_journal.proofs.Framing.{state_area, state_sync, state_header, state_laid, synced_by}
-use Rattle.ng_journal.proofs.Renewing.{exit_area, exit_sync, exit_header, ready, finished}
+use Rattle.ng_journal.proofs.Framing.{state_areas, state_sync, state_header, state_laid, synced_by}
+use Rattle.ng_journal.proofs.Renewing.{exit_areas, exit_sync, exit_header, ready, finished}
 use Rattle.ng_journal.proofs.checkpoint.checkpoint.Goals as goal
 
-pub returns-in_err-write_snapshot-clause-stops : goal.returns-in_err-write_snapshot-clause-stops
-returns-in_err-write_snapshot-clause-stops g c =
+pub returns-in_err-write_areas-clause-stops : goal.returns-in_err-write_areas-clause-stops
+returns-in_err-write_areas-clause-stops g c =
     let p = err_from_is_err_and c.from_residual.result c.from_residual.ensures.1 in
-    let area = c.write_snapshot.ensures.area in
+    let area = c.write_areas.ensures.areas in
     rw p.1 (record {
       keeps = area.keeps;
       back = area.back;
-      holds = λ h header w later. exit_area p.0 c.write_snapshot.result _ _ c.snapshot_first.result header c.args.next c.args.stored.now w (c.snapshot_first.ensures.is ∙ ap snapshot_first later) (area.holds h);
+      holds = λ h header w later follows. exit_areas p.0 c.write_areas.result _ _ header c.args.next c.args.stored.now (record { at = w; epoch = later; follows = follows }) (area.holds h);
     })
 
 pub returns-in_err-sync-clause-stops : goal.returns-in_err-sync-clause-stops
 returns-in_err-sync-clause-stops g c =
     let p = err_from_is_err_and c.from_residual-in_err-sync.result c.from_residual-in_err-sync.ensures.1 in
-    let area = c.write_snapshot.ensures.area in
+    let area = c.write_areas.ensures.areas in
     let sync = c.in_err-sync.ensures.trace in
     rw p.1 (record {
       keeps = λ h. sync.keeps (area.keeps h);
       back = λ h. area.back (sync.back h);
-      holds = λ h header w later. exit_sync p.0 c.write_snapshot.result _ _ _ c.snapshot_first.result header c.args.next c.args.stored.now w (c.snapshot_first.ensures.is ∙ ap snapshot_first later) (area.holds h) (sync.holds (area.keeps h));
+      holds = λ h header w later follows. exit_sync p.0 c.write_areas.result _ _ _ header c.args.next c.args.stored.now (record { at = w; epoch = later; follows = follows }) (area.holds h) (sync.holds (area.keeps h));
     })
 
 pub returns-in_err-write-clause-stops : goal.returns-in_err-write-clause-stops
 returns-in_err-write-clause-stops g c =
     let p = err_from_is_err_and c.from_residual-in_err-write.result c.from_residual-in_err-write.ensures.1 in
-    let area = c.in_ok-write_snapshot.ensures.area in
+    let area = c.in_ok-write_areas.ensures.areas in
     let sync = c.in_ok-sync.ensures.trace in
     let write = c.write.ensures.trace in
     let stored = c.args.stored.now in
@@ -37,14 +37,14 @@ returns-in_err-write-clause-stops g c =
     rw p.1 (record {
       keeps = λ h. write.keeps (sync.keeps (area.keeps h));
       back = λ h. area.back (sync.back (write.back h));
-      holds = λ h header w later.
-          let r = ready _ _ _ c.snapshot_first.result header new stored c.header_sector.result w (c.snapshot_first.ensures.is ∙ ap snapshot_first later) (area.holds h) c.requires.storable.table c.header_sector.ensures.read later (sym c.requires.long) in
+      holds = λ h header w later follows.
+          let r = ready _ _ _ header new stored c.header_sector.result (record { at = w; epoch = later; follows = follows }) (area.holds h) c.requires.storable c.requires.tools c.header_sector.ensures.read (sym c.requires.long) in
           exit_header p.0 c.write.result _ _ _ _ header new stored c.header_sector.result r (sync.holds (area.keeps h)) (write.holds (sync.keeps (area.keeps h)));
     })
 
 pub returns-clause-stops : goal.returns-clause-stops
 returns-clause-stops g c =
-    let area = c.in_ok-write_snapshot.ensures.area in
+    let area = c.in_ok-write_areas.ensures.areas in
     let sync = c.in_ok-sync.ensures.trace in
     let write = c.in_ok-write.ensures.trace in
     let last = c.sync-2.ensures.trace in
@@ -53,32 +53,32 @@ returns-clause-stops g c =
     record {
       keeps = λ h. last.keeps (write.keeps (sync.keeps (area.keeps h)));
       back = λ h. area.back (sync.back (write.back (last.back h)));
-      holds = λ h header w later.
-          let r = ready _ _ _ c.snapshot_first.result header new stored c.header_sector.result w (c.snapshot_first.ensures.is ∙ ap snapshot_first later) (area.holds h) c.requires.storable.table c.header_sector.ensures.read later (sym c.requires.long) in
+      holds = λ h header w later follows.
+          let r = ready _ _ _ header new stored c.header_sector.result (record { at = w; epoch = later; follows = follows }) (area.holds h) c.requires.storable c.requires.tools c.header_sector.ensures.read (sym c.requires.long) in
           finished c.sync-2.result _ _ _ _ _ header new stored c.header_sector.result r (sync.holds (area.keeps h)) (write.holds (sync.keeps (area.keeps h))) (last.holds (write.keeps (sync.keeps (area.keeps h))));
     }
 
-pub returns-in_err-write_snapshot-clause-stores : goal.returns-in_err-write_snapshot-clause-stores
-returns-in_err-write_snapshot-clause-stores g c =
+pub returns-in_err-write_areas-clause-stores : goal.returns-in_err-write_areas-clause-stores
+returns-in_err-write_areas-clause-stores g c =
     let p = err_from_is_err_and c.from_residual.result c.from_residual.ensures.1 in
-    let area = c.write_snapshot.ensures.area in
+    let area = c.write_areas.ensures.areas in
     rw p.1 (record {
       keeps = area.keeps;
       back = area.back;
-      holds = λ h. record { writes = state_area c.write_snapshot.result c.snapshot_first.result c.args.next c.args.stored.now _ _ c.snapshot_first.ensures.is (area.holds h); laid = tt; synced = tt };
+      holds = λ h. record { writes = state_areas c.write_areas.result c.args.next c.args.stored.now _ _ (area.holds h); laid = tt; synced = tt };
     })
 
 pub returns-in_err-sync-clause-stores : goal.returns-in_err-sync-clause-stores
 returns-in_err-sync-clause-stores g c =
     let p = err_from_is_err_and c.from_residual-in_err-sync.result c.from_residual-in_err-sync.ensures.1 in
     let new = c.args.next in
-    let area = c.write_snapshot.ensures.area in
+    let area = c.write_areas.ensures.areas in
     let sync = c.sync.ensures.trace in
     rw p.1 (record {
       keeps = λ h. sync.keeps (area.keeps h);
       back = λ h. area.back (sync.back h);
       holds = λ h.
-          let one = state_area c.write_snapshot.result c.snapshot_first.result new c.args.stored.now _ _ c.snapshot_first.ensures.is (area.holds h) in
+          let one = state_areas c.write_areas.result new c.args.stored.now _ _ (area.holds h) in
           record { writes = state_sync c.sync.result new c.args.stored.now _ _ _ one (sync.holds (area.keeps h)); laid = tt; synced = tt };
     })
 
@@ -86,14 +86,14 @@ pub returns-in_err-write-clause-stores : goal.returns-in_err-write-clause-stores
 returns-in_err-write-clause-stores g c =
     let p = err_from_is_err_and c.from_residual-in_err-write.result c.from_residual-in_err-write.ensures.1 in
     let new = c.args.next in
-    let area = c.write_snapshot.ensures.area in
+    let area = c.write_areas.ensures.areas in
     let sync = c.sync.ensures.trace in
     let write = c.write.ensures.trace in
     rw p.1 (record {
       keeps = λ h. write.keeps (sync.keeps (area.keeps h));
       back = λ h. area.back (sync.back (write.back h));
       holds = λ h.
-          let one = state_area c.write_snapshot.result c.snapshot_first.result new c.args.stored.now _ _ c.snapshot_first.ensures.is (area.holds h) in
+          let one = state_areas c.write_areas.result new c.args.stored.now _ _ (area.holds h) in
           let two = state_sync c.sync.result new c.args.stored.now _ _ _ one (sync.holds (area.keeps h)) in
           record { writes = state_header c.write.result new c.args.stored.now c.header_sector.result _ _ _ c.header_sector.ensures.holds two (write.holds (sync.keeps (area.keeps h))); laid = tt; synced = tt };
     })
@@ -102,7 +102,7 @@ pub returns-clause-stores : goal.returns-clause-stores
 returns-clause-stores g c =
     let new = c.args.next in
     let held = c.header_sector.ensures.holds in
-    let area = c.write_snapshot.ensures.area in
+    let area = c.write_areas.ensures.areas in
     let sync = c.sync.ensures.trace in
     let write = c.write.ensures.trace in
     let last = c.sync-2.ensures.trace in
@@ -110,16 +110,16 @@ returns-clause-stores g c =
       keeps = λ h. last.keeps (write.keeps (sync.keeps (area.keeps h)));
       back = λ h. area.back (sync.back (write.back (last.back h)));
       holds = λ h.
-          let one = state_area c.write_snapshot.result c.snapshot_first.result new c.args.stored.now _ _ c.snapshot_first.ensures.is (area.holds h) in
+          let one = state_areas c.write_areas.result new c.args.stored.now _ _ (area.holds h) in
           let two = state_sync c.sync.result new c.args.stored.now _ _ _ one (sync.holds (area.keeps h)) in
           let three = state_header c.write.result new c.args.stored.now c.header_sector.result _ _ _ held two (write.holds (sync.keeps (area.keeps h))) in
-          let done = c.in_ok-write_snapshot.ensures.area in
+          let done = c.in_ok-write_areas.ensures.areas in
           let on = c.in_ok-sync.ensures.trace in
           let put = c.in_ok-write.ensures.trace in
           let end = last.holds (write.keeps (sync.keeps (area.keeps h))) in
           record {
             writes = state_sync c.sync-2.result new c.args.stored.now _ _ _ three end;
-            laid = state_laid c.sync-2.result _ c.snapshot_first.result new c.args.stored.now c.header_sector.result _ _ _ _ _ c.snapshot_first.ensures.is (done.holds h) held (on.holds (area.keeps h)) (put.holds (sync.keeps (area.keeps h))) end;
+            laid = state_laid c.sync-2.result _ new c.args.stored.now c.header_sector.result _ _ _ _ _ (done.holds h) held (on.holds (area.keeps h)) (put.holds (sync.keeps (area.keeps h))) end;
             synced = synced_by c.sync-2.result _ _ end;
           };
     }

@@ -2,7 +2,7 @@ use Rattle.std.proofs.Common.{pos, refl}
 use Rattle.std.proofs.lemmas.Result.{err_from_is_err_and}
 use Rattle.ng_layout.specs.Stored.{fresh_stored}
 use Rattle.ng_journal.proofs.Beginning.{steps, finished, table_long}
-use Rattle.ng_journal.proofs.Framing.{first_headers, first_log, first_area, first_sync, first_write}
+use Rattle.ng_journal.proofs.Framing.{first_headers, first_log, first_area, first_tools, first_sync, first_write}
 use Rattle.ng_journal.proofs.formatting.make_fresh.Goals as goal
 
 pub returns-in_err-clear_headers-clause-formats : goal.returns-in_err-clear_headers-clause-formats
@@ -46,16 +46,16 @@ returns-in_err-write_fresh_snapshot-clause-formats g c =
           record { writes = first_area c.write_fresh_snapshot.result c.snapshot_first.result fresh_stored _ _ _ c.snapshot_first.ensures.is two (area.holds h2); at = tt; laid = tt; zeros = tt };
     })
 
-pub returns-in_err-sync-clause-formats : goal.returns-in_err-sync-clause-formats
-returns-in_err-sync-clause-formats g c =
-    let p = err_from_is_err_and c.from_residual-in_err-sync.result c.from_residual-in_err-sync.ensures.1 in
+pub returns-in_err-clear_tools-clause-formats : goal.returns-in_err-clear_tools-clause-formats
+returns-in_err-clear_tools-clause-formats g c =
+    let p = err_from_is_err_and c.from_residual-in_err-clear_tools.result c.from_residual-in_err-clear_tools.ensures.1 in
     let headers = c.clear_headers.ensures.clears in
     let log = c.clear_log.ensures.clears in
     let area = c.write_fresh_snapshot.ensures.writes in
-    let sync = c.sync.ensures.trace in
+    let tools = c.clear_tools.ensures.clears in
     rw p.1 (record {
-      keeps = λ h. sync.keeps (area.keeps (log.keeps (headers.keeps h)));
-      back = λ h. headers.back (log.back (area.back (sync.back h)));
+      keeps = λ h. tools.keeps (area.keeps (log.keeps (headers.keeps h)));
+      back = λ h. headers.back (log.back (area.back (tools.back h)));
       holds = λ h0.
           let h1 = headers.keeps h0 in
           let h2 = log.keeps h1 in
@@ -63,7 +63,30 @@ returns-in_err-sync-clause-formats g c =
           let one = first_headers c.clear_headers.result fresh_stored _ _ (headers.holds h0) in
           let two = first_log c.clear_log.result fresh_stored _ _ _ one (log.holds h1) in
           let three = first_area c.write_fresh_snapshot.result c.snapshot_first.result fresh_stored _ _ _ c.snapshot_first.ensures.is two (area.holds h2) in
-          record { writes = first_sync c.sync.result fresh_stored _ _ _ three (sync.holds h3); at = tt; laid = tt; zeros = tt };
+          record { writes = first_tools c.clear_tools.result c.tools_first.result fresh_stored _ _ _ refl c.tools_first.ensures.is three (tools.holds h3); at = tt; laid = tt; zeros = tt };
+    })
+
+pub returns-in_err-sync-clause-formats : goal.returns-in_err-sync-clause-formats
+returns-in_err-sync-clause-formats g c =
+    let p = err_from_is_err_and c.from_residual-in_err-sync.result c.from_residual-in_err-sync.ensures.1 in
+    let headers = c.clear_headers.ensures.clears in
+    let log = c.clear_log.ensures.clears in
+    let area = c.write_fresh_snapshot.ensures.writes in
+    let tools = c.clear_tools.ensures.clears in
+    let sync = c.sync.ensures.trace in
+    rw p.1 (record {
+      keeps = λ h. sync.keeps (tools.keeps (area.keeps (log.keeps (headers.keeps h))));
+      back = λ h. headers.back (log.back (area.back (tools.back (sync.back h))));
+      holds = λ h0.
+          let h1 = headers.keeps h0 in
+          let h2 = log.keeps h1 in
+          let h3 = area.keeps h2 in
+          let hs = tools.keeps h3 in
+          let one = first_headers c.clear_headers.result fresh_stored _ _ (headers.holds h0) in
+          let two = first_log c.clear_log.result fresh_stored _ _ _ one (log.holds h1) in
+          let three = first_area c.write_fresh_snapshot.result c.snapshot_first.result fresh_stored _ _ _ c.snapshot_first.ensures.is two (area.holds h2) in
+          let more = first_tools c.clear_tools.result c.tools_first.result fresh_stored _ _ _ refl c.tools_first.ensures.is three (tools.holds h3) in
+          record { writes = first_sync c.sync.result fresh_stored _ _ _ more (sync.holds hs); at = tt; laid = tt; zeros = tt };
     })
 
 pub returns-in_err-write-clause-formats : goal.returns-in_err-write-clause-formats
@@ -72,20 +95,23 @@ returns-in_err-write-clause-formats g c =
     let headers = c.clear_headers.ensures.clears in
     let log = c.clear_log.ensures.clears in
     let area = c.write_fresh_snapshot.ensures.writes in
+    let tools = c.clear_tools.ensures.clears in
     let sync = c.sync.ensures.trace in
     let write = c.write.ensures.trace in
     rw p.1 (record {
-      keeps = λ h. write.keeps (sync.keeps (area.keeps (log.keeps (headers.keeps h))));
-      back = λ h. headers.back (log.back (area.back (sync.back (write.back h))));
+      keeps = λ h. write.keeps (sync.keeps (tools.keeps (area.keeps (log.keeps (headers.keeps h)))));
+      back = λ h. headers.back (log.back (area.back (tools.back (sync.back (write.back h)))));
       holds = λ h0.
           let h1 = headers.keeps h0 in
           let h2 = log.keeps h1 in
           let h3 = area.keeps h2 in
-          let h4 = sync.keeps h3 in
+          let hs = tools.keeps h3 in
+          let h4 = sync.keeps hs in
           let one = first_headers c.clear_headers.result fresh_stored _ _ (headers.holds h0) in
           let two = first_log c.clear_log.result fresh_stored _ _ _ one (log.holds h1) in
           let three = first_area c.write_fresh_snapshot.result c.snapshot_first.result fresh_stored _ _ _ c.snapshot_first.ensures.is two (area.holds h2) in
-          let four = first_sync c.sync.result fresh_stored _ _ _ three (sync.holds h3) in
+          let more = first_tools c.clear_tools.result c.tools_first.result fresh_stored _ _ _ refl c.tools_first.ensures.is three (tools.holds h3) in
+          let four = first_sync c.sync.result fresh_stored _ _ _ more (sync.holds hs) in
           record { writes = first_write c.write.result fresh_stored c.header_sector.result _ _ _ c.header_sector.ensures.holds four (write.holds h4); at = tt; laid = tt; zeros = tt };
     })
 
@@ -94,18 +120,20 @@ returns-clause-formats g c =
     let headers = c.in_ok-clear_headers.ensures.clears in
     let log = c.in_ok-clear_log.ensures.clears in
     let area = c.in_ok-write_fresh_snapshot.ensures.writes in
+    let tools = c.in_ok-clear_tools.ensures.clears in
     let sync = c.in_ok-sync.ensures.trace in
     let write = c.in_ok-write.ensures.trace in
     let last = c.sync-2.ensures.trace in
     record {
-      keeps = λ h. last.keeps (write.keeps (sync.keeps (area.keeps (log.keeps (headers.keeps h)))));
-      back = λ h. headers.back (log.back (area.back (sync.back (write.back (last.back h)))));
+      keeps = λ h. last.keeps (write.keeps (sync.keeps (tools.keeps (area.keeps (log.keeps (headers.keeps h))))));
+      back = λ h. headers.back (log.back (area.back (tools.back (sync.back (write.back (last.back h))))));
       holds = λ h0.
           let h1 = headers.keeps h0 in
           let h2 = log.keeps h1 in
           let h3 = area.keeps h2 in
-          let h4 = sync.keeps h3 in
-          let s = steps _ _ _ fresh_stored _ _ _ _ c.snapshot_first.result c.snapshot_first.ensures.is (headers.holds h0) (log.holds h1) (area.holds h2) in
-          let f = finished c.sync-2.result fresh_stored _ _ _ _ _ _ _ c.header_sector.result s refl (table_long 5399 5219 (pos 1_000_000)) c.header_sector.ensures.read c.header_sector.ensures.holds (sync.holds h3) (write.holds h4) (last.holds (write.keeps h4)) in
+          let hs = tools.keeps h3 in
+          let h4 = sync.keeps hs in
+          let s = steps _ _ _ _ fresh_stored _ _ _ _ _ c.snapshot_first.result c.tools_first.result refl c.snapshot_first.ensures.is c.tools_first.ensures.is (headers.holds h0) (log.holds h1) (area.holds h2) (tools.holds h3) in
+          let f = finished c.sync-2.result fresh_stored _ _ _ _ _ _ _ _ c.header_sector.result s refl refl (table_long 5399 5219 (pos 1_000_000)) c.header_sector.ensures.read c.header_sector.ensures.holds (sync.holds hs) (write.holds h4) (last.holds (write.keeps h4)) in
           record { writes = f.writes; at = f.at; laid = f.laid; zeros = f.zeros };
     }

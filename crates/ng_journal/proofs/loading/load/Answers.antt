@@ -1,4 +1,4 @@
-use Rattle.std.proofs.Common.{◌≤◌, length, ◌∙◌, ap, arith}
+use Rattle.std.proofs.Common.{inl, ◌≤◌, length, ◌∙◌, ap, arith}
 use Rattle.std.proofs.lemmas.Result.{err_from_is_err_and}
 use Rattle.ng_journal.proofs.Framing.{among_text, load_text, load_sync, load_state, text_stays, state_under}
 use Rattle.ng_layout.specs.Areas.{spare_area}
@@ -16,7 +16,7 @@ returns-in_err-write_program-clause-stops g c =
     rw p.1 (record {
       keeps = text.keeps;
       back = text.back;
-      holds = λ h at. exit_text p.0 c.write_program.result _ _ c.spare_area-area.result c.args.header _ c.args.text.now at c.spare_area-area.ensures (text.holds h);
+      holds = λ h at. exit_text p.0 c.write_program.result _ _ c.spare_area-area.result c.args.header _ c.args.text.now c.requires.format at c.spare_area-area.ensures (text.holds h);
     })
 
 pub returns-in_err-sync-clause-stops : goal.returns-in_err-sync-clause-stops
@@ -27,7 +27,7 @@ returns-in_err-sync-clause-stops g c =
     rw p.1 (record {
       keeps = λ h. sync.keeps (text.keeps h);
       back = λ h. text.back (sync.back h);
-      holds = λ h at. exit_sync p.0 c.write_program.result _ _ _ c.spare_area-area.result c.args.header _ c.args.text.now at c.spare_area-area.ensures (text.holds h) (sync.holds (text.keeps h));
+      holds = λ h at. exit_sync p.0 c.write_program.result _ _ _ c.spare_area-area.result c.args.header _ c.args.text.now c.requires.format at c.spare_area-area.ensures (text.holds h) (sync.holds (text.keeps h));
     })
 
 pub returns-clause-stops : goal.returns-clause-stops
@@ -44,8 +44,8 @@ returns-clause-stops g c =
           let s = sync.holds (text.keeps h) in
           let next = c.next_header.result in
           let next_is = c.next_header.ensures ∙ (λ i. next_header c.args.header (c.spare_area-area.ensures i) (c.stored.view_is i).length) in
-          loaded_all c.checkpoint.result _ _ _ _ _ c.spare_area-area.result c.args.header next c.args.stored.now c.args.text.now at c.spare_area-area.ensures c.requires.long short t s next_is
-          (last.holds (sync.keeps (text.keeps h)) c.args.header (own_again _ _ _ c.spare_area-area.result c.args.header at c.spare_area-area.ensures (among_text c.spare_area-area.result c.args.text.now _ _ t.writes) s) (ap (λ (x : Header). x.epoch) next_is));
+          loaded_all c.checkpoint.result _ _ _ _ _ c.spare_area-area.result c.args.header next c.args.stored.now c.args.text.now at c.spare_area-area.ensures c.requires.long short t s next_is c.requires.format
+          (last.holds (sync.keeps (text.keeps h)) c.args.header (own_again _ _ _ c.spare_area-area.result c.args.header at c.spare_area-area.ensures (among_text c.spare_area-area.result c.args.text.now _ _ t.writes) s) (ap (λ (x : Header). x.epoch) next_is) (inl (ap (λ (x : Header). x.format) next_is)));
     }
 
 pub returns-in_err-write_program-clause-stores : goal.returns-in_err-write_program-clause-stores
@@ -85,13 +85,14 @@ returns-clause-stores g c =
       holds = λ h.
           let one = load_text c.write_program.result c.spare_area-area.result c.args.header loaded _ _ c.spare_area-area.ensures (text.holds h) in
           let two = load_sync c.sync.result c.args.header loaded _ _ _ one (sync.holds (text.keeps h)) in
+          let short : length c.args.text.now ≤ longest_program = omega (arith, c.requires.storable.program, c.requires.long) in
           let done = c.in_ok-write_program.ensures.text in
           let on = c.in_ok-sync.ensures.trace in
           let next_is = c.next_header.ensures ∙ (λ i. next_header c.args.header (c.spare_area-area.ensures i) (c.stored.view_is i).length) in
           let stored = state_under c.checkpoint.result c.next_header.result (next_header c.args.header (spare_area c.args.header.area) c.args.stored.now.length) c.args.stored.now _ _ next_is (last.holds (sync.keeps (text.keeps h))) in
           record {
             writes = load_state c.args.header loaded _ _ _ two stored.writes;
-            text = text_stays c.checkpoint.result _ c.spare_area-area.result c.args.header loaded _ _ _ _ c.spare_area-area.ensures (done.holds h) (on.holds (text.keeps h)) stored.writes;
+            text = text_stays c.checkpoint.result _ c.spare_area-area.result c.args.header loaded _ _ _ _ short c.spare_area-area.ensures (done.holds h) (on.holds (text.keeps h)) stored.writes;
             laid = stored.laid;
           };
     }

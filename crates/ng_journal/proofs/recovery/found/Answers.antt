@@ -17,7 +17,7 @@ returns-then-not-is_whole-clause-read g c =
     let whole = c.in_ok-is_whole-in-Some.is_whole in
     let snap = c.read_snapshot.new.stored in
     onto _ c.in_ok-header_in_force.ensures.read c.in_ok-is_whole-in-Some.ensures.read (λ p q.
-    let here = subst (λ (l : Trace). IsSnapshotOf (snapshot_first header.epoch) header.length snap (reads l) whole) p.same q.right in
+    let here = subst (λ (l : Trace). IsSnapshotOf header snap (reads l) whole) p.same q.right in
     record { same = q.same ∙ p.same; right = damage_found (reads old) c.in_ok-header_in_force.field-0 header whole snap p.right c.in-Some.is here c.if-not-is_whole.true })
 
 pub returns-in-None-2-clause-read : goal.returns-in-None-2-clause-read
@@ -30,7 +30,7 @@ returns-in-None-2-clause-read g c =
     let answer = c.in_ok-read_log-in-Some.field-0 in
     let Heads = (g.R.Rig.trace c.read_snapshot.new.rig ≡ old) × Snapped (reads old) header snap in
     let heads = onto Heads c.in_ok-header_in_force.ensures.read c.in_ok-is_whole-in-Some.ensures.read (λ p q.
-    let here = subst (λ (l : Trace). IsSnapshotOf (snapshot_first header.epoch) header.length snap (reads l) whole) p.same q.right in
+    let here = subst (λ (l : Trace). IsSnapshotOf header snap (reads l) whole) p.same q.right in
     (q.same ∙ p.same, snapped (reads old) c.in_ok-header_in_force.field-0 header whole snap p.right c.in-Some.is here c.if-not-is_whole.false)) in
     onto _ heads c.in_ok-read_log-in-Some.ensures.read (λ p r.
     let run = subst (λ (l : Trace). IsRunOf header snap saved (reads l) answer) p.0 r.right in
@@ -47,7 +47,7 @@ returns-in-Some-2-clause-read g c =
     let room = rw c.in-Some-2.is at c.in_ok-read_log-in-Some.ensures.room in
     let Heads = (g.R.Rig.trace c.read_snapshot.new.rig ≡ old) × Snapped (reads old) header snap in
     let heads = onto Heads c.in_ok-header_in_force.ensures.read c.in_ok-is_whole-in-Some.ensures.read (λ p q.
-    let here = subst (λ (l : Trace). IsSnapshotOf (snapshot_first header.epoch) header.length snap (reads l) whole) p.same q.right in
+    let here = subst (λ (l : Trace). IsSnapshotOf header snap (reads l) whole) p.same q.right in
     (q.same ∙ p.same, snapped (reads old) c.in_ok-header_in_force.field-0 header whole snap p.right c.in-Some.is here c.if-not-is_whole.false)) in
     onto _ heads c.in_ok-read_log-in-Some.ensures.read (λ p r.
     let run = subst (λ (l : Trace). IsRunOf header snap saved (reads l) answer) p.0 r.right in

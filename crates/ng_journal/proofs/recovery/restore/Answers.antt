@@ -1,6 +1,10 @@
-use Rattle.std.proofs.Common.{◌∙◌}
+use Rattle.std.proofs.Common.{◌≡◌, Some, sym, ap, subst, ◌∙◌, arith}
+use Rattle.ng_rig.specs.Trace.{Trace, reads}
+use Rattle.ng_layout.specs.declared.header.Header.{Header}
+use Rattle.ng_layout.specs.declared.header.Format.TheVariants.{One}
+use Rattle.ng_layout.specs.Stands.{in_force}
 use Rattle.std.proofs.lemmas.Result.{err_from_is_err_and}
-use Rattle.ng_journal.proofs.Restoring.{exit_failed, exit_found, exit_used, exit_within, exit_restored}
+use Rattle.ng_journal.proofs.Restoring.{exit_failed, exit_found, exit_used, found_under, next_is, within, exit_modern, exit_restored}
 use Rattle.ng_journal.proofs.recovery.restore.Goals as goal
 
 pub returns-in_err-fault-clause-restores : goal.returns-in_err-fault-clause-restores
@@ -11,7 +15,7 @@ returns-in_err-fault-clause-restores g c =
     rw p.1 (record {
       keeps = λ h. found.keeps (sync.keeps h);
       back = λ h. sync.back (found.back h);
-      holds = λ h. exit_failed _ _ _ _ ((found.holds (sync.keeps h)).same ∙ sync.holds h);
+      holds = λ h table over. exit_failed table _ _ _ _ ((found.holds (sync.keeps h)).same ∙ sync.holds h);
     })
 
 pub returns-in-Err-clause-restores : goal.returns-in-Err-clause-restores
@@ -21,17 +25,17 @@ returns-in-Err-clause-restores g c =
     record {
       keeps = λ h. found.keeps (sync.keeps h);
       back = λ h. sync.back (found.back h);
-      holds = λ h. let f = found.holds (sync.keeps h) in exit_found c.in_ok-fault.field-0 c.in-Err.fault _ _ _ _ c.in-Err.is (sync.holds h) f.same f.right;
+      holds = λ h table over. let f = found.holds (sync.keeps h) in exit_found table c.in_ok-fault.field-0 c.in-Err.fault _ _ _ _ c.in-Err.is (sync.holds h) f.same f.right;
     }
 
-pub returns-then-header-ge-GREATEST_COUNT-clause-restores : goal.returns-then-header-ge-GREATEST_COUNT-clause-restores
-returns-then-header-ge-GREATEST_COUNT-clause-restores g c =
+pub returns-then-header-epochs_for-gt-GREATEST_COUNT-clause-restores : goal.returns-then-header-epochs_for-gt-GREATEST_COUNT-clause-restores
+returns-then-header-epochs_for-gt-GREATEST_COUNT-clause-restores g c =
     let sync = c.in_ok-sync.ensures.trace in
     let found = c.in_ok-fault.ensures.read in
     record {
       keeps = λ h. found.keeps (sync.keeps h);
       back = λ h. sync.back (found.back h);
-      holds = λ h. let f = found.holds (sync.keeps h) in exit_used c.in_ok-fault.field-0 c.in-Ok.header _ _ _ _ c.in-Ok.is (sync.holds h) f.same f.right c.if-header-ge-GREATEST_COUNT.true;
+      holds = λ h table over. let f = found.holds (sync.keeps h) in exit_used table c.in_ok-fault.field-0 c.in-Ok.header _ _ _ _ c.in-Ok.is (sync.holds h) f.same f.right (omega (arith, c.epochs_for.ensures.value, c.if-header-epochs_for-gt-GREATEST_COUNT.true));
     }
 
 pub returns-in_err-checkpoint-in-Ok-clause-restores : goal.returns-in_err-checkpoint-in-Ok-clause-restores
@@ -41,20 +45,58 @@ returns-in_err-checkpoint-in-Ok-clause-restores g c =
     let found = c.in_ok-fault.ensures.read in
     let last = c.checkpoint.ensures.stops in
     let stores = c.checkpoint.ensures.stores in
+    let header = c.in-Ok.header in
     rw p.1 (record {
       keeps = λ h. last.keeps (found.keeps (sync.keeps h));
       back = λ h. sync.back (found.back (last.back h));
-      holds = λ h. let f = found.holds (sync.keeps h) in exit_within _ c.checkpoint.result c.in_ok-fault.field-0 c.in-Ok.header c.next_header-next.result c.found.new.stored _ _ _ _ _ c.in-Ok.is (sync.holds h) f.same f.right c.close.ensures.value c.next_header-next.ensures (stores.holds (found.keeps (sync.keeps h))).writes (last.holds (found.keeps (sync.keeps h)));
+      holds = λ h table over.
+          let f = found.holds (sync.keeps h) in
+          let now = f.same ∙ sync.holds h in
+          let u = found_under c.in_ok-fault.field-0 header c.found.new.stored _ _ c.in-Ok.is f.same f.right in
+          within table header c.found.new.stored c.close.new.self _ _ now u c.close.ensures.value p.0 c.checkpoint.result c.next_header-next.result c.close.new.self _ (next_is header c.next_header-next.result c.found.new.stored c.close.new.self _ u c.close.ensures.value c.next_header-next.ensures) (stores.holds (found.keeps (sync.keeps h))).writes (last.holds (found.keeps (sync.keeps h)));
     })
 
-pub returns-in_ok-checkpoint-in-Ok-clause-restores : goal.returns-in_ok-checkpoint-in-Ok-clause-restores
-returns-in_ok-checkpoint-in-Ok-clause-restores g c =
+pub returns-in_err-last-in-Ok-clause-restores : goal.returns-in_err-last-in-Ok-clause-restores
+returns-in_err-last-in-Ok-clause-restores g c =
+    let p = err_from_is_err_and c.from_residual-in_err-last-in-Ok.result c.from_residual-in_err-last-in-Ok.ensures.1 in
     let sync = c.in_ok-sync.ensures.trace in
     let found = c.in_ok-fault.ensures.read in
     let last = c.in_ok-checkpoint-in-Ok.ensures.stops in
     let stores = c.in_ok-checkpoint-in-Ok.ensures.stores in
+    let again = c.modernize.ensures.stops in
+    let writes = c.modernize.ensures.writes in
+    let header = c.in-Ok.header in
+    rw p.1 (record {
+      keeps = λ h. again.keeps (last.keeps (found.keeps (sync.keeps h)));
+      back = λ h. sync.back (found.back (last.back (again.back h)));
+      holds = λ h table over.
+          let f = found.holds (sync.keeps h) in
+          let now = f.same ∙ sync.holds h in
+          let at = found.keeps (sync.keeps h) in
+          let u = found_under c.in_ok-fault.field-0 header c.found.new.stored _ _ c.in-Ok.is f.same f.right in
+          let force = subst (λ (l : Trace). in_force (reads l) ≡ Some header) now u.force in
+          let given : c.next_header-next.result.format ≡ One → table ≡ c.args.tools.now = λ one. over header force (sym (ap (λ (x : Header). x.format) c.next_header-next.ensures) ∙ one) in
+          exit_modern table header c.found.new.stored c.close.new.self _ _ now u c.close.ensures.value _ c.next_header-next.result _ _ (next_is header c.next_header-next.result c.found.new.stored c.close.new.self _ u c.close.ensures.value c.next_header-next.ensures) (stores.holds at).writes (last.holds at) p.0 c.modernize.result c.modernize.new.stored (writes.holds (last.keeps at) table given) (again.holds (last.keeps at) table given);
+    })
+
+pub returns-in_ok-last-in-Ok-clause-restores : goal.returns-in_ok-last-in-Ok-clause-restores
+returns-in_ok-last-in-Ok-clause-restores g c =
+    let sync = c.in_ok-sync.ensures.trace in
+    let found = c.in_ok-fault.ensures.read in
+    let last = c.in_ok-checkpoint-in-Ok.ensures.stops in
+    let stores = c.in_ok-checkpoint-in-Ok.ensures.stores in
+    let again = c.in_ok-last-in-Ok.ensures.stops in
+    let writes = c.in_ok-last-in-Ok.ensures.writes in
+    let header = c.in-Ok.header in
     record {
-      keeps = λ h. last.keeps (found.keeps (sync.keeps h));
-      back = λ h. sync.back (found.back (last.back h));
-      holds = λ h. let f = found.holds (sync.keeps h) in exit_restored _ c.in_ok-fault.field-0 c.in-Ok.header c.next_header-next.result c.found.new.stored _ _ _ _ _ c.in-Ok.is (sync.holds h) f.same f.right c.close.ensures.value c.next_header-next.ensures (stores.holds (found.keeps (sync.keeps h))).writes (last.holds (found.keeps (sync.keeps h)));
+      keeps = λ h. again.keeps (last.keeps (found.keeps (sync.keeps h)));
+      back = λ h. sync.back (found.back (last.back (again.back h)));
+      holds = λ h table over.
+          let f = found.holds (sync.keeps h) in
+          let now = f.same ∙ sync.holds h in
+          let at = found.keeps (sync.keeps h) in
+          let u = found_under c.in_ok-fault.field-0 header c.found.new.stored _ _ c.in-Ok.is f.same f.right in
+          let force = subst (λ (l : Trace). in_force (reads l) ≡ Some header) now u.force in
+          let given : c.next_header-next.result.format ≡ One → table ≡ c.args.tools.now = λ one. over header force (sym (ap (λ (x : Header). x.format) c.next_header-next.ensures) ∙ one) in
+          exit_restored table header c.found.new.stored c.close.new.self _ _ now u c.close.ensures.value _ c.next_header-next.result _ _ (next_is header c.next_header-next.result c.found.new.stored c.close.new.self _ u c.close.ensures.value c.next_header-next.ensures) (stores.holds at).writes (last.holds at) c.in_ok-last-in-Ok.last c.modernize.new.stored (writes.holds (last.keeps at) table given) (again.holds (last.keeps at) table given) c.in_ok-last-in-Ok.ensures.header (c.in_ok-last-in-Ok.ensures.saved table given);
     }

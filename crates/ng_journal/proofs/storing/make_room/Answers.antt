@@ -1,4 +1,4 @@
-use Rattle.std.proofs.Common.{refl, ap, inl}
+use Rattle.std.proofs.Common.{refl, ap, inl, ◌∙◌}
 use Rattle.std.proofs.lemmas.Result.{err_from_is_err_and}
 use Rattle.ng_rig.proofs.Promise.{promised, meaning}
 use Rattle.ng_layout.specs.declared.header.Header.{Header}
@@ -21,7 +21,7 @@ returns-in_err-checkpoint-clause-makes g c =
     let p = err_from_is_err_and c.from_residual.result c.from_residual.ensures.1 in
     let is = c.next_header-next.ensures in
     rw p.1 (meaning c.checkpoint.ensures.stops (λ f before at same.
-    room_failed _ _ c.args.tip.header c.next_header-next.result before c.args.tip.end c.args.stored.now at same (ap (λ (h : Header). h.area) is) p.0 c.checkpoint.result (f c.args.tip.header (own at) (ap (λ (h : Header). h.epoch) is))))
+    room_failed _ _ c.args.tip.header c.next_header-next.result before c.args.tip.end c.args.stored.now at same (ap (λ (h : Header). h.area) is) (ap (λ (h : Header). h.format) is ∙ c.requires.tip.format) p.0 c.checkpoint.result (f c.args.tip.header (own at) (ap (λ (h : Header). h.epoch) is) (inl (ap (λ (h : Header). h.format) is)))))
 
 pub returns-in_err-checkpoint-clause-stores : goal.returns-in_err-checkpoint-clause-stores
 returns-in_err-checkpoint-clause-stores g c =
@@ -33,7 +33,7 @@ pub returns-clause-makes : goal.returns-clause-makes
 returns-clause-makes g c =
     let is = c.next_header-next.ensures in
     meaning c.in_ok-checkpoint.ensures.stops (λ f before at same.
-    room_made _ _ c.args.tip.header c.next_header-next.result before c.args.tip.end c.args.stored.now at same (ap (λ (h : Header). h.area) is) _ c.beginning.result c.beginning.ensures (f c.args.tip.header (own at) (ap (λ (h : Header). h.epoch) is)))
+    room_made _ _ c.args.tip.header c.next_header-next.result before c.args.tip.end c.args.stored.now at same (ap (λ (h : Header). h.area) is) (ap (λ (h : Header). h.format) is ∙ c.requires.tip.format) _ c.beginning.result c.beginning.ensures (f c.args.tip.header (own at) (ap (λ (h : Header). h.epoch) is) (inl (ap (λ (h : Header). h.format) is))))
 
 pub returns-clause-stores : goal.returns-clause-stores
 returns-clause-stores g c =

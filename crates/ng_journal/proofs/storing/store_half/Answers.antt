@@ -3,6 +3,7 @@ use Rattle.std.proofs.lemmas.Result.{err_from_is_err_and}
 use Rattle.ng_rig.proofs.Promise.{onto, meaning}
 use Rattle.ng_layout.specs.Stored.{StoredModel}
 use Rattle.ng_journal.specs.Private.Records.{ledger}
+use Rattle.ng_layout.proofs.ToolTables.{no-change}
 use Rattle.ng_journal.proofs.Recording.{no_room, stored_after, not_stored, stored, has_room, same_length, none_changed, as_taken, recorded_as}
 use Rattle.ng_journal.proofs.storing.store_half.Goals as goal
 
@@ -33,11 +34,14 @@ returns-clause-stops g c =
     onto _ c.in_ok-tip.ensures.makes c.append_to.ensures.appends (λ f a before at is.
     let m = f before at is in
     let params_are = ap (λ (s : StoredModel). s.setup.params) is ∙ sym (ap (λ (s : StoredModel). s.setup.params) c.take_half.ensures) in
-    stored_after c.append_to.result c.in_ok-tip.tip before opened _ _ _ m (as_taken c.append_to.result before c.take_half.new.self opened _ _ c.take_half.ensures (a before m.at params_are)))
+    stored_after c.append_to.result c.in_ok-tip.tip before opened _ _ _ m (as_taken c.append_to.result before c.take_half.new.self opened _ _ c.take_half.ensures (a before m.at params_are (ap (λ (s : StoredModel). s.tools) is ∙ sym (ap (λ (s : StoredModel). s.tools) c.take_half.ensures)))))
 
 pub returns-clause-stores : goal.returns-clause-stores
 returns-clause-stores g c =
     let opened : StoredModel = record c.args.stored.now { half = Some c.args.half.now } in
     onto _ c.in_ok-tip.ensures.stores c.append_to.ensures.writes (λ r w.
     let at = recorded_as c.append_to.result c.in_ok-tip.tip c.take_half.new.self opened _ _ c.take_half.ensures w in
-    stored c.append_to.result c.in_ok-tip.tip (ledger c.args.tip c.args.stored.now) 0 opened _ _ _ (none_changed c.args.stored.now) c.in_ok-tip.ensures.room r at)
+    stored c.append_to.result c.in_ok-tip.tip (ledger c.args.tip c.args.stored.now) 0 opened _ _ _ (omega arith) (none_changed c.args.stored.now) c.in_ok-tip.ensures.room r at)
+
+pub append_to-requires-clause-slot : goal.append_to-requires-clause-slot
+append_to-requires-clause-slot g c = no-change c.take_half.new.self.tools

@@ -47,7 +47,7 @@ returns-then-not-is_whole-clause-read g c =
     ))) c.in_ok-is_whole.ensures.read (λ p q. record {
       same = q.same ∙ p.0;
       right =
-          let t = taken_at c.args.header.length c.in_ok-sector.sector c.args.end.sector first.changes c.args.stored.now c.take_record.new.stored old _ _ false p.0 c.if-not-is_whole.true q.right p.1 in
+          let t = taken_at c.args.header.format c.args.header.length c.in_ok-sector.sector c.args.end.sector first.changes c.args.stored.now c.take_record.new.stored old _ _ false p.0 c.if-not-is_whole.true q.right p.1 in
           damaged_record c.args.header c.args.end c.args.stored.now (reads old) first c.in_ok-sector.sector lt p.1 (says_read c.read-first.result c.in_ok-sector.sector c.read-first.ensures) b p.2 c.take_record.new.stored t;
     })
 
@@ -65,6 +65,6 @@ returns-clause-read g c =
     ))) c.in_ok-is_whole.ensures.read (λ p q. record {
       same = q.same ∙ p.0;
       right =
-          let t = taken_at c.args.header.length c.in_ok-sector.sector c.args.end.sector first.changes c.args.stored.now c.take_record.new.stored old _ _ true p.0 c.if-not-is_whole.false q.right p.1 in
+          let t = taken_at c.args.header.format c.args.header.length c.in_ok-sector.sector c.args.end.sector first.changes c.args.stored.now c.take_record.new.stored old _ _ true p.0 c.if-not-is_whole.false q.right p.1 in
           (one_record c.args.header c.args.end c.args.stored.now (reads old) first c.in_ok-sector.sector lt p.1 (says_read c.read-first.result c.in_ok-sector.sector c.read-first.ensures) b p.2 c.take_record.new.stored t, t.1);
     })

@@ -2,6 +2,7 @@ use Rattle.std.proofs.Common.{◌≡◌, ◌≤◌}
 use Rattle.ng_rig.specs.Calls.{IfHonest}
 use Rattle.ng_rig.specs.Trace.{reads}
 use Rattle.ng_layout.specs.Areas.{log_size_of}
+use Rattle.ng_layout.specs.declared.header.Format.TheVariants.{One}
 use Rattle.ng_layout.specs.Storable.{IsStorable}
 use Rattle.ng_log.specs.AtEnd.{no_records, position_of}
 use Rattle.ng_log.specs.Runs.{log_of}
@@ -16,7 +17,8 @@ invariant-records g l = record {
   storable : IsStorable l.stored;
   count : l.stored.entries ≤ 1_000_000_000_000;
   long : l.stored.length ≡ l.header.length;
-  run : IfHonest (g.R.Rig.honest l.fn.rig) (g.R.Rig.honest l.rig) ((g.R.Rig.trace l.rig ≡ g.R.Rig.trace l.fn.rig) × RunsTo (log_size_of l.header) l.header.length (log_of l.header (reads (g.R.Rig.trace l.fn.rig))) l.header.epoch (position_of no_records l.fn.stored) (position_of l.reached l.stored));
+  none : l.header.format ≡ One → l.stored.tools ≡ l.fn.stored.tools;
+  run : IfHonest (g.R.Rig.honest l.fn.rig) (g.R.Rig.honest l.rig) ((g.R.Rig.trace l.rig ≡ g.R.Rig.trace l.fn.rig) × RunsTo l.header.format l.header.length (log_of l.header (reads (g.R.Rig.trace l.fn.rig))) l.header.epoch (position_of no_records l.fn.stored) (position_of l.reached l.stored));
   size : g.R.Rig.sectors l.rig ≡ g.R.Rig.sectors l.fn.rig;
   failures : g.R.Rig.failed l.rig ≡ g.R.Rig.failed l.fn.rig;
 }

@@ -14,7 +14,7 @@ least n = omega arith
 pub returns-in_err-write-clause-writes : goal.returns-in_err-write-clause-writes
 returns-in_err-write-clause-writes g c =
     let p = err_from_is_err_and c.from_residual.result c.from_residual.ensures.1 in
-    let e = record_from c.args.epoch c.args.end c.args.old.now c.args.stored.now in
+    let e = record_from c.args.epoch c.args.end c.args.old.now c.args.slot c.args.stored.now in
     let bytes = c.first_part.result in
     let is = labelled_as e 0 c.parts_for-parts.result c.args.count 0 refl c.parts_for-parts.ensures.value c.requires.count in
     let right = first_of e _ bytes is c.first_part.ensures.label c.first_part.ensures.state in
@@ -22,7 +22,7 @@ returns-in_err-write-clause-writes g c =
 
 pub loop-part-init : goal.loop-part-init
 loop-part-init g c =
-    let e = record_from c.args.epoch c.args.end c.args.old.now c.args.stored.now in
+    let e = record_from c.args.epoch c.args.end c.args.old.now c.args.slot c.args.stored.now in
     let bytes = c.first_part.result in
     let is = labelled_as e 0 c.parts_for-parts.result c.args.count 0 refl c.parts_for-parts.ensures.value c.requires.count in
     let right = first_of e _ bytes is c.first_part.ensures.label c.first_part.ensures.state in
@@ -41,7 +41,7 @@ returns-in_err-write-2-clause-writes g c =
     let k = c.loop-part.part in
     let old = c.args.old.now in
     let new = c.args.stored.now.setup.params in
-    let e = record_from c.args.epoch c.args.end old c.args.stored.now in
+    let e = record_from c.args.epoch c.args.end old c.args.slot c.args.stored.now in
     let t = c.next_changes-changes.ensures in
     let low : 1 ≤ k = c.loop-part.auto.part in
     let parts = c.parts_for-parts.ensures.value in
@@ -57,7 +57,7 @@ loop-part-preserved g c =
     let k = c.loop-part.part in
     let old = c.args.old.now in
     let new = c.args.stored.now.setup.params in
-    let e = record_from c.args.epoch c.args.end old c.args.stored.now in
+    let e = record_from c.args.epoch c.args.end old c.args.slot c.args.stored.now in
     let t = c.next_changes-changes.ensures in
     let w = c.in_ok-write-2.ensures in
     let low : 1 ≤ k = c.loop-part.auto.part in
@@ -77,7 +77,7 @@ loop-part-preserved g c =
 
 pub returns-clause-writes : goal.returns-clause-writes
 returns-clause-writes g c =
-    let e = record_from c.args.epoch c.args.end c.args.old.now c.args.stored.now in
+    let e = record_from c.args.epoch c.args.end c.args.old.now c.args.slot c.args.stored.now in
     let parts = c.parts_for-parts.ensures.value in
     let all : c.loop-part.part ≡ size_of e = omega (arith, c.loop-part-test.false, c.loop-part.auto.part-end, parts, c.requires.count) in
     meaning c.loop-part.invariant.parts (λ r. record_done _ c.loop-part.part e _ _ all r)

@@ -1,19 +1,14 @@
-use Rattle.std.proofs.Common.{Bool, ◌≡◌, ap, subst}
+use Rattle.std.proofs.Common.{ap}
 use Rattle.ng_block.specs.Effects.{in_state}
-use Rattle.ng_block.specs.Program.{TermsModel}
 use Rattle.ng_layout.specs.Stored.{StoredModel}
-use Rattle.ng_layout.specs.declared.half.Source.TheVariants as source
-use Rattle.ng_session.specs.Entries.{equipment_of}
 use Rattle.ng_session.specs.Planned.{PlannedModel, Base}
-use Rattle.ng_session.specs.Session.{begun}
 use Rattle.ng_session.proofs.Ahead.{planned_by}
 use Rattle.ng_session.proofs.planning.plan_line.Goals as goal
 
 pub returns-in-Ok-begun-clause-planned : goal.returns-in-Ok-begun-clause-planned
 returns-in-Ok-begun-clause-planned g c =
-    let base : Base = record { stored = c.args.base.now; block_delete = c.args.terms.now.block_delete } in
+    let base : Base = record { stored = c.args.base.now; block_delete = c.args.block_delete } in
     let p : PlannedModel = record { place = c.base.inside.place; first = c.args.first; next = c.args.next; prepared = c.in-Ok-begun.block } in
     let does = in_state c.args.base.now.setup c.in-Ok.effect.now in
-    let delete : c.terms.inside.block_delete ≡ c.args.terms.now.block_delete = ap (λ (t : TermsModel). t.block_delete) c.terms.view_is in
-    planned_by (equipment_of c.args.terms.now) base p c.args.text.now does (ap (λ (x : StoredModel). x.place) c.base.view_is) c.requires.beginning c.in-Ok.ensures.does
-    (subst (λ (d : Bool). c.in-Ok-begun.block.block ≡ begun c.args.base.now source.Program c.args.text.now d c.args.next does) delete c.in-Ok-begun.ensures.value) c.in-Ok-begun.ensures.ready
+    planned_by (record { geometry = c.args.geometry.now }) base p c.args.text.now does (ap (λ (x : StoredModel). x.place) c.base.view_is) c.requires.beginning c.in-Ok.ensures.does
+    c.in-Ok-begun.ensures.value c.in-Ok-begun.ensures.ready

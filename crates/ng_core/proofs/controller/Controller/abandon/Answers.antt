@@ -1,4 +1,4 @@
-use Rattle.std.proofs.Common.{◌≡◌, ℕ, List, Option, None, Some, refl, sym, ◌∙◌, ap, subst}
+use Rattle.std.proofs.Common.{◌≡◌, ℕ, List, Option, None, Some, refl, sym, ◌∙◌, ap, subst, arith}
 use Rattle.ng_num.specs.declared.fault.Fault.{Fault}
 use Rattle.ng_num.specs.declared.fault.Fault.TheVariants.{CountersUsed}
 use Rattle.ng_layout.specs.Storable.{IsStorable}
@@ -10,7 +10,7 @@ use Rattle.ng_core.specs.Causes.{IsCausedBy}
 use Rattle.ng_core.specs.Model.{ControllerModel}
 use Rattle.ng_core.proofs.Carrying.{carried_to, carried_refused, carried_used}
 use Rattle.ng_core.proofs.Hindering.{hindered_count, stored_abandon}
-use Rattle.ng_core.proofs.Reporting.{no_block, has_half, past_abandoned}
+use Rattle.ng_core.proofs.Reporting.{no_block, has_half, has_room, past_abandoned}
 use Rattle.ng_core.proofs.controller.Controller.abandon.Goals as goal
 
 pub keep-requires-clause-free : goal.keep-requires-clause-free
@@ -18,6 +18,11 @@ keep-requires-clause-free g c =
     let old : ControllerModel g.row.R.Denot = c.args.self.now in
     let none : abandon_refusal old.session ≡ None = subst (λ (x : ControllerModel g.row.R.Denot). abandon_refusal x.session ≡ None) c.self.view_is (sym c.in_default.ensures) in
     no_block old.session none
+
+pub keep-requires-clause-count : goal.keep-requires-clause-count
+keep-requires-clause-count g c =
+    let room = has_room c.self.inside.session.stored.entries (sym c.if-is_count_used_up.ensures) in
+    omega (arith, room, c.in-Some-abandoned.ensures.count)
 
 pub keep-requires-clause-storable : goal.keep-requires-clause-storable
 keep-requires-clause-storable g c =

@@ -11,7 +11,7 @@ use Rattle.ng_core.proofs.controller.Controller.answer.Goals as goal
 
 pub invariant_of-self-2 : goal.invariant_of-self-2
 invariant_of-self-2 g c =
-    let equipment : Equipment = record { tools = c.self.inside.tools; geometry = c.self.inside.geometry } in
+    let equipment : Equipment = record { geometry = c.self.inside.geometry } in
     let same : c.answer.new.self.stored ≡ c.self.inside.session.stored =
     ap (λ (s : SessionModel). s.stored) (c.in_ok-answer.ensures.next []) ∙ (still_step equipment [] c.self.inside.session c.args.event.now c.requires.quiet).stored_is in
     record {
@@ -23,7 +23,7 @@ invariant_of-self-2 g c =
 pub returns-in_err-answer-clause-carried : goal.returns-in_err-answer-clause-carried
 returns-in_err-answer-clause-carried g c =
     let p = err_from_is_err_and c.from_residual.result c.from_residual.ensures.1 in
-    let equipment : Equipment = record { tools = c.self.inside.tools; geometry = c.self.inside.geometry } in
+    let equipment : Equipment = record { geometry = c.self.inside.geometry } in
     let old : ControllerModel g.row.R.Denot = record { journal = c.self.inside.journal; session = c.self.inside.session; lines = c.self.inside.lines; equipment = equipment } in
     let new : ControllerModel g.row.R.Denot = record { journal = c.self.inside.journal; session = c.answer.new.self; lines = c.self.inside.lines; equipment = equipment } in
     let whole = ap (λ (x : ControllerModel g.row.R.Denot). x.journal.broken) c.self.view_is ∙ c.requires.whole in
@@ -33,7 +33,7 @@ returns-in_err-answer-clause-carried g c =
 
 pub returns-clause-carried : goal.returns-clause-carried
 returns-clause-carried g c =
-    let equipment : Equipment = record { tools = c.self.inside.tools; geometry = c.self.inside.geometry } in
+    let equipment : Equipment = record { geometry = c.self.inside.geometry } in
     let old : ControllerModel g.row.R.Denot = record { journal = c.self.inside.journal; session = c.self.inside.session; lines = c.self.inside.lines; equipment = equipment } in
     let new : ControllerModel g.row.R.Denot = record { journal = c.self.inside.journal; session = c.answer.new.self; lines = c.self.inside.lines; equipment = equipment } in
     let whole = ap (λ (x : ControllerModel g.row.R.Denot). x.journal.broken) c.self.view_is ∙ c.requires.whole in

@@ -10,7 +10,7 @@ use Rattle.ng_core.proofs.controller.Controller.begin.Goals as goal
 
 pub invariant_of-self : goal.invariant_of-self
 invariant_of-self g c =
-    let equipment : Equipment = record { tools = c.self.inside.tools; geometry = c.self.inside.geometry } in
+    let equipment : Equipment = record { geometry = c.self.inside.geometry } in
     let begun = c.in-Some.ensures.begun equipment c.self.invariant.plan in
     record {
       saved = λ whole. stored_ahead equipment c.in-Some.reply c.self.inside.session c.begin_ahead.new.self c.self.inside.lines c.begin_ahead.new.lines begun ∙ c.self.invariant.saved whole;
@@ -19,7 +19,7 @@ invariant_of-self g c =
 
 pub returns-in-Some : goal.returns-in-Some
 returns-in-Some g c =
-    let equipment : Equipment = record { tools = c.self.inside.tools; geometry = c.self.inside.geometry } in
+    let equipment : Equipment = record { geometry = c.self.inside.geometry } in
     let old : ControllerModel g.row.R.Denot = record { journal = c.self.inside.journal; session = c.self.inside.session; lines = c.self.inside.lines; equipment = equipment } in
     let new : ControllerModel g.row.R.Denot = record { journal = c.self.inside.journal; session = c.begin_ahead.new.self; lines = c.begin_ahead.new.lines; equipment = equipment } in
     let whole = ap (λ (x : ControllerModel g.row.R.Denot). x.journal.broken) c.self.view_is ∙ c.requires.whole in
@@ -30,7 +30,7 @@ returns-in-Some g c =
 
 pub returns-in-None : goal.returns-in-None
 returns-in-None g c =
-    let equipment : Equipment = record { tools = c.self.inside.tools; geometry = c.self.inside.geometry } in
+    let equipment : Equipment = record { geometry = c.self.inside.geometry } in
     let none = c.in-None.ensures.none refl in
     let mid : ControllerModel g.row.R.Denot = record { journal = c.self.inside.journal; session = c.begin_ahead.new.self; lines = c.begin_ahead.new.lines; equipment = equipment } in
     let same : mid ≡ c.args.self.now = (λ i. record { journal = c.self.inside.journal; session = none.0 i; lines = none.1 i; equipment = equipment }) ∙ c.self.view_is in

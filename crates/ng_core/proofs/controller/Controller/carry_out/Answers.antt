@@ -36,3 +36,10 @@ resume-requires-clause-alone g c = c.requires.alone (ap (λ (e : Event _). drops
 
 pub abandon-requires-clause-alone : goal.abandon-requires-clause-alone
 abandon-requires-clause-alone g c = c.requires.alone (ap (λ (e : Event _). drops_plan e) c.in-Abandon.is)
+
+pub returns-in-Tool : goal.returns-in-Tool
+returns-in-Tool g c =
+    subst (λ (e : Event _). CarriesOutEvent g.R.Rig.honest g.R.Rig.trace g.R.Rig.failed g.R.Rig.sectors e c.tool.result c.args.self.now c.tool.new.self) (sym c.in-Tool.is) c.tool.ensures
+
+pub tool-requires-clause-alone : goal.tool-requires-clause-alone
+tool-requires-clause-alone g c = c.requires.alone (ap (λ (e : Event _). drops_plan e) c.in-Tool.is)

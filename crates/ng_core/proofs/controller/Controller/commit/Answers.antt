@@ -28,7 +28,7 @@ pub returns-in_err-commit : goal.returns-in_err-commit
 returns-in_err-commit g c =
     let p = err_from_is_err_and c.from_residual.result c.from_residual.ensures.1 in
     let e = c.in_err-commit.field-0.0 in
-    let equipment : Equipment = record { tools = c.self.inside.tools; geometry = c.self.inside.geometry } in
+    let equipment : Equipment = record { geometry = c.self.inside.geometry } in
     let old : ControllerModel g.row.R.Denot = record { journal = c.self.inside.journal; session = c.self.inside.session; lines = c.self.inside.lines; equipment = equipment } in
     let new : ControllerModel g.row.R.Denot = record { journal = c.commit.new.self; session = c.self.inside.session; lines = c.self.inside.lines; equipment = equipment } in
     let block = c.in-Some.ensures.after in
@@ -43,7 +43,7 @@ returns-in_err-commit g c =
 
 pub returns : goal.returns
 returns g c =
-    let equipment : Equipment = record { tools = c.self.inside.tools; geometry = c.self.inside.geometry } in
+    let equipment : Equipment = record { geometry = c.self.inside.geometry } in
     let old : ControllerModel g.row.R.Denot = record { journal = c.self.inside.journal; session = c.self.inside.session; lines = c.self.inside.lines; equipment = equipment } in
     let new : ControllerModel g.row.R.Denot = record { journal = c.commit.new.self; session = c.commit-2.new.self; lines = c.self.inside.lines; equipment = equipment } in
     let block = c.in-Some.ensures.after in

@@ -32,7 +32,7 @@ returns-then-is_running g c =
 
 pub returns : goal.returns
 returns g c =
-    let equipment : Equipment = record { tools = c.self.inside.tools; geometry = c.self.inside.geometry } in
+    let equipment : Equipment = record { geometry = c.self.inside.geometry } in
     let old : ControllerModel g.row.R.Denot = record { journal = c.self.inside.journal; session = c.self.inside.session; lines = c.self.inside.lines; equipment = equipment } in
     let whole = ap (λ (x : ControllerModel g.row.R.Denot). x.journal.broken) c.self.view_is ∙ c.requires in
     let none = by_none _ c.after.result c.if-is_some.ensures c.after.ensures.after in

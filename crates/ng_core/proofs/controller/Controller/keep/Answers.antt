@@ -27,7 +27,7 @@ exchange-requires-clause-storable g c =
 
 pub returns-in-Ok : goal.returns-in-Ok
 returns-in-Ok g c = λ entry committed.
-    let equipment : Equipment = record { tools = c.self.inside.tools; geometry = c.self.inside.geometry } in
+    let equipment : Equipment = record { geometry = c.self.inside.geometry } in
     let old : ControllerModel g.row.R.Denot = record { journal = c.self.inside.journal; session = c.self.inside.session; lines = c.self.inside.lines; equipment = equipment } in
     let new : ControllerModel g.row.R.Denot = record { journal = c.commit.new.self; session = c.exchange-before.new.self; lines = c.self.inside.lines; equipment = equipment } in
     let next : SessionModel = record old.session { stored = with_decoded_state old.session.stored c.args.report old.session.stored.length } in
@@ -47,7 +47,7 @@ returns-in-Ok g c = λ entry committed.
 
 pub returns-in-Err : goal.returns-in-Err
 returns-in-Err g c = λ entry committed.
-    let equipment : Equipment = record { tools = c.self.inside.tools; geometry = c.self.inside.geometry } in
+    let equipment : Equipment = record { geometry = c.self.inside.geometry } in
     let old : ControllerModel g.row.R.Denot = record { journal = c.self.inside.journal; session = c.self.inside.session; lines = c.self.inside.lines; equipment = equipment } in
     let new : ControllerModel g.row.R.Denot = record { journal = c.commit.new.self; session = c.exchange.new.self; lines = c.self.inside.lines; equipment = equipment } in
     let next : SessionModel = record old.session { stored = with_decoded_state old.session.stored c.args.report old.session.stored.length } in

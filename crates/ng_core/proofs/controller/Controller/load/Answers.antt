@@ -50,7 +50,7 @@ pub returns-in_err-load_program : goal.returns-in_err-load_program
 returns-in_err-load_program g c =
     let p = err_from_is_err_and c.from_residual-in_err-load_program.result c.from_residual-in_err-load_program.ensures.1 in
     let e = c.in_err-load_program.field-0.0 in
-    let equipment : Equipment = record { tools = c.self.inside.tools; geometry = c.self.inside.geometry } in
+    let equipment : Equipment = record { geometry = c.self.inside.geometry } in
     let old : ControllerModel g.row.R.Denot = record { journal = c.self.inside.journal; session = c.self.inside.session; lines = c.self.inside.lines; equipment = equipment } in
     let new : ControllerModel g.row.R.Denot = record { journal = c.load_program.new.self; session = c.self.inside.session; lines = c.self.inside.lines; equipment = equipment } in
     let free : load_refusal old.session c.args.text.now ≡ None = sym c.in_default.ensures.value in
@@ -66,7 +66,7 @@ returns-in_err-load_program g c =
 
 pub returns : goal.returns
 returns g c =
-    let equipment : Equipment = record { tools = c.self.inside.tools; geometry = c.self.inside.geometry } in
+    let equipment : Equipment = record { geometry = c.self.inside.geometry } in
     let old : ControllerModel g.row.R.Denot = record { journal = c.self.inside.journal; session = c.self.inside.session; lines = c.self.inside.lines; equipment = equipment } in
     let new : ControllerModel g.row.R.Denot = record { journal = c.load_program.new.self; session = c.load.new.self; lines = c.forget.new.self; equipment = equipment } in
     let free : load_refusal old.session c.args.text.now ≡ None = sym c.in_default.ensures.value in

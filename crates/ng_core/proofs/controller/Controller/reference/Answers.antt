@@ -23,7 +23,7 @@ returns-in-Some g c =
 pub returns-then-is_count_used_up : goal.returns-then-is_count_used_up
 returns-then-is_count_used_up g c =
     let old : ControllerModel g.row.R.Denot = c.args.self.now in
-    let equipment : Equipment = record { tools = c.self.inside.tools; geometry = c.self.inside.geometry } in
+    let equipment : Equipment = record { geometry = c.self.inside.geometry } in
     let session = c.self.inside.session in
     let ledger = ledger_of c.self.inside.journal in
     let saved = after_reference session.stored c.args.point.now in

@@ -13,7 +13,7 @@ use Rattle.ng_core.proofs.controller.Controller.resume.Goals as goal
 
 pub returns-in-Some : goal.returns-in-Some
 returns-in-Some g c =
-    let equipment : Equipment = record { tools = c.self.inside.tools; geometry = c.self.inside.geometry } in
+    let equipment : Equipment = record { geometry = c.self.inside.geometry } in
     let old : ControllerModel g.row.R.Denot = record { journal = c.self.inside.journal; session = c.self.inside.session; lines = c.self.inside.lines; equipment = equipment } in
     let new : ControllerModel g.row.R.Denot = record { journal = c.self.inside.journal; session = c.resume_refusal.new.self; lines = c.self.inside.lines; equipment = equipment } in
     let whole = ap (λ (x : ControllerModel g.row.R.Denot). x.journal.broken) c.self.view_is ∙ c.requires.whole in
@@ -32,7 +32,7 @@ pub returns-in_err-next : goal.returns-in_err-next
 returns-in_err-next g c =
     let p = err_from_is_err_and c.from_residual.result c.from_residual.ensures.1 in
     let e = c.in_err-next.field-0.0 in
-    let equipment : Equipment = record { tools = c.self.inside.tools; geometry = c.self.inside.geometry } in
+    let equipment : Equipment = record { geometry = c.self.inside.geometry } in
     let old : ControllerModel g.row.R.Denot = record { journal = c.self.inside.journal; session = c.self.inside.session; lines = c.self.inside.lines; equipment = equipment } in
     let new : ControllerModel g.row.R.Denot = record { journal = c.next_line.new.journal; session = c.resume_refusal.new.self; lines = c.self.inside.lines; equipment = equipment } in
     let line : IsProgramsLine old.session.stored.half = subst (λ (s : SessionModel). IsProgramsLine s.stored.half) c.in_default.ensures.same c.in_err-next.ensures.errors.1 in
@@ -45,7 +45,7 @@ returns-in_err-next g c =
 pub returns-in_err-resume : goal.returns-in_err-resume
 returns-in_err-resume g c =
     let p = err_from_is_err_and c.from_residual-in_err-resume.result c.from_residual-in_err-resume.ensures.1 in
-    let equipment : Equipment = record { tools = c.self.inside.tools; geometry = c.self.inside.geometry } in
+    let equipment : Equipment = record { geometry = c.self.inside.geometry } in
     let old : ControllerModel g.row.R.Denot = record { journal = c.self.inside.journal; session = c.self.inside.session; lines = c.self.inside.lines; equipment = equipment } in
     let new : ControllerModel g.row.R.Denot = record { journal = c.next_line.new.journal; session = c.resume.new.self; lines = c.self.inside.lines; equipment = equipment } in
     let same = c.in_err-resume.ensures.err ∙ c.in_default.ensures.same in
@@ -58,7 +58,7 @@ returns-in_err-resume g c =
 
 pub returns : goal.returns
 returns g c =
-    let equipment : Equipment = record { tools = c.self.inside.tools; geometry = c.self.inside.geometry } in
+    let equipment : Equipment = record { geometry = c.self.inside.geometry } in
     let old : ControllerModel g.row.R.Denot = record { journal = c.self.inside.journal; session = c.self.inside.session; lines = c.self.inside.lines; equipment = equipment } in
     let new : ControllerModel g.row.R.Denot = record { journal = c.next_line.new.journal; session = c.resume.new.self; lines = c.self.inside.lines; equipment = equipment } in
     carried_as g.R.Rig.honest g.R.Rig.trace g.R.Rig.failed g.R.Rig.sectors (λ (x : ControllerModel g.row.R.Denot). resume_refusal x.equipment x.session ≡ None) (λ (x : ControllerModel g.row.R.Denot). (resume_refusal x.equipment x.session ≡ None) × IsProgramsLine x.session.stored.half) (λ (x : ControllerModel g.row.R.Denot). (resume_refusal x.equipment x.session ≡ None) × IsProgramsLine x.session.stored.half) (λ (x : ControllerModel g.row.R.Denot) (program : List ℕ). resume x.equipment program x.session) (Ok c.in_ok-resume.field-0) c.args.self.now old new c.self.view_is (record {

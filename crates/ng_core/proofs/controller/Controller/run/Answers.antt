@@ -1,6 +1,6 @@
 use Rattle.std.proofs.Common.{refl, ◌∙◌, arith}
-use Rattle.ng_core.proofs.InTurn.{turns_more, turns_all, turns_ran, turns_fail, turns_equipment}
-use Rattle.ng_core.proofs.Pasts.{adds_to_past}
+use Rattle.ng_core.proofs.InTurn.{turns_more, turns_all, turns_fail, turns_equipment}
+use Rattle.ng_core.proofs.Pasts.{are_run}
 use Rattle.ng_core.proofs.controller.Controller.run.Goals as goal
 
 pub loop-event-init : goal.loop-event-init
@@ -21,17 +21,12 @@ loop-event-preserved g c = record {
       (record { serves = c.reply-reply.ensures.serves; refuses = c.reply-reply.ensures.broken }));
 }
 
-pub returns-clause-turns : goal.returns-clause-turns
-returns-clause-turns g c = turns_all g.R.Rig.honest g.R.Rig.trace g.R.Rig.failed g.R.Rig.sectors c.args.events.now c.loop-event.event-index c.loop-event.replies.items c.args.self.now c.loop-event.self (omega arith) c.loop-event.invariant.turns
-
-pub returns-clause-ran : goal.returns-clause-ran
-returns-clause-ran g c = turns_ran g.R.Rig.honest g.R.Rig.trace g.R.Rig.failed g.R.Rig.sectors c.args.events.now c.loop-event.replies.items c.args.self.now c.loop-event.self (returns-clause-turns g c)
-
-pub returns-clause-past : goal.returns-clause-past
-returns-clause-past g c = adds_to_past g.R.Rig.honest g.R.Rig.trace g.R.Rig.failed g.R.Rig.sectors c.args.events.now c.loop-event.replies.items c.args.self.now c.loop-event.self (returns-clause-turns g c)
+pub returns-clause-runs : goal.returns-clause-runs
+returns-clause-runs g c = are_run g.R.Rig.honest g.R.Rig.trace g.R.Rig.failed g.R.Rig.sectors c.args.events.now c.loop-event.replies.items c.args.self.now c.loop-event.self
+    (turns_all g.R.Rig.honest g.R.Rig.trace g.R.Rig.failed g.R.Rig.sectors c.args.events.now c.loop-event.event-index c.loop-event.replies.items c.args.self.now c.loop-event.self (omega arith) c.loop-event.invariant.turns)
 
 pub returns-clause-failures : goal.returns-clause-failures
-returns-clause-failures g c = turns_fail g.R.Rig.honest g.R.Rig.trace g.R.Rig.failed g.R.Rig.sectors c.args.events.now c.loop-event.replies.items c.args.self.now c.loop-event.self (returns-clause-turns g c)
+returns-clause-failures g c = turns_fail g.R.Rig.honest g.R.Rig.trace g.R.Rig.failed g.R.Rig.sectors c.args.events.now c.loop-event.replies.items c.args.self.now c.loop-event.self (returns-clause-runs g c).turns
 
 pub returns-clause-equipment : goal.returns-clause-equipment
-returns-clause-equipment g c = turns_equipment g.R.Rig.honest g.R.Rig.trace g.R.Rig.failed g.R.Rig.sectors c.args.events.now c.loop-event.replies.items c.args.self.now c.loop-event.self (returns-clause-turns g c)
+returns-clause-equipment g c = turns_equipment g.R.Rig.honest g.R.Rig.trace g.R.Rig.failed g.R.Rig.sectors c.args.events.now c.loop-event.replies.items c.args.self.now c.loop-event.self (returns-clause-runs g c).turns

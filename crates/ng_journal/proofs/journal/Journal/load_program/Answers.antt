@@ -19,3 +19,6 @@ returns-in-Err-clause-stops g c =
     let after : DurableState = record { saved = c.args.stored.now; program = c.args.text.now } in
     rw (← c.self.view_is) (meaning c.load.ensures.stops (λ f. λ before rest.
     not_loaded _ c.load.result _ c.self.inside.tip.header c.self.inside.tip.end before after _ _ rest.at (f (own rest.at))))
+
+pub returns-in-Ok-clause-stores : goal.returns-in-Ok-clause-stores
+returns-in-Ok-clause-stores g c = rw (← c.self.view_is) (meaning c.in-Ok.ensures.stores (λ s. record { writes = s.writes; text = s.text; laid = s.laid }))

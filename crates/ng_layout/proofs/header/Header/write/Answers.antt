@@ -5,8 +5,8 @@ use Rattle.ng_layout.proofs.Places.{number-below, bytes-below, bytes-from, below
 use Rattle.ng_layout.proofs.Rows.{bytes-zeros}
 use Rattle.ng_layout.proofs.header.Header.write.Goals as goal
 
-both : (x y z w : ℕ) → x ≡ y → z ≡ w → ((x == y) && (z == w)) ≡ true
-both x y z w p q = grind (arith, nat_tests)
+equals : (x y : ℕ) → x ≡ y → (x == y) ≡ true
+equals x y p = grind (arith, nat_tests)
 
 pub returns : goal.returns
 unfolding is_marked header_at
@@ -33,8 +33,9 @@ returns c =
     let e4 = number-below 8 24 32 s4 s5 t4 (lit≤ tt) ∙ p4.written in
     let e5 = number-below 8 32 40 s5 s5 t5 (lit≤ tt) ∙ p5.written in
     record {
-      marked = both _ _ _ _ (e1 ∙ c.get_u64.ensures) e2;
-      header = λ i. record { epoch = e3 i; area = e4 i; length = e5 i };
+      marked = equals _ _ (e1 ∙ c.get_u64.ensures);
+      format = e2 ∙ c.number.ensures;
+      header = λ i. record { format = c.args.self.format; epoch = e3 i; area = e4 i; length = e5 i };
       gap = bytes-below 4 12 16 s2 s5 t2 (lit≤ tt) ∙ bytes-from 4 12 12 s0 s2 b2 (lit≤ tt) ∙ bytes-zeros 4 12 512 (lit≤ tt);
       rest = bytes-from 472 40 40 s0 s5 b5 (lit≤ tt) ∙ bytes-zeros 472 40 512 (lit≤ tt);
     }

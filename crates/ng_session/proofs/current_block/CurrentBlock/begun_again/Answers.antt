@@ -21,8 +21,9 @@ returns-clause-ready g c =
         place = c.args.stored.now.place;
         length = c.args.stored.now.length;
         half = Some (record { text = text i; source = source i; index = index i; at = Some (point i); opened = None });
+        tools = c.args.stored.now.tools;
       });
       first = c.in_ok-between.ensures.next;
       second = c.in_ok-after.ensures.next;
-      after_is = λ i. record { entries = c.in_ok-after.ensures.next.count i; setup = c.in_ok-after.after.setup; place = c.in_ok-after.after.place; length = c.in_ok-after.ensures.next.same i; half = ap (λ (y : StoredModel). y.half) c.in_ok-after.ensures.value i };
+      after_is = λ i. record { entries = c.in_ok-after.ensures.next.count i; setup = c.in_ok-after.after.setup; place = c.in_ok-after.after.place; length = c.in_ok-after.ensures.next.same i; half = ap (λ (y : StoredModel). y.half) c.in_ok-after.ensures.value i; tools = c.in_ok-after.ensures.next.tools i };
     }

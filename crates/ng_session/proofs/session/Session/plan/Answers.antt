@@ -10,7 +10,7 @@ use Rattle.ng_session.proofs.session.Session.plan.Goals as goal
 
 pub plan_line-requires-clause-storable : goal.plan_line-requires-clause-storable
 plan_line-requires-clause-storable g c =
-    let equipment : Equipment = record { tools = c.args.tools.now; geometry = c.args.geometry.now } in
+    let equipment : Equipment = record { geometry = c.args.geometry.now } in
     let s : SessionModel = c.args.self.now in
     let there : c.stored_at_end-base.result.now ≡ (base_at_end (base_of s) c.args.lines.now.ahead).stored = c.stored_at_end-base.ensures c.self.inside.block_delete ∙ ap (λ (x : SessionModel). (base_at_end (base_of x) c.args.lines.now.ahead).stored) c.self.view_is in
     let storable : IsStorable (base_of s).stored = subst (λ (x : SessionModel). IsStorable (base_of x).stored) c.self.view_is (base_storable c.self.inside.stored c.self.inside.current c.self.invariant) in
@@ -18,7 +18,7 @@ plan_line-requires-clause-storable g c =
 
 pub plan_line-requires-clause-within : goal.plan_line-requires-clause-within
 plan_line-requires-clause-within g c =
-    let equipment : Equipment = record { tools = c.args.tools.now; geometry = c.args.geometry.now } in
+    let equipment : Equipment = record { geometry = c.args.geometry.now } in
     let s : SessionModel = c.args.self.now in
     let there : c.stored_at_end-base.result.now ≡ (base_at_end (base_of s) c.args.lines.now.ahead).stored = c.stored_at_end-base.ensures c.self.inside.block_delete ∙ ap (λ (x : SessionModel). (base_at_end (base_of x) c.args.lines.now.ahead).stored) c.self.view_is in
     let length : (base_of s).stored.length ≡ s.stored.length = subst (λ (x : SessionModel). (base_of x).stored.length ≡ x.stored.length) c.self.view_is (base_length c.self.inside.stored c.self.inside.current c.self.invariant) in
@@ -28,7 +28,7 @@ plan_line-requires-clause-within g c =
 
 pub returns-clause-plan : goal.returns-clause-plan
 returns-clause-plan g c =
-    let equipment : Equipment = record { tools = c.args.tools.now; geometry = c.args.geometry.now } in
+    let equipment : Equipment = record { geometry = c.args.geometry.now } in
     let s : SessionModel = c.args.self.now in
     let ps = c.args.lines.now.ahead in
     let x = c.stored_at_end-base.result.now in

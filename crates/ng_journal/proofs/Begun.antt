@@ -1,0 +1,43 @@
+-- An image that stands by its snapshot alone, and the end of its log where its format is the second.
+use Rattle.std.proofs.Common.{◌≡◌, ◌≢◌, ℕ, ◌+◌, ◌<◌, Option, Some, Ok, sym, ◌∙◌, ap, arith}
+use Rattle.ng_rig.specs.Trace.{Image, Trace, reads}
+use Rattle.ng_layout.specs.declared.header.Format.TheVariants.{Two}
+use Rattle.ng_layout.specs.declared.header.Header.{Header}
+use Rattle.ng_layout.specs.Fields.{number_at}
+use Rattle.ng_layout.specs.Areas.{log_size, log_size_of, log_first, program_first, program_size, snapshot_first, snapshot_size, tools_first, tools_size}
+use Rattle.ng_layout.specs.Log.{ReplayState}
+use Rattle.ng_layout.specs.Sectors.{program_text}
+use Rattle.ng_layout.specs.Stands.{snapshot, standing, stands, stretch}
+use Rattle.ng_layout.specs.Stored.{DurableState}
+use Rattle.ng_layout.proofs.Images.{stands-snapshot, stretch-at}
+use Rattle.ng_log.specs.AtEnd.{replay_state_in, no_records, EndsIn, IsAtEnd}
+use Rattle.ng_journal.specs.Private.CheckpointSteps.{BeginsIn, IsBegun}
+
+-- the first sector of its log has no part of its epoch
+pub begins-empty : (image : Image) (header : Header) (at : DurableState) → BeginsIn image header at → number_at 8 0 (image log_first) ≢ header.epoch
+begins-empty image header at b is = b.clean 0 (omega arith) is
+
+pub begins-stand : (image : Image) (header : Header) (at : DurableState) → BeginsIn image header at → stands image ≡ Ok at
+begins-stand image header at b =
+    stands-snapshot image header b.force (begins-empty image header at b)
+    ∙ (λ i. standing (b.snapshot_is i) (b.program i) (sym b.long i))
+
+pub begins-end : (image : Image) (header : Header) (at : DurableState) → header.format ≡ Two → BeginsIn image header at → EndsIn image header at no_records
+begins-end image header at two b =
+    let short : log_size_of header ≡ 1020 = ap log_size two in
+    record {
+      force = b.force;
+      format = two;
+      written = b.written;
+      ends = record {
+        records = 0;
+        reached = λ i. record { at = 0; number = 0; found = b.snapshot_is i };
+        room = omega arith;
+        clean = record { none = λ m ge lt is. let low : m < 1020 = omega arith in b.clean m low (ap (number_at 8 0) (sym (stretch-at log_first (log_size_of header) image m lt)) ∙ is) };
+      };
+      program = b.program;
+      long = b.long;
+    }
+
+pub begun-end : (trace : Trace) (header : Header) (at : DurableState) → header.format ≡ Two → IsBegun trace header at → IsAtEnd trace header at no_records
+begun-end trace header at two b = record { synced = b.synced; image = begins-end (reads trace) header at two b.image }

@@ -1,0 +1,13 @@
+use Rattle.std.proofs.Common.{◌≡◌}
+use Rattle.ng_rig.specs.Calls.{IfHonest}
+use Rattle.ng_layout.specs.Areas.{tools_size}
+use Rattle.ng_journal.specs.Private.Overwrites.{OverwritesTo}
+use Rattle.ng_layout.specs.Snapshot.{HoldsToolPart}
+use Rattle.ng_journal.proofs.checkpoint.write_tools.Given as goal
+
+abbrev pub invariant-loop-part : goal.invariant-loop-part
+invariant-loop-part g l = record {
+  tools : IfHonest (g.R.Rig.honest l.initial.rig) (g.R.Rig.honest l.rig) (OverwritesTo l.part l.first tools_size (HoldsToolPart l.stored) (g.R.Rig.trace l.initial.rig) (g.R.Rig.trace l.rig));
+  size : g.R.Rig.sectors l.rig ≡ g.R.Rig.sectors l.initial.rig;
+  failures : g.R.Rig.failed l.rig ≡ g.R.Rig.failed l.initial.rig;
+}

@@ -1,0 +1,5 @@
+use Rattle.ng_session.proofs.Cutting.{crash_after_events}
+use Rattle.ng_session.proofs.laws.crashes.Goals as goal
+
+pub returns : goal.returns
+returns g c = crash_after_events _
