@@ -1,7 +1,7 @@
 #!/bin/sh
 # Reads devices by examples/read_device.py: those of the rows in examples/device.hex and device2.hex, of formats 1 and 2, over which cases of
-# crates/ngc_cases power on, which have to give the states in examples/device.txt and device2.txt; that of the worked log in docs/DEVICE.md, which
-# has to give what the page says, and less where parts of it are missing; and those of format 1 that the cases keep.
+# crates/ngc_cases power on, which have to give the states in examples/device.txt and device2.txt; those worked in docs/DEVICE.md, which have to
+# give what the page says, and the log less where parts of it are missing; and those of format 1 that the cases keep.
 set -e
 top=$(cd "$(dirname "$0")/.." && pwd)
 examples=$top/crates/ngc_cases/data/examples
@@ -46,18 +46,23 @@ grep -qx "entry count: 1021" "$work/state"
 grep -qx "log: 1020 records; it ends after sector 1705: it is full" "$work/state"
 echo "read_device.py: the stored devices of format 1"
 
-# the worked log: its rows, and the lines that are printed of it
-awk '/^#/ { on = /^## A worked log/ } on' "$top/docs/DEVICE.md" > "$work/page"
-sed -n 's/^ \{4,\}\([0-9]\+ \+[0-9]\+\)   \(\([0-9a-f]\{2\} \)*[0-9a-f]\{2\}\)   .*/\1 \2/p' "$work/page" > "$work/rows"
-sed -n 's/^    \([a-z#][^:]*: .*\)/\1/p' "$work/page" > "$work/lines"
-test "$(wc -l < "$work/rows")" = "$(grep -c '^ \{4,\}[0-9]\+ \+[0-9]\+ ' "$work/page")"
-test "$(wc -l < "$work/rows")" -ge 40
-test "$(wc -l < "$work/lines")" -ge 8
-python3 "$work/make.py" "$work/device" < "$work/rows"
-python3 "$examples/read_device.py" "$work/device" > "$work/state"
-while read -r line; do
-    grep -qxF "$line" "$work/state" || { echo "read_device.py doesn't print of the worked log: $line"; exit 1; }
-done < "$work/lines"
+# a worked device of the page, by its title: at least so many rows, and so many lines that are printed of it
+worked() {
+    awk -v title="## $1" '/^#/ { on = $0 == title } on' "$top/docs/DEVICE.md" > "$work/page"
+    sed -n 's/^ \{3,\}\([0-9]\+ \+[0-9]\+\)   \(\([0-9a-f]\{2\} \)*[0-9a-f]\{2\}\)   .*/\1 \2/p' "$work/page" > "$work/rows"
+    sed -n 's/^    \([a-z#][^:]*: .*\)/\1/p' "$work/page" > "$work/lines"
+    test "$(wc -l < "$work/rows")" = "$(grep -c '^ \{3,\}[0-9]\+ \+[0-9]\+ ' "$work/page")"
+    test "$(wc -l < "$work/rows")" -ge "$2"
+    test "$(wc -l < "$work/lines")" -ge "$3"
+    python3 "$work/make.py" "$work/device" < "$work/rows"
+    python3 "$examples/read_device.py" "$work/device" > "$work/state"
+    while read -r line; do
+        grep -qxF "$line" "$work/state" || { echo "read_device.py doesn't print of $1: $line"; exit 1; }
+    done < "$work/lines"
+}
+worked "A worked device of format 2" 30 7
+echo "read_device.py: the worked device of docs/DEVICE.md, of format 2"
+worked "A worked log" 40 8
 # without one sector of the log or another: the log as it is after that many records, and the sectors that are left over
 lose() {
     cp "$work/device" "$work/torn"
