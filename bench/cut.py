@@ -3,19 +3,20 @@
 
 usage, at the top of the repository: bench/cut.py [JOBS [SEED]] [--ngc PATH] [--folder FOLDER] [--cuts N]
 
-Each job (100 where JOBS isn't given; made by jobs.py, by chance from SEED) begins over a new device, by telling its tools, or, one in three, over one of
-format 1, which takes the tools of the settings; no later session has them in its settings. It is run to its end once, a tick and a status at a time: that
-gives the segments of each block with their lines of OUT, and the status after each entry. Then it is run again over another device, and
-its process is ended: of a device of format 1 twice within power on, and of each first within a `load`, then within power on, right before one of the writes or syncs of that; and then at a moment taken
-by chance, up to N times (4) over the job: right before its n-th write to the device, its n-th sync, or its n-th line of OUT, by strace, and now and
-then, or where strace isn't there, by the clock: then none is surely within a `load`. Each time the device is read by examples/read_device.py, and
-`ngc run` is started again with a new OUT, asked for its status, told where the machine stands (by the pulses of all OUTs; now and then the
-axes were moved by hand besides), and goes on: `resume` where a block is half done, then the rest of the job.
+Each job (100 where JOBS isn't given; made by jobs.py, by chance from SEED) begins over a new device, by telling its tools, or, one in three, over one
+of format 1, which takes the tools of the settings; over a device of format 2 the settings name no tool. It is run to its end once, a tick and a status
+at a time: that gives the segments of each block with their lines of OUT, and the status after each entry. Then it is run again over another device, and
+its process is ended: over a device of format 1 twice within power on; then within a `load`, then within power on, right before one of the writes or
+syncs of that; and then at a moment taken by chance, up to N times (4) over the job: right before its n-th write to the device, its n-th sync, or its
+n-th line of OUT, by strace, and now and then, or where strace isn't there, by the clock: then none is surely within a `load`. Each time the device is
+read by examples/read_device.py, and `ngc run` is started again with a new OUT, asked for its status, told where the machine stands (by the pulses of all
+OUTs; now and then the axes were moved by hand besides), and goes on: `resume` where a block is half done, then the rest of the job.
 
-For each cut there has to be one moment of the session at which all of these were so: the lines of OUT, to the byte; what the device stands for,
-its tool table too, with the number of records in its log since it was last written anew as a whole; and the entries, of which the last `done N` that was written is the
-last or the one before. Power on has to show what the device stood for, under the next epoch (over format 1 the one after that, in format 2), with an empty log. At the end the machine has to stand,
-and the device has to stand for all but the number of entries, as after the run that wasn't cut. Status 0 where that holds for each job.
+For each cut there has to be one moment of the session at which all of these were so: the lines of OUT, to the byte; what the device stands for, with
+its tool table, and the number of records in its log since it was last written anew as a whole; and the entries, of which the last `done N` that was
+written is the last or the one before. Power on has to show what the device stood for, under the next epoch, or over format 1 under the one after that
+in format 2, with an empty log. At the end the machine has to stand, and the device has to stand for all but the number of entries, as after the run that
+wasn't cut. Status 0 where that holds for each job.
 
 It builds ngc by rt where that is needed and no PATH is given."""
 import argparse, collections, contextlib, functools, math, os, random, re, shutil, subprocess, sys, tempfile, threading, time
@@ -443,11 +444,11 @@ class Cutting:
     def cut_in_power_on(self, before):
         """It left what the session before left, or its recovered under the next epoch, or of format 1 under the one after that in format 2."""
         device, next_epoch = self.mill.stands(), before.epoch + 1
-        lawful = [(before.epoch, before.format, before.records, before.tools), (next_epoch, before.format, 0, before.tools)]
+        valid = [(before.epoch, before.format, before.records, before.tools), (next_epoch, before.format, 0, before.tools)]
         if before.format == 1:
-            lawful.append((next_epoch + 1, 2, 0, jobs.TOOLS_NM))
+            valid.append((next_epoch + 1, 2, 0, jobs.TOOLS_NM))
         left, stood = ((it.epoch, it.format, it.records, it.tools) for it in (device, before))
-        if shown(device) != shown(before) or left not in lawful:
+        if shown(device) != shown(before) or left not in valid:
             raise Wrong(f"power on that was cut left {left}, {shown(device)!r}, and {stood}, {shown(before)!r} stood")
         self.counts[MIGRATION] += before.format == 1
         # what it wrote anew as a whole has no record
