@@ -1,0 +1,58 @@
+//! Power on over a device of format 1 makes it one of format 2.
+//!
+//! The settings of the power on after a stop have no tools. So a stop leaves the device without tools until the header of format 2 is
+//! stored, and from then on with those of the settings under which it was written.
+use crate::old::{with_a_full_log, with_an_entry};
+use crate::scripts::AFTER_A_MIGRATION;
+use crate::stops::cuts::{Astray, Cuts, first_astray_in_migration};
+use crate::stops::devices::{Kept, played, stopped};
+use ng_num::Fault;
+use std::alloc::Global;
+use std::test::Fail;
+
+/// What the first power on over a device of format 1 makes, and the one after it: writes, syncs, hand-outs and calls that weren't noted.
+fn counts(alloc: Global) -> Result<[[usize; 4]; 2], Fault> {
+    let (rig, wanted) = with_an_entry(alloc)?;
+    let (rig, first) = played(alloc, rig, &[], wanted.entries())?;
+    let rig = stopped(&rig, usize::MAX, Kept::None)?;
+    let (_, second) = played(alloc, rig, &[], wanted.entries())?;
+    Ok([first.counts(), second.counts()])
+}
+
+#[test]
+fn calls_of_a_migration_and_of_the_next_power_on(rt: HostRuntime) -> Result<(), Fail> {
+    assert_eq!(rt; counts(rt.alloc()), Ok([[176, 5, 0, 0], [89, 3, 0, 0]]));
+    Ok(())
+}
+
+/// The first of these stops, in the migration of a device whose log is full or as its half-done line goes on after that, that leaves
+/// something else.
+fn first_astray_of(alloc: Global, first: usize, last: usize) -> Result<Astray, Fault> {
+    let (rig, wanted) = with_a_full_log(alloc)?;
+    let cuts = Cuts::deep(first, last);
+    first_astray_in_migration(alloc, rig, wanted, AFTER_A_MIGRATION, cuts)
+}
+
+#[test]
+fn a_stop_in_the_first_half_of_the_checkpoint_of_format_1(rt: HostRuntime) -> Result<(), Fail> {
+    assert_eq!(rt; first_astray_of(rt.alloc(), 0, 45), Ok(None));
+    Ok(())
+}
+
+#[test]
+fn a_stop_in_the_second_half_of_the_checkpoint_of_format_1(rt: HostRuntime) -> Result<(), Fail> {
+    assert_eq!(rt; first_astray_of(rt.alloc(), 46, 90), Ok(None));
+    Ok(())
+}
+
+#[test]
+fn a_stop_in_the_first_half_of_the_checkpoint_of_format_2(rt: HostRuntime) -> Result<(), Fail> {
+    assert_eq!(rt; first_astray_of(rt.alloc(), 91, 136), Ok(None));
+    Ok(())
+}
+
+#[test]
+fn a_stop_in_the_second_half_of_the_checkpoint_of_format_2(rt: HostRuntime) -> Result<(), Fail> {
+    assert_eq!(rt; first_astray_of(rt.alloc(), 137, usize::MAX), Ok(None));
+    Ok(())
+}
