@@ -8,6 +8,9 @@ use ng_num::Fault;
 use ng_rig::MemoryRig;
 use std::alloc::Global;
 
+/// The blank lines that fill the log up to its last sector.
+pub const FILLING: usize = 1_021;
+
 /// A line of the operator whose first segment is open. It takes the length of a tool, which a device of format 1 has in its settings alone.
 pub const OPENED: &str = "G43 H1 G0 X0.005";
 
@@ -79,43 +82,37 @@ fn store_change(rig: &mut Device, sector: usize, record: u64) -> Result<(), Faul
     store(rig, sector.saturating_add(1), &change)
 }
 
-/// The device once that is safe, with no calls.
-fn at_rest(rig: Device) -> Result<Device, Fault> {
-    let mut rig = rig;
-    sync(&mut rig)?;
-    Ok(cut(&rig)?)
-}
-
-/// A device of format 1 under epoch 2, whose log has one entry, and what it stands for beside settings without tools.
-pub fn with_an_entry(alloc: Global) -> Result<(Device, Standing), Fault> {
-    let mut rig = headed(alloc)?;
-    store_change(&mut rig, 686, 0)?;
-    let mut standing = Standing::fresh(alloc)?;
-    standing.take(Does::Executes(SETS, 0))?;
-    Ok((at_rest(rig)?, standing))
-}
-
-/// A device of format 1 under epoch 2, whose log is full, and what it stands for beside settings without tools. There are 1,021 blank
-/// lines in sectors 686 to 1706, a line that sets a parameter in 1707 and 1708, and a line in 1709 whose first segment is open.
-pub fn with_a_full_log(alloc: Global) -> Result<(Device, Standing), Fault> {
-    let mut rig = headed(alloc)?;
-    let mut standing = Standing::fresh(alloc)?;
-    for record in 0..1_021usize {
-        let number = record as u64;
-        let blank = first_part(number, 1, 0, number.saturating_add(1));
-        store(&mut rig, record.saturating_add(686), &blank)?;
-        standing.take(Does::Executes("", 0))?;
-    }
-    store_change(&mut rig, 1_707, 1_021)?;
-    standing.take(Does::Executes(SETS, 0))?;
-    let mut opened = first_part(1_022, 1, 0, 1_022);
-    put(&mut opened, 194, 1, 2);
-    put(&mut opened, 195, 1, 1);
-    put(&mut opened, 198, 2, OPENED.len() as u64);
+/// The record of this number, by which the line is open; there are as many entries as records before it.
+fn opened(record: u64) -> [u8; 512] {
+    let mut sector = first_part(record, 1, 0, record);
+    put(&mut sector, 194, 1, 2);
+    put(&mut sector, 195, 1, 1);
+    put(&mut sector, 198, 2, OPENED.len() as u64);
     for (n, byte) in OPENED.as_bytes().iter().enumerate() {
-        put(&mut opened, n.saturating_add(232), 1, u64::from(*byte));
+        put(&mut sector, n.saturating_add(232), 1, u64::from(*byte));
     }
-    store(&mut rig, 1_709, &opened)?;
+    sector
+}
+
+/// A device of format 1 under epoch 2, and what it stands for beside settings without tools. Its log has so many blank lines, from sector
+/// 686 on, then a line that sets a parameter, in two sectors, and a line that is open.
+pub fn of_format_1(alloc: Global, blanks: usize) -> Result<(Device, Standing), Fault> {
+    let mut rig = headed(alloc)?;
+    let mut standing = Standing::fresh(alloc)?;
+    let mut sector = 686usize;
+    let mut record = 0;
+    for _ in 0..blanks {
+        let entries = record.saturating_add(1);
+        store(&mut rig, sector, &first_part(record, 1, 0, entries))?;
+        standing.take(Does::Executes("", 0))?;
+        sector = sector.saturating_add(1);
+        record = entries;
+    }
+    store_change(&mut rig, sector, record)?;
+    standing.take(Does::Executes(SETS, 0))?;
+    let last = opened(record.saturating_add(1));
+    store(&mut rig, sector.saturating_add(2), &last)?;
     standing.take(Does::Opens(OPENED, Source::Mdi, 0))?;
-    Ok((at_rest(rig)?, standing))
+    sync(&mut rig)?;
+    Ok((cut(&rig)?, standing))
 }

@@ -1,6 +1,6 @@
 //! One device as it stood at some times of its life, first of format 1. What each holds is an older image of the next.
 use crate::devices::{Device, copy_of, talk};
-use crate::old::with_a_full_log;
+use crate::old::{FILLING, of_format_1};
 use ng_num::Fault;
 use std::alloc::Global;
 
@@ -23,7 +23,7 @@ const TEXTS: &[&str] = &[
 /// The device after each of these times; the first is of format 1.
 pub fn generations(alloc: Global) -> Result<Vec<Device>, Fault> {
     let mut all = Vec::new(alloc);
-    let (mut rig, _) = with_a_full_log(alloc)?;
+    let (mut rig, _) = of_format_1(alloc, FILLING)?;
     for text in TEXTS {
         all.push(copy_of(&rig)?)?;
         rig = asked(alloc, rig, text)?;
