@@ -100,7 +100,7 @@ pub fn of_format_1(alloc: Global, blanks: usize) -> Result<(Device, Standing), F
     let mut rig = headed(alloc)?;
     let mut standing = Standing::fresh(alloc)?;
     let mut sector = 686usize;
-    let mut record = 0;
+    let mut record = 0u64;
     for _ in 0..blanks {
         let entries = record.saturating_add(1);
         store(&mut rig, sector, &first_part(record, 1, 0, entries))?;
