@@ -14,7 +14,7 @@ ghost use Rattle.ng_journal.specs.Private.Overwrites.{Overwrites};
 ghost use Rattle.ng_journal.specs.AtRest.{next_header, migrated};
 
 use ng_layout::{
-    BYTES, Format, Header, SNAPSHOT_SIZE, Stored, TOOLS_SIZE, snapshot_first, tools_first,
+    Format, Header, SECTOR_BYTES, SNAPSHOT_SIZE, Stored, TOOLS_SIZE, snapshot_first, tools_first,
 };
 use ng_rig::{Failed, Rig};
 use std::alloc::Allocator;
@@ -79,7 +79,7 @@ fn write_areas<R: Rig, A: Allocator + Copy + Drop>(
 
 /// The sector of a header that is within its limits.
 #[tactic(auto, unfolding(ng_layout::specs::Header::header_in))]
-pub(crate) fn header_sector(header: Header) -> [u8; BYTES]
+pub(crate) fn header_sector(header: Header) -> [u8; SECTOR_BYTES]
     requires { IsValidHeader header }
     ensures read { header_in (header.epoch % 2) result ≡ Some header }
     ensures holds { HoldsHeader header result }

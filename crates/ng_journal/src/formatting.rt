@@ -12,17 +12,17 @@ ghost use Rattle.ng_journal.specs.Journal.{CountsFailure};
 
 use crate::checkpoint::header_sector;
 use ng_layout::{
-    BYTES, Format, HEADERS, Header, LEAST_SIZE, LOG_FIRST, SHORTEST_LOG, SNAPSHOT_SIZE, TOOLS_SIZE,
-    fresh_sector, snapshot_first, tools_first,
+    Format, HEADERS, Header, LEAST_SIZE, LOG_FIRST, SECTOR_BYTES, SHORTEST_LOG, SNAPSHOT_SIZE,
+    TOOLS_SIZE, fresh_sector, snapshot_first, tools_first,
 };
 use ng_num::Fault;
 use ng_rig::{Failed, Rig};
 
 /// A sector of zeros.
-fn empty_sector() -> [u8; BYTES]
+fn empty_sector() -> [u8; SECTOR_BYTES]
     ensures { result ≡ replicate sector_size 0 }
 {
-    [0; BYTES]
+    [0; SECTOR_BYTES]
 }
 
 /// Takes the headers away, one after the other.

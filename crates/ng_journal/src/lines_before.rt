@@ -9,7 +9,7 @@ ghost use Rattle.ng_log.specs.Reading.{ReadSpec};
 ghost use Rattle.ng_text.specs.FirstLines.{kind_in};
 
 use crate::line::part_of;
-use ng_layout::{BYTES, program_first};
+use ng_layout::{SECTOR_BYTES, program_first};
 use ng_log::read_sector;
 use ng_rig::{Failed, Rig};
 use ng_text::FirstLine;
@@ -31,7 +31,7 @@ pub(crate) fn read_first_kind<R: Rig>(
 {
     let first = program_first(area);
     let mut seen = FirstLine::Unseen;
-    for n in 0..place.div_ceil(BYTES) {
+    for n in 0..place.div_ceil(SECTOR_BYTES) {
         let sector = read_sector(rig, first + n)?;
         seen = seen.after_all(part_of(&sector, n, 0, place));
         match seen.known() {

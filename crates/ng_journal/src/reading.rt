@@ -16,8 +16,8 @@ ghost use Rattle.ng_log.specs.Reading.{ReadSpec};
 ghost use Rattle.ng_journal.specs.Private.SnapshotRead.{IsTableOf, IsToolsOf, IsSnapshotOf};
 
 use ng_layout::{
-    BYTES, DecodedState, Format, Header, SNAPSHOT_SIZE, StateField, Stored, VALUES, snapshot_first,
-    take_area, take_values, tools_first,
+    DecodedState, Format, Header, SECTOR_BYTES, SNAPSHOT_SIZE, StateField, Stored, VALUES,
+    snapshot_first, take_area, take_values, tools_first,
 };
 use ng_log::read_sector;
 use ng_offsets::Tools;
@@ -67,7 +67,7 @@ pub(crate) fn header_in_force<R: Rig>(rig: &mut R) -> Result<Option<Header>, Fai
 }
 
 /// What the first sector of a snapshot says by its state field.
-fn decoded_state_of_snapshot(sector: &[u8; BYTES], length: u64) -> Option<DecodedState>
+fn decoded_state_of_snapshot(sector: &[u8; SECTOR_BYTES], length: u64) -> Option<DecodedState>
     ensures value { result ≡ decoded_state_of length (field_at sector.now) }
     ensures sound { IfSome result (IsSound length) }
 {
@@ -78,7 +78,7 @@ fn decoded_state_of_snapshot(sector: &[u8; BYTES], length: u64) -> Option<Decode
 fn read_tools<R: Rig>(
     rig: &mut R,
     header: Header,
-    first: &[u8; BYTES],
+    first: &[u8; SECTOR_BYTES],
     tools: &mut Tools,
 ) -> Result<bool, Failed>
     requires room { least_size ≤ R.sectors rig.old }

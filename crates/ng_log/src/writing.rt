@@ -17,7 +17,7 @@ ghost use Rattle.ng_log.specs.Records.{record_from};
 use crate::log_end::LogEnd;
 use arrayvec::ArrayVec;
 use ng_layout::{
-    CHANGES, Header, LOG_FIRST, PartLabel, Stored, changes_part, first_part, parts_for,
+    Header, LOG_FIRST, PART_CHANGES, PartLabel, Stored, changes_part, first_part, parts_for,
 };
 use ng_offsets::SlotChange;
 use ng_params::{Change, Params, next_differences};
@@ -29,7 +29,7 @@ fn next_changes<A: Allocator + Copy + Drop>(
     old: &Params<A>,
     stored: &Stored<A>,
     from: usize,
-) -> (ArrayVec<Change, CHANGES>, usize)
+) -> (ArrayVec<Change, PART_CHANGES>, usize)
     requires { from ≤ parameter_count }
     ensures { TakesDifferences part_changes old.now stored.now.setup.params from result.1 result.0.items }
 {
