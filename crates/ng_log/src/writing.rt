@@ -11,6 +11,7 @@ ghost use Rattle.ng_layout.specs.Storable.{IsStorable, IsStorableChange};
 ghost use Rattle.ng_layout.specs.Stored.{DurableState};
 ghost use Rattle.ng_log.specs.Appends.{WritesRecord, AppendSpec};
 ghost use Rattle.ng_log.specs.AtEnd.{end_after, IsAtEnd};
+ghost use Rattle.ng_log.specs.Private.WriteSteps.{WritesParts};
 ghost use Rattle.ng_params.specs.Differences.{differences, TakesDifferences};
 ghost use Rattle.ng_log.specs.Records.{record_from};
 
@@ -53,7 +54,7 @@ fn write_parts<R: Rig, A: Allocator + Copy + Drop>(
     requires entries { stored.now.entries ≤ greatest_count }
     requires storable { IsStorable stored.now }
     ensures writes { IfHonest (R.honest rig.old) (R.honest rig.new)
-        (WritesRecord result (record_from epoch end old.now slot stored.now) (R.trace rig.old) (R.trace rig.new)) }
+        (WritesParts result (record_from epoch end old.now slot stored.now) (R.trace rig.old) (R.trace rig.new)) }
     ensures size { R.sectors rig.new ≡ R.sectors rig.old }
     ensures failures { FailureCountSpec result (R.failed rig.old) (R.failed rig.new) }
 {
