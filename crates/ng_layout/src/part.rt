@@ -18,6 +18,7 @@ use crate::field::StateField;
 use crate::report::DecodedState;
 use crate::sectors::SECTOR_BYTES;
 use crate::stored::Stored;
+use crate::tools::{SLOT_AT, SLOT_LENGTH_AT};
 use ng_num::Num;
 use ng_offsets::SlotChange;
 use ng_params::{Change, Index, Params};
@@ -45,11 +46,6 @@ const CHANGES_AT: usize = 20;
 
 /// The byte of a change at which its value begins.
 const VALUE_AT: usize = 2;
-
-/// The bytes of a first part at which the slot that changes stands, and its length.
-const SLOT_AT: usize = 488;
-
-const SLOT_LENGTH_AT: usize = 496;
 
 /// What a part says of itself (own).
 #[derive(Clone, Copy, Debug, PartialEq, Eq)]
@@ -139,7 +135,8 @@ fn put_change(sector: &mut [u8; SECTOR_BYTES], change: Option<SlotChange>)
     ensures below { SameBelow slot_at sector.old sector.new }
     ensures slot { number_at 2 slot_at sector.new ≡ slot_number change }
     ensures tool { signed_at slot_length_at sector.new ≡ slot_length change }
-    ensures between { bytes_at (slot_length_at - (slot_at + 2)) (slot_at + 2) sector.new ≡ bytes_at (slot_length_at - (slot_at + 2)) (slot_at + 2) sector.old }
+    ensures between { bytes_at (slot_length_at - (slot_at + 2)) (slot_at + 2) sector.new
+        ≡ bytes_at (slot_length_at - (slot_at + 2)) (slot_at + 2) sector.old }
     ensures beyond { SameFrom (slot_length_at + 8) sector.old sector.new }
 {
     let (slot, length) = change_numbers(change);

@@ -112,7 +112,8 @@ fn take_record<R: Rig, A: Allocator + Copy + Drop>(
     requires tools { IsStorableTools stored.old.tools }
     requires long { length stored.old.setup.params ≡ parameter_count }
     ensures read { IfHonest (R.honest rig.old) (R.honest rig.new)
-        (ReadSpec result (TakesRecord header.format header.length first.now at changes stored.old stored.new) (R.trace rig.old) (R.trace rig.new)) }
+        (ReadSpec result (TakesRecord header.format header.length first.now at changes stored.old stored.new)
+        (R.trace rig.old) (R.trace rig.new)) }
     // without honesty too
     ensures storable { IfOk result (λ whole. OnTrue whole (IsStorable stored.new)) }
     ensures count { IfOk result (λ whole. OnTrue whole (stored.new.entries ≤ greatest_count)) }

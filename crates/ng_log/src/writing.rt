@@ -86,7 +86,7 @@ fn write_parts<R: Rig, A: Allocator + Copy + Drop>(
 /// Writes what is stored as a record after the end of a log, syncs it, and gives the log's end after it. It takes no memory (own).
 ///
 /// `old` is the table that stands, and `count` says in how many parameters that of `stored` differs from it (`difference_count`); `slot`
-/// what changes of the tool table that stands. In format 1 nothing is written.
+/// what changes of the tool table that stands. Records are written in format 2 alone.
 /// Fails where a write or the sync fails. Then some of the record's parts may have been written, and a stop leaves what stood or the whole
 /// record.
 pub fn append<R: Rig, A: Allocator + Copy + Drop>(
@@ -109,7 +109,9 @@ pub fn append<R: Rig, A: Allocator + Copy + Drop>(
     requires long { stored.now.length ≡ header.length }
     requires format { header.format ≡ Two }
     ensures appends { IfHonest (R.honest rig.old) (R.honest rig.new) ((before : DurableState) → IsAtEnd (R.trace rig.old) header before end
-        → before.saved.setup.params ≡ old.now → IfSome slot (IsStorableChange before.saved.tools) → with_change slot before.saved.tools ≡ stored.now.tools → AppendSpec result header before stored.now (R.trace rig.old) (R.trace rig.new)) }
+        → before.saved.setup.params ≡ old.now → IfSome slot (IsStorableChange before.saved.tools)
+        → with_change slot before.saved.tools ≡ stored.now.tools
+        → AppendSpec result header before stored.now (R.trace rig.old) (R.trace rig.new)) }
     // whatever stands on the device
     ensures writes { IfHonest (R.honest rig.old) (R.honest rig.new)
         (WritesRecord result (record_from header.epoch end old.now slot stored.now) (R.trace rig.old) (R.trace rig.new)) }
