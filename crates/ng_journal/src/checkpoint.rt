@@ -47,7 +47,8 @@ fn write_tools<R: Rig, A: Allocator + Copy + Drop>(
 ) -> Result<(), Failed>
     requires sectors { least_size ≤ R.sectors rig.old }
     requires within { first + tools_size ≤ least_size }
-    ensures tools { IfHonest (R.honest rig.old) (R.honest rig.new) (Overwrites result first tools_size (HoldsToolPart stored.now) (R.trace rig.old) (R.trace rig.new)) }
+    ensures tools { IfHonest (R.honest rig.old) (R.honest rig.new)
+        (Overwrites result first tools_size (HoldsToolPart stored.now) (R.trace rig.old) (R.trace rig.new)) }
     ensures size { R.sectors rig.new ≡ R.sectors rig.old }
     ensures failures { FailureCountSpec result (R.failed rig.old) (R.failed rig.new) }
 {
@@ -66,7 +67,8 @@ fn write_areas<R: Rig, A: Allocator + Copy + Drop>(
     requires sectors { least_size ≤ R.sectors rig.old }
     requires count { stored.now.entries ≤ greatest_count }
     requires storable { IsStorable stored.now }
-    ensures areas { IfHonest (R.honest rig.old) (R.honest rig.new) (WritesAreas result next stored.now (R.trace rig.old) (R.trace rig.new)) }
+    ensures areas { IfHonest (R.honest rig.old) (R.honest rig.new)
+        (WritesAreas result next stored.now (R.trace rig.old) (R.trace rig.new)) }
     ensures size { R.sectors rig.new ≡ R.sectors rig.old }
     ensures failures { FailureCountSpec result (R.failed rig.old) (R.failed rig.new) }
 {
@@ -125,9 +127,12 @@ pub(crate) fn checkpoint<R: Rig, A: Allocator + Copy + Drop>(
     requires count { stored.now.entries ≤ greatest_count }
     requires storable { IsStorable stored.now }
     requires tools { next.format ≡ One → stored.now.tools ≡ [] }
-    ensures stops { IfHonest (R.honest rig.old) (R.honest rig.new) ((header : Header) → IsOwnImage (R.trace rig.old) header → next.epoch ≡ header.epoch + 1
-        → MayFollow next header (reads (R.trace rig.old)) → CheckpointSpec result header next stored.now (R.trace rig.old) (R.trace rig.new)) }
-    ensures stores { IfHonest (R.honest rig.old) (R.honest rig.new) (StoresState result next stored.now (R.trace rig.old) (R.trace rig.new)) }
+    ensures stops { IfHonest (R.honest rig.old) (R.honest rig.new)
+        ((header : Header) → IsOwnImage (R.trace rig.old) header → next.epoch ≡ header.epoch + 1
+        → MayFollow next header (reads (R.trace rig.old))
+        → CheckpointSpec result header next stored.now (R.trace rig.old) (R.trace rig.new)) }
+    ensures stores { IfHonest (R.honest rig.old) (R.honest rig.new)
+        (StoresState result next stored.now (R.trace rig.old) (R.trace rig.new)) }
     ensures size { R.sectors rig.new ≡ R.sectors rig.old }
     ensures failures { FailureCountSpec result (R.failed rig.old) (R.failed rig.new) }
 {

@@ -104,7 +104,8 @@ fn find_end<R: Rig>(
     requires place { place ≤ program_end }
     requires small { program_end ≤ longest_program }
     requires empty { text.old.items ≡ [] }
-    ensures read { IfHonest (R.honest rig.old) (R.honest rig.new) (ReadSpec result (λ image end. IsEnd (drop place (program_text program_end (stretch (program_first area) (program_size area) image))) text.new.items end) (R.trace rig.old) (R.trace rig.new)) }
+    ensures read { IfHonest (R.honest rig.old) (R.honest rig.new)
+        (ReadSpec result (λ image end. IsEnd (drop place (program_text program_end (stretch (program_first area) (program_size area) image))) text.new.items end) (R.trace rig.old) (R.trace rig.new)) }
     // without honesty too
     ensures within { IfOk result (λ end. IfSome end (λ n. place + n < program_end)) }
     ensures size { R.sectors rig.new ≡ R.sectors rig.old }
@@ -132,7 +133,8 @@ pub(crate) fn read_line<R: Rig>(
     requires area { area ≤ greatest_area }
     requires place { place ≤ program_end }
     requires small { program_end ≤ longest_program }
-    ensures read { IfHonest (R.honest rig.old) (R.honest rig.new) (ReadSpec result (λ image line. line ≡ program_line_at (program_text program_end (stretch (program_first area) (program_size area) image)) place) (R.trace rig.old) (R.trace rig.new)) }
+    ensures read { IfHonest (R.honest rig.old) (R.honest rig.new)
+        (ReadSpec result (λ image line. line ≡ program_line_at (program_text program_end (stretch (program_first area) (program_size area) image)) place) (R.trace rig.old) (R.trace rig.new)) }
     // without honesty too
     ensures next { IfOk result (λ line. IfSome line (λ l. (place < l.next) × (l.next ≤ program_end))) }
     ensures size { R.sectors rig.new ≡ R.sectors rig.old }

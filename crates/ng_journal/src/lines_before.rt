@@ -25,7 +25,9 @@ pub(crate) fn read_first_kind<R: Rig>(
     requires sectors { least_size ≤ R.sectors rig.old }
     requires area { area ≤ greatest_area }
     requires small { place ≤ longest_program }
-    ensures read { IfHonest (R.honest rig.old) (R.honest rig.new) (ReadSpec result (λ image kind. kind ≡ kind_in (program_text place (stretch (program_first area) (program_size area) image))) (R.trace rig.old) (R.trace rig.new)) }
+    ensures read { IfHonest (R.honest rig.old) (R.honest rig.new)
+        (ReadSpec result (λ image kind. kind ≡ kind_in (program_text place (stretch (program_first area) (program_size area) image)))
+        (R.trace rig.old) (R.trace rig.new)) }
     ensures size { R.sectors rig.new ≡ R.sectors rig.old }
     ensures failures { FailureCountSpec result (R.failed rig.old) (R.failed rig.new) }
 {

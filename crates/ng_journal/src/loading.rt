@@ -44,8 +44,11 @@ pub(crate) fn load<R: Rig, A: Allocator + Copy + Drop>(
     requires storable { IsStorable stored.now }
     requires long { stored.now.length ≡ length text.now }
     requires format { header.format ≡ Two }
-    ensures stops { IfHonest (R.honest rig.old) (R.honest rig.new) (IsOwnImage (R.trace rig.old) header → LoadSpec result header (record { saved = stored.now; program = text.now }) (R.trace rig.old) (R.trace rig.new)) }
-    ensures stores { IfHonest (R.honest rig.old) (R.honest rig.new) (StoresLoad result header (record { saved = stored.now; program = text.now }) (R.trace rig.old) (R.trace rig.new)) }
+    ensures stops { IfHonest (R.honest rig.old) (R.honest rig.new)
+        (IsOwnImage (R.trace rig.old) header
+        → LoadSpec result header (record { saved = stored.now; program = text.now }) (R.trace rig.old) (R.trace rig.new)) }
+    ensures stores { IfHonest (R.honest rig.old) (R.honest rig.new)
+        (StoresLoad result header (record { saved = stored.now; program = text.now }) (R.trace rig.old) (R.trace rig.new)) }
     ensures size { R.sectors rig.new ≡ R.sectors rig.old }
     ensures failures { FailureCountSpec result (R.failed rig.old) (R.failed rig.new) }
 {

@@ -29,7 +29,8 @@ use std::alloc::Allocator;
 fn read_header<R: Rig>(rig: &mut R, k: u64) -> Result<Option<Header>, Failed>
     requires room { least_size ≤ R.sectors rig.old }
     requires header { k < 2 }
-    ensures read { IfHonest (R.honest rig.old) (R.honest rig.new) (ReadSpec result (λ image header. header ≡ header_in k (image k)) (R.trace rig.old) (R.trace rig.new)) }
+    ensures read { IfHonest (R.honest rig.old) (R.honest rig.new)
+        (ReadSpec result (λ image header. header ≡ header_in k (image k)) (R.trace rig.old) (R.trace rig.new)) }
     ensures lawful { IfOk result (λ header. IfSome header IsValidHeader) }
     ensures size { R.sectors rig.new ≡ R.sectors rig.old }
     ensures failures { FailureCountSpec result (R.failed rig.old) (R.failed rig.new) }
@@ -56,7 +57,8 @@ fn newer(a: Option<Header>, b: Option<Header>) -> Option<Header>
 #[tactic(auto, unfolding(ng_layout::specs::Stands::in_force))]
 pub(crate) fn header_in_force<R: Rig>(rig: &mut R) -> Result<Option<Header>, Failed>
     requires { least_size ≤ R.sectors rig.old }
-    ensures read { IfHonest (R.honest rig.old) (R.honest rig.new) (ReadSpec result (λ image header. header ≡ in_force image) (R.trace rig.old) (R.trace rig.new)) }
+    ensures read { IfHonest (R.honest rig.old) (R.honest rig.new)
+        (ReadSpec result (λ image header. header ≡ in_force image) (R.trace rig.old) (R.trace rig.new)) }
     ensures lawful { IfOk result (λ header. IfSome header IsValidHeader) }
     ensures size { R.sectors rig.new ≡ R.sectors rig.old }
     ensures failures { FailureCountSpec result (R.failed rig.old) (R.failed rig.new) }
@@ -83,7 +85,8 @@ fn read_tools<R: Rig>(
 ) -> Result<bool, Failed>
     requires room { least_size ≤ R.sectors rig.old }
     requires none { tools.old ≡ [] }
-    ensures read { IfHonest (R.honest rig.old) (R.honest rig.new) (ReadSpec result (IsToolsOf header first.now tools.new) (R.trace rig.old) (R.trace rig.new)) }
+    ensures read { IfHonest (R.honest rig.old) (R.honest rig.new)
+        (ReadSpec result (IsToolsOf header first.now tools.new) (R.trace rig.old) (R.trace rig.new)) }
     // without honesty too
     ensures storable { IfOk result (λ is_whole. OnTrue is_whole (IsStorableTools tools.new)) }
     ensures none { IfOk result (λ is_whole. OnTrue is_whole (header.format ≡ One → tools.new ≡ [])) }
@@ -110,7 +113,8 @@ fn read_table<R: Rig, A: Allocator + Copy + Drop>(
     requires sectors { least_size ≤ R.sectors rig.old }
     requires within { first + snapshot_size ≤ least_size }
     requires long { length table.old ≡ parameter_count }
-    ensures read { IfHonest (R.honest rig.old) (R.honest rig.new) (ReadSpec result (IsTableOf first table.new) (R.trace rig.old) (R.trace rig.new)) }
+    ensures read { IfHonest (R.honest rig.old) (R.honest rig.new)
+        (ReadSpec result (IsTableOf first table.new) (R.trace rig.old) (R.trace rig.new)) }
     // without honesty too
     ensures long { IfOk result (λ is_whole. OnTrue is_whole (length table.new ≡ parameter_count)) }
     ensures size { R.sectors rig.new ≡ R.sectors rig.old }
@@ -135,7 +139,8 @@ pub(crate) fn read_snapshot<R: Rig, A: Allocator + Copy + Drop>(
     requires lawful { IsValidHeader header }
     requires long { length stored.old.setup.params ≡ parameter_count }
     requires none { stored.old.tools ≡ [] }
-    ensures read { IfHonest (R.honest rig.old) (R.honest rig.new) (ReadSpec result (IsSnapshotOf header stored.new) (R.trace rig.old) (R.trace rig.new)) }
+    ensures read { IfHonest (R.honest rig.old) (R.honest rig.new)
+        (ReadSpec result (IsSnapshotOf header stored.new) (R.trace rig.old) (R.trace rig.new)) }
     ensures none { IfOk result (λ is_whole. OnTrue is_whole (header.format ≡ One → stored.new.tools ≡ [])) }
     // without honesty too
     ensures storable { IfOk result (λ is_whole. OnTrue is_whole (IsStorable stored.new)) }
