@@ -11,7 +11,7 @@ use crate::operating::{are_three_files, operate_chosen};
 use crate::settings_file::{NoSettings, chosen_settings};
 use ng_dry::{DryFault, Ended, dry};
 use ng_file::{Hold, make_device};
-use ng_layout::{BYTES, LEAST_SIZE};
+use ng_layout::LEAST_SIZE;
 use ng_num::Fault;
 use ng_settings::Settings;
 use std::alloc::{Allocator, Global};
@@ -27,9 +27,6 @@ const REFUSED: u8 = 1;
 
 /// The words, a file, the settings, the device, the reader, the writer or memory kept the program from its work.
 pub(crate) const FAILED: u8 = 2;
-
-/// The bytes of a file that is made for a device.
-const NEW_DEVICE_BYTES: u64 = (LEAST_SIZE * BYTES) as u64;
 
 /// Does what the words that the process was started with ask for, and gives the exit status.
 ///
@@ -121,7 +118,7 @@ where
             run_chosen(rt.alloc(), chosen, program, writer, block_delete).unwrap_or(FAILED)
         }
         Job::Format { device } => {
-            let opened = make_device(rt, device, NEW_DEVICE_BYTES);
+            let opened = make_device(rt, device, LEAST_SIZE);
             format_opened(rt.alloc(), opened, writer).unwrap_or(FAILED)
         }
         Job::Run {
