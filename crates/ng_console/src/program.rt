@@ -15,6 +15,7 @@ use ng_layout::LEAST_SIZE;
 use ng_num::Fault;
 use ng_settings::Settings;
 use std::alloc::{Allocator, Global};
+use std::fs::OpenOptions;
 use std::io::{Read, Write};
 use std::rt::{Env, Files};
 use std::{env, fs, io};
@@ -28,9 +29,11 @@ const REFUSED: u8 = 1;
 /// The words, a file, the settings, the device, the reader, the writer or memory kept the program from its work.
 pub(crate) const FAILED: u8 = 2;
 
-/// Does what the words that the process was started with ask for, and gives the exit status.
+/// Does what the words that the process was started with ask for, and gives the exit status. A standard stream that is closed at the start
+/// is `/dev/null` to the end.
 ///
-/// Words that are not text, and memory wanting for them, print nothing and give 2; for the rest see `ngc`.
+/// Where `/dev/null` can't be opened, and where the words are not text or there is no memory for them, nothing is printed and the status
+/// is 2; for the rest see `ngc`. Source: own.
 pub fn start<R: Env + Files + AllocGlobal, I: Read, W: Write>(
     rt: &R,
     reader: &mut I,
@@ -41,6 +44,9 @@ where
     ensures status { result ≤ 2 }
     ensures run { (result ≡ 2) ⊎ ((texts : List (List ℕ)) × ((job : Job) × RequestsJob texts job × JobSpec R.File.remaining job (I.remaining reader.old) (W.contents writer.old) (W.contents writer.new) result)) }
 {
+    let Ok(_streams) = open_streams(rt) else {
+        return FAILED;
+    };
     let Ok(given) = given_words(rt) else {
         return FAILED;
     };
@@ -52,6 +58,20 @@ where
         return FAILED;
     };
     ngc(rt, texts.as_slice(), reader, writer)
+}
+
+/// Opens `/dev/null` three times. A file that is opened takes the least descriptor that is free, so those of the standard streams, 0 to 2,
+/// are then open, and no other file is taken for one of them.
+fn open_streams<R: Files>(rt: &R) -> io::Result<(R::File, R::File, R::File)> {
+    Ok((open_null(rt)?, open_null(rt)?, open_null(rt)?))
+}
+
+/// Opens `/dev/null` to read and write.
+fn open_null<R: Files>(rt: &R) -> io::Result<R::File> {
+    OpenOptions::new()
+        .read(true)
+        .write(true)
+        .open(rt, "/dev/null")
 }
 
 /// The words that the process was started with.
