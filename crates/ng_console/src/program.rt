@@ -86,8 +86,8 @@ fn given_words<R: Env + AllocGlobal>(rt: &R) -> io::Result<Vec<String>> {
 /// refused, and the last line written says where and why. 2, for the first of these that holds: the words ask for nothing that
 /// `ngc` does, or for help, and clap's text is written; two of the three files of `run` are one, and nothing is written or made;
 /// the settings file can't be opened or read, and nothing is written, or it is refused, and one line with its fault is written;
-/// another file can't be opened or read, and nothing is written, or a device can't be used, and one line with its fault is written;
-/// the device, the reader or the writer fails, or memory is wanting.
+/// another file can't be opened or read, or the one to which is handed out can't be held, and nothing is written, or a device can't be
+/// used, and one line with its fault is written; the device, the reader or the writer fails, or memory is wanting.
 /// Source: own.
 pub fn ngc<R: Files + AllocGlobal, I: Read, W: Write>(
     rt: &R,
