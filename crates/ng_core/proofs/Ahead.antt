@@ -15,7 +15,7 @@ use Rattle.ng_journal.specs.Journal.{JournalModel, IsDurablyAt, IsBrokenBy, Coun
 use Rattle.ng_journal.specs.Storing.{ledger_of}
 use Rattle.ng_session.specs.Entries.{Equipment, done_of}
 use Rattle.ng_session.specs.Session.{SessionModel, Transition, step, begin, begin_by, is_running, session_status, TakesMemory, AsksDevice, NeedsProgramLine}
-use Rattle.ng_session.specs.Planned.{PlannedModel, KnownModel, IsKnownOf, IsLineOf, AreLinesOf, Base, IsPlan, IsBegunAhead, forgotten_for, forgotten, drops_plan}
+use Rattle.ng_session.specs.Planned.{PlannedModel, KnownModel, IsKnownOf, IsLineOf, AreLinesOf, IsBegunAhead, forgotten_for, forgotten, drops_plan}
 use Rattle.ng_session.specs.declared.event.Event.{Event}
 use Rattle.ng_session.specs.declared.reply.Reply.{Reply}
 use Rattle.ng_session.specs.declared.reply.Reply.TheVariants as reply

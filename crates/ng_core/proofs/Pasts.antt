@@ -13,6 +13,7 @@ use Rattle.ng_session.specs.declared.reply.Reply.{Reply}
 use Rattle.ng_core.specs.Model.{ControllerModel, IsAtRestWith}
 use Rattle.ng_core.specs.Powers.{PowerOnResult, PowerOnSpecIfHonest, IsControllerRecovered}
 use Rattle.ng_core.specs.AnsweredEvents.{AreAnsweredEvents, answered_at}
+use Rattle.ng_core.specs.Runs.{IsRun}
 use Rattle.ng_core.specs.Headline.{IsPoweredOn, IsPast, BeginsPast, AddsToPast, AreRun}
 use Rattle.ng_core.proofs.InTurn.{turns_joined_at, turns_ran}
 use Rattle.ng_core.proofs.Accounting.{accounts}
@@ -31,13 +32,17 @@ adds_to_past honest trace failed sectors events replies old new t = record {
       (whole, accounts honest trace failed sectors x (past ++ events) (told ++ replies) (before ++ moments) first new ((turns_ran honest trace failed sectors past told first old is.turns).back h) whole);
 }
 
--- all that is said of events that are answered in turn
-pub are_run : {A R : Type 0} (honest : R → Type 0) (trace : R → Trace) (failed sectors : R → ℕ) (events : List (Event A)) (replies : List Reply) (old new : ControllerModel R)
-    → AreAnsweredEvents honest trace failed sectors events replies old new → AreRun honest trace failed sectors events replies old new
-are_run honest trace failed sectors events replies old new t = record {
+-- all that is said of events that are answered in turn, by the moments at which they were
+pub are_run : {A R : Type 0} (honest : R → Type 0) (trace : R → Trace) (failed sectors : R → ℕ) (events : List (Event A)) (replies : List Reply) (moments : List ℕ) (old new : ControllerModel R)
+    → (t : AreAnsweredEvents honest trace failed sectors events replies old new) → moments ≡ answered_at honest trace failed sectors events replies old new t
+    → AreRun honest trace failed sectors events replies moments old new
+are_run honest trace failed sectors events replies moments old new t is = record {
   turns = t;
-  ran = turns_ran honest trace failed sectors events replies old new t;
-  past = adds_to_past honest trace failed sectors events replies old new t;
+  answered = is;
+  ran = subst (λ (l : List ℕ). IfHonest (honest old.journal.rig) (honest new.journal.rig) (IsRun trace events replies l old new)) (sym is)
+      (turns_ran honest trace failed sectors events replies old new t);
+  past = subst (λ (l : List ℕ). IfHonest (honest old.journal.rig) (honest new.journal.rig) (AddsToPast honest trace failed sectors events replies l old new)) (sym is)
+      (adds_to_past honest trace failed sectors events replies old new t);
 }
 
 powered_on : {R : Type 0} (tools : List ℤ) (trace : R → Trace) (c : ControllerModel R) (old : Trace) (x : DurableState) → (c.journal.broken ≡ false) × (c.session ≡ resting c.journal.saved)

@@ -25,8 +25,8 @@ abbrev pub reply_to : Result Reply Fault → Reply
 reply_to (Ok r) = r
 reply_to (Err fault) = reply.Refused fault
 
--- What is told, and the session then, of an event that leads to this. Where memory or a count is wanting, the session stays; where
--- the device failed, what the status shows stays.
+-- What is told, and the session then, of an event that leads to this. Without memory or a counter for it the session stays;
+-- where the device failed, what the status shows stays.
 abbrev pub IsAnsweredBy : {R : Type 0} → Result Reply Fault → Transition → ControllerModel R → ControllerModel R → Type 0
 IsAnsweredBy (Ok r) out old new = (r ≡ out.reply) × (new.session ≡ out.next)
 IsAnsweredBy (Err DeviceFailed) out old new = session_status new.session ≡ session_status old.session
@@ -58,7 +58,7 @@ pub record IsAnsweredByLine {R : Type 0} (r : Reply) (out : List ℕ → Transit
   pub comes : IsAnsweredBy (Ok r) (by_line out old program line) old new
   pub ledger : ledger_of new.journal ≡ ledger_of old.journal
 
--- What stands then and was handed out: of an answer what it leads to, alone; where memory or a count is wanting, the device stays.
+-- What stands then and was handed out: of an answer what it leads to, alone; without memory or a counter for it the device stays.
 abbrev pub LeavesDevice : {R : Type 0} → Result Reply Fault → Transition → List ℕ → ControllerModel R → Trace → Trace → Type 0
 LeavesDevice (Ok r) out program new trace_old trace_new = IsAtRestWith trace_new new out.program × (items trace_new ≡ items trace_old ++ out.items)
 LeavesDevice (Err DeviceFailed) out program new trace_old trace_new = Unit {0}

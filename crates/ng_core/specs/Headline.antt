@@ -63,8 +63,8 @@ CountsAcknowledged trace x replies moments first now = (t : ℕ) (image : Image)
 
 -- ---- what the calls promise of it
 
--- Power on gives the first past, of no event: over the recovered of what stood, of format 1 with these tools, where only
--- such a controller wrote it.
+-- Power on gives the first past, of no event: over the recovered of what stood, beside these tools if it was of format 1, where only such a
+-- controller wrote it.
 abbrev pub BeginsPast : {R : Type 0} → Type 0 → List ℤ → (R → Type 0) → (R → Trace) → (failed sectors : R → ℕ) → PowerOnResult R → Trace → Type 0
 BeginsPast {R} A tools honest trace failed sectors result old =
     IsWritten (reads old) → IfOk result (λ c. (x : DurableState) → recovered_of (stands_beside tools (reads old)) ≡ Ok x → IsPast {A = A} honest trace failed sectors x [] [] [] c c)
@@ -75,9 +75,10 @@ AddsToPast {A} {R} honest trace failed sectors events replies moments old new = 
     → IsPast honest trace failed sectors x past told before first old
     → IsPast honest trace failed sectors x (past ++ events) (told ++ replies) (before ++ moments) first new × Accounts trace x (past ++ events) (told ++ replies) (before ++ moments) first new
 
--- What a list of events does, each answered in turn: over an honest device, by the moments at which they were answered, they pass as the
--- session does, and each past has them at its end.
-pub record AreRun {A R : Type 0} (honest : R → Type 0) (trace : R → Trace) (failed sectors : R → ℕ) (events : List (Event A)) (replies : List Reply) (old new : ControllerModel R) : Type 0 where
+-- What a list of events does, each answered in turn at its moment of the device's trace, one of these: over an honest device they pass as
+-- the session does, and each past has them at its end.
+pub record AreRun {A R : Type 0} (honest : R → Type 0) (trace : R → Trace) (failed sectors : R → ℕ) (events : List (Event A)) (replies : List Reply) (moments : List ℕ) (old new : ControllerModel R) : Type 0 where
   pub turns : AreAnsweredEvents honest trace failed sectors events replies old new
-  pub ran : IfHonest (honest old.journal.rig) (honest new.journal.rig) (IsRun trace events replies (answered_at honest trace failed sectors events replies old new turns) old new)
-  pub past : IfHonest (honest old.journal.rig) (honest new.journal.rig) (AddsToPast honest trace failed sectors events replies (answered_at honest trace failed sectors events replies old new turns) old new)
+  pub answered : moments ≡ answered_at honest trace failed sectors events replies old new turns
+  pub ran : IfHonest (honest old.journal.rig) (honest new.journal.rig) (IsRun trace events replies moments old new)
+  pub past : IfHonest (honest old.journal.rig) (honest new.journal.rig) (AddsToPast honest trace failed sectors events replies moments old new)

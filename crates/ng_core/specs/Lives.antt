@@ -1,5 +1,5 @@
--- Histories of a device over its images (own): sessions one after another, each from the image that the one before left; and which stops of a
--- device are such sessions.
+-- Histories of a device over its images (own): sessions one after another, each from the image that the one before left; and which stops
+-- of a device are such sessions. An image of format 1 is read beside a tool table, which power on takes from the settings.
 use Rattle.std.specs.Prelude.{◌≡◌, ◌⊎◌, ◌≤◌, ◌+◌, ℕ, ℤ, suc, Option, Some, None, List, [], ◌∷◌, ◌++◌, length, take, drop, Ok}
 use Rattle.ng_canon.specs.declared.item.Item.{Item}
 use Rattle.ng_rig.specs.Trace.{Image, Trace, reads, items, moment, IsStop}
@@ -22,7 +22,7 @@ use Rattle.ng_core.specs.Headline.{IsAccounted, Accounts}
 -- ---- a session
 
 -- What is known of a session once power was cut: the lines that its operator gave, the entries that it executed until then or in the event
--- under way, what it had under way then, how many of them were acknowledged, the image that is left, and the items that were handed out in it.
+-- under way, what it had under way then, how many of them were acknowledged, the image that is left, and the items that it handed out.
 pub record CutSession : Type 0 where
   pub lines : List (List ℕ)
   pub executed : List Entry
@@ -31,15 +31,14 @@ pub record CutSession : Type 0 where
   pub image : Image
   pub items : List Item
 
--- Power was cut within power on: what stood stands, or its recovered, of format 1 with these tools; nothing was executed, and nothing handed
--- out.
+-- Power was cut within power on: what stood stands, or its recovered; nothing was executed, and nothing handed out.
 pub record IsCutWithinPowerOn (tools : List ℤ) (x : DurableState) (s : CutSession) : Type 0 where
   pub executed : s.executed ≡ []
   pub acknowledged : s.acknowledged ≡ 0
   pub stands_for : StandsBeside tools x [] s.image s.items ⊎ StandsBeside tools (recovered x) [] s.image s.items
 
--- A session from an image that stands for something, of format 1 with these tools, and that only such a controller wrote. Power was cut within
--- power on, or after it: what stands and was handed out is accounted for then, from the recovered of what stood.
+-- A session from an image that stands for something and that only such a controller wrote. Power was cut within power on, or after it: what
+-- stands and was handed out is accounted for then, from the recovered of what stood.
 pub record IsSession (equipment : Equipment) (tools : List ℤ) (image : Image) (s : CutSession) : Type 0 where
   pub standing : DurableState
   pub state : stands_beside tools image ≡ Ok standing
@@ -114,8 +113,8 @@ CutsOfImageHistory = (equipment : Equipment) (tools : List ℤ) (image : Image) 
 
 -- ---- which stops are sessions
 
--- A stop leaves a session from this image, with these lines given, these entries executed and begun, and so many acknowledged; before it these
--- items were handed out.
+-- A stop leaves a session from this image, with these lines given, these entries executed and begun, and so many acknowledged; before it
+-- these items were handed out.
 pub record LeavesSession (equipment : Equipment) (tools : List ℤ) (image : Image) (before : List Item) (lines : List (List ℕ)) (executed begun : List Entry) (acknowledged : ℕ) (left : Image) (handed : List Item) : Type 0 where
   pub items : List Item
   pub handed_is : handed ≡ before ++ items
@@ -129,8 +128,8 @@ SessionsWithinPowerOn {R} trace = (equipment : Equipment) (tools : List ℤ) (x 
     AtEachStop old new (λ t image handed. IsStop old image handed ⊎ LeavesSession equipment tools (reads old) (items old) [] [] [] 0 image handed)
     × (IsSynced old → AtEachStop old new (λ t. LeavesSession equipment tools (reads old) (items old) [] [] [] 0))
 
--- A stop at the moment t leaves a session from this image: the entries executed and begun are those of the events answered by then and of the
--- one under way, as are the lines, and as many were acknowledged as Done was answered by then.
+-- A stop at the moment t leaves a session from this image: the entries executed and begun are those of the events answered by then and of
+-- the one under way, as are the lines, and as many were acknowledged as Done was answered by then.
 abbrev pub LeavesSessionBy : {A R : Type 0} (trace : R → Trace) (tools : List ℤ) (image : Image) (x : DurableState) (events : List (Event A)) (replies : List Reply) (moments : List ℕ) (first now : ControllerModel R)
     → Accounts trace (recovered x) events replies moments first now → ℕ → Image → List Item → Type 0
 LeavesSessionBy trace tools image x events replies moments first now accounts t =

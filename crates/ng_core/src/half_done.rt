@@ -118,7 +118,7 @@ impl<R: Rig, A: Allocator + Copy + Drop> Controller<R, A> {
 
     /// The half-done block goes on. K1, K4, K3 and its line's own faults by the session's refusal, with no call of the device. Where it is
     /// a line of the program, it is read at once where the next one begins: J1 where the device failed, and the journal is broken then. M1
-    /// where memory is wanting. The session is as it was then.
+    /// where there isn't enough memory. The session is as it was then.
     pub(crate) fn resume(&mut self) -> Result<Reply, Fault>
         requires whole { self.old.journal.broken ≡ false }
         requires alone { self.old.lines.ahead ≡ [] }

@@ -25,8 +25,8 @@ pub fn histories<R: Rig, A: Allocator>()
         → PassesAsSession R.trace events replies (answered_at R.honest R.trace R.failed R.sectors events replies old new turns) old.equipment (program_session_of program old) (R.trace old.journal.rig) new }
 {}
 
-/// Whenever power of an honest device is cut since power on, the plain interpreter accounts for what is left: by as many entries as were acknowledged until
-/// then, or one more.
+/// Whenever power of an honest device is cut since power on, the plain interpreter accounts for what is left: by as many entries as were
+/// acknowledged until then, or one more.
 pub fn accounts<R: Rig, A: Allocator>()
     ensures cuts { (x : DurableState) (events : List (Event A)) (replies : List Reply) (moments : List ℕ) (first now : ControllerModel R)
         → R.honest first.journal.rig → IsPast R.honest R.trace R.failed R.sectors x events replies moments first now → Accounts R.trace x events replies moments first now }
@@ -55,7 +55,7 @@ pub fn cuts()
 
 /// Each stop of a device leaves such a session, by what its calls promise.
 pub fn sessions<R: Rig, A: Allocator>()
-    // since `power_on` began, whatever it answers, by `PowersOn`
+    // since `power_on` began, whatever it answers, by `PowerOnSpec`
     ensures within { SessionsWithinPowerOn R.trace }
 
     // since it ended, by what `on` and `run` promise of all that came, `Accounts`

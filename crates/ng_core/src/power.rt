@@ -19,18 +19,20 @@ use std::alloc::Allocator;
 /// Powers on (own): finds what the device stands for, writes it again with nothing open, and starts a session at rest over it, with
 /// both switches of the operator off. Where something was open, its block is half-done, and it isn't known where the machine stands.
 ///
-/// A device of format 1 is given the tools of the settings, and is of format 2 then; of any other they aren't looked at.
+/// A device of format 1 is given the tools of the settings, and is of format 2 from then on; with format 2 they aren't looked at.
 ///
 /// J2 for fewer than 1,710 sectors, with no call of the device, and where it isn't formatted; J3 where what stands is damaged, or a log
-/// has begun; J4 where the journal's counter is used up, of format 1 where it hasn't two epochs left: all before any write. J1 where the device failed. M1 where memory is
-/// wanting, before any call of the device. The device is handed back with each of them. Nothing is handed out.
+/// has begun; J4 where the journal's counter is used up, or with format 1 where it hasn't two epochs left: all before any write. J1 where
+/// the device failed. M1 where there isn't enough memory, before any call of the device. The device is handed back with each of them.
+/// Nothing is handed out.
 pub fn power_on<R: Rig, A: Allocator + Copy + Drop>(
     alloc: A,
     rig: R,
     settings: Settings,
 ) -> Result<Controller<R, A>, (Fault, R)>
     ensures gives { PowerOnSpec R.honest R.trace R.failed R.sectors settings rig result }
-    ensures past { let after = power_on_rig result in least_size ≤ R.sectors rig → (tools : List ℤ) → IsTableOver settings.tools tools (reads (R.trace rig)) → IfHonest (R.honest rig) (R.honest after) (BeginsPast A tools R.honest R.trace R.failed R.sectors result (R.trace rig)) }
+    ensures past { let after = power_on_rig result in least_size ≤ R.sectors rig → (tools : List ℤ) → IsTableOver settings.tools tools (reads (R.trace rig))
+        → IfHonest (R.honest rig) (R.honest after) (BeginsPast A tools R.honest R.trace R.failed R.sectors result (R.trace rig)) }
 {
     let Settings { geometry, tools } = settings;
     if rig.size() < LEAST_SIZE {

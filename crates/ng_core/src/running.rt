@@ -1,5 +1,5 @@
 //! A list of events, one after the other.
-ghost use Rattle.std.specs.Prelude.{◌≡◌, length, IfOk, IfErr};
+ghost use Rattle.std.specs.Prelude.{◌≡◌, ℕ, List, length, IfOk, IfErr};
 ghost use Rattle.ng_num.specs.declared.fault.Fault.TheVariants.{OutOfMemory};
 
 use crate::controller::Controller;
@@ -19,7 +19,7 @@ impl<R: Rig, A: Allocator + Copy + Drop> Controller<R, A> {
     /// then, or after the one under way too; and all that came since power on, in this call and before it, is accounted for by the plain
     /// interpreter, whenever power is cut.
     pub fn run(&mut self, events: &[Event<A>]) -> Result<Vec<Reply, A>, Fault>
-        ensures runs { IfOk result (λ replies. AreRun R.honest R.trace R.failed R.sectors events.now replies.items self.old self.new) }
+        ensures runs { IfOk result (λ replies. (moments : List ℕ) × AreRun R.honest R.trace R.failed R.sectors events.now replies.items moments self.old self.new) }
         ensures each { IfOk result (λ replies. length replies.items ≡ length events.now) }
         ensures failures { IfOk result (λ replies. CountsOneFailure self.old.journal.broken self.new.journal.broken (R.failed self.old.journal.rig) (R.failed self.new.journal.rig)) }
         ensures equipment { self.new.equipment ≡ self.old.equipment }

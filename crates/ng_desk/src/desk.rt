@@ -59,8 +59,8 @@ impl<R: Rig, A: Allocator + Copy + Drop, O: Origin<R>> Desk<R, A, O> {
     /// Gives an event to the controller, from a seat of this desk, and answers its reply (own). It may wait, for the lock. The seat has one
     /// call more then: the event and that reply.
     ///
-    /// M1 where memory is wanting, for the seat, for the history or for a copy of the event's text: the event isn't given then, and the
-    /// seat is as it was. Every other refusal is the reply.
+    /// M1 where there isn't enough memory for the seat, for the history or for a copy of the event's text: the event isn't given then, and
+    /// the seat is as it was. Every other refusal is the reply.
     pub fn call<W: Wait>(
         &self,
         rt: &W,

@@ -1,4 +1,5 @@
 use Rattle.std.proofs.Common.{refl, ◌∙◌, arith}
+use Rattle.ng_core.specs.AnsweredEvents.{AreAnsweredEvents, answered_at}
 use Rattle.ng_core.proofs.InTurn.{turns_more, turns_all, turns_fail, turns_equipment}
 use Rattle.ng_core.proofs.Pasts.{are_run}
 use Rattle.ng_core.proofs.controller.Controller.run.Goals as goal
@@ -22,11 +23,13 @@ loop-event-preserved g c = record {
 }
 
 pub returns-clause-runs : goal.returns-clause-runs
-returns-clause-runs g c = are_run g.R.Rig.honest g.R.Rig.trace g.R.Rig.failed g.R.Rig.sectors c.args.events.now c.loop-event.replies.items c.args.self.now c.loop-event.self
-    (turns_all g.R.Rig.honest g.R.Rig.trace g.R.Rig.failed g.R.Rig.sectors c.args.events.now c.loop-event.event-index c.loop-event.replies.items c.args.self.now c.loop-event.self (omega arith) c.loop-event.invariant.turns)
+returns-clause-runs g c =
+    let all : AreAnsweredEvents g.R.Rig.honest g.R.Rig.trace g.R.Rig.failed g.R.Rig.sectors c.args.events.now c.loop-event.replies.items c.args.self.now c.loop-event.self = turns_all g.R.Rig.honest g.R.Rig.trace g.R.Rig.failed g.R.Rig.sectors c.args.events.now c.loop-event.event-index c.loop-event.replies.items c.args.self.now c.loop-event.self (omega arith) c.loop-event.invariant.turns in
+    let moments = answered_at g.R.Rig.honest g.R.Rig.trace g.R.Rig.failed g.R.Rig.sectors c.args.events.now c.loop-event.replies.items c.args.self.now c.loop-event.self all in
+    (moments, are_run g.R.Rig.honest g.R.Rig.trace g.R.Rig.failed g.R.Rig.sectors c.args.events.now c.loop-event.replies.items moments c.args.self.now c.loop-event.self all refl)
 
 pub returns-clause-failures : goal.returns-clause-failures
-returns-clause-failures g c = turns_fail g.R.Rig.honest g.R.Rig.trace g.R.Rig.failed g.R.Rig.sectors c.args.events.now c.loop-event.replies.items c.args.self.now c.loop-event.self (returns-clause-runs g c).turns
+returns-clause-failures g c = turns_fail g.R.Rig.honest g.R.Rig.trace g.R.Rig.failed g.R.Rig.sectors c.args.events.now c.loop-event.replies.items c.args.self.now c.loop-event.self (returns-clause-runs g c).1.turns
 
 pub returns-clause-equipment : goal.returns-clause-equipment
-returns-clause-equipment g c = turns_equipment g.R.Rig.honest g.R.Rig.trace g.R.Rig.failed g.R.Rig.sectors c.args.events.now c.loop-event.replies.items c.args.self.now c.loop-event.self (returns-clause-runs g c).turns
+returns-clause-equipment g c = turns_equipment g.R.Rig.honest g.R.Rig.trace g.R.Rig.failed g.R.Rig.sectors c.args.events.now c.loop-event.replies.items c.args.self.now c.loop-event.self (returns-clause-runs g c).1.turns
