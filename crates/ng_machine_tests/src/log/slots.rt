@@ -43,12 +43,15 @@ fn laid(alloc: Global, slots: i64, changes: &[Change]) -> Result<MemoryRig<Globa
     let mut is_laid = store(&mut rig, 1, &header(1, 0, 0))
         && store(&mut rig, 88, &snapshot_sector(slots))
         && store(&mut rig, 1_708, &lengths_sector(slots));
-    for (sector, (slot, length)) in (686..1_706).zip(changes) {
-        let number = sector as i64 - 686;
+    let mut sector: usize = 686;
+    let mut number: i64 = 0;
+    for (slot, length) in changes {
         let mut part = part_with((1, number, 0, 1, 0), &FRESH);
         put(&mut part, 488, 2, *slot);
         put(&mut part, 496, 8, *length);
         is_laid = is_laid && store(&mut rig, sector, &part);
+        sector = sector.saturating_add(1);
+        number = number.saturating_add(1);
     }
     if is_laid && rig.sync().is_ok() {
         Ok(rig)
