@@ -73,7 +73,10 @@ class Console:
 
     def status(self) -> Status:
         """Asks for the status. Raises Ended."""
-        return Status.read(self.ask("status")[0])
+        reply = self.ask("status")[0]
+        if reply.startswith("refused "):
+            raise self._ended([reply])  # nothing else refuses a status: it couldn't begin
+        return Status.read(reply)
 
     def quit(self) -> int:
         """Ends the session, and returns the exit status of `ngc`."""
