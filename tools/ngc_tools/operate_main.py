@@ -107,6 +107,8 @@ def session(ngc: str, given: argparse.Namespace, meter: Meter | None, pipe: int 
             console.kill()
         raise
     status = console.quit()
+    if status:
+        print(f"ngc-operate: ngc ended with status {status}: the device or OUT failed in this session", file=sys.stderr)
     return 0 if status == 0 else 2
 
 

@@ -251,7 +251,8 @@ class Session:
         if self.options.player:
             given = ["-b", self.options.pipe, "-s", self.socket, "-p", self.log, *words]
             command = [str(word) for word in (self.options.player, *given)]
-            return subprocess.Popen(command, stdout=subprocess.DEVNULL).pid
+            quiet = [(os.POSIX_SPAWN_OPEN, 1, os.devnull, os.O_WRONLY, 0)]
+            return os.posix_spawn(command[0], command, os.environ, file_actions=quiet)
         given = [*words, "--pipe", self.options.pipe, "--progress", self.socket, "--pins", self.log]
         child = os.fork()
         if child == 0:
