@@ -45,6 +45,18 @@ REFUSALS = {
     "S6": "the settings have more than 64 tool lengths",
     "U1": "not a command, or a number of it isn't in range: help",
 }
+# what is said of a block that is taken up
+TAKEN_UP = """\
+{half} is taken up. Its outputs are switched on as they were; then the tool goes
+in one straight line at the traverse rate from {place} to where that segment begins.
+Z isn't lifted first."""
+SWITCHED = """\
+The outputs are switched, and nothing has moved. Does the spindle turn, is the right tool in, is the straight way free?
+yes goes on, anything else holds: """
+NOT_MOVED = """\
+nothing has moved. continue goes on; after quit the block is still half-done.
+Spindle and coolant stay as they are: stop them yourself"""
+ENDS = ("idle", "stopped", "held", "refused")
 PLAIN = ("hold", "continue", "abandon", "reference", "tool", "optional", "delete")
 WORDS = ("load", "run", "start", "where", "status", "resume", "go", "help", "?", "quit", "exit", "tick", "mdi", *PLAIN)
 FIRST_TICKS, MOST_TICKS = 20, 1000
@@ -181,23 +193,18 @@ class Operator:
             if reply.startswith("refused K3"):
                 self._offer_place()
             return
-        self.screen.say(f"{self._half(status)} is taken up. Its outputs are switched on as they were; then the tool goes in"
-                        f" one straight line\nat the traverse rate from {place(status)} to where that segment begins. Z"
-                        " isn't lifted first.")
+        self.screen.say(TAKEN_UP.format(half=self._half(status), place=place(status)))
         if not self._await_motors() or not self._room():
             self._hold()
             return
         if any(map(self._is_refusal, self.console.ask("tick 2"))) or not self._await_motors():
             self._hold()
             return
-        said = self.screen.ask("The outputs are switched, and nothing has moved. Does the spindle turn, is the right tool in,"
-                               " is the straight way free?\nyes goes on, anything else holds: ")
-        if said.strip().lower() == "yes":
+        if self.screen.ask(SWITCHED).strip().lower() == "yes":
             self._work()
         else:
             self._hold()
-            self.screen.say("nothing has moved. continue goes on; after quit the block is still half-done. Spindle and coolant"
-                            " stay as they are: stop them yourself")
+            self.screen.say(NOT_MOVED)
 
     def _go(self, _: str) -> None:
         if not self.meter:
@@ -241,7 +248,7 @@ class Operator:
             replies = self.console.ask(f"tick {count}")
             self.chunk.lasted(time.monotonic() - begun)
             status = self.console.status()
-            ended = [reply.split()[0] for reply in replies if reply.split()[0] in ("idle", "stopped", "held", "refused")]
+            ended = [reply.split()[0] for reply in replies if reply.split()[0] in ENDS]
             self._show_messages(status)
             for reply in replies:
                 self._is_refusal(reply, status)
@@ -269,8 +276,8 @@ class Operator:
         return not self.screen.interrupted()
 
     def _await_motors(self) -> bool:
-        """Waits until the player has carried out what was handed out; False where somebody wants to hold before that, or
-        the player is gone."""
+        """Waits until the player has carried out what was handed out; False where somebody wants to hold before that,
+        or the player is gone."""
         try:
             if not self.meter or self.meter.drained(self._goes_on):
                 return True
@@ -307,7 +314,7 @@ class Operator:
         """The line that is being done."""
         if self.own:
             return f"your line: {self.own}"
-        return f"line {self.program.number(status.place)}: {self.program.line(status.place)}"
+        return self._line(status)
 
     def _where(self, _: str) -> None:
         status = self.console.status()
@@ -317,8 +324,8 @@ class Operator:
         if status.half != "none":
             parts.append(self._half(status))
         elif self.program.text:
-            line = self.program.line(status.place)
-            parts.append(f"next line {self.program.number(status.place)} of {self.program.count}" + (f": {line}" if line else ""))
+            line, number = self.program.line(status.place), self.program.number(status.place)
+            parts.append(f"next line {number} of {self.program.count}" + (f": {line}" if line else ""))
         self.screen.say("; ".join(parts))
         if report := self._report():
             self.screen.say(f"the motors are at {axes(report.at.split())}, {report.behind} lines behind")
@@ -331,8 +338,13 @@ class Operator:
         """The block that is half-done or under way."""
         if status.half == "mdi":
             return f"segment {status.segment} of {f'your line {self.own}' if self.own else 'a line of yours'}"
-        line = f"line {self.program.number(status.place)}: {self.program.line(status.place)}" if self.program.text else "the program"
-        return f"segment {status.segment} of {line}"
+        if not self.program.text:
+            return f"segment {status.segment} of a line of the program"
+        return f"segment {status.segment} of {self._line(status)}"
+
+    def _line(self, status: Status) -> str:
+        """The program's line at the place."""
+        return f"line {self.program.number(status.place)}: {self.program.line(status.place)}"
 
     def _report(self) -> Report | None:
         try:
@@ -364,7 +376,8 @@ class Operator:
 
     def _offer_place(self) -> None:
         report = self._report()
-        self.screen.say("where does the machine stand? reference X Y Z" + (f"; the player says: reference {report.at}" if report else ""))
+        said = f"; the player says: reference {report.at}" if report else ""
+        self.screen.say("where does the machine stand? reference X Y Z" + said)
 
     def _taken(self, reply: str) -> bool:
         return not self._is_refusal(reply)
@@ -374,7 +387,7 @@ class Operator:
         if not reply.startswith("refused"):
             return False
         of_line = status is not None and re.match(r"refused [EBCYX]\d", reply)
-        where = f"line {self.program.number(status.place)}: {self.program.line(status.place)}\n  " if of_line else ""
+        where = f"{self._line(status)}\n  " if of_line else ""
         self.screen.say(where + explained(reply))
         return True
 

@@ -194,7 +194,8 @@ class Player:
             while (text := self._next()) is not None:
                 self._carry_out(text)
             if self.source.part():
-                raise BadLine(self.lines + 1, f"OUT ends in a part of a line: {self.source.part()[:60].decode('latin-1')!r}")
+                part = ascii(self.source.part()[:60].decode("latin-1"))
+                raise BadLine(self.lines + 1, f"OUT ends in a part of a line: {part}")
         except (BadLine, Stopped):
             self.pins.off()
             self.outputs = stopped(self.outputs)

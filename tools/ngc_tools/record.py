@@ -50,8 +50,10 @@ class Record:
                      ((out, "out"), (lines, "lines"), (size, "bytes"), (outputs, "outputs"), (reference, "reference"))]
             switch = parse(words[3], 4)
             x, y, z = map(nanometres, words[4].split(" "))
-            if len(text.encode("utf-8", "surrogateescape")) != SIZE or not isinstance(switch, Switch) or "".join(rest).strip():
-                raise ValueError("it has other lines")
+            if len(text.encode("utf-8", "surrogateescape")) != SIZE or "".join(rest).strip():
+                raise ValueError(f"it has other lines, or not {SIZE} bytes")
+            if not isinstance(switch, Switch):
+                raise ValueError("no outputs")
             return Record(words[0], int(words[1]), int(words[2]), switch, (x, y, z))
         except (ValueError, BadLine) as why:
             raise BadRecord(f"{path}: not a record of ngc-player: {why}") from None

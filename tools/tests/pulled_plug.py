@@ -1,6 +1,6 @@
 #!/usr/bin/env python3
-"""Pulls the plug: kills `ngc run` and the player together, at moments by chance, and counts the lines that no motor ever
-carries out.
+"""Pulls the plug: kills `ngc run` and the player together, at moments by chance, and counts the lines that no motor
+ever carries out.
 
     pulled_plug.py --ngc PATH [--moments N] [--ahead LINES | --unmetered] [--pipe BYTES] [--player PATH] [--seed N]
 
@@ -46,14 +46,14 @@ class Wrong(AssertionError):
 
 
 def program(blocks: int) -> bytes:
-    """Short moves of 0.05 mm at F600 up and down a stair, an arc, a hole, waits and switches."""
+    """Short moves of 0.05 mm at F600 to and fro on stairs, an arc, a hole, waits and switches."""
     lines = ["G17 G21 G40 G49 G54 G80 G90 G94", "M3 S1000", "G0 Z0.1", "G1 Z-0.1 F600"]
     x = y = 0
     for block in range(blocks):
         if block % 3 == 2:
-            y += 1
+            y += 1 if block // 30 % 2 == 0 else -1
         else:
-            x += 1
+            x += 1 if block // 21 % 2 == 0 else -1
         lines.append(f"G1 X{5 * x / 100:.2f} Y{5 * y / 100:.2f}")
         if block % 40 == 20:
             lines.append("G4 P0.002")
@@ -234,7 +234,8 @@ class Session:
     def __init__(self, folder: Path, device: Path, options: Options, stands: tuple[int, ...]) -> None:
         """Starts both; `stands` is where the motors are, in steps, as somebody has measured it."""
         self.folder, self.options = folder, options
-        self.fifo, self.socket, self.log, self.record = (folder / name for name in ("axis", "progress", "pins", "record"))
+        self.fifo, self.socket = folder / "axis", folder / "progress"
+        self.log, self.record = folder / "pins", folder / "record"
         for path in (self.fifo, self.socket, self.log):
             path.unlink(missing_ok=True)
         os.mkfifo(self.fifo)
@@ -305,13 +306,18 @@ class Session:
             count = self.meter.room() if self.meter else 500
             replies = self.console.ask(f"tick {count}")
             if any(reply.startswith("refused") for reply in replies):
-                raise Wrong(" ".join(replies)) if self.console.child.poll() is None and not self._pulled() else Ended(-9, replies)
+                if not self._pulled():
+                    raise Wrong(" ".join(replies))
+                raise Ended(-9, replies)
             if "idle" in replies or "stopped" in replies:
                 return
 
     def _pulled(self) -> bool:
-        """Whether the plug was pulled, by now or in a moment: a controller whose reader is gone refuses before it dies."""
-        return self.timer is not None and (self.timer.join(5) or not self.timer.is_alive())
+        """Whether the plug is being pulled: a controller whose reader is gone refuses before it is killed itself."""
+        if self.timer is None:
+            return False
+        self.timer.join(5)
+        return not self.timer.is_alive()
 
     def drain(self) -> None:
         """Waits until the player has carried out everything."""
@@ -392,7 +398,8 @@ def main() -> int:
     lost = sorted(result.lost)
     print(f"{len(lost)} moments in {time.monotonic() - begun:.0f} s; never carried out: {lost[0]} to {lost[-1]} lines,"
           f" median {statistics.median(lost):.0f}; {sum(map(bool, lost))} moments with any;"
-          f" {result.finished} jobs ended where the uncut one does, {result.ended_short} were cut after their last block")
+          f" {result.finished} jobs ended where the uncut one does, {result.ended_short} were cut after their last"
+          " block")
     return 0
 
 

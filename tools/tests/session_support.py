@@ -67,8 +67,8 @@ class InFolder(unittest.TestCase):
 
     def run_ngc(self, commands: str, out: str = "out") -> list[str]:
         """Gives commands to `ngc run` over mill.dev, and returns its replies."""
-        done = subprocess.run([ngc(), "run", "mill.dev", "first.toml", out], input=commands, capture_output=True, text=True,
-                              timeout=PATIENCE_S)
+        words = [ngc(), "run", "mill.dev", "first.toml", out]
+        done = subprocess.run(words, input=commands, capture_output=True, text=True, timeout=PATIENCE_S)
         return done.stdout.splitlines()
 
     def wait_for(self, what: str, holds: Callable[[], bool]) -> None:

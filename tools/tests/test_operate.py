@@ -106,12 +106,13 @@ class Scripted(InFolder):
                 "ngc> refused K3 PlaceUnknown: it isn't known where the machine stands: reference X Y Z\n"
                 "where does the machine stand? reference X Y Z\n"
                 "ngc> done 3\n")
-        asked = ("ngc> segment 0 of line 2: G0 X0.005 is taken up. Its outputs are switched on as they were; then the tool goes"
-                 " in one straight line\nat the traverse rate from X 0.001000 Y 0.000000 Z 0.000000 to where that segment"
-                 " begins. Z isn't lifted first.\n"
-                 "The outputs are switched, and nothing has moved. Does the spindle turn, is the right tool in, is the straight"
-                 " way free?\nyes goes on, anything else holds: ")
-        self.assertTrue(done.stdout.startswith(head + asked + "held; the lines in OUT are still carried out\n"), done.stdout)
+        asked = ("ngc> segment 0 of line 2: G0 X0.005 is taken up. Its outputs are switched on as they were; then the"
+                 " tool goes\nin one straight line at the traverse rate from X 0.001000 Y 0.000000 Z 0.000000 to where"
+                 " that segment begins.\nZ isn't lifted first.\n"
+                 "The outputs are switched, and nothing has moved. Does the spindle turn, is the right tool in, is the"
+                 " straight way free?\nyes goes on, anything else holds: ")
+        held = "held; the lines in OUT are still carried out\n"
+        self.assertTrue(done.stdout.startswith(head + asked + held), done.stdout)
         self.assertEqual(Path("out").read_text(), "S 1 1000.000000 0 0 0 0\n")
         typed = "reference 0.001 0 0\nresume\nyes\nquit\n"
         done = self.tool("ngc-operate", *operate("mill.dev", "first.toml", "out2"), text=typed)
@@ -122,7 +123,8 @@ class Scripted(InFolder):
     def test_tool_at_a_stop(self) -> None:
         """The tool in the spindle is named at M0."""
         Path("part.ngc").write_text("T1 M6\nM0\nM2\n")
-        done = self.tool("ngc-operate", *operate("mill.dev", "first.toml", "out"), text="tool 1 5\nload part.ngc\nrun\nquit\n")
+        typed = "tool 1 5\nload part.ngc\nrun\nquit\n"
+        done = self.tool("ngc-operate", *operate("mill.dev", "first.toml", "out"), text=typed)
         self.assertIn("stopped; the tool in the spindle is 1. run goes on\n", done.stdout)
 
     def test_cannot(self) -> None:
@@ -136,21 +138,23 @@ class Scripted(InFolder):
         cases = [
             (("mill.dev", "first.toml", "mill.dev"), "DEVICE and OUT are one file: mill.dev"),
             (("mill.dev", "link.dev", "out"), "DEVICE and SETTINGS are one file: mill.dev and link.dev"),
-            (("mill.dev", "none.toml", "out"), "none.toml: there are no such settings; docs/SETTINGS.md says how to write them"),
+            (("mill.dev", "none.toml", "out"), "none.toml: there are no such settings; docs/SETTINGS.md says how to"
+             " write them"),
             (("mill.dev", "folder", "out"), "folder: the settings can't be read: Is a directory"),
             (("none.dev", "first.toml", "out"), "none.dev: there is no such device; `ngc format none.dev` makes one"),
             (("folder", "first.toml", "out"), "folder: a folder, not a device"),
             (("short.dev", "first.toml", "out"), "short.dev: not a device: it has 600 bytes of 875,520; remove it, then"
              " `ngc format short.dev`"),
-            (("blank.dev", "first.toml", "out"), "blank.dev: not a device: it isn't formatted. `ngc format blank.dev` makes one"
-             " of it, AND OVERWRITES WHAT IT HOLDS"),
+            (("blank.dev", "first.toml", "out"), "blank.dev: not a device: it isn't formatted. `ngc format blank.dev`"
+             " makes one of it, AND OVERWRITES WHAT IT HOLDS"),
             (("mill.dev", "first.toml", "none/out"), f"none/out: there is no folder {self.folder}/none"),
             (("mill.dev", "first.toml", "folder"), "folder: a folder; OUT is a file, a named pipe or a serial line"),
-            (("mill.dev", "first.toml", "axis"), "axis: nobody reads this pipe yet, and `ngc run` would wait for a reader:"
-             " start the player first"),
-            (("mill.dev", "first.toml", "part"), "part: it ends in a part of a line, and the next line would stand on the same"
-             " one: give a new OUT, or cut that part off"),
-            (("mill.dev", "first.toml", "out", "--player", "none"), "none: no player listens there: No such file or directory"),
+            (("mill.dev", "first.toml", "axis"), "axis: nobody reads this pipe yet, and `ngc run` would wait for a"
+             " reader: start the player first"),
+            (("mill.dev", "first.toml", "part"), "part: it ends in a part of a line, and the next line would stand on"
+             " the same one: give a new OUT, or cut that part off"),
+            (("mill.dev", "first.toml", "out", "--player", "none"), "none: no player listens there: No such file or"
+             " directory"),
         ]
         for words, wanted in cases:
             done = self.tool("ngc-operate", *operate(*words))
@@ -166,15 +170,17 @@ class Scripted(InFolder):
             with open(name, "ab") as file:
                 fcntl.flock(file, fcntl.LOCK_EX)
                 done = self.tool("ngc-operate", *operate("mill.dev", "first.toml", "out"))
-            self.assertRegex(done.stderr, rf"^ngc-operate: {name}: {what} is in use by another process( \(\d+\))?; end that first\n$")
+            self.assertRegex(done.stderr, rf"^ngc-operate: {name}: {what} is in use by another process( \(\d+\))?; end"
+                             " that first\n$")
             self.assertEqual(done.returncode, 2)
 
     def test_refused_settings(self) -> None:
         """What `ngc` refuses itself is said with its sentence."""
         Path("first.toml").write_text(Path("first.toml").read_text().replace("period_us = 50", "period_us = 0"))
         done = self.tool("ngc-operate", *operate("mill.dev", "first.toml", "out"))
-        self.assertEqual((done.stderr, done.returncode), ("ngc-operate: ngc ended with status 2: refused S5 OutOfLimits: a number"
-                                                          " of the settings is beyond its limits\n", 2))
+        wanted = ("ngc-operate: ngc ended with status 2: refused S5 OutOfLimits: a number of the settings is beyond its"
+                  " limits\n")
+        self.assertEqual((done.stderr, done.returncode), (wanted, 2))
 
     def test_help(self) -> None:
         """The help has an example."""
@@ -235,8 +241,8 @@ class AtTerminal(InFolder):
 
     def test_session(self) -> None:
         """A program with a stop; a move that Enter holds, that goes on, and that Ctrl-C holds; a quit in its midst."""
-        terminal = Terminal(str(TOOLS / "ngc-operate"), *operate("mill.dev", "first.toml", "axis", "--player", "progress",
-                                                                "--ahead", "50"))
+        words = operate("mill.dev", "first.toml", "axis", "--player", "progress", "--ahead", "50")
+        terminal = Terminal(str(TOOLS / "ngc-operate"), *words)
         shown = terminal.read_to(PROMPT)
         for typed in (b"load part.ngc\n", b"run\n"):
             terminal.send(typed)
@@ -246,7 +252,8 @@ class AtTerminal(InFolder):
             enough = self.player.asked + 5  # it asks once as the work begins, then as long as it waits for room
             terminal.send(typed)
             shown += terminal.read_to(typed.replace(b"\n", b"\r\n"))
-            self.wait_for("it waits for the player", lambda: self.player.most_behind > 40 and self.player.asked > enough)
+            self.wait_for("it waits for the player",
+                          lambda: self.player.most_behind > 40 and self.player.asked > enough)
             terminal.send(key)
             shown += terminal.read_to(PROMPT)
         terminal.send(b"quit\n")
@@ -286,8 +293,8 @@ class AtTerminal(InFolder):
                          text="load part.ngc\nrun\nreference 0 0 0\nrun\nquit\n")
         lines = done.stdout.splitlines()
         self.assertIn("the player says: reference 0.000000 0.000000 0.000000", lines)
-        self.assertIn("ngc> the motors are at X 0.000000 Y 0.000000 Z 0.000000, and ngc takes them to be at X 1.000000 Y 0.000000"
-                      " Z 0.000000: reference 0.000000 0.000000 0.000000 first", lines)
+        self.assertIn("ngc> the motors are at X 0.000000 Y 0.000000 Z 0.000000, and ngc takes them to be at X 1.000000"
+                      " Y 0.000000 Z 0.000000: reference 0.000000 0.000000 0.000000 first", lines)
         self.assertIn("ngc> message, line 4: turn the part", lines)
 
     def test_other_player(self) -> None:

@@ -46,13 +46,13 @@ class Both:
 
     def play(self, *words: str) -> subprocess.CompletedProcess[str]:
         """Plays `out` to its end."""
-        return subprocess.run(self.words(*words, "--pins", "pins", "out", "first.toml", "position"), capture_output=True,
-                              text=True, timeout=PATIENCE_S)
+        command = self.words(*words, "--pins", "pins", "out", "first.toml", "position")
+        return subprocess.run(command, capture_output=True, text=True, timeout=PATIENCE_S)
 
     def begin(self, *words: str) -> subprocess.Popen[str]:
         """Starts it."""
-        child = subprocess.Popen(self.words(*words), stdin=subprocess.PIPE, stdout=subprocess.PIPE, stderr=subprocess.PIPE,
-                                 text=True)
+        child = subprocess.Popen(self.words(*words), stdin=subprocess.PIPE, stdout=subprocess.PIPE,
+                                 stderr=subprocess.PIPE, text=True)
         self.addCleanup(self._end, child)
         return child
 
@@ -106,14 +106,16 @@ class Both:
         Path("out").write_text(LINES)
         self.play("--untimed")
         Path("other").write_text("P 1 1 1 50\n")
-        done = subprocess.run(self.words("--untimed", "other", "first.toml", "position"), capture_output=True, text=True)
+        command = self.words("--untimed", "other", "first.toml", "position")
+        done = subprocess.run(command, capture_output=True, text=True)
         self.assertEqual(done.stdout.splitlines()[-1], "reference 0.003000 0.000000 0.000000")
         self.assertEqual(record().split("\n")[0], "lines 1")
 
     def test_wrong_line(self) -> None:
         """It stops at the first line that isn't one of OUT, with its number, and turns spindle and coolant off."""
-        for wrong in ("P 1 0 0", "P 1 0 0 49", "P 1 0 0 50P 1 0 0 50", "", "S 0 0 0 0 0 0", "D -1", "P 2 0 0 50", "P 1 0 0 50\r",
-                      "D 18446744073709551616", "P 1 0 0 50\0", "D 1 ", "S 0 0.000000 0 0 65 0", "x" * 5000, "P -0 0 0 50"):
+        for wrong in ("P 1 0 0", "P 1 0 0 49", "P 1 0 0 50P 1 0 0 50", "", "S 0 0 0 0 0 0", "D -1", "P 2 0 0 50",
+                      "P 1 0 0 50\r", "D 18446744073709551616", "P 1 0 0 50\0", "D 1 ", "S 0 0.000000 0 0 65 0",
+                      "x" * 5000, "P -0 0 0 50"):
             for name in ("pins", "position"):
                 Path(name).unlink(missing_ok=True)
             Path("out").write_text("S 1 5.000000 1 1 0 0\nP 1 0 0 50\n" + wrong + "\nP 1 0 0 50\n", newline="")
@@ -121,7 +123,8 @@ class Both:
             self.assertEqual(done.returncode, 1, wrong)
             self.assertTrue(done.stderr.startswith("out:3: "), done.stderr)
             self.assertEqual(Path("pins").read_text(), "S 1 5.000000 1 1 0 0\nP 1 0 0 50\noff\n", wrong)
-            self.assertEqual(record(), "lines 2\nbytes 32\noutputs S 0 5.000000 0 0 0 0\nreference 0.001000 0.000000 0.000000\n")
+            self.assertEqual(record(), "lines 2\nbytes 32\noutputs S 0 5.000000 0 0 0 0\n"
+                             "reference 0.001000 0.000000 0.000000\n")
 
     def test_part_of_a_line(self) -> None:
         """A line counts once its newline is there."""
@@ -185,7 +188,8 @@ class Both:
             self.wait_for("the record is there", lambda: os.path.exists("position") and "lines 2" in record())
             child.kill()
             child.wait()
-        self.assertEqual(record(), "lines 2\nbytes 24\noutputs S 0 0.000000 0 0 0 0\nreference 0.000000 0.001000 0.000000\n")
+        self.assertEqual(record(), "lines 2\nbytes 24\noutputs S 0 0.000000 0 0 0 0\n"
+                         "reference 0.000000 0.001000 0.000000\n")
 
     def test_cannot(self) -> None:
         """Files that can't be used are named, with status 2."""
@@ -279,7 +283,7 @@ class C(Both, InFolder):
         self.assertLess(len((TOOLS / "player.c").read_text().splitlines()), 300)
 
     def test_alike(self) -> None:
-        """Over the lines of a program with arcs, cycles, waits, switches and tools, both leave the same pins and record."""
+        """Over the lines of a program with an arc, a cycle, a wait and switches both leave the same pins and record."""
         self.device()
         text = ("G21 G90 G17\nM3 S1500\nG0 X1 Y1 Z1\nG2 X1.5 Y1.5 I0.5 F300\nG4 P0.01\nT1 M6\nM4\n"
                 "G83 X2 Y2 Z-0.5 R0.2 Q0.2\nG80 M8\nG0 X0 Y-0.5\nM2\n")
@@ -290,8 +294,8 @@ class C(Both, InFolder):
         self.assertEqual(ours[0], Path("out").read_text())
         for name in ("pins", "position"):
             Path(name).unlink()
-        python = [sys.executable, str(TOOLS / "ngc-player"), "--untimed", "--pins", "pins", "out", "first.toml", "position"]
-        subprocess.run(python, check=True, capture_output=True)
+        words = ["--untimed", "--pins", "pins", "out", "first.toml", "position"]
+        self.assertEqual(self.tool("ngc-player", *words).returncode, 0)
         self.assertEqual((Path("pins").read_text(), Path("position").read_bytes()), ours)
         self.assertEqual(Record.read("position").at_nm, (0, -500_000, 1_000_000))
         self.assertGreater(len(re.findall("^P", ours[0], re.M)), 5000)
