@@ -95,6 +95,7 @@ class Operator:
         self.over = False
         self.own = ""          # a line of the operator's that is under way
         self.motors = ""       # where the player said last that they are
+        self.gone = False      # whether the player stopped to answer
         self._doings: dict[str, Callable[[str], None]] = {
             "load": self._load, "run": self._run, "start": self._start, "where": self._where, "status": self._status,
             "resume": self._resume, "go": self._go, "help": self._help, "?": self._help, "quit": self._quit,
@@ -266,7 +267,8 @@ class Operator:
         try:
             return min(self.meter.room(self._goes_on), MOST_TICKS)
         except NoAnswer as why:
-            self.screen.say(f"{why}; nothing more is handed out")
+            self.gone = True
+            self.screen.say(f"{why}; nothing more is handed out. Quit, and start a player and this again")
             return 0
 
     def _goes_on(self, report: Report) -> bool:
@@ -288,9 +290,10 @@ class Operator:
 
     def _hold(self) -> None:
         reply = self.console.ask("hold")[0]
-        ahead = f"; up to {self.meter.limit} lines that are handed out are still carried out" if self.meter else \
-            "; the lines in OUT are still carried out"
-        self.screen.say(reply + (ahead if reply == "held" else ""))
+        if reply == "held" and not self.gone:
+            ahead = f"up to {self.meter.limit} lines that are handed out" if self.meter else "the lines in OUT"
+            reply += f"; {ahead} are still carried out"
+        self.screen.say(reply)
         self._where("")
 
     def _rest(self, ended: str) -> None:

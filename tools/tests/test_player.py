@@ -1,6 +1,7 @@
 """ngc-player, and player.c beside it: what is carried out, when, what is kept, and what is told."""
 import fcntl
 import os
+import random
 import re
 import signal
 import subprocess
@@ -14,6 +15,7 @@ sys.path.insert(0, str(Path(__file__).resolve().parent))
 
 from session_support import PATIENCE_S, TOOLS, InFolder  # noqa: E402
 
+from ngc_tools.out import BadLine, parse  # noqa: E402
 from ngc_tools.progress import Link, NoAnswer, Report  # noqa: E402
 from ngc_tools.record import Record  # noqa: E402
 
@@ -33,6 +35,26 @@ SHORT = {"--untimed": "-u", "--anew": "-n", "--pipe": "-b", "--progress": "-s", 
 def record(path: str = "position") -> str:
     """A record's text after its first line, without the blanks at its end."""
     return Path(path).read_text().split("\n", 1)[1].rstrip(" \n") + "\n"
+
+
+def damaged(line: str, chance: random.Random) -> str:
+    """The line, of one in thirty with a byte changed, added or left out."""
+    if chance.random() > 1 / 30:
+        return line
+    at = chance.randrange(len(line))
+    byte = chance.choice("0123456789 -.PDS\0\n\xe9")
+    return chance.choice((line[:at] + byte + line[at + 1:], line[:at] + byte + line[at:], line[:at] + line[at + 1:]))
+
+
+def accepted(text: bytes) -> tuple[list[bytes], int]:
+    """The lines up to the first that isn't one, and the number of that, 0 for none."""
+    *lines, part = text.split(b"\n")
+    for number, line in enumerate(lines, 1):
+        try:
+            parse(line, number, 50)
+        except BadLine:
+            return lines[:number - 1], number
+    return lines, len(lines) + 1 if part else 0
 
 
 class Both:
@@ -281,6 +303,23 @@ class C(Both, InFolder):
     def test_length(self) -> None:
         """It has less than 300 lines."""
         self.assertLess(len((TOOLS / "player.c").read_text().splitlines()), 300)
+
+    def test_by_chance(self) -> None:
+        """With bytes changed by chance it takes the lines that `parse` takes, up to the first that is none."""
+        chance = random.Random(7)
+        for _ in range(60):
+            whole = chance.choices(("P 1 0 -1 50", "D 100", "S 1 1000.000000 0 0 2 2"), k=20)
+            lines = [damaged(line, chance) for line in whole]
+            text = "\n".join(lines) + chance.choice(("\n", ""))
+            Path("out").write_text(text, encoding="latin-1", newline="")
+            for name in ("pins", "position"):
+                Path(name).unlink(missing_ok=True)
+            done = self.play("--untimed")
+            taken, wrong = accepted(text.encode("latin-1"))
+            pins = b"".join(line + b"\n" for line in taken) + b"off\n" * bool(wrong)
+            self.assertEqual(Path("pins").read_bytes(), pins, text)
+            said = (1, f"out:{wrong}") if wrong else (0, "")
+            self.assertEqual((done.returncode, done.stderr.partition(": ")[0]), said, text)
 
     def test_alike(self) -> None:
         """Over the lines of a program with an arc, a cycle, a wait and switches both leave the same pins and record."""
