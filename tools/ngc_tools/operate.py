@@ -12,6 +12,7 @@ from ngc_tools.console import Console, Status
 from ngc_tools.device import Device, NoDevice
 from ngc_tools.lines import Program
 from ngc_tools.meter import Meter
+from ngc_tools.position import Position, nanometres
 from ngc_tools.progress import NoAnswer, Report
 from ngc_tools.screen import Screen
 
@@ -86,8 +87,10 @@ class Chunk:
 class Operator:
     """A person's session. It sends no tick that nobody asked for, and hides no refusal."""
 
-    def __init__(self, console: Console, device: str | Path, screen: Screen, meter: Meter | None) -> None:
-        self.console, self.device, self.screen, self.meter = console, device, screen, meter
+    def __init__(self, console: Console, device: str | Path, step_nm: tuple[int, int, int], screen: Screen,
+                 meter: Meter | None) -> None:
+        """`step_nm` is the settings' size of one step of X, Y, Z."""
+        self.console, self.device, self.step_nm, self.screen, self.meter = console, device, step_nm, screen, meter
         self.program = Program(b"")
         self.told = 0          # messages of lines before this place are shown
         self.delete = False
@@ -356,7 +359,7 @@ class Operator:
             self.screen.say(str(why))
             return None
 
-    def _stored(self) -> Device:
+    def _stored(self) -> "Device | _Nothing":
         """What the device holds, which `ngc` has synced."""
         try:
             return Device.read(self.device)
@@ -365,17 +368,23 @@ class Operator:
 
     def _warn_place(self, status: Status) -> None:
         report = self._report()
-        if report and (report.at != " ".join(status.at) or not status.known):
+        if report and not (status.known and self._same(report, status)):
             self.screen.say(f"the player says: reference {report.at}")
 
     def _place_fits(self, status: Status) -> bool:
         """Whether the motors are where `ngc` takes them to be; says it where they aren't."""
         report = self._report()
-        if not report or report.behind or not status.known or report.at == " ".join(status.at):
+        if not report or report.behind or not status.known or self._same(report, status):
             return True
         self.screen.say(f"the motors are at {axes(report.at.split())}, and ngc takes them to be at {place(status)}:"
                         f" reference {report.at} first")
         return False
+
+    def _same(self, report: Report, status: Status) -> bool:
+        """Whether both say the same place, in whole steps."""
+        places = [Position(self.step_nm, [nanometres(number) for number in at]).steps
+                  for at in (report.at.split(), status.at)]
+        return places[0] == places[1]
 
     def _offer_place(self) -> None:
         report = self._report()
@@ -396,7 +405,7 @@ class Operator:
 
 
 class _Nothing:
-    """A device that can't be read."""
+    """What is shown of a device that can't be read."""
 
     program = b""
     slot = 0

@@ -95,9 +95,9 @@ def session(ngc: str, given: argparse.Namespace, meter: Meter | None, pipe: int 
     """From the start of `ngc` to its end. Raises Ended where it ends by itself."""
     screen = Screen()
     console = Console(ngc, given.device, given.settings, given.out, Patience(screen))
-    operator = Operator(console, given.device, screen, meter)
     try:
         console.status()
+        operator = Operator(console, given.device, Settings.read(given.settings).step_nm, screen, meter)
         said = bound(given, meter, pipe)
         if pipe is not None:
             os.close(pipe)

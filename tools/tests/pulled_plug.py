@@ -103,10 +103,8 @@ def run_uncut(ngc: str, folder: Path, text: bytes) -> Uncut:
             break
     console.quit()
     whole = out.read_bytes()
-    def index(size: int) -> int:
-        return whole.count(b"\n", 0, size)
-    return Uncut(text, whole.splitlines(), {key: index(size) for key, size in segments.items()},
-                 {key: index(size) for key, size in places.items()})
+    return Uncut(text, whole.splitlines(), {key: whole.count(b"\n", 0, size) for key, size in segments.items()},
+                 {key: whole.count(b"\n", 0, size) for key, size in places.items()})
 
 
 @dataclass
@@ -149,34 +147,31 @@ class Job:
         """From power on to the cut, or to the end; True where the program is at its end."""
         self.sessions += 1
         session = Session(self.folder, self.device, self.options, self.stands)
-        begins, back = 0, 0
         try:
             status = session.console.status()
             begins = self._next_line(status)
             if self.sessions > 1:
-                lost = max(0, begins - self.done)
-                result.lost.append(lost)
-                if self.options.ahead and lost > self.options.ahead:
-                    raise Wrong(f"{lost} lines are never carried out, and the bound is {self.options.ahead}: {status}")
-            self.done = max(self.done, begins)
+                self._note_lost(result, begins)
             if begins == len(self.uncut.lines):
                 result.ended_short += 1
-                session.kill()
                 return True
             back = self._take_up(session, status, begins)
             if cut:
                 session.kill_after(self.chance.uniform(0, self.options.longest_s))
-            session.work()
-            session.forget_kill()
-            ended = True
-        except (Ended, NoAnswer):
-            ended = False
-        if ended:
-            session.end()
-        self._look(session, begins, back, ended)
-        if ended:
-            result.finished += 1
-        return ended
+            ended = session.work_on()
+            self._look(session, begins, back, ended)
+            result.finished += ended
+            return ended
+        finally:
+            session.kill()
+
+    def _note_lost(self, result: Result, begins: int) -> None:
+        """Notes how many lines the last cut lost. Raises Wrong where it is more than the bound."""
+        lost = max(0, begins - self.done)
+        result.lost.append(lost)
+        if self.options.ahead and lost > self.options.ahead:
+            raise Wrong(f"{lost} lines before line {begins} are never carried out; the bound is {self.options.ahead}")
+        self.done = max(self.done, begins)
 
     def _next_line(self, status: Status) -> int:
         """The index of the line that comes next by the status."""
@@ -217,7 +212,7 @@ class Job:
         stood = self.stands
         self.stands = steps_after(got, self.stands)
         if len(got) >= back:
-            there = steps_after([line for line in way], stood)
+            there = steps_after(way, stood)
             if there != self.uncut.at(begins):
                 raise Wrong(f"the way back leads to {there}, and the segment begins at {self.uncut.at(begins)}")
             if worked != self.uncut.lines[begins:begins + len(worked)]:
@@ -246,6 +241,7 @@ class Session:
         self.meter = Meter(self.link, options.ahead) if options.ahead else None
         self.console = Console(options.ngc, device, folder / "settings.toml", self.fifo)
         self.timer: threading.Timer | None = None
+        self.over = False
 
     def _start_player(self) -> int:
         words = [self.fifo, self.folder / "settings.toml", self.record]
@@ -293,12 +289,21 @@ class Session:
             except ProcessLookupError:
                 pass
 
-    def forget_kill(self) -> None:
-        """Lets it go on, if it isn't killed yet. Raises Ended where it is."""
-        if self.timer:
-            self.timer.cancel()
-            self.timer.join()
-        self.console.status()
+    def work_on(self) -> bool:
+        """Works until the program is at its end, and ends both as an operator does; False where the plug was pulled."""
+        try:
+            self.work()
+            if self.timer:
+                self.timer.cancel()
+                self.timer.join()
+            self.drain()
+            self.console.status()
+        except (Ended, NoAnswer):
+            self.kill()
+            return False
+        self.console.quit()
+        self._reap()
+        return True
 
     def work(self) -> None:
         """Gives ticks until there is nothing to do. Raises Ended or NoAnswer where the plug was pulled."""
@@ -324,33 +329,23 @@ class Session:
         while self.link.ask().behind:
             time.sleep(0.002)
 
-    def end(self) -> None:
-        """Ends both as an operator does."""
-        self.drain()
-        self.console.quit()
-        self._reap()
-
     def kill(self) -> None:
-        """Kills both now."""
-        self._kill_both()
-        self._reap()
+        """Kills both now, if they aren't over."""
+        if self.timer:
+            self.timer.cancel()
+            self.timer.join()
+        if not self.over:
+            self._kill_both()
+            self._reap()
 
     def _reap(self) -> None:
+        self.over = True
         os.waitpid(self.player, 0)
         self.console.close_pipes()
         self.link.close()
 
     def pins(self) -> list[bytes]:
         """The lines that the pins got, once both have ended."""
-        if self.timer:
-            self.timer.join()
-        if self.console.child.poll() is None or self.console.child.stdout and not self.console.child.stdout.closed:
-            self.kill()
-        else:
-            try:
-                self._reap()
-            except ChildProcessError:
-                pass
         return self.log.read_bytes().splitlines() if self.log.exists() else []
 
     def check_record(self, got: list[bytes], stood: tuple[int, ...]) -> None:

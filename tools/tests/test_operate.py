@@ -297,6 +297,15 @@ class AtTerminal(InFolder):
                       " Y 0.000000 Z 0.000000: reference 0.000000 0.000000 0.000000 first", lines)
         self.assertIn("ngc> message, line 4: turn the part", lines)
 
+    def test_motors_between_steps(self) -> None:
+        """A point between two steps is the same place as the step that the motors went to."""
+        self.run_ngc("mdi G0 X-0.0004\ntick 9999\n", "before")
+        done = self.tool("ngc-operate", *operate("mill.dev", "first.toml", "axis", "--player", "progress"),
+                         text="load part.ngc\nrun\nquit\n")
+        self.assertNotIn("reference", done.stdout)
+        self.assertIn("idle; X -0.000400 Y 0.000000 Z 0.000000\n", done.stdout)
+        self.assertIn("ngc> message, line 4: turn the part\n", done.stdout)
+
     def test_other_player(self) -> None:
         """The player of another OUT isn't taken."""
         done = self.tool("ngc-operate", *operate("mill.dev", "first.toml", "out", "--player", "progress"))
