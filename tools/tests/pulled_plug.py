@@ -181,7 +181,9 @@ class Job:
             return self.uncut.segments[status.place, status.segment]
         if status.half != "none":
             raise Wrong(f"a block of the operator's: {status}")
-        return self.uncut.places[status.place] if status.place else len(self.uncut.lines)
+        if status.place or not self.done:
+            return self.uncut.places[status.place]
+        return len(self.uncut.lines)  # after M2 the place is the beginning again
 
     def _take_up(self, session: "Session", status: Status, begins: int) -> int:
         """Gives the commands of docs/RECOVERY.md; returns how many lines the way back has."""

@@ -213,6 +213,17 @@ class Both:
         self.assertEqual(record(), "lines 2\nbytes 24\noutputs S 0 0.000000 0 0 0 0\n"
                          "reference 0.000000 0.001000 0.000000\n")
 
+    def test_one_record(self) -> None:
+        """A record has one player at a time."""
+        os.mkfifo("out")
+        self.begin("--progress", "progress", "out", "first.toml", "position")
+        self.linked()
+        Path("other").write_text(LINES)
+        command = self.words("--untimed", "other", "first.toml", "position")
+        done = subprocess.run(command, capture_output=True, text=True)
+        self.assertEqual(done.returncode, 2)
+        self.assertIn("player: position: another player keeps it", done.stderr)
+
     def test_cannot(self) -> None:
         """Files that can't be used are named, with status 2."""
         Path("out").write_text(LINES)
@@ -251,6 +262,21 @@ class Python(Both, InFolder):
             link.go()
             self.wait_for("it goes on", lambda: link.ask().carried == 6)
         self.assertEqual(child.wait(PATIENCE_S), 0)
+
+    def test_live(self) -> None:
+        """It shows the line and the position while it works."""
+        Path("out").write_text("P 1 0 0 50\nD 1000000\nD 0\n")
+        done = self.play("--live")
+        self.assertEqual(done.returncode, 0)
+        self.assertIn("line 2: 0.001000 0.000000 0.000000", done.stderr)
+
+    def test_spindle(self) -> None:
+        """Told so, it waits while the spindle starts, turns the other way, and stops, and not at other switches."""
+        Path("out").write_text("S 1 5.000000 0 0 0 0\nS 1 5.000000 0 1 0 0\nS 2 5.000000 0 1 0 0\n"
+                               "S 0 5.000000 0 0 0 0\nS 0 5.000000 0 0 0 0\n")
+        begun = time.monotonic()
+        self.assertEqual(self.play("--untimed", "--spindle", "0.2").returncode, 0)
+        self.assertGreater(time.monotonic() - begun, 0.6)
 
     def test_at(self) -> None:
         """Where the machine stands can be told."""
