@@ -157,13 +157,17 @@ class Job:
                 return True
             back = self._take_up(session, status, begins)
             if cut:
-                session.kill_after(self.chance.uniform(0, self.options.longest_s))
+                session.kill_after(self._moment())
             ended = session.work_on()
             self._look(session, begins, back, ended)
             result.finished += ended
             return ended
         finally:
             session.kill()
+
+    def _moment(self) -> float:
+        """When to pull the plug, in seconds: often soon, as in an approach."""
+        return self.chance.uniform(0, self.options.longest_s / self.chance.choice((1, 1, 6, 6, 6)))
 
     def _note_lost(self, result: Result, begins: int) -> None:
         """Notes how many lines the last cut lost. Raises Wrong where it is more than the bound."""
@@ -387,7 +391,7 @@ def main() -> int:
     parser.add_argument("--unmetered", action="store_true")
     parser.add_argument("--pipe", type=int, default=4096)
     parser.add_argument("--player", help="the player of tools/player.c, in place of ngc-player")
-    parser.add_argument("--longest", type=float, default=0.1, help="a cut comes after so many seconds at most")
+    parser.add_argument("--longest", type=float, default=0.3, help="a cut comes after so many seconds at most")
     given = parser.parse_args()
     options = Options(given.ngc, None if given.unmetered else given.ahead, given.pipe, given.player, given.longest)
     begun = time.monotonic()

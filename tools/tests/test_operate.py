@@ -4,13 +4,17 @@ import os
 import sys
 import threading
 import unittest
+from contextlib import redirect_stderr
+from io import StringIO
 from pathlib import Path
 
 sys.path.insert(0, str(Path(__file__).resolve().parent))
 
 from session_support import TOOLS, InFolder, Terminal, ngc  # noqa: E402
 
+from ngc_tools import faults  # noqa: E402
 from ngc_tools.lines import Program  # noqa: E402
+from ngc_tools.operate_main import main  # noqa: E402
 from ngc_tools.progress import Listener, Report  # noqa: E402
 
 PROMPT = b"ngc> "
@@ -89,7 +93,6 @@ class Scripted(InFolder):
 
     def test_session(self) -> None:
         """A session, to the byte."""
-        from ngc_tools import faults
         done = self.tool("ngc-operate", *operate("mill.dev", "first.toml", "out"), text=TYPED)
         sentences = {code: faults.sentence(code) for code in ("X1", "X2", "E1")}
         self.assertEqual((done.stdout, done.stderr, done.returncode), (SESSION.format(**sentences), "", 0))
@@ -157,8 +160,9 @@ class Scripted(InFolder):
              " directory"),
         ]
         for words, wanted in cases:
-            done = self.tool("ngc-operate", *operate(*words))
-            self.assertEqual((done.stdout, done.stderr, done.returncode), ("", f"ngc-operate: {wanted}\n", 2), words)
+            with redirect_stderr(StringIO()) as said:
+                self.assertEqual(main(operate(*words)), 2, words)
+            self.assertEqual(said.getvalue(), f"ngc-operate: {wanted}\n", words)
         self.assertFalse(os.path.exists("out"))
         done = self.tool("ngc-operate", "--ngc", "none", "mill.dev", "first.toml", "out")
         self.assertEqual(done.returncode, 2)

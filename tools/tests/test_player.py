@@ -60,7 +60,7 @@ def accepted(text: bytes) -> tuple[list[bytes], int]:
 class Both:
     """What the player in Python and the one in C have to do alike."""
 
-    command: list[str]
+    wrong = ["P 1 0 0", "P 1 0 0 49", "", "x" * 5000]
 
     def words(self, *words: str) -> list[str]:
         """The command line, by the long names of ngc-player's options."""
@@ -135,9 +135,7 @@ class Both:
 
     def test_wrong_line(self) -> None:
         """It stops at the first line that isn't one of OUT, with its number, and turns spindle and coolant off."""
-        for wrong in ("P 1 0 0", "P 1 0 0 49", "P 1 0 0 50P 1 0 0 50", "", "S 0 0 0 0 0 0", "D -1", "P 2 0 0 50",
-                      "P 1 0 0 50\r", "D 18446744073709551616", "P 1 0 0 50\0", "D 1 ", "S 0 0.000000 0 0 65 0",
-                      "x" * 5000, "P -0 0 0 50"):
+        for wrong in self.wrong:
             for name in ("pins", "position"):
                 Path(name).unlink(missing_ok=True)
             Path("out").write_text("S 1 5.000000 1 1 0 0\nP 1 0 0 50\n" + wrong + "\nP 1 0 0 50\n", newline="")
@@ -310,6 +308,9 @@ class Python(Both, InFolder):
 
 class C(Both, InFolder):
     """tools/player.c, built by cc."""
+
+    wrong = [*Both.wrong, "P 1 0 0 50P 1 0 0 50", "S 0 0 0 0 0 0", "D -1", "P 2 0 0 50", "P 1 0 0 50\r", "P 1 0 0 50\0",
+             "D 18446744073709551616", "D 1 ", "S 0 0.000000 0 0 65 0", "P -0 0 0 50", "D 00", "S 3 0.000000 0 0 0 0"]
 
     @classmethod
     def setUpClass(cls) -> None:
