@@ -234,7 +234,8 @@ static int play(void) {
     if (!why) return 0;
     fprintf(stderr, "%s:%" PRIu64 ": %s; stopped, spindle and coolant off\n", out_path, state.lines + 1, why);
     pins(&off, "off\n", 4);
-    state.outputs.spindle = state.outputs.mist = state.outputs.flood = 0;
+    pthread_mutex_lock(&lock), state.outputs.spindle = state.outputs.mist = state.outputs.flood = 0;
+    pthread_mutex_unlock(&lock);
     return 1;
 }
 
@@ -263,8 +264,7 @@ static void stop(int number) { (void)number; stopping = 1; }
 int main(int count, char **words) {
     const struct sigaction heed = { .sa_handler = stop };
     int anew = 0, pipe_bytes = 4096, option;
-    struct stat what;
-    pthread_t keeper;
+    struct stat what; pthread_t keeper;
     while ((option = getopt(count, words, "unb:s:p:")) != -1)
         if (option == 'u') timed = 0;
         else if (option == 'n') anew = 1;
