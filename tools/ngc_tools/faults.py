@@ -151,7 +151,7 @@ _BY_CODE = {fault.code: fault for fault in FAULTS}
 _CURES = tuple((code, re.compile(word, re.IGNORECASE | re.DOTALL), cure) for code, word, cure in (
     ("E1", ";.*", "write the comment in ( ), with no ( or ) in it"),
     ("E1", r"O *[0-9].*", "leave the program's number out; there are no subroutines and no loops"),
-    ("E1", "[UVW].*", "leave it out: there are three axes, X, Y and Z"),
+    ("E1", r"[UVW] *[-+0-9.#\[].*", "leave it out: there are three axes, X, Y and Z"),
     ("E1", r"[()].*", "write a comment with no ( or ) in it, and close it"),
     ("E1", ":.*", "leave the program's number out"),
     ("E1", "%.*", "leave it out: a percent sign stands alone on its line, the first one before all other lines"),
@@ -189,10 +189,13 @@ def sentence(code: str) -> str | None:
 
 def cure(code: str, marked: list[bytes]) -> str:
     """What to write in place of the `marked` words, those without which the fault goes away; they may be none."""
+    said = {}
     for word in marked:
         text = word.decode("latin-1").strip(" \t")
-        for of, shape, said in _CURES:
-            if of == code and shape.fullmatch(text):
-                return said
-    found = fault(code)
-    return found.cure if found else "look it up in docs/LANGUAGE.md"
+        found = next((cure for of, shape, cure in _CURES if of == code and shape.fullmatch(text)), None)
+        if found and found not in said.values():
+            said[text] = found
+    if len(said) > 1:
+        return "; ".join(f"{word}: {cure}" for word, cure in said.items())
+    known = fault(code)
+    return next(iter(said.values()), known.cure if known else "look it up in docs/LANGUAGE.md")

@@ -1,5 +1,5 @@
-"""The moves of a job: of canonical text, or of the lines of OUT. Lengths are whole nanometres, times whole microseconds;
-all is computed in whole numbers, so it is the same on any machine."""
+"""The moves of a job: of canonical text, or of the lines of OUT. Lengths are whole nanometres, times whole
+microseconds; all is computed in whole numbers, so it is the same on any machine."""
 from collections.abc import Iterable, Iterator
 from dataclasses import dataclass
 from math import isqrt
@@ -155,7 +155,7 @@ def _between(p: Pair, q: Pair, halvings: int) -> list[Pair]:
 def of_out(text: bytes, settings: Settings, at: Point = (0, 0, 0)) -> list[Step]:
     """The moves and waits of the whole lines of OUT; the machine stands at the point `at` first.
 
-    A move is all pulses between two other lines. Its points are some thousandth of the picture apart. Raises BadLine."""
+    A move is all pulses between two other lines. Its points are a thousandth of the picture apart. Raises BadLine."""
     lines = text.split(b"\n")[:-1]
     read = {line: parse(line, lines.index(line) + 1, settings.period_us) for line in dict.fromkeys(lines)}
     steps = [_rounded(nm, step) for nm, step in zip(at, settings.step_nm, strict=True)]

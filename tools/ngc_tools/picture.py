@@ -108,7 +108,7 @@ def _view(view: View, chords: list[tuple[int, Point, Point]], spans: list[Span],
     right, up = spans[view.right], spans[view.up]
     place = f'x="{view.x}" y="{view.y}" width="{right.size}" height="{up.size}"'
     said = [f'<svg {place} viewBox="{right.low} {-up.high} {right.size} {up.size}">']
-    thick = max(width // 400, 1)
+    thick = max(width // 320, 1)
     said.append(f'<rect x="{right.low}" y="{-up.high}" width="{right.size}" height="{up.size}" fill="#f7f7f7"/>')
     if settings:
         x, y = micrometres(settings.low_nm[view.right]), -micrometres(settings.high_nm[view.up])
@@ -132,7 +132,8 @@ def _view(view: View, chords: list[tuple[int, Point, Point]], spans: list[Span],
 def _style(shade: int, thick: int) -> str:
     if shade < 0:
         return f'stroke="{_TRAVERSE}" stroke-width="{max(thick // 2, 1)}" stroke-dasharray="{4 * thick} {3 * thick}"'
-    red, green, blue = ((a * (LEVELS - 1 - shade) + b * shade) // (LEVELS - 1) for a, b in zip(_SHALLOW, _DEEP, strict=True))
+    ends = zip(_SHALLOW, _DEEP, strict=True)
+    red, green, blue = ((a * (LEVELS - 1 - shade) + b * shade) // (LEVELS - 1) for a, b in ends)
     return (f'stroke="#{red:02x}{green:02x}{blue:02x}" stroke-width="{thick}" stroke-linecap="round" '
             'stroke-linejoin="round"')
 

@@ -1,7 +1,9 @@
-"""Every refused line of a program, and the words without which its fault goes away. `ngc dry` alone decides: all that is
-done here is to ask it again, with words or lines left out."""
+"""Every refused line of a program, and the words without which its fault goes away. `ngc dry` alone decides: all that
+is done here is to ask it again, with words or lines left out."""
+import os
 import re
 from collections.abc import Callable, Iterator
+from concurrent.futures import ThreadPoolExecutor
 from dataclasses import dataclass
 
 from ngc_tools.run import Refusal
@@ -13,7 +15,7 @@ Ask = Callable[[bytes], Refusal | None]
 # that is cut wrongly makes a caret too long or leaves it out, and nothing more.
 _PIECE = re.compile(
     rb"\((?:[^()]|\([^()]*\))*\)|\([^()]*$|;.*|[\x80-\xff]+"
-    rb"|#[ \t]*[0-9.]+[ \t]*=[ \t]*(?:[-+]?[0-9. \t]*[0-9.]|\[[^;()]*\]|#[ \t]*[0-9.]+)"
+    rb"|#[ \t]*(?:[0-9.]+|\[[^;()=]*\])[ \t]*=[ \t]*(?:[-+]?[0-9. \t]*[0-9.]|\[[^;()=]*\]|#[ \t]*[0-9.]+)"
     rb"|[A-Za-z][ \t]*(?:\[[^;()]*?\](?![^\[;()]*\])|[-+]?[0-9. \t]*[0-9.]|#[ \t]*[0-9.]+)?|.", re.DOTALL)
 
 
@@ -27,15 +29,14 @@ class Piece:
 
 @dataclass(frozen=True, slots=True)
 class Finding:
-    """A refused line. `text` is the line as it was asked, without its end: what an earlier finding of the line left out
-    is blank in it. `marks` are the pieces without which the fault goes away; `from_here` says that it is but the first
-    piece that makes the line unreadable. `left_out` is what was left out to go on: pieces, `None` for the line as a
-    whole; `added` is what was written at its end instead."""
+    """A refused line. `text` is the line as it was asked, without its end: what an earlier finding of the line left
+    out is blank in it. `marks` are the pieces without which the fault goes away: without each of them alone, or where
+    that is so of none, without all of them. `left_out` is what was left out to go on: pieces, or `None` for the line as
+    a whole; `added` is what was written at its end instead."""
 
     refusal: Refusal
     text: bytes
     marks: tuple[Piece, ...] = ()
-    from_here: bool = False
     left_out: tuple[Piece, ...] | None = None
     added: bytes = b""
 
@@ -67,7 +68,9 @@ class Lines:
     """The lines of a program, each with its end."""
 
     def __init__(self, text: bytes) -> None:
-        self.all = text.splitlines(keepends=True) if b"\r" not in text else _kept(text)
+        self.all = [line + b"\n" for line in text.split(b"\n")]
+        last = self.all.pop()[:-1]  # what stands after the last newline is a line if it isn't empty
+        self.all += [last] if last else []
 
     def body(self, number: int) -> bytes:
         """Line `number`, from 1, without its end."""
@@ -91,19 +94,13 @@ class Lines:
         return body + self.all[number - 1][len(self.body(number)):]
 
 
-def _kept(text: bytes) -> list[bytes]:
-    lines = [line + b"\n" for line in text.split(b"\n")]
-    lines[-1] = lines[-1][:-1]
-    return lines if lines[-1] else lines[:-1]
+def find_all(lines: Lines, ask: Ask, most: int = 0) -> Iterator[Finding]:
+    """Each refusal of a program in turn, `most` of them at most, 0 for all. `lines` are at last what it went on with.
 
-
-def find_all(text: bytes, ask: Ask, most: int = 0) -> Iterator[Finding]:
-    """Each refusal of a program in turn, `most` of them at most, 0 for all. `ask` may raise what it likes.
-
-    After a refusal it goes on with the line without a marked piece, if it is taken so; else with X1's line and an F; else
-    with a blank line in its place. So a line may be refused more than once, each time for another fault."""
-    lines = Lines(text)
-    refusal = ask(text)
+    After X1 it goes on with an F on the line; else with the line without a marked piece, or without all of them, if it
+    is taken so; where one piece alone is marked without it in any case, so that the line's next fault is told too; else
+    with a blank line in its place."""
+    refusal = ask(b"".join(lines.all))
     count = 0
     while refusal is not None and (count < most or not most):
         if refusal.line > len(lines.all):
@@ -121,34 +118,35 @@ def _looked_at(lines: Lines, refusal: Refusal, ask: Ask) -> tuple[Finding, bytes
     number, code = refusal.line, refusal.code
     body = lines.body(number)
 
-    def asked(other: bytes) -> Refusal | None:
-        """What is refused of the line itself, if this stands in its place."""
-        found = ask(lines.beginning(number, other))
-        return found if found is not None and found.line == number else None
+    def asked(left_out: tuple[Piece, ...], added: bytes = b"") -> str | None:
+        """The code that the line itself is refused with, if these pieces are left out."""
+        found = ask(lines.beginning(number, without(body, left_out, code) + added))
+        return found.code if found is not None and found.line == number else None
 
-    marks, taken = [], []
-    for piece in pieces(body):
-        found = asked(without(body, (piece,), code))
-        if found is None or found.code != code:
-            marks.append(piece)
-        if found is None:
-            taken.append(piece)
-    if not marks and code == "E1":
-        begin = _first_unreadable(body, asked)
-        return Finding(refusal, body, begin, True), b""
-    for left_out in ([(taken[0],)] if taken else [tuple(marks)] if len(marks) > 1 else []):
+    all_pieces = pieces(body)
+    with ThreadPoolExecutor(os.cpu_count()) as pool:
+        each = dict(zip(all_pieces, pool.map(lambda piece: asked((piece,)), all_pieces), strict=True))
+    marks = tuple(piece for piece, found in each.items() if found != code)
+    taken = [piece for piece in marks if each[piece] is None]
+    if not marks:
+        marks = _together(tuple(each), code, asked)
+    if code == "X1" and asked((), b" F100") is None:
+        return Finding(refusal, body, marks, added=b" F100"), body + b" F100"
+    for left_out in ((taken[0],) if taken else (), marks):
         other = without(body, left_out, code)
-        if other.strip() and asked(other) is None:
-            return Finding(refusal, body, tuple(marks), left_out=left_out), other
-    if code == "X1" and asked(body + b" F100") is None:
-        return Finding(refusal, body, tuple(marks), added=b" F100"), body + b" F100"
-    return Finding(refusal, body, tuple(marks)), b""
+        alone = len(left_out) == 1  # then what is refused of the rest is told next
+        if left_out and other.strip() and (alone or asked(left_out) is None):
+            return Finding(refusal, body, marks, left_out), other
+    return Finding(refusal, body, marks), b""
 
 
-def _first_unreadable(body: bytes, asked: Ask) -> tuple[Piece, ...]:
-    """The first piece up to which the line can't be read, the line up to the piece before it being readable."""
-    for piece in pieces(body):
-        found = asked(body[:piece.end])
-        if found is not None and found.code == "E1":
-            return (piece,)
-    return ()
+def _together(all_pieces: tuple[Piece, ...], code: str, asked: Callable[..., str | None]) -> tuple[Piece, ...]:
+    """Pieces without all of which the fault goes away, and with any of which it stays; none, if it never goes away."""
+    left_out = all_pieces
+    if asked(left_out) == code:
+        return ()
+    for piece in all_pieces:
+        fewer = tuple(other for other in left_out if other != piece)
+        if asked(fewer) != code:
+            left_out = fewer
+    return left_out

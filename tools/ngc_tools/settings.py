@@ -27,9 +27,9 @@ class Settings:
     def read(path: str | Path) -> "Settings":
         """Reads the file. Raises BadSettings, or OSError where it can't be read. Limits aren't looked at."""
         table = read_table(path)
-        return Settings(_triple(path, table, "step_nm"), _triple(path, table, "low_nm"), _triple(path, table, "high_nm"),
-                        _whole(path, table, "traverse_nm_per_min"), _whole(path, table, "period_us"),
-                        _wholes(path, table, "tools_nm"))
+        step, low, high = (_triple(path, table, key) for key in ("step_nm", "low_nm", "high_nm"))
+        traverse, period = (_whole(path, table, key) for key in ("traverse_nm_per_min", "period_us"))
+        return Settings(step, low, high, traverse, period, _wholes(path, table, "tools_nm"))
 
     def fastest_nm_per_min(self, axis: int) -> int:
         """The rate of one step of this axis each `period_us`, rounded down: no move of the axis alone is faster."""

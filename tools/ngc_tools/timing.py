@@ -24,8 +24,8 @@ class NotTimed(Exception):
 def timed(ngc: str, settings: str | Path, steps: list[Step]) -> list[Step]:
     """The same steps, each move with the sum of its periods under these settings.
 
-    The moves are written as a program in machine millimetres, which `ngc run` runs over a new device in a folder that is
-    removed: `ngc` decides the pulses and their periods. Raises NotTimed, OSError, BadSettings."""
+    The moves are written as a program in machine millimetres, which `ngc run` runs over a new device in a folder that
+    is removed: `ngc` decides the pulses and their periods. Raises NotTimed, OSError, BadSettings."""
     moves = [step for step in steps if isinstance(step, Move)]
     times: list[int] = []
     shared = "/dev/shm" if Path("/dev/shm").is_dir() else None  # a sync costs nothing there
