@@ -1,4 +1,4 @@
-"""What the scripts of the gate share that run the program `ngc`: where it is, as the gate proved and built it, and a folder in memory."""
+"""What the scripts of the gate share that run the program `ngc`: where it is, as the gate proved and built it, devices that the cases keep, and a folder in memory."""
 import contextlib, os, shutil, sys, tempfile
 
 HERE = os.path.dirname(os.path.dirname(os.path.abspath(__file__)))
@@ -18,6 +18,17 @@ def contents(path):
             return file.read()
     except FileNotFoundError:
         return b""
+
+
+def stored_device(name):
+    """A device that the cases keep as rows of a sector, a place in it, and the bytes there; all other bytes are 0."""
+    device = bytearray(512 * 1710)
+    with open(f"{HERE}/crates/ngc_cases/data/{name}.hex") as rows:
+        for row in rows:
+            sector, place, digits = row.split()
+            start = 512 * int(sector) + int(place)
+            device[start : start + len(digits) // 2] = bytes.fromhex(digits)
+    return bytes(device)
 
 
 @contextlib.contextmanager

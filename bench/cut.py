@@ -3,18 +3,20 @@
 
 usage, at the top of the repository: bench/cut.py [JOBS [SEED]] [--ngc PATH] [--folder FOLDER] [--cuts N]
 
-Each job (100 where JOBS isn't given; made by jobs.py, by chance from SEED) is run to its end once, a tick and a status at a time: that
-gives the segments of each block with their lines of OUT, and the status after each entry. Then it is run again over another device, and
-its process is ended: first within a `load`, then within power on, right before one of the writes or syncs of that; and then at a moment taken
-by chance, up to N times (4) over the job: right before its n-th write to the device, its n-th sync, or its n-th line of OUT, by strace, and now and
-then, or where strace isn't there, by the clock: then none is surely within a `load`. Each time the device is read by examples/read_device.py, and
-`ngc run` is started again with a new OUT, asked for its status, told where the machine stands (by the pulses of all OUTs; now and then the
-axes were moved by hand besides), and goes on: `resume` where a block is half done, then the rest of the job.
+Each job (100 where JOBS isn't given; made by jobs.py, by chance from SEED) begins over a new device, by telling its tools, or, one in three, over one
+of format 1, which takes the tools of the settings; over a device of format 2 the settings name no tool. It is run to its end once, a tick and a status
+at a time: that gives the segments of each block with their lines of OUT, and the status after each entry. Then it is run again over another device, and
+its process is ended: over a device of format 1 twice within power on; then within a `load`, then within power on, right before one of the writes or
+syncs of that; and then at a moment taken by chance, up to N times (4) over the job: right before its n-th write to the device, its n-th sync, or its
+n-th line of OUT, by strace, and now and then, or where strace isn't there, by the clock: then none is surely within a `load`. Each time the device is
+read by examples/read_device.py, and `ngc run` is started again with a new OUT, asked for its status, told where the machine stands (by the pulses of all
+OUTs; now and then the axes were moved by hand besides), and goes on: `resume` where a block is half done, then the rest of the job.
 
-For each cut there has to be one moment of the session at which all of these were so: the lines of OUT, to the byte; what the device stands for,
-with the number of records in its log since it was last written anew as a whole; and the entries, of which the last `done N` that was written is the
-last or the one before. Power on has to show what the device stood for, under the next epoch, with an empty log. At the end the machine has to stand,
-and the device has to stand for all but the number of entries, as after the run that wasn't cut. Status 0 where that holds for each job.
+For each cut there has to be one moment of the session at which all of these were so: the lines of OUT, to the byte; what the device stands for, with
+its tool table, and the number of records in its log since it was last written anew as a whole; and the entries, of which the last `done N` that was
+written is the last or the one before. Power on has to show what the device stood for, under the next epoch, or over format 1 under the one after that
+in format 2, with an empty log. At the end the machine has to stand, and the device has to stand for all but the number of entries, as after the run that
+wasn't cut. Status 0 where that holds for each job.
 
 It builds ngc by rt where that is needed and no PATH is given."""
 import argparse, collections, contextlib, functools, math, os, random, re, shutil, subprocess, sys, tempfile, threading, time
@@ -30,7 +32,10 @@ OFF = "S 0 0.000000 0 0 0 0\n"
 # The first sector of the log, as docs/DEVICE.md has it.
 LOG = 686
 
-# An entry of the job: "load", "mdi" or "line" of a program, its text (none of a line), its segments as lines of OUT, and after it
+# The device of format 1 with which some jobs begin: rows of a sector, a place in it, and the bytes there.
+FORMAT_1 = os.path.join(here, "crates/ngc_cases/data/format1/formatted.hex")
+
+# An entry of the job: "load", "mdi", "tool" or "line" of a program, its text (none of a line), its segments as lines of OUT, and after it
 # the place, the point and what the controller does; and the parts of its record, none of a load.
 Step = collections.namedtuple("Step", "kind text segments place point activity parts")
 # What a device stands for: the entries, the number of steps that are done, the segment of a half-done block, where the machine
@@ -39,10 +44,12 @@ State = collections.namedtuple("State", "entries done half at records kind")
 NOTHING, SEGMENT, TOLD, APPROACH, APPROACHED = (
     "nothing half done", "a segment open", "a reference told", "an approach open", "an approach done")
 POWER_ON, LOAD, MORE, LATE, TORN = "in power on", "in a load", "one entry more than told done", "after the job's end", "a part of a record"
+MIGRATION = "in power on over format 1"
 # The seconds of power on, and of a write, a sync or a line of OUT.
 Pace = collections.namedtuple("Pace", "power_on call")
-# What a session that is cut by its calls counts: writes to the device, syncs, or lines of OUT; and how many of them power on makes.
-CALLS = (("write", 87), ("fsync", 3), ("line", 0))
+# What a session that is cut by its calls counts: writes to the device, syncs, or lines of OUT; and how many of them power on makes over each format.
+CALLS = ("write", "fsync", "line")
+OF_POWER_ON = {1: (176, 5, 0), 2: (89, 3, 0)}
 
 
 class Wrong(Exception):
@@ -77,17 +84,27 @@ def straight(start, end):
 
 
 class Mill:
-    """A device, its settings and the program that drives it."""
+    """A device, new or of format 1, its settings and the program that drives it."""
 
-    def __init__(self, ngc, folder):
+    def __init__(self, ngc, folder, is_new):
         self.ngc, self.folder, self.outs = ngc, os.path.realpath(folder), 0
-        with open(f"{folder}/mill.toml", "w") as file:
-            file.write(jobs.SETTINGS)
-        subprocess.run([ngc, "format", f"{folder}/mill.dev"], check=True)
+        if is_new:
+            subprocess.run([ngc, "format", f"{folder}/mill.dev"], check=True)
+            return
+        device = bytearray(read_device.SIZE)
+        with open(FORMAT_1) as rows:
+            for sector, place, digits in map(str.split, rows):
+                start = 512 * int(sector) + int(place)
+                device[start:start + len(digits) // 2] = bytes.fromhex(digits)
+        with open(f"{folder}/mill.dev", "wb") as file:
+            file.write(device)
 
     def start(self, call=None, number=0):
-        """A session, which hands out to a file of its own; cut right before its n-th call of a kind, if one is named."""
+        """A session, which hands out to a file of its own; cut right before its n-th call of a kind, if one is named. Its settings have the tools only
+        where the device is of format 1."""
         self.outs += 1
+        with open(f"{self.folder}/mill.toml", "w") as file:
+            file.write(f"{jobs.SETTINGS}tools_nm = {jobs.TOOLS_NM if self.stands().format == 1 else []}\n")
         device, out = f"{self.folder}/mill.dev", f"{self.folder}/out{self.outs}"
         words = [self.ngc, "run", device, f"{self.folder}/mill.toml", out]
         if call:
@@ -116,7 +133,7 @@ def stored(device):
     """All that a device stands for but the number of entries."""
     fields = device.fields()
     del fields["entry count"]
-    return fields, device.text(), device.params, device.program
+    return fields, device.text(), device.params, device.tools, device.program
 
 
 def shown(device):
@@ -181,6 +198,10 @@ def whole_run(mill, does):
             steps.append(Step("load", text, [], int(place), point, activity, 0))
             # it leaves an empty log
             end = LOG
+        elif kind == "tool":
+            told = asked(child, f"tool {text}\n".encode())
+            _, place, point, _, _, activity = STATUS.fullmatch(told[-1]).groups()
+            steps.append(Step("tool", text, [], int(place), point, activity, parts()))
         elif kind == "mdi":
             asked(child, f"mdi {text}\n".encode())
             first = ""
@@ -214,6 +235,16 @@ def before(steps, state):
     return moved((0, 0, 0), lines), (switches or [OFF])[-1]
 
 
+def tools_of(steps, state, tools):
+    """The tool table in a state, where the job began with this one."""
+    tools = list(tools)
+    for step in steps[:state.done]:
+        if step.kind == "tool":
+            slot, length = step.text.split()
+            tools[int(slot) - 1:int(slot)] = [round(1_000_000 * float(length))]
+    return tools
+
+
 def status_of(steps, state):
     """What the status says of a state after power on."""
     place, point = (steps[state.done - 1].place, steps[state.done - 1].point) if state.done else (0, point_text((0, 0, 0)))
@@ -229,10 +260,11 @@ class Session:
     """What a session does from a state to the job's end: its commands, the state at each moment with the number of lines handed out, the calls by
     their kind, and of each load the entries, the calls before it and its own."""
 
-    def __init__(self, steps, state, reference):
+    def __init__(self, steps, state, reference, form):
         # power on leaves an empty log
         self.steps, self.lines, self.moments, self.commands = steps, [], [(state._replace(records=0), 0)], []
-        self.calls, self.loads = [first for _, first in CALLS], []
+        self.of_power_on = OF_POWER_ON[form]
+        self.calls, self.loads = list(self.of_power_on), []
         going = stopped = False
         first = state.done
         if state.half is not None:
@@ -243,9 +275,11 @@ class Session:
                 self.commands.append(load(step.text))
             elif step.kind == "mdi":
                 self.commands.append(f"mdi {step.text}\ntick 1000000\n".encode())
+            elif step.kind == "tool":
+                self.commands.append(f"tool {step.text}\n".encode())
             elif not going:
                 self.commands.append(b"continue\ntick 1000000\n" if stopped else b"start\ntick 1000000\n")
-            if step.kind != "mdi":
+            if step.kind in ("load", "line"):
                 going, stopped = step.activity == "running", step.activity == "stopped"
             if step.kind == "load":
                 # which writes the device anew as a whole
@@ -300,8 +334,8 @@ class Session:
 class Cutting:
     """A job that is cut: the moments at which its last session may have ended, and where the machine stands, in steps."""
 
-    def __init__(self, mill, steps, chance, counts):
-        self.mill, self.steps, self.chance, self.counts = mill, steps, chance, counts
+    def __init__(self, mill, steps, chance, counts, tools):
+        self.mill, self.steps, self.chance, self.counts, self.tools = mill, steps, chance, counts, tools
         self.at, self.handed, self.told, self.was_cut = (0, 0, 0), [], 0, False
         self.moments = [(State(0, 0, None, None, 0, NOTHING), 0)]
 
@@ -311,6 +345,9 @@ class Cutting:
                 if (lines, state.records) == (len(self.handed), device.records) and status_of(self.steps, state) == status]
         if len(fits) != 1 or fits[0].entries - self.told not in (0, 1):
             raise Wrong(f"{len(fits)} moments fit: {status!r}, {device.records} records, {len(self.handed)} lines of OUT, {self.told} told done")
+        tools = [] if device.format == 1 else tools_of(self.steps, fits[0], self.tools)
+        if device.tools != tools:
+            raise Wrong(f"the device of format {device.format} has the tools {device.tools}, wanted was {tools}, at {fits[0]}")
         return fits[0]
 
     def counted(self, device, state):
@@ -338,10 +375,10 @@ class Cutting:
         many seconds in power on or of the work; and the entries before the load that it is in, if it is to be in one."""
         early = within == POWER_ON or within is None and self.chance.random() < 0.1
         if not can_trace() or within is None and self.chance.random() < 0.2:
-            most = sum(session.calls) - sum(first for _, first in CALLS)
+            most = sum(session.calls) - sum(session.of_power_on)
             return None, 0, self.chance.uniform(0, pace.power_on) if early else None, pace.call * self.moment(state, most), None
         kind = self.chance.randrange(2 if early or within else 3)
-        call, first = CALLS[kind]
+        call, first = CALLS[kind], session.of_power_on[kind]
         if early:
             return call, self.chance.randint(1, first), None, None, None
         if within == LOAD and session.loads:
@@ -353,7 +390,7 @@ class Cutting:
         """A session, cut somewhere if a pace is given: within power on or a load, if that is named. Whether it came to the job's end."""
         device = self.mill.stands()
         state = self.found(device, shown(device))
-        session = Session(self.steps, state, self.reference(state))
+        session = Session(self.steps, state, self.reference(state), device.format)
         call, number, in_power_on, later, in_load = self.cut(state, session, pace, within) if pace else (None, 0, None, None, None)
         child = self.mill.start(call, number)
         timer = None if in_power_on is None else threading.Timer(in_power_on, child.kill)
@@ -398,15 +435,22 @@ class Cutting:
         if status != shown(before):
             raise Wrong(f"power on shows {status!r}, and the device stood for {shown(before)!r}")
         device = self.mill.stands()
-        if (device.epoch, device.records, device.torn) != (before.epoch + 1, 0, []):
-            raise Wrong(f"over epoch {before.epoch} power on left epoch {device.epoch} with {device.records} records, and parts in {device.torn}")
+        if (device.epoch, device.format, device.records, device.torn) != (before.epoch + (2 if before.format == 1 else 1), 2, 0, []):
+            raise Wrong(f"over epoch {before.epoch} of format {before.format} power on left epoch {device.epoch} of format {device.format} with "
+                        f"{device.records} records, and parts in {device.torn}")
+        if device.tools != (jobs.TOOLS_NM if before.format == 1 else before.tools):
+            raise Wrong(f"over format {before.format} with the tools {before.tools} power on left the tools {device.tools}")
 
     def cut_in_power_on(self, before):
-        """It left what the session before left, or its recovered under the next epoch."""
-        device = self.mill.stands()
-        if shown(device) != shown(before) or (device.epoch, device.records) not in ((before.epoch, before.records), (before.epoch + 1, 0)):
-            left, stood = ((shown(it), it.epoch, it.records) for it in (device, before))
-            raise Wrong(f"power on that was cut left {left}, and {stood} stood")
+        """It left what the session before left, or its recovered under the next epoch, or of format 1 under the one after that in format 2."""
+        device, next_epoch = self.mill.stands(), before.epoch + 1
+        valid = [(before.epoch, before.format, before.records, before.tools), (next_epoch, before.format, 0, before.tools)]
+        if before.format == 1:
+            valid.append((next_epoch + 1, 2, 0, jobs.TOOLS_NM))
+        left, stood = ((it.epoch, it.format, it.records, it.tools) for it in (device, before))
+        if shown(device) != shown(before) or left not in valid:
+            raise Wrong(f"power on that was cut left {left}, {shown(device)!r}, and {stood}, {shown(before)!r} stood")
+        self.counts[MIGRATION] += before.format == 1
         # what it wrote anew as a whole has no record
         self.moments = [(state._replace(records=device.records), lines) for state, lines in self.moments if state.records == before.records]
         self.counts[POWER_ON] += 1
@@ -433,7 +477,7 @@ class Cutting:
 
 def calls_of_load(step):
     """How many writes to the device, syncs and lines of OUT a load makes: it writes its text, and the device anew as a whole."""
-    return 87 + (len(step.text.encode()) + 511) // 512, 3, 0
+    return 89 + (len(step.text.encode()) + 511) // 512, 3, 0
 
 
 def traced(call, path, number, words):
@@ -469,22 +513,32 @@ def left(cutting):
     return stored(cutting.mill.stands()), cutting.at
 
 
+def job_of(chance):
+    """Whether a job begins over a new device, and what the operator does in it: over a new one the tools come first."""
+    is_new, does = chance.random() < 2 / 3, jobs.job(chance)
+    tools = [("tool", f"{slot} {millimetres(nm)}") for slot, nm in enumerate(jobs.TOOLS_NM, 1)]
+    return is_new, tools + does if is_new else does
+
+
 def try_job(ngc, folder, chance, counts, cuts):
     """A job, a tick at a time, then whole, then cut."""
-    does = jobs.job(chance)
-    first, second, third = (Mill(ngc, tempfile.mkdtemp(dir=folder)) for _ in range(3))
+    is_new, does = job_of(chance)
+    tools = [] if is_new else jobs.TOOLS_NM
+    first, second, third = (Mill(ngc, tempfile.mkdtemp(dir=folder), is_new) for _ in range(3))
     steps = whole_run(first, does)
-    whole = Cutting(second, steps, chance, counts)
+    counts["tool"] += sum(step.kind == "tool" for step in steps)
+    whole = Cutting(second, steps, chance, counts, tools)
     began = time.monotonic()
     if not whole.session():
         raise Wrong("the whole run didn't come to its end")
     took = time.monotonic() - began
     wanted = left(whole)
     power_on = time.monotonic() - began - took
-    calls = Session(steps, State(0, 0, None, None, 0, NOTHING), None).calls
-    pace = Pace(power_on, max(0.0, took - power_on) / (sum(calls) - sum(first for _, first in CALLS)))
-    cutting = Cutting(third, steps, chance, counts)
-    for within in (LOAD, POWER_ON, *[None] * chance.randint(1, cuts)):
+    session = Session(steps, State(0, 0, None, None, 0, NOTHING), None, 2)
+    pace = Pace(power_on, max(0.0, took - power_on) / (sum(session.calls) - sum(session.of_power_on)))
+    cutting = Cutting(third, steps, chance, counts, tools)
+    early = () if is_new else (POWER_ON, POWER_ON)
+    for within in (*early, LOAD, POWER_ON, *[None] * chance.randint(1, cuts)):
         if cutting.session(pace, within):
             counts[LATE] += 1
             break
@@ -516,12 +570,13 @@ def main():
             try:
                 made, handed = try_job(ngc, folder, chance, counts, given.cuts)
             except Wrong as wrong:
-                sys.exit(f"job {number} of seed {given.seed}: {wrong}\n{jobs.job(random.Random(f'{given.seed} {number}'))}")
+                sys.exit(f"job {number} of seed {given.seed}: {wrong}\n{job_of(random.Random(f'{given.seed} {number}'))}")
         segments += made
         lines += handed
     kinds = (NOTHING, SEGMENT, TOLD, APPROACH, APPROACHED)
-    print(f"{given.jobs} jobs of {segments} segments and {lines} lines of OUT, {counts[LATE]} of them to their end before the next cut")
-    print(f"cut {sum(counts[kind] for kind in (*kinds, POWER_ON))} times: {counts[POWER_ON]} in power on, after which stood what had stood before; {counts[LOAD]} in a load;")
+    print(f"{given.jobs} jobs of {segments} segments, {counts['tool']} tools and {lines} lines of OUT, {counts[LATE]} of them to their end before the next cut")
+    print(f"cut {sum(counts[kind] for kind in (*kinds, POWER_ON))} times: {counts[POWER_ON]} in power on, {counts[MIGRATION]} of them over format 1, after which stood what had stood "
+          f"before; {counts[LOAD]} in a load;")
     print("then stood " + ", ".join(f"{kind} {counts[kind]}" for kind in kinds))
     print(f"{counts[MORE]} times {MORE}, {counts[TORN]} times {TORN}, which counted for nothing")
 

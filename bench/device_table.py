@@ -54,7 +54,7 @@ def wide(kind, byte):
 def plain(path):
     """The text of a file, with numbers in the place of the names that it, the places of a state field, or the limits give them."""
     text = (layout / path).read_text()
-    known = re.findall(r"const (\w+): \w+ = ([\d_]+);", (layout / "src/field_places.rt").read_text() + text)
+    known = re.findall(r"const (\w+): \w+ = ([\d_]+);", "".join((layout / name).read_text() for name in ("src/tools.rt", "src/field_places.rt")) + text)
     known += re.findall(r"\n(\w+) = ([\d_]+)\n", (layout / "specs/Limits.antt").read_text())
     known = {name: number.replace("_", "") for name, number in known}
     return re.sub(r"(?:field_places::)?\b(\w+)\b", lambda word: known.get(word[1], word[0]), text)
@@ -73,7 +73,7 @@ def defined(path):
 
 def coded(path, verb):
     """The places that the code gets or puts."""
-    calls = re.findall(rf"{verb}_(\w+)\((?:&mut )?\w+, (\d+)", plain(path))
+    calls = re.findall(rf"{verb}_(\w+)\((?:&mut )?\w+, (\d+)[,)]", plain(path))
     return sorted(set(place for kind, byte in calls for place in wide(kind, int(byte))))
 
 
@@ -88,14 +88,30 @@ def scripted():
     return sorted(set(found))
 
 
-def is_valid(epoch, area, length):
+def is_valid(epoch, area, length, form=1):
     """Whether the script takes the header for a valid one."""
     device = bytearray(read_device.SIZE)
-    struct.pack_into("<8sIxxxxQQQ", device, 512 * (epoch % 2), b"RS274NGC", 1, epoch, area, length)
+    struct.pack_into("<8sIxxxxQQQ", device, 512 * (epoch % 2), b"RS274NGC", form, epoch, area, length)
     try:
         return read_device.Device(bytes(device)).epoch == epoch
     except read_device.NoDevice:
         return False
+
+
+def table_of(slots, nm, slot=0, length=0):
+    """The tool lengths that the script finds where a snapshot has so many slots, the last of this length, and a record gives another to a slot; none
+    where it finds them damaged."""
+    device = bytearray(read_device.SIZE)
+    struct.pack_into("<8sIxxxxQQQ", device, 0, b"RS274NGC", 2, 2, 0, 0)
+    for state in (512 * 2, 512 * log_first + 32):
+        device[state + 144:state + 157] = bytes((80, 17, 90, 94, 21, 98, 1, 2, 0, 0, 0, 1, 1))
+    struct.pack_into("<H", device, 512 * 2 + count_at, slots)
+    struct.pack_into("<q", device, 512 * tools_first + 8 * (slots - 1), nm)
+    struct.pack_into("<QQHHH", device, 512 * log_first, 2, 0, 0, 1, 0)
+    struct.pack_into("<H", device, 512 * log_first + slot_at, slot)
+    struct.pack_into("<q", device, 512 * log_first + length_at, length)
+    found = read_device.Device(bytes(device))
+    return None if found.damage else found.tools
 
 
 def extremes(limits, program):
@@ -112,8 +128,18 @@ same("state field", ("docs", places(fields)), ("definition", defined("specs/Stat
      ("reader", coded("src/field.rt", "get")), ("writer", coded("src/field.rt", "put")), ("script", scripted()))
 labels = [(byte, width, False) for byte, width, _ in places(rows("Log")) if byte < 32]
 same("part of a record", ("docs", labels), ("definition", [place for place in defined("specs/Log.antt") if place[0] < 32]),
-     ("reader", coded("src/part.rt", "get")), ("writer", coded("src/part.rt", "put")),
+     ("reader", coded("src/part.rt", "get")), ("writer", [place for place in coded("src/part.rt", "put") if place[0] < 32]),
      ("script", [place for byte, kind in zip((0, 8, 16, 18, 20), "QQHHH") for place in [(byte, struct.calcsize(kind), False)]]))
+
+# The tool table: the number of slots of a snapshot, the slot of a record and its length.
+slot_rows = [row for row in rows("Log") if numbers(row[0])[0] > 32]
+places_of_slot = places(slot_rows)
+count_at = int(re.search(r"u16 at byte (\d+)", document.split("\n## Snapshot", 1)[1])[1])
+table = defined("specs/Tools.antt")
+same("slots of a snapshot and of a record", ("docs", sorted([(count_at, 2, False), *places_of_slot])), ("definition", table),
+     ("reader", coded("src/tools.rt", "get")),
+     ("writer", sorted(coded("src/stored.rt", "put") + [place for place in coded("src/part.rt", "put") if place[0] > 32])))
+(slot_at, _, _), (length_at, _, _) = places_of_slot
 
 # What each number is called in the definitions, and the word that the document and the script have for it.
 NAMES = {
@@ -170,14 +196,35 @@ for n, least in enumerate((1, 0, 0)):
     for number, valid in ((least, True), (bounds[n], True), (bounds[n] + 1, False)) + (((0, False),) if least else ()):
         given[n] = number
         same(f"header with {header[2 + n][2]} {number}", ("docs", valid), ("script", is_valid(*given)))
+for form in (0, 1, 2, 3):
+    same(f"header of format {form}", ("docs", form in numbers(header[1][3])), ("definition", form in known["format"]),
+         ("script", is_valid(2, 0, 0, form)))
 value = lambda name: numbers(re.search(rf"\n{name}[^\n=]* = (.*)", areas)[1])[0]
 first, step = value("header_count"), value("snapshot_size")
 area, size = value("program_first"), value("program_size")
-end, count = value("log_first"), value("log_size")
-same("sectors", ("docs", [numbers(row[0]) for row in rows("What the journal keeps")]),
+log_first, logs, pair = value("log_first"), {1: value("log_size One"), 2: value("log_size Two")}, value("tools_size")
+tools_first = log_first + logs[2]
+same("sectors", ("docs", [numbers(re.sub(" and ", " to ", row[0])) for row in rows("What the journal keeps")]),
      ("definition", [[0, 1], [first, first + step - 1, first + step, first + 2 * step - 1],
-                     [area, area + size - 1, area + size, area + 2 * size - 1], [end, end + count - 1]]))
-same("least size", ("sectors", end + count), ("script", read_device.SIZE // 512))
+                     [area, area + size - 1, area + size, area + 2 * size - 1], *[[log_first, log_first + count - 1] for count in logs.values()],
+                     [tools_first, tools_first + pair - 1, tools_first + pair, tools_first + 2 * pair - 1]]))
+same("log's end", ("definition", {form: log_first + count for form, count in logs.items()}), ("script", read_device.LOG_END))
+same("least size", ("sectors", log_first + max(logs.values())), ("script", read_device.SIZE // 512))
+same("least size", ("sectors", tools_first + 2 * pair), ("script", read_device.SIZE // 512))
+# The ranges of the tool table.
+most = numbers(limits["greatest_slot"])[0]
+longest = numbers(re.search(r"\nlongest_tool = pos ([\d_]+)", (root / "crates/ng_offsets/specs/Tools.antt").read_text())[1])[0]
+same("greatest slot", ("definition", most), ("docs", numbers(slot_rows[0][2])[-1]), ("script", read_device.SLOTS))
+same("longest tool", ("definition", longest), ("docs", max(numbers(slot_rows[1][2]))), ("script", read_device.LENGTH[-1]))
+for name, wanted, given in (
+    ("the most slots", [0] * (most - 1) + [longest], (most, longest)), ("a slot more", None, (most + 1, 0)),
+    ("a length beyond the longest", None, (1, longest + 1)), ("a length below 0", None, (1, -1)),
+    ("a slot that changes", [0, longest], (2, 7, 2, longest)), ("a slot that is added", [0, 7, longest], (2, 7, 3, longest)),
+    ("a slot two past the last", None, (2, 7, 4, longest)), ("a slot past the greatest", None, (most, 0, most + 1, 0)),
+    ("a record's length beyond the longest", None, (2, 7, 2, longest + 1)), ("one below 0", None, (2, 7, 2, -1)),
+    ("a length beside no slot", [0, 7], (2, 7, 0, longest)), ("one beyond the longest", None, (2, 7, 0, longest + 1)),
+):
+    same(name, ("docs", wanted), ("script", table_of(*given)))
 # How many changes a part has room for, and where the first one stands.
 row = rows("Log")[-1]
 most, index, _, _, value_bits = numbers(row[2])
@@ -186,5 +233,5 @@ same("changes of a part", ("docs", [most, numbers(row[0])[0], (index + value_bit
 
 if differences:
     sys.exit("\n".join(differences))
-for row in header + fields:
+for row in header + fields + slot_rows:
     print("  ".join(row))

@@ -1,16 +1,17 @@
-"""Makes jobs by chance: lines of the operator, and programs that stop now and then, for `ngc run` under SETTINGS.
+"""Makes jobs by chance: lines and tools of the operator, and programs that stop now and then, for `ngc run` under the settings given here.
 
-All points lie on the steps of each axis, so that the pulses handed out say exactly where the machine stands. No line is refused."""
+All points lie on the steps of each axis, so that the pulses handed out say exactly where the machine stands. Nothing is refused."""
 
 STEP_NM = (1000, 1000, 500)
 TRAVERSE_NM_PER_MIN = 300_000_000
 PERIOD_US = 50
+# The tool lengths with which a job begins, in nm, by slot.
+TOOLS_NM = [2000, 5000]
 SETTINGS = f"""step_nm = {list(STEP_NM)}
 low_nm = [-1000000000, -1000000000, -1000000000]
 high_nm = [1000000000, 1000000000, 1000000000]
 traverse_nm_per_min = {TRAVERSE_NM_PER_MIN}
 period_us = {PERIOD_US}
-tools_nm = [2000, 5000]
 """
 
 
@@ -113,8 +114,13 @@ def program(chance):
     return newline.join(lines) + newline, goings
 
 
+def tool(chance):
+    """A slot that a job begins with, or the one after them, and a length."""
+    return f"{chance.randint(1, len(TOOLS_NM) + 1)} {chance.randint(0, 9) / 1000:.3f}"
+
+
 def job(chance):
-    """What the operator does, one after the other: ("mdi", line), ("load", text), or ("go", "") for `start` or `continue`."""
+    """What the operator does, one after the other: ("mdi", line), ("tool", slot and length), ("load", text), or ("go", "") for `start` or `continue`."""
     does = [("mdi", line(chance)) for _ in range(chance.randint(0, 3))]
     for _ in range(chance.choice((1, 1, 2))):
         text, goings = program(chance)
@@ -123,4 +129,6 @@ def job(chance):
             does.append(("go", ""))
             if chance.random() < 0.3:
                 does.append(("mdi", line(chance)))
+            if chance.random() < 0.3:
+                does.append(("tool", tool(chance)))
     return does

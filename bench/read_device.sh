@@ -1,7 +1,7 @@
 #!/bin/sh
-# Reads devices by examples/read_device.py: that of the rows in examples/device.hex, over which a case of crates/ngc_cases powers on, which has
-# to give the state in examples/device.txt; and that of the worked log in docs/DEVICE.md, which has to give what the page says, and less where
-# parts of it are missing.
+# Reads devices by examples/read_device.py: those of the rows in examples/device.hex and device2.hex, of formats 1 and 2, over which cases of
+# crates/ngc_cases power on, which have to give the states in examples/device.txt and device2.txt; those worked in docs/DEVICE.md, which have to
+# give what the page says, and the log less where parts of it are missing; and those of format 1 that the cases keep.
 set -e
 top=$(cd "$(dirname "$0")/.." && pwd)
 examples=$top/crates/ngc_cases/data/examples
@@ -18,23 +18,51 @@ for line in sys.stdin:
     device[start:start + len(content)] = content
 open(sys.argv[1], "wb").write(device)
 END
-python3 "$work/make.py" "$work/device" < "$examples/device.hex"
-python3 "$examples/read_device.py" "$work/device" > "$work/state"
-diff "$examples/device.txt" "$work/state"
-echo "read_device.py: the state of examples/device.txt, and an empty log"
+for name in device device2; do
+    python3 "$work/make.py" "$work/device" < "$examples/$name.hex"
+    python3 "$examples/read_device.py" "$work/device" > "$work/state"
+    diff "$examples/$name.txt" "$work/state"
+    echo "read_device.py: the state of examples/$name.txt, and an empty log"
+done
 
-# the worked log: its rows, and the lines that are printed of it
-awk '/^#/ { on = /^## A worked log/ } on' "$top/docs/DEVICE.md" > "$work/page"
-sed -n 's/^ \{4,\}\([0-9]\+ \+[0-9]\+\)   \(\([0-9a-f]\{2\} \)*[0-9a-f]\{2\}\)   .*/\1 \2/p' "$work/page" > "$work/rows"
-sed -n 's/^    \([a-z#][^:]*: .*\)/\1/p' "$work/page" > "$work/lines"
-test "$(wc -l < "$work/rows")" = "$(grep -c '^ \{4,\}[0-9]\+ \+[0-9]\+ ' "$work/page")"
-test "$(wc -l < "$work/rows")" -ge 40
-test "$(wc -l < "$work/lines")" -ge 8
-python3 "$work/make.py" "$work/device" < "$work/rows"
+# the stored devices of format 1: entries, records, and where the log ends
+stored() {
+    python3 "$work/make.py" "$work/device" < "$examples/../format1/$1.hex"
+    python3 "$examples/read_device.py" "$work/device" > "$work/state"
+    grep -qx "format: 1" "$work/state"
+    grep -qx "entry count: $2" "$work/state"
+    grep -qx "log: $3" "$work/state"
+}
+stored formatted 0 "0 records; it ends at sector 686"
+stored half_done 11 "21 records; it ends at sector 711"
+stored full_log 1024 "1023 records; it ends after sector 1709: it is full"
+stored referenced 1 "1 records; it ends at sector 687"
+stored abandoned 2 "1 records; it ends at sector 687"
+# under a header of format 2 the full log ends before the tool table
+python3 "$work/make.py" "$work/device" < "$examples/../format1/full_log.hex"
+printf '\002' | dd of="$work/device" bs=1 seek=$((512 + 8)) conv=notrunc 2> "$work/dd"
 python3 "$examples/read_device.py" "$work/device" > "$work/state"
-while read -r line; do
-    grep -qxF "$line" "$work/state" || { echo "read_device.py doesn't print of the worked log: $line"; exit 1; }
-done < "$work/lines"
+grep -qx "entry count: 1021" "$work/state"
+grep -qx "log: 1020 records; it ends after sector 1705: it is full" "$work/state"
+echo "read_device.py: the stored devices of format 1"
+
+# a worked device of the page, by its title: at least so many rows, and so many lines that are printed of it
+worked() {
+    awk -v title="## $1" '/^#/ { on = $0 == title } on' "$top/docs/DEVICE.md" > "$work/page"
+    sed -n 's/^ \{3,\}\([0-9]\+ \+[0-9]\+\)   \(\([0-9a-f]\{2\} \)*[0-9a-f]\{2\}\)   .*/\1 \2/p' "$work/page" > "$work/rows"
+    sed -n 's/^    \([a-z#][^:]*: .*\)/\1/p' "$work/page" > "$work/lines"
+    test "$(wc -l < "$work/rows")" = "$(grep -c '^ \{3,\}[0-9]\+ \+[0-9]\+ ' "$work/page")"
+    test "$(wc -l < "$work/rows")" -ge "$2"
+    test "$(wc -l < "$work/lines")" -ge "$3"
+    python3 "$work/make.py" "$work/device" < "$work/rows"
+    python3 "$examples/read_device.py" "$work/device" > "$work/state"
+    while read -r line; do
+        grep -qxF "$line" "$work/state" || { echo "read_device.py doesn't print of $1: $line"; exit 1; }
+    done < "$work/lines"
+}
+worked "A worked device of format 2" 30 7
+echo "read_device.py: the worked device of docs/DEVICE.md, of format 2"
+worked "A worked log" 40 8
 # without one sector of the log or another: the log as it is after that many records, and the sectors that are left over
 lose() {
     cp "$work/device" "$work/torn"
@@ -70,4 +98,27 @@ printf '\005' | dd of="$work/device" bs=1 seek=$((512 * 2 + 152)) conv=notrunc 2
 if python3 "$examples/read_device.py" "$work/device" > "$work/state" 2> "$work/refusal"; then exit 1; fi
 grep -qx "damaged (J3): sector 2: spindle 5" "$work/refusal"
 grep -qx "spindle: 5" "$work/state"
+# the tool table out of its range: a number of slots, a length, and a slot of a record
+damaged() {
+    { cat "$examples/device2.hex"; printf '%s\n' "$1"; } | python3 "$work/make.py" "$work/device"
+    if python3 "$examples/read_device.py" "$work/device" > "$work/state" 2> "$work/refusal"; then exit 1; fi
+    test "$(cat "$work/refusal")" = "damaged (J3): $2"
+}
+whole() {
+    { cat "$examples/device2.hex"; printf '%s\n' "$1"; } | python3 "$work/make.py" "$work/device"
+    python3 "$examples/read_device.py" "$work/device" > "$work/state"
+    grep -qx "tool length of slot $2, nm: $3" "$work/state"
+}
+damaged "88 456 4100" "sector 88: number of slots 65"
+damaged "1708 0 ffffffffffffffff" "sector 1708: slot 1 -1"
+damaged "1708 16 01ca9a3b00000000" "sector 1708: slot 3 1000000001"
+whole "1708 24 ffffffffffffffff" 3 1000000000
+# a record with the state field of the snapshot, without a half-done block
+record="686 0 030000000000000000000000000000000000010000000000000000000000000002
+686 176 50115a5e156201020000000101
+686 488"
+whole "$record 040000000000000001" 4 1
+whole "$record 030000000000000001" 3 1
+damaged "$record 050000000000000001" "sector 686, record 0: slot 5 1"
+damaged "$record 000000000000000001ca9a3b" "sector 686, record 0: slot 0 1000000001"
 echo "read_device.py: refuses what is no device, finds the older header, and says what is damaged"

@@ -15,11 +15,11 @@
 # An entry is an operator's line that moves nothing (`mdi F100`, `tick 1`). Beside it, by the module sqlite3 of python3, in WAL mode with
 # synchronous=FULL: a row of 512 bytes, inserted in a transaction of its own; and a write of 512 bytes over a file that has its length, with
 # an fsync, which is what the disk can do. These take turns, 64 at a time, so that all meet the same disk with the same other work on it.
-# Writes, bytes and syncs are those of the system calls (strace) on the device, or on the database and its WAL: the difference of 2,148 and
+# Writes, bytes and syncs are those of the system calls (strace) on the device, or on the database and its WAL: the difference of 2,140 and
 # 100 entries, so a full log and sqlite3's own checkpoints are among them. A pulse is one of `G0 X500` at steps of 1 um, a line that is
 # written to OUT: `tick 400000` in the midst of the move. A short line is `X1` or `X0` by turns, one pulse at steps of 1 mm, in programs of 25,000
 # lines; it takes two syncs. Power on is from the start of the process to the answer to `status`, over a log without
-# a record and over one of 1,024, with the file in the system's memory. Times are those of the clock.
+# a record and over one of 1,020, with the file in the system's memory. Times are those of the clock.
 set -eu
 ngc= beside= rounds=3 entries=2048 lines=100000
 while [ $# -gt 0 ]; do
@@ -47,7 +47,7 @@ import atexit, os, re, shutil, sqlite3, statistics, subprocess, sys, tempfile, t
 ngc, rounds, entries, lines, beside = sys.argv[1], int(sys.argv[3]), int(sys.argv[4]), int(sys.argv[5]), sys.argv[6]
 folder = tempfile.mkdtemp(dir=sys.argv[2])
 atexit.register(shutil.rmtree, folder)
-TICKS, TURN, LOG, FEW, PROGRAM = 400_000, 64, 1024, 100, 25_000
+TICKS, TURN, LOG, FEW, PROGRAM = 400_000, 64, 1020, 100, 25_000
 CALLS = "write,pwrite64,pwritev,pwritev2,fsync,fdatasync,sync_file_range,msync"
 for name, step in (("mill", 1_000), ("coarse", 1_000_000)):
     with open(f"{folder}/{name}.toml", "w") as file:

@@ -1,8 +1,59 @@
-//! Lines of a console that find no memory. Which lines are commands, and how replies read, is said by the cases of `ngc_cases`.
+//! Lines of a console: tools' lengths, and a refusal that finds no memory. Which other lines are commands, and how replies read, is said by
+//! the cases of `ngc_cases`.
 use linked_list_allocator::LocalHeap;
-use ng_commands::push_refusal;
+use ng_commands::{ConsoleCommand, command_of, push_refusal};
 use ng_num::Fault;
 use std::test::Fail;
+
+/// Lines, and the slot and the length, in nanometres, that each gives; none where it is no command.
+const TOOLS: &[(&str, Option<(u16, i64)>)] = &[
+    ("tool 1 0.005", Some((1, 5_000))),
+    ("tool 064 0", Some((64, 0))),
+    ("tool 000 1", Some((0, 1_000_000))),
+    ("tool 999 +.5", Some((999, 500_000))),
+    ("tool 7 -1.", Some((7, -1_000_000))),
+    // the seventh decimal is rounded
+    ("tool 1 1000.0000004", Some((1, 1_000_000_000))),
+    ("tool 1 1000.0000005", Some((1, 1_000_000_001))),
+    ("tool 1 9999999.999999", Some((1, 9_999_999_999_999))),
+    ("tool 1 9999999.9999995", None),
+    ("tool 1 99999999", None),
+    // one to three digits
+    ("tool 0001 1", None),
+    ("tool -1 1", None),
+    ("tool +1 1", None),
+    ("tool 1. 1", None),
+    ("tool  1", None),
+    // a number as in a program, but with no blank in it
+    ("tool 1", None),
+    ("tool 1 ", None),
+    ("tool 1 .", None),
+    ("tool 1 1e3", None),
+    ("tool 1 [1]", None),
+    ("tool 1 1 2", None),
+    // one blank between words, and none after them
+    ("tool  1 1", None),
+    ("tool 1  2", None),
+    ("tool 1 0.005 ", None),
+    ("tool 1 0.005\r", None),
+    ("Tool 1 1", None),
+];
+
+/// The slot and the length that a line gives.
+fn tool_of(line: &str) -> Option<(u16, i64)> {
+    match command_of(line.as_bytes()) {
+        Some(ConsoleCommand::Tool(slot, length)) => Some((slot, length.nm())),
+        _ => None,
+    }
+}
+
+#[test]
+fn a_line_gives_a_tool_its_length(rt: HostRuntime) -> Result<(), Fail> {
+    for (line, tool) in TOOLS {
+        assert_eq!(rt; tool_of(line), *tool, "{line:?}");
+    }
+    Ok(())
+}
 
 /// Without memory there is an error, and no line that reads as another one.
 #[test]

@@ -7,7 +7,7 @@
 //!
 //! The bytes go through `LineSplitter`, which splits them into lines, to `DryRun`, which has the state between two lines, and what
 //! a line prints goes through `output`. The crate stands on `ng_block`, which executes a line; what a command's text is is
-//! `ng_canon`'s. What the parts do for every continuation of the program stands in proofs/Parts.antt, for none but them.
+//! `ng_canon`'s. What the parts do for every continuation of the program stands in specs/Private/Parts.antt, for none but them.
 #![tactic(auto)]
 
 mod dry_run;

@@ -9,6 +9,7 @@ use ng_core::{Controller, Event, Reply, Status, power_on};
 use ng_journal::{Journal, ProgramLine, format, recover};
 use ng_layout::Stored;
 use ng_num::Fault;
+use ng_offsets::Tools;
 use ng_rig::{MemoryRig, Rig};
 use ng_run::console;
 use ng_settings::Settings;
@@ -49,6 +50,18 @@ pub fn started<R: Rig + Drop, A: Allocator + Copy + Drop>(
     rig: R,
 ) -> Result<Controller<R, A>, Fault> {
     match powered(alloc, rig) {
+        Ok(controller) => Ok(controller),
+        Err((fault, _)) => Err(fault),
+    }
+}
+
+/// A controller over this device, powered on with settings that have no tools.
+pub fn started_bare<R: Rig + Drop>(alloc: Global, rig: R) -> Result<Controller<R, Global>, Fault> {
+    let settings = Settings {
+        tools: Tools::new(),
+        ..Settings::standard()
+    };
+    match power_on(alloc, rig, settings) {
         Ok(controller) => Ok(controller),
         Err((fault, _)) => Err(fault),
     }
@@ -128,9 +141,9 @@ pub fn read_again(alloc: Global, rig: Device) -> Result<(Stored<Global>, Lines, 
     }
 }
 
-/// What is found on a device that is powered on.
+/// What is found on a device that is powered on with settings that have no tools.
 pub fn found_on(alloc: Global, rig: Device) -> Result<Found, Fault> {
-    let mut controller = started(alloc, rig)?;
+    let mut controller = started_bare(alloc, rig)?;
     let status = shown(&mut controller);
     let (stored, lines, _) = read_again(alloc, rig_of(controller))?;
     Ok(Found {

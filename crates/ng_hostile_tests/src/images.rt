@@ -7,4 +7,3 @@ mod by_chance;
 mod chance;
 mod generations;
 mod powered;
-mod sectors;

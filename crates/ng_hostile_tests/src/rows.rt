@@ -2,7 +2,7 @@
 use ng_canon::{AxisStep, Item, Outputs, Pulse};
 use ng_core::{Event, Reply, Source, Text};
 use ng_num::{Fault, Len, Point};
-use std::alloc::{AllocError, Global};
+use std::alloc::{AllocError, Allocator};
 
 /// An event.
 #[derive(Clone, Copy)]
@@ -18,6 +18,8 @@ pub enum Order {
     Reference(i64),
     Resume,
     Abandon,
+    /// This length, in nanometres, for this slot.
+    Tool(u16, i64),
     Tick,
 }
 
@@ -33,14 +35,16 @@ pub const EACH_KIND: &[Order] = &[
     Order::Reference(0),
     Order::Resume,
     Order::Abandon,
+    Order::Tool(1, 0),
     Order::Tick,
 ];
 
-/// An item: a pulse of X, forward or backward, of 50 us; all outputs off.
+/// An item: a pulse of X, forward or backward, or of Z, upward, of 50 us; all outputs off.
 #[derive(Clone, Copy)]
 pub enum Given {
     Forward,
     Backward,
+    Up,
     Off,
 }
 
@@ -55,6 +59,10 @@ pub enum Does {
     Begins,
     /// There is nothing to do.
     Rests,
+    /// It is held, or stays so.
+    Holds,
+    /// There is nothing to do until the program goes on.
+    Stops,
     /// It hands this item out.
     Hands(Given),
     /// It hands an item out.
@@ -69,6 +77,8 @@ pub enum Does {
     Executes(&'static str, u64),
     /// An entry: the machine is known to stand at this X, in nanometres, in the midst of a half-done block.
     Stands(i64),
+    /// An entry: this is the length, in nanometres, of the tool in this slot.
+    Puts(u16, i64),
     /// An entry: a half-done block is given up of which it isn't known where the machine stands, with all outputs off.
     GivesUp,
 }
@@ -81,6 +91,8 @@ pub const BEGUN: Row = (Order::Tick, Does::Begins, 0);
 pub const FORWARD: Row = (Order::Tick, Does::Hands(Given::Forward), 1);
 
 pub const BACKWARD: Row = (Order::Tick, Does::Hands(Given::Backward), 1);
+
+pub const UP: Row = (Order::Tick, Does::Hands(Given::Up), 1);
 
 pub const OFF: Row = (Order::Tick, Does::Hands(Given::Off), 1);
 
@@ -96,11 +108,11 @@ pub fn point_at(x_nm: i64) -> Result<Point, Fault> {
 }
 
 /// The bytes of a text, as an event brings them.
-fn text_of(alloc: Global, text: &str) -> Result<Text<Global>, AllocError> {
+fn text_of<A: Allocator>(alloc: A, text: &str) -> Result<Text<A>, AllocError> {
     Ok(Text::of(Vec::from_slice(alloc, text.as_bytes())?))
 }
 
-pub fn event_of(alloc: Global, order: Order) -> Result<Event<Global>, Fault> {
+pub fn event_of<A: Allocator>(alloc: A, order: Order) -> Result<Event<A>, Fault> {
     Ok(match order {
         Order::Load(text) => Event::Load(text_of(alloc, text)?),
         Order::Start => Event::Start,
@@ -112,6 +124,7 @@ pub fn event_of(alloc: Global, order: Order) -> Result<Event<Global>, Fault> {
         Order::Reference(x_nm) => Event::Reference(point_at(x_nm)?),
         Order::Resume => Event::Resume,
         Order::Abandon => Event::Abandon,
+        Order::Tool(slot, nm) => Event::Tool(slot, Len::of_nm(i128::from(nm))?),
         Order::Tick => Event::Tick,
     })
 }
@@ -133,25 +146,33 @@ pub fn reply_to(does: Does, entries: u64) -> Reply {
         Does::Goes => Reply::Going,
         Does::Begins => Reply::Begun,
         Does::Rests => Reply::Idle,
+        Does::Holds => Reply::Held,
+        Does::Stops => Reply::Stopped,
         Does::Hands(_) | Does::Moves => Reply::Moved,
         Does::Opens(_, _, index) => Reply::Opened(index),
         Does::Approaches => Reply::Approaching,
-        Does::Loads(_) | Does::Executes(_, _) | Does::Stands(_) | Does::GivesUp => {
-            Reply::Done(entries.saturating_add(1))
-        }
+        Does::Loads(_)
+        | Does::Executes(_, _)
+        | Does::Stands(_)
+        | Does::Puts(_, _)
+        | Does::GivesUp => Reply::Done(entries.saturating_add(1)),
     }
 }
 
 /// How many entries there are after an event that does this.
 pub fn entries_after(does: Does, entries: u64) -> u64 {
     match does {
-        Does::Loads(_) | Does::Executes(_, _) | Does::Stands(_) | Does::GivesUp => {
-            entries.saturating_add(1)
-        }
+        Does::Loads(_)
+        | Does::Executes(_, _)
+        | Does::Stands(_)
+        | Does::Puts(_, _)
+        | Does::GivesUp => entries.saturating_add(1),
         Does::Refuses(_)
         | Does::Goes
         | Does::Begins
         | Does::Rests
+        | Does::Holds
+        | Does::Stops
         | Does::Hands(_)
         | Does::Moves
         | Does::Opens(_, _, _)
@@ -160,15 +181,16 @@ pub fn entries_after(does: Does, entries: u64) -> u64 {
 }
 
 pub fn item_of(given: Given) -> Item {
-    let x = match given {
-        Given::Forward => AxisStep::Forward,
-        Given::Backward => AxisStep::Backward,
+    let (x, z) = match given {
+        Given::Forward => (AxisStep::Forward, AxisStep::Still),
+        Given::Backward => (AxisStep::Backward, AxisStep::Still),
+        Given::Up => (AxisStep::Still, AxisStep::Forward),
         Given::Off => return Item::Switch(Outputs::fresh()),
     };
     Item::Pulse(Pulse {
         x,
         y: AxisStep::Still,
-        z: AxisStep::Still,
+        z,
         period_us: 50,
     })
 }

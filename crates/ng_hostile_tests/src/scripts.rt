@@ -1,5 +1,6 @@
 //! Events of some sessions.
-use crate::rows::{BACKWARD, BEGUN, Does, FORWARD, IDLE, OFF, Order, Row};
+use crate::old::OPENED;
+use crate::rows::{BACKWARD, BEGUN, Does, FORWARD, IDLE, OFF, Order, Row, UP};
 use ng_core::Source;
 use ng_num::Fault;
 use std::alloc::{AllocError, Global};
@@ -9,7 +10,7 @@ const PROGRAM: &str = "G0 X0.002\nM2\n";
 
 /// A program is stored and run to its end.
 pub const STORED_AND_RUN: &[Row] = &[
-    (Order::Load(PROGRAM), Does::Loads(PROGRAM), 91),
+    (Order::Load(PROGRAM), Does::Loads(PROGRAM), 93),
     (Order::Start, Does::Goes, 0),
     BEGUN,
     (Order::Tick, Does::Opens("G0 X0.002", Source::Program, 0), 2),
@@ -29,7 +30,7 @@ const LINES: &str = "G0 X0.001\nG0 X0\nG0 X0.001\nG0 X0\nM2\n";
 /// A program of five lines is stored and run to its end. The tick that begins its first line reads the two after it too, the one that
 /// begins the second reads the last two, and the others read nothing.
 pub const READ_AHEAD: &[Row] = &[
-    (Order::Load(LINES), Does::Loads(LINES), 91),
+    (Order::Load(LINES), Does::Loads(LINES), 93),
     (Order::Start, Does::Goes, 0),
     BEGUN,
     (Order::Tick, Does::Opens("G0 X0.001", Source::Program, 0), 2),
@@ -56,7 +57,7 @@ pub const READ_AHEAD: &[Row] = &[
 
 /// The first line of a program is opened, and one of its two pulses is handed out.
 pub const BEFORE_A_CUT_OF_A_PROGRAM: &[Row] = &[
-    (Order::Load(PROGRAM), Does::Loads(PROGRAM), 91),
+    (Order::Load(PROGRAM), Does::Loads(PROGRAM), 93),
     (Order::Start, Does::Goes, 0),
     BEGUN,
     (Order::Tick, Does::Opens("G0 X0.002", Source::Program, 0), 2),
@@ -99,6 +100,7 @@ pub const BEFORE_A_CUT: &[Row] = &[
 /// After the cut the machine is told to stand where the line begins: the approach is the switch alone, and then the line comes whole.
 pub const AFTER_A_CUT: &[Row] = &[
     (Order::Resume, Does::Refuses(Fault::PlaceUnknown), 0),
+    (Order::Tool(1, 0), Does::Refuses(Fault::Busy), 0),
     (Order::Reference(0), Does::Stands(0), 2),
     (Order::Resume, Does::Goes, 0),
     (Order::Tick, Does::Approaches, 2),
@@ -114,8 +116,103 @@ pub const AFTER_A_CUT: &[Row] = &[
     IDLE,
 ];
 
-/// After the cut the line is given up.
-pub const GIVEN_UP: &[Row] = &[(Order::Abandon, Does::GivesUp, 2)];
+/// After the cut the line is given up, and then a tool's length is taken.
+pub const GIVEN_UP: &[Row] = &[
+    (Order::Tool(1, 0), Does::Refuses(Fault::Busy), 0),
+    (Order::Abandon, Does::GivesUp, 2),
+    (Order::Tool(1, 0), Does::Puts(1, 0), 2),
+];
+
+const TAKES: &str = "G43 H1";
+
+const RISES: &str = "G0 Z0.001";
+
+/// Lines of the operator, and tools' lengths between them. The length that a line took stays in force when its slot takes another: the
+/// machine goes up by six steps.
+pub const TOOLS: &[Row] = &[
+    (Order::Tool(1, 5_000), Does::Puts(1, 5_000), 2),
+    (Order::Tool(3, 1_000_000), Does::Refuses(Fault::BadSlot), 0),
+    (Order::Mdi(TAKES), Does::Begins, 0),
+    (Order::Tick, Does::Executes(TAKES, 0), 2),
+    (Order::Tool(1, 4_000), Does::Puts(1, 4_000), 2),
+    (Order::Mdi(RISES), Does::Begins, 0),
+    (Order::Tick, Does::Opens(RISES, Source::Mdi, 0), 2),
+    UP,
+    UP,
+    UP,
+    UP,
+    UP,
+    UP,
+    (Order::Tick, Does::Executes(RISES, 0), 2),
+    IDLE,
+];
+
+const MOVE: &str = "G0 X0.001";
+
+const TAKES_AND_RISES: &str = "G43 H1 G0 Z0";
+
+/// Of 29 bytes: its lines begin at bytes 0, 10, 13 and 26.
+const STOPPING: &str = "G0 X0.001\nM0\nG43 H1 G0 Z0\nM2\n";
+
+/// A tool's length is given at rest, as a program runs, is held and has stopped. The line after the stop was read ahead before; what its
+/// slot took at the stop is what it takes: three steps of Z.
+pub const TOOLS_OF_A_PROGRAM: &[Row] = &[
+    (Order::Tool(0, 0), Does::Refuses(Fault::BadSlot), 0),
+    (Order::Tool(2, -1), Does::Refuses(Fault::BadSlot), 0),
+    (Order::Tool(1, -1), Does::Refuses(Fault::OutOfRange), 0),
+    (Order::Tool(1, 2_000), Does::Puts(1, 2_000), 2),
+    (
+        Order::Tool(2, 1_000_000_001),
+        Does::Refuses(Fault::OutOfRange),
+        0,
+    ),
+    (
+        Order::Tool(2, 1_000_000_000),
+        Does::Puts(2, 1_000_000_000),
+        2,
+    ),
+    // an entry too, though it changes nothing else
+    (
+        Order::Tool(2, 1_000_000_000),
+        Does::Puts(2, 1_000_000_000),
+        2,
+    ),
+    (Order::Load(STOPPING), Does::Loads(STOPPING), 93),
+    (Order::Start, Does::Goes, 0),
+    (Order::Tool(1, 3_000), Does::Refuses(Fault::Busy), 0),
+    BEGUN,
+    (Order::Tool(1, 3_000), Does::Refuses(Fault::Busy), 0),
+    (Order::Tick, Does::Opens(MOVE, Source::Program, 0), 2),
+    (Order::Hold, Does::Holds, 0),
+    (Order::Tool(1, 3_000), Does::Refuses(Fault::Busy), 0),
+    (Order::Tick, Does::Holds, 0),
+    (Order::Continue, Does::Goes, 0),
+    FORWARD,
+    (Order::Tick, Does::Executes(MOVE, 10), 2),
+    BEGUN,
+    (Order::Tick, Does::Executes("M0", 13), 2),
+    (Order::Tick, Does::Stops, 0),
+    (Order::Tool(4, 3_000), Does::Refuses(Fault::BadSlot), 0),
+    (Order::Tool(1, -1), Does::Refuses(Fault::OutOfRange), 0),
+    (Order::Tool(1, 3_000), Does::Puts(1, 3_000), 2),
+    (Order::Tick, Does::Stops, 0),
+    (Order::Continue, Does::Goes, 0),
+    BEGUN,
+    (
+        Order::Tick,
+        Does::Opens(TAKES_AND_RISES, Source::Program, 0),
+        2,
+    ),
+    UP,
+    UP,
+    UP,
+    (Order::Tick, Does::Executes(TAKES_AND_RISES, 26), 2),
+    BEGUN,
+    (Order::Tick, Does::Opens("M2", Source::Program, 0), 2),
+    OFF,
+    (Order::Tick, Does::Executes("M2", 0), 2),
+    IDLE,
+];
 
 /// A move of one pulse that takes two records, of which the second makes so many calls.
 fn move_by(line: &'static str, pulse: Row, calls: usize) -> [Row; 4] {
@@ -127,23 +224,40 @@ fn move_by(line: &'static str, pulse: Row, calls: usize) -> [Row; 4] {
     ]
 }
 
+/// A half-done line of a device of format 1 goes on, with the tool that its settings had as power came.
+pub const AFTER_A_MIGRATION: &[Row] = &[
+    (Order::Reference(0), Does::Stands(0), 2),
+    (Order::Resume, Does::Goes, 0),
+    (Order::Tick, Does::Approaches, 2),
+    OFF,
+    (Order::Tick, Does::Stands(0), 2),
+    (Order::Tick, Does::Opens(OPENED, Source::Mdi, 0), 2),
+    FORWARD,
+    FORWARD,
+    FORWARD,
+    FORWARD,
+    FORWARD,
+    (Order::Tick, Does::Executes(OPENED, 0), 2),
+    IDLE,
+];
+
 /// An entry of one record.
 const FEED: &[Row] = &[
     (Order::Mdi("F100"), Does::Begins, 0),
     (Order::Tick, Does::Executes("F100", 0), 2),
 ];
 
-/// An entry in sector 686, and 512 moves there and back by turns. The last of them is opened in sector 1709, the log's last, so that its
-/// entry takes 88 writes and 3 syncs.
+/// An entry in sector 686, and 510 moves there and back by turns. The last of them is opened in sector 1705, the log's last, so that its
+/// entry takes 90 writes and 3 syncs.
 pub fn filling_the_log(alloc: Global) -> Result<Vec<Row>, AllocError> {
     let mut rows = Vec::new(alloc);
     rows.extend_from_slice(FEED)?;
-    for _ in 0..255 {
+    for _ in 0..254 {
         rows.extend_from_slice(&move_by("G0 X0.001", FORWARD, 2))?;
         rows.extend_from_slice(&move_by("G0 X0", BACKWARD, 2))?;
     }
     rows.extend_from_slice(&move_by("G0 X0.001", FORWARD, 2))?;
-    rows.extend_from_slice(&move_by("G0 X0", BACKWARD, 91))?;
+    rows.extend_from_slice(&move_by("G0 X0", BACKWARD, 93))?;
     Ok(rows)
 }
 
@@ -151,7 +265,7 @@ pub fn filling_the_log(alloc: Global) -> Result<Vec<Row>, AllocError> {
 const BLANKS: &str = "\n\n\n\n\n\n\n\n\n\n\n\n\n\n\n\n\n\n\n\n\n\n\n\n\n\n\n\n\n\n\n\n\nM2\n";
 
 const BLANKS_STORED: &[Row] = &[
-    (Order::Load(BLANKS), Does::Loads(BLANKS), 91),
+    (Order::Load(BLANKS), Does::Loads(BLANKS), 93),
     (Order::Start, Does::Goes, 0),
 ];
 

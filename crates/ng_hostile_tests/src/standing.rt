@@ -5,7 +5,8 @@ use ng_canon::Item;
 use ng_core::{Condition, HalfShown, Source, Status};
 use ng_journal::ProgramLine;
 use ng_layout::{Half, Stored};
-use ng_num::{Fault, Point};
+use ng_num::{Fault, Len, Point};
+use ng_offsets::{SlotChange, Tools};
 use ng_settings::Settings;
 use std::alloc::{AllocError, Global};
 
@@ -75,6 +76,11 @@ fn is_line(program: &str, place: usize, line: &Option<ProgramLine>) -> bool {
     }
 }
 
+/// Whether two tool tables are the same.
+pub fn is_same_table(one: &Tools, other: &Tools) -> bool {
+    one.slots() == other.slots() && one.change_to(other).is_none()
+}
+
 /// The same as is stored, but for the half-done block.
 fn copy_of(stored: &Stored<Global>) -> Result<Stored<Global>, AllocError> {
     let state = stored.state.copy()?;
@@ -124,6 +130,11 @@ impl Standing {
         self.items.as_slice()
     }
 
+    /// A device of format 1 is powered on with the standard settings: their tool, of 50 mm, is stored from then on.
+    pub fn migrate(&mut self) {
+        self.stored.tools = Settings::standard().tools;
+    }
+
     /// A device is powered on that hasn't handed out anything.
     pub fn hand_nothing(&mut self) {
         self.items.clear();
@@ -141,7 +152,13 @@ impl Standing {
     pub fn take(&mut self, does: Does) -> Result<(), Fault> {
         self.stored.entries = entries_after(does, self.stored.entries);
         match does {
-            Does::Refuses(_) | Does::Goes | Does::Begins | Does::Rests | Does::Moves => {}
+            Does::Refuses(_)
+            | Does::Goes
+            | Does::Begins
+            | Does::Rests
+            | Does::Holds
+            | Does::Stops
+            | Does::Moves => {}
             Does::Hands(given) => self.items.push(item_of(given))?,
             Does::Opens(text, source, index) => {
                 self.half = Some(Begun {
@@ -155,6 +172,7 @@ impl Standing {
             Does::Loads(text) => self.load(text),
             Does::Executes(text, place) => self.execute(text, place)?,
             Does::Stands(x_nm) => self.stand(Some(point_at(x_nm)?)),
+            Does::Puts(slot, nm) => self.put(slot, nm)?,
             Does::GivesUp => self.give_up(),
         }
         Ok(())
@@ -164,6 +182,19 @@ impl Standing {
     fn stand(&mut self, at: Option<Point>) {
         if let Some(half) = &mut self.half {
             half.at = at;
+        }
+    }
+
+    /// The tool of a slot has this length, in nanometres. `Fault::Broken` where the table has no such slot.
+    fn put(&mut self, slot: u16, nm: i64) -> Result<(), Fault> {
+        let length = Len::of_nm(i128::from(nm))?;
+        let slot = u8::try_from(slot).unwrap_or(0);
+        let next = self.stored.tools.slots().saturating_add(1);
+        if slot >= 1 && slot as usize <= next.min(64) && 0 <= nm && nm <= 1_000_000_000 {
+            self.stored.tools.set(SlotChange { slot, length });
+            Ok(())
+        } else {
+            Err(Fault::Broken)
         }
     }
 
@@ -180,8 +211,9 @@ impl Standing {
     }
 
     fn execute(&mut self, text: &str, place: u64) -> Result<(), Fault> {
-        let Settings { geometry, tools } = Settings::standard();
-        let effect = execute(&self.stored.state, text.as_bytes(), &tools, &geometry)?;
+        let Settings { geometry, tools: _ } = Settings::standard();
+        let Stored { state, tools, .. } = &self.stored;
+        let effect = execute(state, text.as_bytes(), tools, &geometry)?;
         self.stored
             .state
             .take_over(&effect.machine, effect.changes.as_slice());
@@ -198,6 +230,7 @@ impl Standing {
                 && is_line(self.program, self.program.len() / 2, &found.lines[1])
                 && self.is_half(&found.stored.half)
                 && self.is_stored(&found.stored)
+                && is_same_table(&self.stored.tools, &found.stored.tools)
                 && self.has_parameters(&found.stored)?,
         )
     }
@@ -230,7 +263,7 @@ impl Standing {
         }
     }
 
-    /// Whether all is stored but the half-done block and the parameters.
+    /// Whether all is stored but the half-done block, the parameters and the tools.
     fn is_stored(&self, stored: &Stored<Global>) -> bool {
         stored.entries == self.stored.entries
             && stored.place == self.stored.place

@@ -10,6 +10,8 @@ mod devices;
 mod full_log;
 mod headers;
 mod loads;
+mod migration;
 mod recorder;
 mod resumed;
 mod sessions;
+mod tools;

@@ -131,7 +131,7 @@ made_ends image saved m long none table =
         records = 0;
         reached = (λ i. record { at = 0; number = 0; found = snapshot Two (sym long i) row area }) ∙ (λ i. record { at = 0; number = 0; found = snap i });
         room = omega arith;
-        clean = record { none = λ n ge lt is. omega (arith, is, ap (number_at 8 0) (stretch-at log_first 1020 image n lt), m.log n lt) };
+        clean = record { none = λ n ge lt is. omega (arith, is, ap (number_at 8 0) (stretch-at log_first shortest_log image n lt), m.log n lt) };
       };
       program = no_text (stretch (program_first 0) (program_size 0) image);
       long = long;

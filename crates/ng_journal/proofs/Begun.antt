@@ -4,7 +4,7 @@ use Rattle.ng_rig.specs.Trace.{Image, Trace, reads}
 use Rattle.ng_layout.specs.declared.header.Format.TheVariants.{Two}
 use Rattle.ng_layout.specs.declared.header.Header.{Header}
 use Rattle.ng_layout.specs.Fields.{number_at}
-use Rattle.ng_layout.specs.Areas.{log_size, log_size_of, log_first, program_first, program_size, snapshot_first, snapshot_size, tools_first, tools_size}
+use Rattle.ng_layout.specs.Areas.{shortest_log, log_size, log_size_of, log_first, program_first, program_size, snapshot_first, snapshot_size, tools_first, tools_size}
 use Rattle.ng_layout.specs.Log.{ReplayState}
 use Rattle.ng_layout.specs.Sectors.{program_text}
 use Rattle.ng_layout.specs.Stands.{snapshot, standing, stands, stretch}
@@ -24,7 +24,7 @@ begins-stand image header at b =
 
 pub begins-end : (image : Image) (header : Header) (at : DurableState) → header.format ≡ Two → BeginsIn image header at → EndsIn image header at no_records
 begins-end image header at two b =
-    let short : log_size_of header ≡ 1020 = ap log_size two in
+    let short : log_size_of header ≡ shortest_log = ap log_size two in
     record {
       force = b.force;
       format = two;
@@ -33,7 +33,7 @@ begins-end image header at two b =
         records = 0;
         reached = λ i. record { at = 0; number = 0; found = b.snapshot_is i };
         room = omega arith;
-        clean = record { none = λ m ge lt is. let low : m < 1020 = omega arith in b.clean m low (ap (number_at 8 0) (sym (stretch-at log_first (log_size_of header) image m lt)) ∙ is) };
+        clean = record { none = λ m ge lt is. let low : m < shortest_log = omega arith in b.clean m low (ap (number_at 8 0) (sym (stretch-at log_first (log_size_of header) image m lt)) ∙ is) };
       };
       program = b.program;
       long = b.long;

@@ -3,11 +3,11 @@ use Rattle.std.proofs.Common.{◌≡◌, ℕ, ◌+◌, ◌-◌, ◌*◌, ◌≤�
 use Rattle.std.proofs.lemmas.List.{take_all, get_or-take, length-take-le}
 use Rattle.ng_words.specs.declared.start.LineKind.{LineKind}
 use Rattle.ng_text.specs.Percent.{first_kind}
-use Rattle.ng_rig.specs.Trace.{Trace, reads}
+use Rattle.ng_rig.specs.Trace.{Image, Trace, reads}
 use Rattle.ng_text.specs.Programs.{lines_before}
 use Rattle.ng_layout.specs.Sectors.{program_text}
 use Rattle.ng_layout.specs.Areas.{program_first, program_size}
-use Rattle.ng_layout.specs.Stands.{stretch}
+use Rattle.ng_layout.specs.Stands.{stretch, program_under}
 use Rattle.ng_layout.specs.Stored.{DurableState}
 use Rattle.ng_layout.specs.declared.header.Header.{Header}
 use Rattle.ng_log.specs.declared.log_end.LogEnd.{LogEnd}
@@ -34,10 +34,14 @@ text_of-take m n row le =
     same_lists m (program_text m row) (take m (program_text n row)) (length-text m row) (length-take-le m (program_text n row) (omega (arith, length-text n row)))
     (λ k lt. text-at m row k lt ∙ sym (text-at n row k (omega arith)) ∙ sym (get_or-take m (program_text n row) k 0 lt))
 
+-- the lines of the program that a header names
+pub kind_under : (image : Image) (header : Header) (place : ℕ) (kind : LineKind) → place ≤ header.length
+    → kind ≡ kind_in (program_text place (stretch (program_first header.area) (program_size header.area) image)) → kind ≡ first_kind (lines_before (program_under header image) place)
+kind_under image header place kind within found =
+    found ∙ ap kind_in (text_of-take place header.length (stretch (program_first header.area) (program_size header.area) image) within)
+
 pub first_in_force : {end : LogEnd} (old : Trace) (header : Header) (standing : DurableState) (place : ℕ) (kind : LineKind) → IsAtEnd old header standing end → place ≤ header.length
     → kind ≡ kind_in (program_text place (stretch (program_first header.area) (program_size header.area) (reads old))) → kind ≡ first_kind (lines_before standing.program place)
 first_in_force old header standing place kind at within found =
-    let row = stretch (program_first header.area) (program_size header.area) (reads old) in
-    found
-    ∙ ap kind_in (text_of-take place header.length row within)
+    kind_under (reads old) header place kind within found
     ∙ ap (λ (l : List ℕ). first_kind (lines_before l place)) at.image.program

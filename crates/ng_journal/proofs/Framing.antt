@@ -206,12 +206,12 @@ text_stays (Ok _) u area header loaded old mid synced new short is w is_synced l
     on : WritesOnly (May (next_header header (spare_area header.area) loaded.saved.length) loaded.saved) (Synced mid) new
     on = subst (λ (l : Trace). WritesOnly (May (next_header header (spare_area header.area) loaded.saved.length) loaded.saved) l new) is_synced last
 
-    apart : (n : ℕ) → 174 ≤ n → n < 1706 → IsOfEpoch (next_header header (spare_area header.area) loaded.saved.length) n → ⊥
+    apart : (n : ℕ) → 174 ≤ n → n < log_first + shortest_log → IsOfEpoch (next_header header (spare_area header.area) loaded.saved.length) n → ⊥
     apart n le high (inl (inl among)) = let to = among.to in omega arith
     apart n le high (inl (inr among)) = let from = among.1.from in omega arith
     apart n le high (inr is) = omega arith
 
-    same : (n : ℕ) → 174 ≤ n → n < 1706 → reads new n ≡ reads mid n
+    same : (n : ℕ) → 174 ≤ n → n < log_first + shortest_log → reads new n ≡ reads mid n
     same n le high = ⊎_elim (λ was. was) (λ own. absurd (apart n le high (of_epoch (next_header header (spare_area header.area) loaded.saved.length) loaded.saved n (reads new n) own))) ((reads_blend (May (next_header header (spare_area header.area) loaded.saved.length) loaded.saved) (Synced mid) new on).each n)
 
 -- A format of whatever is stored: each of the three stretches, a sync, the header, a sync.

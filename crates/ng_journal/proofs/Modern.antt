@@ -13,10 +13,10 @@ use Rattle.ng_layout.specs.Sectors.{program_text}
 use Rattle.ng_layout.specs.Stands.{stretch, in_force, stands, stands_beside, beside_header, beside_format, saved_beside, IsWritten}
 use Rattle.ng_layout.specs.Stored.{StoredModel, DurableState}
 use Rattle.ng_log.specs.AtEnd.{no_records, IsAtEnd}
-use Rattle.ng_journal.specs.Private.CheckpointSteps.{IsOwnImage, IsBegun, IsEitherUnder, MayFollow, WritesState, beside, CheckpointSpec}
-use Rattle.ng_journal.specs.AtRest.{BelongsTo, migrated}
+use Rattle.ng_journal.specs.Private.CheckpointSteps.{IsOwnImage, IsBegun, IsEitherUnder, MayFollow, WritesState, StoresState, beside, CheckpointSpec}
+use Rattle.ng_journal.specs.AtRest.{BelongsTo, IsLaidOut, migrated}
 use Rattle.ng_journal.specs.Journal.{StandsBeside}
-use Rattle.ng_journal.specs.Private.RecoverySteps.{ModernizeSpec, BelongsToModern, modern_by}
+use Rattle.ng_journal.specs.Private.RecoverySteps.{ModernizeSpec, StoresModern, BelongsToModern, modern_by}
 use Rattle.ng_journal.proofs.Begun.{begins-empty, begins-stand, begun-end}
 use Rattle.ng_journal.proofs.Restoring.{beside-under, Promised}
 
@@ -28,14 +28,32 @@ modern_already tools header standing trace two b = record {
   at = subst (λ (f : Format). IsAtEnd trace header (beside_format tools f standing) no_records) (sym two) (begun-end trace header standing two b);
 }
 
-pub nothing_modern : (tools : List ℤ) (header : Header) (saved : StoredModel) (trace : Trace) → WritesOnly (λ n bytes. BelongsToModern tools header saved n bytes) trace trace
-nothing_modern tools header saved trace = only_none (λ n bytes. BelongsToModern tools header saved n bytes) trace
+pub nothing_modern : {E : Type 0} (tools : List ℤ) (header : Header) (saved : StoredModel) (trace : Trace) → header.format ≡ Two → StoresModern {E = E} tools (Ok header) header saved trace trace
+nothing_modern tools header saved trace two = record {
+  writes = only_none (λ n bytes. BelongsToModern tools header saved n bytes) trace;
+  laid = λ laid. subst (λ (f : Format). IsLaidOut header (saved_beside tools f saved) (reads trace)) (sym two) laid;
+  synced = λ synced. synced;
+}
 
 -- of format 1 it is a checkpoint
-pub modern_written : (tools : List ℤ) (header last : Header) (saved with : StoredModel) (old new : Trace) → header.format ≡ One → last ≡ migrated header → with ≡ record saved { tools = tools } → WritesState last with old new → WritesOnly (λ n bytes. BelongsToModern tools header saved n bytes) old new
+modern_written : (tools : List ℤ) (header last : Header) (saved with : StoredModel) (old new : Trace) → header.format ≡ One → last ≡ migrated header → with ≡ record saved { tools = tools } → WritesState last with old new → WritesOnly (λ n bytes. BelongsToModern tools header saved n bytes) old new
 modern_written tools header last saved with old new one last_is with_is w =
     only_wider (λ n bytes. BelongsTo last with n bytes) (λ n bytes. BelongsToModern tools header saved n bytes) old new
     (λ n bytes own. (one, subst (λ (s : StoredModel). BelongsTo (migrated header) s n bytes) with_is (subst (λ (h : Header). BelongsTo h with n bytes) last_is own))) w
+
+pub modern_not_stored : {T E F : Type 0} (e : E) (result : Result T F) (tools : List ℤ) (header last : Header) (saved with : StoredModel) (old new : Trace) → header.format ≡ One → last ≡ migrated header → with ≡ record saved { tools = tools } → StoresState result last with old new → StoresModern tools (Err e) header saved old new
+modern_not_stored e result tools header last saved with old new one last_is with_is s = record {
+  writes = modern_written tools header last saved with old new one last_is with_is s.writes;
+  laid = λ _. tt;
+  synced = λ _. tt;
+}
+
+pub modern_stored : {T E F : Type 0} (v : T) (tools : List ℤ) (header last : Header) (saved with : StoredModel) (old new : Trace) → header.format ≡ One → last ≡ migrated header → with ≡ record saved { tools = tools } → StoresState {E = F} (Ok v) last with old new → StoresModern {E = E} tools (Ok last) header saved old new
+modern_stored v tools header last saved with old new one last_is with_is s = record {
+  writes = modern_written tools header last saved with old new one last_is with_is s.writes;
+  laid = λ _. subst (λ (x : StoredModel). IsLaidOut last x (reads new)) (with_is ∙ ap (λ (f : Format). saved_beside tools f saved) (sym one)) s.laid;
+  synced = λ _. s.synced;
+}
 
 module _ (tools : List ℤ) (header last : Header) (saved with : StoredModel) (standing : DurableState) (old new : Trace) (one : header.format ≡ One) (last_is : last ≡ migrated header) (with_is : with ≡ record saved { tools = tools }) (b : IsBegun old header standing) (saved_is : standing.saved ≡ saved) where
   own : IsOwnImage old header
@@ -86,5 +104,5 @@ module _ (tools : List ℤ) (header last : Header) (saved with : StoredModel) (s
 pub modern_over : {E : Type 0} (given table : List ℤ) (result : Result Header E) (header : Header) (standing : DurableState) (old new : Trace) → table ≡ given → ModernizeSpec given result header standing old new → ModernizeSpec table result header standing old new
 modern_over given table result header standing old new same m = subst (λ (t : List ℤ). ModernizeSpec t result header standing old new) (sym same) m
 
-pub written_over : (given table : List ℤ) (header : Header) (saved : StoredModel) (old new : Trace) → table ≡ given → WritesOnly (λ n bytes. BelongsToModern given header saved n bytes) old new → WritesOnly (λ n bytes. BelongsToModern table header saved n bytes) old new
-written_over given table header saved old new same w = subst (λ (t : List ℤ). WritesOnly (λ n bytes. BelongsToModern t header saved n bytes) old new) (sym same) w
+pub stored_over : {E : Type 0} (given table : List ℤ) (result : Result Header E) (header : Header) (saved : StoredModel) (old new : Trace) → table ≡ given → StoresModern given result header saved old new → StoresModern table result header saved old new
+stored_over given table result header saved old new same s = subst (λ (t : List ℤ). StoresModern t result header saved old new) (sym same) s

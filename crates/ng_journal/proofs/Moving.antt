@@ -14,8 +14,8 @@ use Rattle.ng_journal.specs.declared.storing.Tip.{Tip}
 use Rattle.ng_journal.specs.AtRest.{IsEither, next_header}
 use Rattle.ng_journal.specs.Private.LoadSteps.{LoadSpec}
 use Rattle.ng_journal.specs.Journal.{JournalModel, CommitSpec}
-use Rattle.ng_journal.specs.Private.Records.{tip_of, StoreRecordSpec}
-use Rattle.ng_journal.specs.Storing.{Ledger, StoresRecord, ledger_of}
+use Rattle.ng_journal.specs.Private.Records.{ledger, tip_of, StoreRecordSpec}
+use Rattle.ng_journal.specs.Storing.{Ledger, IsLedgerAfter, StoresRecord, ledger_of}
 
 pub moved : {R T E F : Type 0} (v : T) (tip : Tip) (journal : JournalModel R) (before : DurableState) (saved : StoredModel) (old new : Trace) → tip ≡ tip_of (ledger_of journal) → journal.saved ≡ saved → StoreRecordSpec {E = F} (Ok tip) before saved old new → CommitSpec {E = E} (Ok v) journal before (record before { saved = saved }) old new
 moved v tip journal before saved old new is saved_is s = record {
@@ -28,12 +28,16 @@ moved v tip journal before saved old new is saved_is s = record {
 pub not_moved : {R T E F : Type 0} (e : E) (result : Result Tip F) (journal : JournalModel R) (before : DurableState) (saved : StoredModel) (old new : Trace) → StoreRecordSpec result before saved old new → CommitSpec {T = T} (Err e) journal before (record before { saved = saved }) old new
 not_moved e result journal before saved old new s = record { stops = s.stops; items_are = s.items_are; at = tt }
 
+-- what it keeps of that
+pub ledger_moved : (tip : Tip) (l : Ledger) (saved kept : StoredModel) → kept ≡ saved → IsLedgerAfter l saved (ledger tip saved) → IsLedgerAfter l saved (ledger tip kept)
+ledger_moved tip l saved kept is after = subst (λ (s : StoredModel). IsLedgerAfter l saved (ledger tip s)) (sym is) after
+
 -- what is written, as another call answers for it
 pub stored_as : {T U E F : Type 0} (t : T) (u : U) (l : Ledger) (saved : StoredModel) (old new : Trace) → StoresRecord {E = F} (Ok u) l saved old new → StoresRecord {E = E} (Ok t) l saved old new
-stored_as t u l saved old new s = record { writes = s.writes; laid = s.laid }
+stored_as t u l saved old new s = record { writes = s.writes; laid = s.laid; synced = s.synced }
 
 pub not_stored_as : {T U E F : Type 0} (e : E) (result : Result U F) (l : Ledger) (saved : StoredModel) (old new : Trace) → StoresRecord result l saved old new → StoresRecord {T = T} (Err e) l saved old new
-not_stored_as e result l saved old new s = record { writes = s.writes; laid = tt }
+not_stored_as e result l saved old new s = record { writes = s.writes; laid = tt; synced = tt }
 
 -- A load that is done moves it too.
 as_moved : (old new : Trace) (header : Header) (end : LogEnd) (before loaded : DurableState) → IsAtEnd old header before end → IsContinuation old new (IsEither (stands (reads old)) (Ok loaded) (items old)) → IsContinuation old new (IsEither (Ok before) (Ok loaded) (items old))

@@ -1,6 +1,6 @@
 -- Room made for a record, and then the record.
 use Rattle.std.proofs.Common.{◌≡◌, ◌⊎◌, inl, inr, ⊎_elim, ℕ, ◌+◌, ◌<◌, ◌≤◌, ◌↔◌, Bool, true, false, List, ℤ, Option, Result, Ok, Err, length, refl, sym, ◌∙◌, ap, subst, arith}
-use Rattle.std.specs.Prelude.{OnOk}
+use Rattle.std.specs.Prelude.{OnOk, IfOk}
 use Rattle.std.proofs.lemmas.Bool.{cases_lt}
 use Rattle.ng_rig.specs.Trace.{Trace, reads, items}
 use Rattle.ng_rig.specs.Continuation.{IsContinuation}
@@ -8,7 +8,7 @@ use Rattle.ng_rig.specs.Only.{WritesOnly}
 use Rattle.ng_rig.proofs.Running.{stays, joined, weaker}
 use Rattle.ng_rig.proofs.Writes_only.{only_none, only_more, only_wider, reads_blend}
 use Rattle.ng_layout.specs.declared.header.Header.{Header}
-use Rattle.ng_layout.specs.Areas.{log_size_of, program_first, program_size}
+use Rattle.ng_layout.specs.Areas.{log_first, shortest_log, log_size_of, program_first, program_size}
 use Rattle.ng_layout.specs.Log.{parts_for}
 use Rattle.ng_layout.specs.Sectors.{program_text}
 use Rattle.ng_layout.specs.Stands.{stands, stretch}
@@ -30,7 +30,7 @@ use Rattle.ng_journal.proofs.Begun.{begun-end}
 use Rattle.ng_journal.specs.AtRest.{IsEither, IsOfEpoch, BelongsTo, IsLaidOut}
 use Rattle.ng_journal.specs.Journal.{IsTip, StandsFor}
 use Rattle.ng_journal.specs.Private.Records.{ledger, tip_of, IsRoom, MakeRoomSpec, IsRenewed, StoresRoom, StoreRecordSpec}
-use Rattle.ng_journal.specs.Storing.{Ledger, changes_to, HasRoomFor, IsFullFor, renewed, record_of, BelongsToStoring, IsRecorded, IsStoredIn, StoresRecord}
+use Rattle.ng_journal.specs.Storing.{Ledger, changes_to, HasRoomFor, IsFullFor, renewed, with_record, IsLedgerAfter, record_of, BelongsToStoring, IsRecorded, IsStoredIn, StoresRecord}
 
 pub own : {trace : Trace} {header : Header} {standing : DurableState} {end : LogEnd} → IsAtEnd trace header standing end → IsOwnImage trace header
 own at = record { synced = at.synced; force = at.image.force; written = at.image.written }
@@ -128,13 +128,14 @@ pub not_stored : {T U E F : Type 0} (e : E) (result : Result U F) (l : Ledger) (
 not_stored e result l changes saved old new count r = record {
   writes = only_wider (MayRoom l changes) (May l saved) old new (λ n c b. inr (subst (IsFullFor l.header l.end) count b.0, inl b.1)) r.writes;
   laid = tt;
+  synced = tt;
 }
 
 -- a record leaves what isn't in the log
-stays_laid : (l : Ledger) (r : LogRecord) (mid new : Trace) → r.at + size_of r ≤ 1020 → IsRenewed l mid → WritesOnly (BelongsToRecord r) mid new → IsLaidOut (renewed l).header l.saved (reads new)
+stays_laid : (l : Ledger) (r : LogRecord) (mid new : Trace) → r.at + size_of r ≤ shortest_log → IsRenewed l mid → WritesOnly (BelongsToRecord r) mid new → IsLaidOut (renewed l).header l.saved (reads new)
 stays_laid l r mid new room done w = λ n own. subst (BelongsTo (renewed l).header l.saved n) (sym (same n own)) (done.laid n own)
   where
-    low : (n : ℕ) → IsOfEpoch (renewed l).header n → (n < 686) ⊎ (1706 ≤ n)
+    low : (n : ℕ) → IsOfEpoch (renewed l).header n → (n < log_first) ⊎ (log_first + shortest_log ≤ n)
     low n (inl (inl among)) = let to = among.to in inl (omega arith)
     low n (inl (inr among)) = let from = among.1.from in inr (omega arith)
     low n (inr is) = inl (omega arith)
@@ -154,6 +155,7 @@ stored {T = T} {E = E} result tip l changes saved old mid new few count (inl the
           (only_wider (MayRoom l changes) (May l saved) old mid (λ n c b. inr (subst (IsFullFor l.header l.end) count b.0, inl b.1)) r.writes)
           (only_wider (BelongsToRecord (record_of l saved)) (May l saved) mid new (λ n c b. inl (room, b)) at.writes);
       laid = go result at.parts;
+      synced = at.synced;
     }
   where
     go : (result : Result T E) → OnOk result (IsRecorded (record_of l saved) (reads new)) → OnOk result (IsStoredIn l saved (reads new))
@@ -167,11 +169,24 @@ stored {T = T} {E = E} result tip l changes saved old mid new few count (inr ful
           (only_wider (MayRoom l changes) (May l saved) old mid (λ n c b. inr (subst (IsFullFor l.header l.end) count b.0, inl b.1)) r.writes)
           (only_wider (BelongsToRecord (record_of (renewed l) saved)) (May l saved) mid new (λ n c b. inr (is_full, inr b)) at.writes);
       laid = go result at.parts (stays_laid l (record_of (renewed l) saved) mid new (omega (arith, count, few)) (r.done full.0) at.writes);
+      synced = at.synced;
     }
   where
     go : (result : Result T E) → OnOk result (IsRecorded (record_of (renewed l) saved) (reads new)) → IsLaidOut (renewed l).header l.saved (reads new) → OnOk result (IsStoredIn l saved (reads new))
     go (Err e) parts laid = tt
     go (Ok v) parts laid = inr (subst (IsFullFor l.header l.end) count full.0, laid, parts)
+
+-- what is kept of it
+pub ledger_after : {E : Type 0} (result : Result Tip E) (tip : Tip) (l : Ledger) (changes : ℕ) (saved : StoredModel) → changes ≡ changes_to l saved → IsRoom l changes tip → IfOk result (λ t. t ≡ tip_of (with_record (ledger tip l.saved) saved)) → IfOk result (λ t. IsLedgerAfter l saved (ledger t saved))
+ledger_after (Err e) tip l changes saved count room is = tt
+ledger_after (Ok after) tip l changes saved count (inl there) is = record {
+  room = λ _. ap (λ (t : Tip). ledger t saved) (is ∙ ap (λ (t : Tip). tip_of (with_record (ledger t l.saved) saved)) there.1);
+  full = λ full. let room = subst (HasRoomFor l.header l.end) count there.0 in absurd (omega (arith, room, full));
+}
+ledger_after (Ok after) tip l changes saved count (inr full) is = record {
+  room = λ room. let none = subst (IsFullFor l.header l.end) count full.0 in absurd (omega (arith, room, none));
+  full = λ _. ap (λ (t : Tip). ledger t saved) (is ∙ ap (λ (t : Tip). tip_of (with_record (ledger t l.saved) saved)) full.1);
+}
 
 -- either log has the room
 pub has_room : (tip : Tip) (l : Ledger) (changes : ℕ) → changes ≤ 5399 → IsRoom l changes tip → HasRoomFor tip.header tip.end changes
@@ -197,12 +212,13 @@ record_is tip table slot was saved is slot_is = λ i. record_from tip.header.epo
 
 -- a record as another call answers for it
 pub not_recorded : {T U E F : Type 0} (e : E) (result : Result U F) (tip : Tip) (table : List ℤ) (slot : Option SlotChange) (was saved : StoredModel) (old new : Trace) → table ≡ was.setup.params → slot ≡ first_change was.tools saved.tools → WritesRecord result (record_from tip.header.epoch tip.end table slot saved) old new → WritesRecord {T = T} (Err e) (record_of (ledger tip was) saved) old new
-not_recorded e result tip table slot was saved old new is slot_is w = record { writes = subst (λ (r : LogRecord). WritesOnly (BelongsToRecord r) old new) (record_is tip table slot was saved is slot_is) w.writes; parts = tt }
+not_recorded e result tip table slot was saved old new is slot_is w = record { writes = subst (λ (r : LogRecord). WritesOnly (BelongsToRecord r) old new) (record_is tip table slot was saved is slot_is) w.writes; parts = tt; synced = tt }
 
 pub recorded : {T U E F : Type 0} (t : T) (u : U) (tip : Tip) (table : List ℤ) (slot : Option SlotChange) (was saved : StoredModel) (old new : Trace) → table ≡ was.setup.params → slot ≡ first_change was.tools saved.tools → WritesRecord {E = F} (Ok u) (record_from tip.header.epoch tip.end table slot saved) old new → WritesRecord {E = E} (Ok t) (record_of (ledger tip was) saved) old new
 recorded t u tip table slot was saved old new is slot_is w = record {
   writes = subst (λ (r : LogRecord). WritesOnly (BelongsToRecord r) old new) (record_is tip table slot was saved is slot_is) w.writes;
   parts = subst (λ (r : LogRecord). IsRecorded r (reads new)) (record_is tip table slot was saved is slot_is) w.parts;
+  synced = w.synced;
 }
 
 -- what is stored with another half-done block

@@ -5,6 +5,7 @@ use Rattle.ng_layout.specs.declared.header.Header.{Header}
 use Rattle.ng_layout.specs.Stored.{StoredModel}
 use Rattle.ng_log.specs.AtEnd.{no_records, IsAtEnd}
 use Rattle.ng_journal.specs.declared.storing.Tip.{Tip}
+use Rattle.ng_journal.specs.AtRest.{IsLaidOut}
 use Rattle.ng_journal.specs.Journal.{JournalModel}
 use Rattle.ng_journal.specs.Private.Records.{tip_of}
 use Rattle.ng_journal.specs.Storing.{ledger_of}
@@ -26,6 +27,8 @@ recovered_all tools journal header saved old new same held r = record {
   finds = (r.outcome.0, subst (λ (t : Tip). IsNextEpoch t.header (reads old)) (sym same) r.outcome.1);
   refused = tt;
   renews = r.renews;
+  laid = subst (λ (t : Tip). IsLaidOut t.header saved (reads new)) (sym same) r.laid;
+  synced = r.synced;
   kept = λ written.
       let k = r.kept written in
       record { stops = k.stops; ready = ready-rests tools journal header saved old new same held k.ready };
@@ -33,13 +36,13 @@ recovered_all tools journal header saved old new same held r = record {
 
 -- why nothing was
 pub recovered_failed : {R E : Type 0} (tools : List ℤ) (rig : R) (e : E) (saved : StoredModel) (old new : Trace) → RestoreSpec tools (Err e) saved old new → RecoverSpec tools (Err (DeviceFailed, rig)) old new
-recovered_failed tools rig e saved old new r = record { finds = tt; refused = tt; renews = r.renews; kept = λ written. record { stops = (r.kept written).stops; ready = tt } }
+recovered_failed tools rig e saved old new r = record { finds = tt; refused = tt; renews = r.renews; laid = tt; synced = tt; kept = λ written. record { stops = (r.kept written).stops; ready = tt } }
 
 pub recovered_refused : {R E : Type 0} (tools : List ℤ) (rig : R) (fault : Fault) (saved : StoredModel) (old new : Trace) → IsRefusal fault → RestoreSpec {E = E} tools (Ok (Err fault)) saved old new → RecoverSpec tools (Err (fault, rig)) old new
 recovered_refused {R} {E} tools rig fault saved old new refusal = elim refusal [
-  | inl is ↦ subst P (sym is) (λ r. record { finds = r.outcome; refused = r.refused; renews = r.renews; kept = λ written. record { stops = (r.kept written).stops; ready = tt } })
-  | inr (inl is) ↦ subst P (sym is) (λ r. record { finds = r.outcome; refused = r.refused; renews = r.renews; kept = λ written. record { stops = (r.kept written).stops; ready = tt } })
-  | inr (inr is) ↦ subst P (sym is) (λ r. record { finds = r.outcome; refused = r.refused; renews = r.renews; kept = λ written. record { stops = (r.kept written).stops; ready = tt } })
+  | inl is ↦ subst P (sym is) (λ r. record { finds = r.outcome; refused = r.refused; renews = r.renews; laid = tt; synced = tt; kept = λ written. record { stops = (r.kept written).stops; ready = tt } })
+  | inr (inl is) ↦ subst P (sym is) (λ r. record { finds = r.outcome; refused = r.refused; renews = r.renews; laid = tt; synced = tt; kept = λ written. record { stops = (r.kept written).stops; ready = tt } })
+  | inr (inr is) ↦ subst P (sym is) (λ r. record { finds = r.outcome; refused = r.refused; renews = r.renews; laid = tt; synced = tt; kept = λ written. record { stops = (r.kept written).stops; ready = tt } })
 ]
   where
     P : Fault → Type 0

@@ -104,7 +104,7 @@ target_of old new saved = beside saved new.area (reads old)
 outside : (old mid : Trace) (header next : Header) → IsOwnImage old header → WritesOnly (In next) old mid → (n : ℕ) → (IsOfAreas next n → ⊥) → reads mid n ≡ reads old n
 outside old mid header next at w n out = ⊎_elim (λ may. at.synced.one n (reads mid n) may) (λ areas. absurd (out areas)) ((reads_blend (In next) old mid w).each n)
 
-not_areas : (next : Header) (n : ℕ) → (n < 2) ⊎ ((174 ≤ n) × (n < 1706)) → IsOfAreas next n → ⊥
+not_areas : (next : Header) (n : ℕ) → (n < 2) ⊎ ((174 ≤ n) × (n < log_first + shortest_log)) → IsOfAreas next n → ⊥
 not_areas next n where_is (inl a) = ⊎_elim (λ low. omega (arith, a.from)) (λ high. let from = high.0 in omega (arith, a.to)) where_is
 not_areas next n where_is (inr t) = let from = t.1.from in ⊎_elim (λ low. omega arith) (λ high. let to = high.1 in omega arith) where_is
 

@@ -16,11 +16,11 @@ use Rattle.ng_layout.specs.Limits.{greatest_count}
 use Rattle.ng_layout.specs.Stands.{in_force, stands, stands_beside, beside_header, beside_format, saved_beside, recovered, closed, IsWritten}
 use Rattle.ng_layout.specs.Stored.{StoredModel, DurableState}
 use Rattle.ng_log.specs.AtEnd.{no_records, IsAtEnd}
-use Rattle.ng_journal.specs.Private.CheckpointSteps.{IsOwnImage, IsBegun, IsEitherUnder, MayFollow, WritesState, beside, CheckpointSpec}
-use Rattle.ng_journal.specs.AtRest.{BelongsTo, next_header, migrated}
+use Rattle.ng_journal.specs.Private.CheckpointSteps.{IsOwnImage, IsBegun, IsEitherUnder, MayFollow, WritesState, StoresState, beside, CheckpointSpec}
+use Rattle.ng_journal.specs.AtRest.{BelongsTo, IsLaidOut, next_header, migrated}
 use Rattle.ng_journal.specs.Recovery.{recovered_of, epochs_for, HasCause, BelongsToRenewal, BelongsToNext, Renews, IsEitherBeside, IsFound, IsNextEpoch}
 use Rattle.ng_journal.specs.Journal.{StandsBeside}
-use Rattle.ng_journal.specs.Private.RecoverySteps.{StandsUnder, IsRead, RestoreSpec, ModernizeSpec, BelongsToModern, modern_by}
+use Rattle.ng_journal.specs.Private.RecoverySteps.{StandsUnder, IsRead, RestoreSpec, ModernizeSpec, StoresModern, BelongsToModern, modern_by}
 
 -- what an image stands for beside a table, by the header in force
 pub beside-under : (tools : List ℤ) (image : Image) (h : Header) → in_force image ≡ Some h → stands_beside tools image ≡ beside_header tools (Some h) (stands image)
@@ -53,6 +53,8 @@ module _ (tools : List ℤ) where
     outcome = tt;
     refused = tt;
     renews = sync_renews old new is;
+    laid = tt;
+    synced = tt;
     kept = λ written. record { stops = subst (λ (l : Trace). IsContinuation old l (Same old)) (sym is) (synced_stops old written); ready = tt };
   }
 
@@ -62,6 +64,8 @@ module _ (tools : List ℤ) where
     outcome = cause;
     refused = is;
     renews = sync_renews old new is;
+    laid = tt;
+    synced = tt;
     kept = λ written. record { stops = subst (λ (l : Trace). IsContinuation old l (Same old)) (sym is) (synced_stops old written); ready = tt };
   }
 
@@ -169,11 +173,13 @@ module _ (tools : List ℤ) (header : Header) (found saved : StoredModel) (old n
     outcome = tt;
     refused = tt;
     renews = renewed next new is_next writes;
+    laid = tt;
+    synced = tt;
     kept = λ written. record { stops = through result new written (done_by result next new is_next written c); ready = tt };
   }
 
   -- what is made of it in format 2
-  module _ {T F : Type 0} (v : T) (next : Header) (mid new : Trace) (is_next : next ≡ Next header saved) (writes : WritesState next saved now mid) (c : Promised {E = F} (Ok v) next saved now mid) where
+  module _ {T F : Type 0} (v : T) (next : Header) (mid new : Trace) (is_next : next ≡ Next header saved) (stores : StoresState {E = F} (Ok v) next saved now mid) (c : Promised {E = F} (Ok v) next saved now mid) where
     abbrev ok : Result T F
     ok = Ok v
 
@@ -193,15 +199,17 @@ module _ (tools : List ℤ) (header : Header) (found saved : StoredModel) (old n
     made result written m =
         subst (λ (h : Header). ModernizeSpec tools result h standing mid new) is_next (m standing (subst (λ (h : Header). IsBegun mid h standing) (sym is_next) (first written).at) refl)
 
-    pub exit_modern : {G E : Type 0} (e : E) (result : Result Header G) (kept : StoredModel) → WritesOnly (λ n bytes. BelongsToModern tools next saved n bytes) mid new → Modern result → RestoreSpec tools (Err e) kept old new
+    pub exit_modern : {G E : Type 0} (e : E) (result : Result Header G) (kept : StoredModel) → StoresModern tools result next saved mid new → Modern result → RestoreSpec tools (Err e) kept old new
     exit_modern e result kept modern m = record {
       outcome = tt;
       refused = tt;
-      renews = renewed_again next mid new is_next writes modern;
+      renews = renewed_again next mid new is_next stores.writes modern.writes;
+      laid = tt;
+      synced = tt;
       kept = λ written. record { stops = again result written (made result written m); ready = tt };
     }
 
-    pub exit_restored : {G E : Type 0} (last : Header) (kept : StoredModel) → WritesOnly (λ n bytes. BelongsToModern tools next saved n bytes) mid new → Modern {G = G} (Ok last) → last ≡ modern_by next.format next → kept ≡ saved_beside tools next.format saved → RestoreSpec {E = E} tools (Ok (Ok last)) kept old new
+    pub exit_restored : {G E : Type 0} (last : Header) (kept : StoredModel) → StoresModern {E = G} tools (Ok last) next saved mid new → Modern {G = G} (Ok last) → last ≡ modern_by next.format next → kept ≡ saved_beside tools next.format saved → RestoreSpec {E = E} tools (Ok (Ok last)) kept old new
     exit_restored {G = G} last kept modern m last_is kept_is =
         let is_kept : kept ≡ saved_beside tools header.format saved = kept_is ∙ ap (λ (h : Header). saved_beside tools h.format saved) is_next in
         let is_last : last ≡ modern_by header.format (Next header saved) = last_is ∙ ap (λ (h : Header). modern_by h.format h) is_next in
@@ -209,10 +217,12 @@ module _ (tools : List ℤ) (header : Header) (found saved : StoredModel) (old n
         record {
           outcome = (
             record { program = standing.program; is = target_is ∙ (λ i. Ok (record { saved = sym is_kept i; program = standing.program })) },
-            record { before = header; force = was; next = ap (λ (h : Header). h.epoch) is_last ∙ modern_epoch header.format (Next header saved) header.epoch refl; format = ap (λ (h : Header). h.format) is_last ∙ modern_format header.format (Next header saved) refl },
+            record { before = header; force = was; is = is_last ∙ modern_next header.format header saved.length refl (ap (λ (s : StoredModel). s.length) closed_is ∙ u.long) },
           );
           refused = tt;
-          renews = renewed_again next mid new is_next writes modern;
+          renews = renewed_again next mid new is_next stores.writes modern.writes;
+          laid = subst (λ (s : StoredModel). IsLaidOut last s (reads new)) (sym kept_is) (modern.laid stores.laid);
+          synced = modern.synced stores.synced;
           kept = λ written.
               let d = made told written m in
               record {
@@ -221,10 +231,6 @@ module _ (tools : List ℤ) (header : Header) (found saved : StoredModel) (old n
               };
         }
       where
-        modern_epoch : (f : Format) (h : Header) (e : ℕ) → h.epoch ≡ e + 1 → (modern_by f h).epoch ≡ e + epochs_for f
-        modern_epoch One h e is = omega arith
-        modern_epoch Two h e is = is
-
-        modern_format : (f : Format) (h : Header) → h.format ≡ f → (modern_by f h).format ≡ Two
-        modern_format One h is = refl
-        modern_format Two h is = is
+        modern_next : (f : Format) (h : Header) (length : ℕ) → h.format ≡ f → length ≡ h.length → modern_by f (next_header h h.area length) ≡ record h { format = Two; epoch = h.epoch + epochs_for f }
+        modern_next One h length is long = let epoch : h.epoch + 1 + 1 ≡ h.epoch + 2 = omega arith in λ i. record { format = Two; epoch = epoch i; area = h.area; length = long i }
+        modern_next Two h length is long = λ i. record { format = is i; epoch = h.epoch + 1; area = h.area; length = long i }

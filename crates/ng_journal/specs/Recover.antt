@@ -1,11 +1,12 @@
 -- What `recover` answers (own).
-use Rattle.std.specs.Prelude.{◌≡◌, ◌⊎◌, ℕ, ℤ, List, Result, Ok, Err, IfOk}
+use Rattle.std.specs.Prelude.{◌≡◌, ◌⊎◌, ℕ, ℤ, List, Result, Ok, Err, OnOk, IfOk}
 use Rattle.ng_num.specs.declared.fault.Fault.{Fault}
 use Rattle.ng_num.specs.declared.fault.Fault.TheVariants.{NotFormatted, Damaged, CountersUsed, DeviceFailed, OutOfMemory}
 use Rattle.ng_rig.specs.Trace.{Image, Trace, Synced, reads, items}
-use Rattle.ng_rig.specs.Continuation.{IsContinuation}
+use Rattle.ng_rig.specs.Continuation.{IsContinuation, IsSynced}
 use Rattle.ng_layout.specs.Stands.{stands_beside, IsWritten}
 use Rattle.ng_layout.specs.Stored.{StoredModel, DurableState}
+use Rattle.ng_journal.specs.AtRest.{IsLaidOut}
 use Rattle.ng_journal.specs.Journal.{JournalModel, IsDurablyAt}
 use Rattle.ng_journal.specs.Recovery.{recovered_of, HasCause, IsFound, IsNextEpoch, Renews, IsEitherBeside}
 
@@ -51,11 +52,14 @@ pub record JournalKeepsAll {R : Type 0} (tools : List ℤ) (result : RecoverResu
   pub stops : IsContinuation old new (IsEitherBeside tools (stands_beside tools (reads old)) (recovered_of (stands_beside tools (reads old))) (items old))
   pub ready : IfOk result (λ x. IsJournalRecovered tools x.0 old new)
 
--- What is found, or why nothing is, and what is written, over any image; what stops leave over one that only this journal wrote.
+-- What is found, or why nothing is, and what is written, over any image: after Ok what was found stands there under the journal's header and nothing
+-- is unsynced. What stops leave over an image that only this journal wrote.
 pub record RecoverSpec {R : Type 0} (tools : List ℤ) (result : RecoverResult R) (old new : Trace) : Type 0 where
   pub finds : FoundByRecover tools result (reads old)
   pub refused : LeavesAlone result old new
   pub renews : Renews tools old new
+  pub laid : IfOk result (λ x. IsLaidOut x.0.header x.1 (reads new))
+  pub synced : OnOk result (IsSynced new)
   pub kept : IsWritten (reads old) → JournalKeepsAll tools result old new
 
 abbrev pub recover_fault : {R : Type 0} → RecoverResult R → Result ℕ Fault

@@ -43,12 +43,11 @@ pub record IsFound (tools : List ℤ) (saved : StoredModel) (image : Image) : Ty
   pub program : List ℕ
   pub is : recovered_of (stands_beside tools image) ≡ Ok (record { saved = saved; program = program })
 
--- the header is of format 2, and of the epoch after the one in force, or over format 1 of the second after it
+-- the header is the one in force, but of format 2 and of the epoch after, or over format 1 of the second after
 pub record IsNextEpoch (header : Header) (image : Image) : Type 0 where
   pub before : Header
   pub force : in_force image ≡ Some before
-  pub next : header.epoch ≡ before.epoch + epochs_for before.format
-  pub format : header.format ≡ Two
+  pub is : header ≡ record before { format = Two; epoch = before.epoch + epochs_for before.format }
 
 -- These bytes belong in sector n where this is stored under the epoch after a header, and over format 1 with a table in format 2 under the one after that.
 abbrev pub BelongsToRenewal : List ℤ → Header → StoredModel → ℕ → List ℕ → Type 0

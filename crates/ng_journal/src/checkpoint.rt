@@ -14,7 +14,7 @@ ghost use Rattle.ng_journal.specs.Private.Overwrites.{Overwrites};
 ghost use Rattle.ng_journal.specs.AtRest.{next_header, migrated};
 
 use ng_layout::{
-    BYTES, Format, Header, SNAPSHOT_SIZE, Stored, TOOLS_SIZE, snapshot_first, tools_first,
+    Format, Header, SECTOR_BYTES, SNAPSHOT_SIZE, Stored, TOOLS_SIZE, snapshot_first, tools_first,
 };
 use ng_rig::{Failed, Rig};
 use std::alloc::Allocator;
@@ -47,7 +47,8 @@ fn write_tools<R: Rig, A: Allocator + Copy + Drop>(
 ) -> Result<(), Failed>
     requires sectors { least_size ≤ R.sectors rig.old }
     requires within { first + tools_size ≤ least_size }
-    ensures tools { IfHonest (R.honest rig.old) (R.honest rig.new) (Overwrites result first tools_size (HoldsToolPart stored.now) (R.trace rig.old) (R.trace rig.new)) }
+    ensures tools { IfHonest (R.honest rig.old) (R.honest rig.new)
+        (Overwrites result first tools_size (HoldsToolPart stored.now) (R.trace rig.old) (R.trace rig.new)) }
     ensures size { R.sectors rig.new ≡ R.sectors rig.old }
     ensures failures { FailureCountSpec result (R.failed rig.old) (R.failed rig.new) }
 {
@@ -66,7 +67,8 @@ fn write_areas<R: Rig, A: Allocator + Copy + Drop>(
     requires sectors { least_size ≤ R.sectors rig.old }
     requires count { stored.now.entries ≤ greatest_count }
     requires storable { IsStorable stored.now }
-    ensures areas { IfHonest (R.honest rig.old) (R.honest rig.new) (WritesAreas result next stored.now (R.trace rig.old) (R.trace rig.new)) }
+    ensures areas { IfHonest (R.honest rig.old) (R.honest rig.new)
+        (WritesAreas result next stored.now (R.trace rig.old) (R.trace rig.new)) }
     ensures size { R.sectors rig.new ≡ R.sectors rig.old }
     ensures failures { FailureCountSpec result (R.failed rig.old) (R.failed rig.new) }
 {
@@ -79,7 +81,7 @@ fn write_areas<R: Rig, A: Allocator + Copy + Drop>(
 
 /// The sector of a header that is within its limits.
 #[tactic(auto, unfolding(ng_layout::specs::Header::header_in))]
-pub(crate) fn header_sector(header: Header) -> [u8; BYTES]
+pub(crate) fn header_sector(header: Header) -> [u8; SECTOR_BYTES]
     requires { IsValidHeader header }
     ensures read { header_in (header.epoch % 2) result ≡ Some header }
     ensures holds { HoldsHeader header result }
@@ -125,9 +127,12 @@ pub(crate) fn checkpoint<R: Rig, A: Allocator + Copy + Drop>(
     requires count { stored.now.entries ≤ greatest_count }
     requires storable { IsStorable stored.now }
     requires tools { next.format ≡ One → stored.now.tools ≡ [] }
-    ensures stops { IfHonest (R.honest rig.old) (R.honest rig.new) ((header : Header) → IsOwnImage (R.trace rig.old) header → next.epoch ≡ header.epoch + 1
-        → MayFollow next header (reads (R.trace rig.old)) → CheckpointSpec result header next stored.now (R.trace rig.old) (R.trace rig.new)) }
-    ensures stores { IfHonest (R.honest rig.old) (R.honest rig.new) (StoresState result next stored.now (R.trace rig.old) (R.trace rig.new)) }
+    ensures stops { IfHonest (R.honest rig.old) (R.honest rig.new)
+        ((header : Header) → IsOwnImage (R.trace rig.old) header → next.epoch ≡ header.epoch + 1
+        → MayFollow next header (reads (R.trace rig.old))
+        → CheckpointSpec result header next stored.now (R.trace rig.old) (R.trace rig.new)) }
+    ensures stores { IfHonest (R.honest rig.old) (R.honest rig.new)
+        (StoresState result next stored.now (R.trace rig.old) (R.trace rig.new)) }
     ensures size { R.sectors rig.new ≡ R.sectors rig.old }
     ensures failures { FailureCountSpec result (R.failed rig.old) (R.failed rig.new) }
 {

@@ -12,23 +12,24 @@ ghost use Rattle.ng_journal.specs.Journal.{CountsFailure};
 
 use crate::checkpoint::header_sector;
 use ng_layout::{
-    BYTES, Format, HEADERS, Header, LEAST_SIZE, LOG_FIRST, SHORTEST_LOG, SNAPSHOT_SIZE, TOOLS_SIZE,
-    fresh_sector, snapshot_first, tools_first,
+    Format, HEADERS, Header, LEAST_SIZE, LOG_FIRST, SECTOR_BYTES, SHORTEST_LOG, SNAPSHOT_SIZE,
+    TOOLS_SIZE, fresh_sector, snapshot_first, tools_first,
 };
 use ng_num::Fault;
 use ng_rig::{Failed, Rig};
 
 /// A sector of zeros.
-fn empty_sector() -> [u8; BYTES]
+fn empty_sector() -> [u8; SECTOR_BYTES]
     ensures { result ≡ replicate sector_size 0 }
 {
-    [0; BYTES]
+    [0; SECTOR_BYTES]
 }
 
 /// Takes the headers away, one after the other.
 fn clear_headers<R: Rig>(rig: &mut R) -> Result<(), Failed>
     requires { least_size ≤ R.sectors rig.old }
-    ensures clears { IfHonest (R.honest rig.old) (R.honest rig.new) (Overwrites result 0 header_count IsEmpty (R.trace rig.old) (R.trace rig.new)) }
+    ensures clears { IfHonest (R.honest rig.old) (R.honest rig.new)
+        (Overwrites result 0 header_count IsEmpty (R.trace rig.old) (R.trace rig.new)) }
     ensures size { R.sectors rig.new ≡ R.sectors rig.old }
     ensures failures { FailureCountSpec result (R.failed rig.old) (R.failed rig.new) }
 {
@@ -42,7 +43,8 @@ fn clear_headers<R: Rig>(rig: &mut R) -> Result<(), Failed>
 /// Takes all parts of records away.
 fn clear_log<R: Rig>(rig: &mut R) -> Result<(), Failed>
     requires { least_size ≤ R.sectors rig.old }
-    ensures clears { IfHonest (R.honest rig.old) (R.honest rig.new) (Overwrites result log_first shortest_log IsEmpty (R.trace rig.old) (R.trace rig.new)) }
+    ensures clears { IfHonest (R.honest rig.old) (R.honest rig.new)
+        (Overwrites result log_first shortest_log IsEmpty (R.trace rig.old) (R.trace rig.new)) }
     ensures size { R.sectors rig.new ≡ R.sectors rig.old }
     ensures failures { FailureCountSpec result (R.failed rig.old) (R.failed rig.new) }
 {
@@ -56,7 +58,8 @@ fn clear_log<R: Rig>(rig: &mut R) -> Result<(), Failed>
 fn write_fresh_snapshot<R: Rig>(rig: &mut R, first: usize) -> Result<(), Failed>
     requires sectors { least_size ≤ R.sectors rig.old }
     requires within { first + snapshot_size ≤ least_size }
-    ensures writes { IfHonest (R.honest rig.old) (R.honest rig.new) (Overwrites result first snapshot_size (HoldsPart fresh_stored) (R.trace rig.old) (R.trace rig.new)) }
+    ensures writes { IfHonest (R.honest rig.old) (R.honest rig.new)
+        (Overwrites result first snapshot_size (HoldsPart fresh_stored) (R.trace rig.old) (R.trace rig.new)) }
     ensures size { R.sectors rig.new ≡ R.sectors rig.old }
     ensures failures { FailureCountSpec result (R.failed rig.old) (R.failed rig.new) }
 {
@@ -70,7 +73,8 @@ fn write_fresh_snapshot<R: Rig>(rig: &mut R, first: usize) -> Result<(), Failed>
 fn clear_tools<R: Rig>(rig: &mut R, first: usize) -> Result<(), Failed>
     requires sectors { least_size ≤ R.sectors rig.old }
     requires within { first + tools_size ≤ least_size }
-    ensures clears { IfHonest (R.honest rig.old) (R.honest rig.new) (Overwrites result first tools_size IsEmpty (R.trace rig.old) (R.trace rig.new)) }
+    ensures clears { IfHonest (R.honest rig.old) (R.honest rig.new)
+        (Overwrites result first tools_size IsEmpty (R.trace rig.old) (R.trace rig.new)) }
     ensures size { R.sectors rig.new ≡ R.sectors rig.old }
     ensures failures { FailureCountSpec result (R.failed rig.old) (R.failed rig.new) }
 {
@@ -108,7 +112,8 @@ fn make_fresh<R: Rig>(rig: &mut R) -> Result<(), Failed>
 /// it stands for then, nor of a stop before Ok: it is formatted again. Only the headers' sectors, the log's and the first
 /// epoch's snapshot's are written. Nothing is handed out. It takes no memory.
 pub fn format<R: Rig>(rig: &mut R) -> Result<(), Fault>
-    ensures formats { least_size ≤ R.sectors rig.old → IfHonest (R.honest rig.old) (R.honest rig.new) (FormatSpec result (R.trace rig.old) (R.trace rig.new)) }
+    ensures formats { least_size ≤ R.sectors rig.old
+        → IfHonest (R.honest rig.old) (R.honest rig.new) (FormatSpec result (R.trace rig.old) (R.trace rig.new)) }
     ensures small { IsErrOf result NotFormatted ↔ (R.sectors rig.old < least_size) }
     ensures unchanged { IsErrOf result NotFormatted → rig.new ≡ rig.old }
     ensures size { R.sectors rig.new ≡ R.sectors rig.old }

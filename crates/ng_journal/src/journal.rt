@@ -14,7 +14,7 @@ ghost use Rattle.ng_journal.specs.Journal.{CountsFailure};
 ghost use Rattle.ng_journal.specs.Recovery.{IsTableOver};
 ghost use Rattle.ng_rig.specs.Trace.{reads};
 ghost use Rattle.ng_journal.specs.Loads.{StoresLoad};
-ghost use Rattle.ng_journal.specs.Storing.{Commit, Open, Load, UsesUp, IsFullFor, StoresRecord, ledger_of};
+ghost use Rattle.ng_journal.specs.Storing.{Commit, Open, Load, UsesUp, IsFullFor, IsLedgerAfter, StoresRecord, ledger_of, with_program};
 
 use crate::checkpoint::next_header;
 use crate::loading::load;
@@ -56,14 +56,17 @@ impl<R: Rig, A: Allocator + Copy + Drop> Model for Journal<R, A> {
 /// A device of format 1 is given the table, and is of format 2 then; of any other the table isn't looked at.
 ///
 /// J2 for fewer than 1,710 sectors, with no call of the device, and where no header is valid; J3 where what stands is
-/// damaged; J4 where an epoch would be beyond its limit, of format 1 the one after the next: all before any write. J1 where the device failed. M1 where
-/// memory is wanting, before any call of the device. The device is handed back with each of them.
+/// damaged; J4 where the next epoch would be beyond its limit, over format 1 the one after that: all before any write.
+/// J1 where the device failed. M1 where it is out of memory, before any call of the device. The device is handed back
+/// with each of them.
 pub fn recover<R: Rig, A: Allocator + Copy + Drop>(
     alloc: A,
     mut rig: R,
     tools: &Tools,
 ) -> Result<(Journal<R, A>, Stored<A>), (Fault, R)>
-    ensures recovers { let after = recover_rig result in least_size ≤ R.sectors rig → (table : List ℤ) → IsTableOver tools.now table (reads (R.trace rig)) → IfHonest (R.honest rig) (R.honest after) (RecoverSpec table result (R.trace rig) (R.trace after)) }
+    ensures recovers { let after = recover_rig result in least_size ≤ R.sectors rig → (table : List ℤ)
+        → IsTableOver tools.now table (reads (R.trace rig))
+        → IfHonest (R.honest rig) (R.honest after) (RecoverSpec table result (R.trace rig) (R.trace after)) }
     ensures journal { IfOk result (λ x. (x.0.broken ≡ false) × (x.0.saved ≡ x.1) × IsStorable x.1) }
     ensures end { IfOk result (λ x. x.0.end ≡ no_records) }
     ensures small { R.sectors rig < least_size → IsErrAnd result (λ e. (e.0 ≡ NotFormatted) × (e.1 ≡ rig)) }
@@ -130,19 +133,22 @@ impl<R: Rig, A: Allocator + Copy + Drop> Journal<R, A> {
     /// Stores an entry (own): what is stored from now on, beside the same program. It is written as a record after the log's end, one
     /// write a part and one sync. Where the log has no room for it, what stood is written under the next epoch before.
     ///
-    /// J4 where the entry count would be beyond its limit, or where the next epoch is needed and would be; then nothing is changed. J1 where the device
-    /// failed: the journal is broken then, and the device stands for what stood before or for the new. It takes no
-    /// memory.
+    /// J4 where the entry count would be beyond its limit, or where the next epoch is needed and would be; then nothing is
+    /// changed. J1 where the device failed: the journal is broken then, and the device stands for what stood before or for
+    /// the new. It takes no memory.
     #[tactic(auto, unfolding(crate::specs::Storing::UsesUp))]
     pub fn commit(&mut self, stored: &Stored<A>) -> Result<(), Fault>
         requires whole { self.old.broken ≡ false }
         requires storable { IsStorable stored.now }
         requires program { stored.now.length ≡ self.old.saved.length }
         requires tools { IsOneSlotFrom self.old.saved.tools stored.now.tools }
-        ensures stops { IfHonest (R.honest self.old.rig) (R.honest self.new.rig) ((before : DurableState) → IsDurablyAt (R.trace self.old.rig) self.old before
+        ensures stops { IfHonest (R.honest self.old.rig) (R.honest self.new.rig)
+            ((before : DurableState) → IsDurablyAt (R.trace self.old.rig) self.old before
             → CommitSpec result self.new before (record before { saved = stored.now }) (R.trace self.old.rig) (R.trace self.new.rig)) }
-        ensures stores { IfHonest (R.honest self.old.rig) (R.honest self.new.rig) (StoresRecord result (ledger_of self.old) stored.now (R.trace self.old.rig) (R.trace self.new.rig)) }
+        ensures stores { IfHonest (R.honest self.old.rig) (R.honest self.new.rig)
+            (StoresRecord result (ledger_of self.old) stored.now (R.trace self.old.rig) (R.trace self.new.rig)) }
         ensures saved { OnOk result (self.new.saved ≡ stored.now) }
+        ensures ledger { OnOk result (IsLedgerAfter (ledger_of self.old) stored.now (ledger_of self.new)) }
         ensures broken { IsBrokenBy result self.new.broken }
         ensures errors { IfErr result (λ e. (e ≡ CountersUsed) ⊎ (e ≡ DeviceFailed)) }
         ensures used_up { IsErrOf result CountersUsed ↔ UsesUp (ledger_of self.old) (Commit stored.now) }
@@ -179,10 +185,16 @@ impl<R: Rig, A: Allocator + Copy + Drop> Journal<R, A> {
         requires whole { self.old.broken ≡ false }
         requires half { IsStorableHalf half.now }
         requires is_open { IsSome half.now.opened }
-        ensures stops { IfHonest (R.honest self.old.rig) (R.honest self.new.rig) ((before : DurableState) → IsDurablyAt (R.trace self.old.rig) self.old before
-            → CommitSpec result self.new before (record before { saved = record self.old.saved { half = Some half.now } }) (R.trace self.old.rig) (R.trace self.new.rig)) }
-        ensures stores { IfHonest (R.honest self.old.rig) (R.honest self.new.rig) (StoresRecord result (ledger_of self.old) (record self.old.saved { half = Some half.now }) (R.trace self.old.rig) (R.trace self.new.rig)) }
+        ensures stops { IfHonest (R.honest self.old.rig) (R.honest self.new.rig)
+            ((before : DurableState) → IsDurablyAt (R.trace self.old.rig) self.old before
+            → CommitSpec result self.new before (record before { saved = record self.old.saved { half = Some half.now } })
+            (R.trace self.old.rig) (R.trace self.new.rig)) }
+        ensures stores { IfHonest (R.honest self.old.rig) (R.honest self.new.rig)
+            (StoresRecord result (ledger_of self.old) (record self.old.saved { half = Some half.now })
+            (R.trace self.old.rig) (R.trace self.new.rig)) }
         ensures saved { OnOk result (self.new.saved ≡ record self.old.saved { half = Some half.now }) }
+        ensures ledger { let saved = record self.old.saved { half = Some half.now } in
+            OnOk result (IsLedgerAfter (ledger_of self.old) saved (ledger_of self.new)) }
         ensures broken { IsBrokenBy result self.new.broken }
         ensures errors { IfErr result (λ e. (e ≡ CountersUsed) ⊎ (e ≡ DeviceFailed)) }
         ensures used_up { IsErrOf result CountersUsed ↔ UsesUp (ledger_of self.old) (Open half.now) }
@@ -215,11 +227,16 @@ impl<R: Rig, A: Allocator + Copy + Drop> Journal<R, A> {
         requires whole { self.old.broken ≡ false }
         requires storable { length text.now ≤ longest_program → IsStorable stored.now }
         requires long { stored.now.length ≡ length text.now }
-        ensures stops { IfHonest (R.honest self.old.rig) (R.honest self.new.rig) ((before : DurableState) → IsDurablyAt (R.trace self.old.rig) self.old before
-            → CommitSpec result self.new before (record { saved = stored.now; program = text.now }) (R.trace self.old.rig) (R.trace self.new.rig)) }
-        ensures stores { IfHonest (R.honest self.old.rig) (R.honest self.new.rig) (StoresLoad result self.old.header (record { saved = stored.now; program = text.now }) (R.trace self.old.rig) (R.trace self.new.rig)) }
+        ensures stops { IfHonest (R.honest self.old.rig) (R.honest self.new.rig)
+            ((before : DurableState) → IsDurablyAt (R.trace self.old.rig) self.old before
+            → CommitSpec result self.new before (record { saved = stored.now; program = text.now })
+            (R.trace self.old.rig) (R.trace self.new.rig)) }
+        ensures stores { IfHonest (R.honest self.old.rig) (R.honest self.new.rig)
+            (StoresLoad result self.old.header (record { saved = stored.now; program = text.now })
+            (R.trace self.old.rig) (R.trace self.new.rig)) }
         ensures saved { OnOk result (self.new.saved ≡ stored.now) }
         ensures end { OnOk result (self.new.end ≡ no_records) }
+        ensures ledger { OnOk result (ledger_of self.new ≡ with_program (ledger_of self.old) stored.now) }
         ensures broken { IsBrokenBy result self.new.broken }
         ensures errors { IfErr result (λ e. (e ≡ ProgramTooLong) ⊎ ((e ≡ CountersUsed) ⊎ (e ≡ DeviceFailed))) }
         ensures too_long { IsErrOf result ProgramTooLong ↔ (longest_program < length text.now) }
@@ -254,8 +271,10 @@ impl<R: Rig, A: Allocator + Copy + Drop> Journal<R, A> {
     /// handed out. It takes no memory.
     pub fn hand_out(&mut self, item: Item) -> Result<(), Fault>
         requires whole { self.old.broken ≡ false }
-        ensures hands { IfHonest (R.honest self.old.rig) (R.honest self.new.rig) (HandOutSpec result item (R.trace self.old.rig) (R.trace self.new.rig)) }
-        ensures stops { IfHonest (R.honest self.old.rig) (R.honest self.new.rig) ((standing : DurableState) → IsDurablyAt (R.trace self.old.rig) self.old standing
+        ensures hands { IfHonest (R.honest self.old.rig) (R.honest self.new.rig)
+            (HandOutSpec result item (R.trace self.old.rig) (R.trace self.new.rig)) }
+        ensures stops { IfHonest (R.honest self.old.rig) (R.honest self.new.rig)
+            ((standing : DurableState) → IsDurablyAt (R.trace self.old.rig) self.old standing
             → JournalHandOutSpec result self.new standing item (R.trace self.old.rig) (R.trace self.new.rig)) }
         ensures ledger { ledger_of self.new ≡ ledger_of self.old }
         ensures broken { IsBrokenBy result self.new.broken }

@@ -11,7 +11,7 @@ ghost use Rattle.ng_text.specs.Programs.{program_line_at};
 ghost use Rattle.ng_journal.specs.Private.LineParts.{IsPart, TakesPart, IsEnd};
 
 use arrayvec::ArrayVec;
-use ng_layout::{BYTES, program_first};
+use ng_layout::{SECTOR_BYTES, program_first};
 use ng_log::read_sector;
 use ng_rig::{Failed, Rig};
 use ng_text::split_line;
@@ -64,7 +64,12 @@ fn take_part(text: &mut ArrayVec<u8, KEPT_LINE>, part: &[u8]) -> Option<usize>
 }
 
 /// The bytes of a program's sector that belong to the program from a place on.
-pub(crate) fn part_of(sector: &[u8; BYTES], n: usize, place: usize, program_end: usize) -> &[u8]
+pub(crate) fn part_of(
+    sector: &[u8; SECTOR_BYTES],
+    n: usize,
+    place: usize,
+    program_end: usize,
+) -> &[u8]
     requires place { place ≤ program_end }
     requires from { place < sector_size * n + sector_size }
     requires to { sector_size * n < program_end }
@@ -72,8 +77,8 @@ pub(crate) fn part_of(sector: &[u8; BYTES], n: usize, place: usize, program_end:
     ensures within { max place (sector_size * n) + length result.now ≤ program_end }
     ensures part { (row : ℕ → List ℕ) → sector.now ≡ row n → IsPart (program_text program_end row) place (sector_size * n) result.now }
 {
-    let start = BYTES * n;
-    &sector[place.max(start) - start..BYTES.min(program_end - start)]
+    let start = SECTOR_BYTES * n;
+    &sector[place.max(start) - start..SECTOR_BYTES.min(program_end - start)]
 }
 
 /// Takes the carriage return off the end.
@@ -99,17 +104,18 @@ fn find_end<R: Rig>(
     requires place { place ≤ program_end }
     requires small { program_end ≤ longest_program }
     requires empty { text.old.items ≡ [] }
-    ensures read { IfHonest (R.honest rig.old) (R.honest rig.new) (ReadSpec result (λ image end. IsEnd (drop place (program_text program_end (stretch (program_first area) (program_size area) image))) text.new.items end) (R.trace rig.old) (R.trace rig.new)) }
+    ensures read { IfHonest (R.honest rig.old) (R.honest rig.new)
+        (ReadSpec result (λ image end. IsEnd (drop place (program_text program_end (stretch (program_first area) (program_size area) image))) text.new.items end) (R.trace rig.old) (R.trace rig.new)) }
     // without honesty too
     ensures within { IfOk result (λ end. IfSome end (λ n. place + n < program_end)) }
     ensures size { R.sectors rig.new ≡ R.sectors rig.old }
     ensures failures { FailureCountSpec result (R.failed rig.old) (R.failed rig.new) }
 {
     let first = program_first(area);
-    for n in place / BYTES..program_end.div_ceil(BYTES) {
+    for n in place / SECTOR_BYTES..program_end.div_ceil(SECTOR_BYTES) {
         let sector = read_sector(rig, first + n)?;
         match take_part(text, part_of(&sector, n, place, program_end)) {
-            Some(end) => return Ok(Some((BYTES * n).saturating_sub(place) + end)),
+            Some(end) => return Ok(Some((SECTOR_BYTES * n).saturating_sub(place) + end)),
             None => (),
         }
     }
@@ -127,7 +133,8 @@ pub(crate) fn read_line<R: Rig>(
     requires area { area ≤ greatest_area }
     requires place { place ≤ program_end }
     requires small { program_end ≤ longest_program }
-    ensures read { IfHonest (R.honest rig.old) (R.honest rig.new) (ReadSpec result (λ image line. line ≡ program_line_at (program_text program_end (stretch (program_first area) (program_size area) image)) place) (R.trace rig.old) (R.trace rig.new)) }
+    ensures read { IfHonest (R.honest rig.old) (R.honest rig.new)
+        (ReadSpec result (λ image line. line ≡ program_line_at (program_text program_end (stretch (program_first area) (program_size area) image)) place) (R.trace rig.old) (R.trace rig.new)) }
     // without honesty too
     ensures next { IfOk result (λ line. IfSome line (λ l. (place < l.next) × (l.next ≤ program_end))) }
     ensures size { R.sectors rig.new ≡ R.sectors rig.old }

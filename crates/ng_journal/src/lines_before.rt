@@ -9,7 +9,7 @@ ghost use Rattle.ng_log.specs.Reading.{ReadSpec};
 ghost use Rattle.ng_text.specs.FirstLines.{kind_in};
 
 use crate::line::part_of;
-use ng_layout::{BYTES, program_first};
+use ng_layout::{SECTOR_BYTES, program_first};
 use ng_log::read_sector;
 use ng_rig::{Failed, Rig};
 use ng_text::FirstLine;
@@ -25,13 +25,15 @@ pub(crate) fn read_first_kind<R: Rig>(
     requires sectors { least_size ≤ R.sectors rig.old }
     requires area { area ≤ greatest_area }
     requires small { place ≤ longest_program }
-    ensures read { IfHonest (R.honest rig.old) (R.honest rig.new) (ReadSpec result (λ image kind. kind ≡ kind_in (program_text place (stretch (program_first area) (program_size area) image))) (R.trace rig.old) (R.trace rig.new)) }
+    ensures read { IfHonest (R.honest rig.old) (R.honest rig.new)
+        (ReadSpec result (λ image kind. kind ≡ kind_in (program_text place (stretch (program_first area) (program_size area) image)))
+        (R.trace rig.old) (R.trace rig.new)) }
     ensures size { R.sectors rig.new ≡ R.sectors rig.old }
     ensures failures { FailureCountSpec result (R.failed rig.old) (R.failed rig.new) }
 {
     let first = program_first(area);
     let mut seen = FirstLine::Unseen;
-    for n in 0..place.div_ceil(BYTES) {
+    for n in 0..place.div_ceil(SECTOR_BYTES) {
         let sector = read_sector(rig, first + n)?;
         seen = seen.after_all(part_of(&sector, n, 0, place));
         match seen.known() {

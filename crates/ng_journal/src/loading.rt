@@ -10,7 +10,7 @@ ghost use Rattle.ng_journal.specs.Private.LoadSteps.{WritesText, LoadSpec};
 ghost use Rattle.ng_journal.specs.Loads.{StoresLoad};
 
 use crate::checkpoint::{checkpoint, next_header};
-use ng_layout::{BYTES, Header, Stored, program_first, spare_area, text_sector};
+use ng_layout::{Header, SECTOR_BYTES, Stored, program_first, spare_area, text_sector};
 use ng_rig::{Failed, Rig};
 use std::alloc::Allocator;
 
@@ -24,8 +24,8 @@ fn write_program<R: Rig>(rig: &mut R, area: u64, text: &[u8]) -> Result<(), Fail
     ensures failures { FailureCountSpec result (R.failed rig.old) (R.failed rig.new) }
 {
     let first = program_first(area);
-    for n in 0..text.len().div_ceil(BYTES) {
-        rig.write(first + n, &text_sector(text, BYTES * n))?;
+    for n in 0..text.len().div_ceil(SECTOR_BYTES) {
+        rig.write(first + n, &text_sector(text, SECTOR_BYTES * n))?;
     }
     Ok(())
 }
@@ -44,8 +44,11 @@ pub(crate) fn load<R: Rig, A: Allocator + Copy + Drop>(
     requires storable { IsStorable stored.now }
     requires long { stored.now.length ≡ length text.now }
     requires format { header.format ≡ Two }
-    ensures stops { IfHonest (R.honest rig.old) (R.honest rig.new) (IsOwnImage (R.trace rig.old) header → LoadSpec result header (record { saved = stored.now; program = text.now }) (R.trace rig.old) (R.trace rig.new)) }
-    ensures stores { IfHonest (R.honest rig.old) (R.honest rig.new) (StoresLoad result header (record { saved = stored.now; program = text.now }) (R.trace rig.old) (R.trace rig.new)) }
+    ensures stops { IfHonest (R.honest rig.old) (R.honest rig.new)
+        (IsOwnImage (R.trace rig.old) header
+        → LoadSpec result header (record { saved = stored.now; program = text.now }) (R.trace rig.old) (R.trace rig.new)) }
+    ensures stores { IfHonest (R.honest rig.old) (R.honest rig.new)
+        (StoresLoad result header (record { saved = stored.now; program = text.now }) (R.trace rig.old) (R.trace rig.new)) }
     ensures size { R.sectors rig.new ≡ R.sectors rig.old }
     ensures failures { FailureCountSpec result (R.failed rig.old) (R.failed rig.new) }
 {

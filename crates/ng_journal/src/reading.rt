@@ -16,8 +16,8 @@ ghost use Rattle.ng_log.specs.Reading.{ReadSpec};
 ghost use Rattle.ng_journal.specs.Private.SnapshotRead.{IsTableOf, IsToolsOf, IsSnapshotOf};
 
 use ng_layout::{
-    BYTES, DecodedState, Format, Header, SNAPSHOT_SIZE, StateField, Stored, VALUES, snapshot_first,
-    take_area, take_values, tools_first,
+    DecodedState, Format, Header, SECTOR_BYTES, SNAPSHOT_SIZE, StateField, Stored, VALUES,
+    snapshot_first, take_area, take_values, tools_first,
 };
 use ng_log::read_sector;
 use ng_offsets::Tools;
@@ -29,7 +29,8 @@ use std::alloc::Allocator;
 fn read_header<R: Rig>(rig: &mut R, k: u64) -> Result<Option<Header>, Failed>
     requires room { least_size ≤ R.sectors rig.old }
     requires header { k < 2 }
-    ensures read { IfHonest (R.honest rig.old) (R.honest rig.new) (ReadSpec result (λ image header. header ≡ header_in k (image k)) (R.trace rig.old) (R.trace rig.new)) }
+    ensures read { IfHonest (R.honest rig.old) (R.honest rig.new)
+        (ReadSpec result (λ image header. header ≡ header_in k (image k)) (R.trace rig.old) (R.trace rig.new)) }
     ensures lawful { IfOk result (λ header. IfSome header IsValidHeader) }
     ensures size { R.sectors rig.new ≡ R.sectors rig.old }
     ensures failures { FailureCountSpec result (R.failed rig.old) (R.failed rig.new) }
@@ -56,7 +57,8 @@ fn newer(a: Option<Header>, b: Option<Header>) -> Option<Header>
 #[tactic(auto, unfolding(ng_layout::specs::Stands::in_force))]
 pub(crate) fn header_in_force<R: Rig>(rig: &mut R) -> Result<Option<Header>, Failed>
     requires { least_size ≤ R.sectors rig.old }
-    ensures read { IfHonest (R.honest rig.old) (R.honest rig.new) (ReadSpec result (λ image header. header ≡ in_force image) (R.trace rig.old) (R.trace rig.new)) }
+    ensures read { IfHonest (R.honest rig.old) (R.honest rig.new)
+        (ReadSpec result (λ image header. header ≡ in_force image) (R.trace rig.old) (R.trace rig.new)) }
     ensures lawful { IfOk result (λ header. IfSome header IsValidHeader) }
     ensures size { R.sectors rig.new ≡ R.sectors rig.old }
     ensures failures { FailureCountSpec result (R.failed rig.old) (R.failed rig.new) }
@@ -67,7 +69,7 @@ pub(crate) fn header_in_force<R: Rig>(rig: &mut R) -> Result<Option<Header>, Fai
 }
 
 /// What the first sector of a snapshot says by its state field.
-fn decoded_state_of_snapshot(sector: &[u8; BYTES], length: u64) -> Option<DecodedState>
+fn decoded_state_of_snapshot(sector: &[u8; SECTOR_BYTES], length: u64) -> Option<DecodedState>
     ensures value { result ≡ decoded_state_of length (field_at sector.now) }
     ensures sound { IfSome result (IsSound length) }
 {
@@ -78,12 +80,13 @@ fn decoded_state_of_snapshot(sector: &[u8; BYTES], length: u64) -> Option<Decode
 fn read_tools<R: Rig>(
     rig: &mut R,
     header: Header,
-    first: &[u8; BYTES],
+    first: &[u8; SECTOR_BYTES],
     tools: &mut Tools,
 ) -> Result<bool, Failed>
     requires room { least_size ≤ R.sectors rig.old }
     requires none { tools.old ≡ [] }
-    ensures read { IfHonest (R.honest rig.old) (R.honest rig.new) (ReadSpec result (IsToolsOf header first.now tools.new) (R.trace rig.old) (R.trace rig.new)) }
+    ensures read { IfHonest (R.honest rig.old) (R.honest rig.new)
+        (ReadSpec result (IsToolsOf header first.now tools.new) (R.trace rig.old) (R.trace rig.new)) }
     // without honesty too
     ensures storable { IfOk result (λ is_whole. OnTrue is_whole (IsStorableTools tools.new)) }
     ensures none { IfOk result (λ is_whole. OnTrue is_whole (header.format ≡ One → tools.new ≡ [])) }
@@ -110,7 +113,8 @@ fn read_table<R: Rig, A: Allocator + Copy + Drop>(
     requires sectors { least_size ≤ R.sectors rig.old }
     requires within { first + snapshot_size ≤ least_size }
     requires long { length table.old ≡ parameter_count }
-    ensures read { IfHonest (R.honest rig.old) (R.honest rig.new) (ReadSpec result (IsTableOf first table.new) (R.trace rig.old) (R.trace rig.new)) }
+    ensures read { IfHonest (R.honest rig.old) (R.honest rig.new)
+        (ReadSpec result (IsTableOf first table.new) (R.trace rig.old) (R.trace rig.new)) }
     // without honesty too
     ensures long { IfOk result (λ is_whole. OnTrue is_whole (length table.new ≡ parameter_count)) }
     ensures size { R.sectors rig.new ≡ R.sectors rig.old }
@@ -135,7 +139,8 @@ pub(crate) fn read_snapshot<R: Rig, A: Allocator + Copy + Drop>(
     requires lawful { IsValidHeader header }
     requires long { length stored.old.setup.params ≡ parameter_count }
     requires none { stored.old.tools ≡ [] }
-    ensures read { IfHonest (R.honest rig.old) (R.honest rig.new) (ReadSpec result (IsSnapshotOf header stored.new) (R.trace rig.old) (R.trace rig.new)) }
+    ensures read { IfHonest (R.honest rig.old) (R.honest rig.new)
+        (ReadSpec result (IsSnapshotOf header stored.new) (R.trace rig.old) (R.trace rig.new)) }
     ensures none { IfOk result (λ is_whole. OnTrue is_whole (header.format ≡ One → stored.new.tools ≡ [])) }
     // without honesty too
     ensures storable { IfOk result (λ is_whole. OnTrue is_whole (IsStorable stored.new)) }

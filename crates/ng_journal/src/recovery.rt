@@ -7,14 +7,13 @@ ghost use Rattle.ng_layout.specs.Areas.{least_size};
 ghost use Rattle.ng_layout.specs.Header.{IsValidHeader};
 ghost use Rattle.ng_layout.specs.Storable.{IsStorable, IsStorableTools};
 ghost use Rattle.ng_log.specs.Reading.{ReadSpec};
-ghost use Rattle.ng_rig.specs.Only.{WritesOnly};
 ghost use Rattle.ng_rig.specs.Trace.{reads};
 ghost use Rattle.ng_layout.specs.declared.header.Format.TheVariants.{One, Two};
 ghost use Rattle.ng_layout.specs.Stored.{DurableState};
 ghost use Rattle.ng_layout.specs.Stands.{saved_beside};
 ghost use Rattle.ng_journal.specs.Recovery.{epochs_for, IsTableOver};
 ghost use Rattle.ng_journal.specs.Private.CheckpointSteps.{IsBegun};
-ghost use Rattle.ng_journal.specs.Private.RecoverySteps.{IsRead, IsRefusal, RestoreSpec, ModernizeSpec, BelongsToModern, modern_by};
+ghost use Rattle.ng_journal.specs.Private.RecoverySteps.{IsRead, IsRefusal, RestoreSpec, ModernizeSpec, StoresModern, modern_by};
 
 use crate::checkpoint::{checkpoint, migrated, next_header};
 use crate::reading::{header_in_force, read_snapshot};
@@ -34,7 +33,8 @@ fn found<R: Rig, A: Allocator + Copy + Drop>(
     requires long { length stored.old.setup.params ≡ parameter_count }
     requires none { stored.old.tools ≡ [] }
     ensures none { IfOk result (λ answer. IfOk answer (λ header. header.format ≡ One → stored.new.tools ≡ [])) }
-    ensures read { IfHonest (R.honest rig.old) (R.honest rig.new) (ReadSpec result (IsRead stored.new) (R.trace rig.old) (R.trace rig.new)) }
+    ensures read { IfHonest (R.honest rig.old) (R.honest rig.new)
+        (ReadSpec result (IsRead stored.new) (R.trace rig.old) (R.trace rig.new)) }
     // without honesty too
     ensures lawful { IfOk result (λ answer. IfOk answer IsValidHeader) }
     ensures storable { IfOk result (λ answer. OnOk answer (IsStorable stored.new)) }
@@ -73,11 +73,16 @@ fn modernize<R: Rig, A: Allocator + Copy + Drop>(
     requires count { stored.old.entries ≤ greatest_count }
     requires storable { IsStorable stored.old }
     requires tools { IsStorableTools tools.now }
-    ensures stops { IfHonest (R.honest rig.old) (R.honest rig.new) ((table : List ℤ) → (header.format ≡ One → table ≡ tools.now) → (standing : DurableState) → IsBegun (R.trace rig.old) header standing → standing.saved ≡ stored.old
+    ensures stops { IfHonest (R.honest rig.old) (R.honest rig.new)
+        ((table : List ℤ) → (header.format ≡ One → table ≡ tools.now) → (standing : DurableState)
+        → IsBegun (R.trace rig.old) header standing → standing.saved ≡ stored.old
         → ModernizeSpec table result header standing (R.trace rig.old) (R.trace rig.new)) }
-    ensures writes { IfHonest (R.honest rig.old) (R.honest rig.new) ((table : List ℤ) → (header.format ≡ One → table ≡ tools.now) → WritesOnly (λ n bytes. BelongsToModern table header stored.old n bytes) (R.trace rig.old) (R.trace rig.new)) }
+    ensures stores { IfHonest (R.honest rig.old) (R.honest rig.new)
+        ((table : List ℤ) → (header.format ≡ One → table ≡ tools.now)
+        → StoresModern table result header stored.old (R.trace rig.old) (R.trace rig.new)) }
     ensures header { IfOk result (λ last. last ≡ modern_by header.format header) }
-    ensures saved { (table : List ℤ) → (header.format ≡ One → table ≡ tools.now) → OnOk result (stored.new ≡ saved_beside table header.format stored.old) }
+    ensures saved { (table : List ℤ) → (header.format ≡ One → table ≡ tools.now)
+        → OnOk result (stored.new ≡ saved_beside table header.format stored.old) }
     // without honesty too
     ensures lawful { IfOk result IsValidHeader }
     ensures format { IfOk result (λ last. last.format ≡ Two) }
@@ -109,8 +114,9 @@ fn epochs_for(format: Format) -> u64
     }
 }
 
-/// Writes again, under the next epoch and with nothing open, what the device stands for, and over format 1 under the one after that in
-/// format 2 with the table of the settings. `Err` where the device failed; else the new header, or why nothing was recovered: before any write.
+/// Writes again, under the next epoch and with nothing open, what the device stands for, and over format 1 under the one
+/// after that in format 2 with the table of the settings. `Err` where the device failed; else the new header, or why
+/// nothing was recovered: before any write.
 pub(crate) fn restore<R: Rig, A: Allocator + Copy + Drop>(
     rig: &mut R,
     tools: &Tools,
@@ -121,7 +127,9 @@ pub(crate) fn restore<R: Rig, A: Allocator + Copy + Drop>(
     requires none { stored.old.tools ≡ [] }
     requires tools { IsStorableTools tools.now }
     ensures format { IfOk result (λ answer. IfOk answer (λ header. header.format ≡ Two)) }
-    ensures restores { IfHonest (R.honest rig.old) (R.honest rig.new) ((table : List ℤ) → IsTableOver tools.now table (reads (R.trace rig.old)) → RestoreSpec table result stored.new (R.trace rig.old) (R.trace rig.new)) }
+    ensures restores { IfHonest (R.honest rig.old) (R.honest rig.new)
+        ((table : List ℤ) → IsTableOver tools.now table (reads (R.trace rig.old))
+        → RestoreSpec table result stored.new (R.trace rig.old) (R.trace rig.new)) }
     // without honesty too
     ensures lawful { IfOk result (λ answer. IfOk answer IsValidHeader) }
     ensures storable { IfOk result (λ answer. OnOk answer (IsStorable stored.new)) }

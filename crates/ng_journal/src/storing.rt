@@ -11,8 +11,8 @@ ghost use Rattle.ng_log.specs.AtEnd.{IsAtEnd, no_records};
 ghost use Rattle.ng_offsets.specs.Tools.{first_change, IsOneSlotFrom};
 ghost use Rattle.ng_params.specs.Differences.{differences};
 ghost use Rattle.ng_journal.specs.Journal.{IsTip};
-ghost use Rattle.ng_journal.specs.Private.Records.{IsRoom, MakeRoomSpec, StoreRecordSpec, StoresRoom, ledger};
-ghost use Rattle.ng_journal.specs.Storing.{HasRoomFor, IsFullFor, StoresRecord, record_of};
+ghost use Rattle.ng_journal.specs.Private.Records.{IsRoom, MakeRoomSpec, StoreRecordSpec, StoresRoom, ledger, tip_of};
+ghost use Rattle.ng_journal.specs.Storing.{HasRoomFor, IsFullFor, IsLedgerAfter, StoresRecord, record_of, with_record};
 
 use crate::checkpoint::{checkpoint, next_header};
 use ng_layout::{Half, Header, Stored, parts_for};
@@ -103,9 +103,11 @@ fn make_room<R: Rig, A: Allocator + Copy + Drop>(
     requires epoch { IsFullFor tip.header tip.end count → tip.header.epoch < greatest_count }
     requires entries { stored.now.entries ≤ greatest_count }
     requires storable { IsStorable stored.now }
-    ensures makes { IfHonest (R.honest rig.old) (R.honest rig.new) ((before : DurableState) → IsAtEnd (R.trace rig.old) tip.header before tip.end
+    ensures makes { IfHonest (R.honest rig.old) (R.honest rig.new)
+        ((before : DurableState) → IsAtEnd (R.trace rig.old) tip.header before tip.end
         → before.saved ≡ stored.now → MakeRoomSpec result before (R.trace rig.old) (R.trace rig.new)) }
-    ensures stores { IfHonest (R.honest rig.old) (R.honest rig.new) (StoresRoom result (ledger tip stored.now) count (R.trace rig.old) (R.trace rig.new)) }
+    ensures stores { IfHonest (R.honest rig.old) (R.honest rig.new)
+        (StoresRoom result (ledger tip stored.now) count (R.trace rig.old) (R.trace rig.new)) }
     ensures room { IfOk result (IsRoom (ledger tip stored.now) count) }
     // without honesty too
     ensures tip { IfOk result (λ t. IsTip stored.now.length t.header t.end) }
@@ -139,10 +141,14 @@ fn append_to<R: Rig, A: Allocator + Copy + Drop>(
     requires room { HasRoomFor tip.header tip.end count }
     requires entries { stored.now.entries ≤ greatest_count }
     requires storable { IsStorable stored.now }
-    ensures appends { IfHonest (R.honest rig.old) (R.honest rig.new) ((before : DurableState) → IsAtEnd (R.trace rig.old) tip.header before tip.end
-        → before.saved.setup.params ≡ old.now.setup.params → before.saved.tools ≡ old.now.tools → StoreRecordSpec result before stored.now (R.trace rig.old) (R.trace rig.new)) }
-    ensures writes { IfHonest (R.honest rig.old) (R.honest rig.new) (WritesRecord result (record_of (ledger tip old.now) stored.now) (R.trace rig.old) (R.trace rig.new)) }
+    ensures appends { IfHonest (R.honest rig.old) (R.honest rig.new)
+        ((before : DurableState) → IsAtEnd (R.trace rig.old) tip.header before tip.end
+        → before.saved.setup.params ≡ old.now.setup.params → before.saved.tools ≡ old.now.tools
+        → StoreRecordSpec result before stored.now (R.trace rig.old) (R.trace rig.new)) }
+    ensures writes { IfHonest (R.honest rig.old) (R.honest rig.new)
+        (WritesRecord result (record_of (ledger tip old.now) stored.now) (R.trace rig.old) (R.trace rig.new)) }
     // without honesty too
+    ensures end { IfOk result (λ t. t ≡ tip_of (with_record (ledger tip old.now) stored.now)) }
     ensures tip { IfOk result (λ t. IsTip stored.now.length t.header t.end) }
     ensures size { R.sectors rig.new ≡ R.sectors rig.old }
     ensures failures { FailureCountSpec result (R.failed rig.old) (R.failed rig.new) }
@@ -184,10 +190,13 @@ pub(crate) fn store<R: Rig, A: Allocator + Copy + Drop>(
     requires entries { stored.now.entries ≤ greatest_count }
     requires storable { IsStorable stored.now }
     requires long { stored.now.length ≡ old.now.length }
-    ensures stops { IfHonest (R.honest rig.old) (R.honest rig.new) ((before : DurableState) → IsAtEnd (R.trace rig.old) tip.header before tip.end
+    ensures stops { IfHonest (R.honest rig.old) (R.honest rig.new)
+        ((before : DurableState) → IsAtEnd (R.trace rig.old) tip.header before tip.end
         → before.saved ≡ old.now → StoreRecordSpec result before stored.now (R.trace rig.old) (R.trace rig.new)) }
-    ensures stores { IfHonest (R.honest rig.old) (R.honest rig.new) (StoresRecord result (ledger tip old.now) stored.now (R.trace rig.old) (R.trace rig.new)) }
+    ensures stores { IfHonest (R.honest rig.old) (R.honest rig.new)
+        (StoresRecord result (ledger tip old.now) stored.now (R.trace rig.old) (R.trace rig.new)) }
     // without honesty too
+    ensures ledger { IfOk result (λ t. IsLedgerAfter (ledger tip old.now) stored.now (ledger t stored.now)) }
     ensures tip { IfOk result (λ t. IsTip stored.now.length t.header t.end) }
     ensures size { R.sectors rig.new ≡ R.sectors rig.old }
     ensures failures { FailureCountSpec result (R.failed rig.old) (R.failed rig.new) }
@@ -209,10 +218,16 @@ pub(crate) fn store_half<R: Rig, A: Allocator + Copy + Drop>(
     requires entries { stored.old.entries ≤ greatest_count }
     requires storable { IsStorable stored.old }
     requires half { IsStorableHalf half.now }
-    ensures stops { IfHonest (R.honest rig.old) (R.honest rig.new) ((before : DurableState) → IsAtEnd (R.trace rig.old) tip.header before tip.end
-        → before.saved ≡ stored.old → StoreRecordSpec result before (record stored.old { half = Some half.now }) (R.trace rig.old) (R.trace rig.new)) }
-    ensures stores { IfHonest (R.honest rig.old) (R.honest rig.new) (StoresRecord result (ledger tip stored.old) (record stored.old { half = Some half.now }) (R.trace rig.old) (R.trace rig.new)) }
+    ensures stops { IfHonest (R.honest rig.old) (R.honest rig.new)
+        ((before : DurableState) → IsAtEnd (R.trace rig.old) tip.header before tip.end
+        → before.saved ≡ stored.old
+        → StoreRecordSpec result before (record stored.old { half = Some half.now }) (R.trace rig.old) (R.trace rig.new)) }
+    ensures stores { IfHonest (R.honest rig.old) (R.honest rig.new)
+        (StoresRecord result (ledger tip stored.old) (record stored.old { half = Some half.now }) (R.trace rig.old) (R.trace rig.new)) }
     ensures saved { OnOk result (stored.new ≡ record stored.old { half = Some half.now }) }
+    // without honesty too
+    ensures ledger { let saved = record stored.old { half = Some half.now } in
+        IfOk result (λ t. IsLedgerAfter (ledger tip stored.old) saved (ledger t saved)) }
     // without honesty, and after an error, too
     ensures storable { IsStorable stored.new }
     ensures entries { stored.new.entries ≡ stored.old.entries }

@@ -37,11 +37,6 @@ spare_area area = 1 - area
 abbrev pub log_first : ℕ
 log_first = 686
 
--- how many sectors the log of a format has
-abbrev pub log_size : Format → ℕ
-log_size One = 1024
-log_size Two = 1020
-
 -- the most sectors of a log
 abbrev pub longest_log : ℕ
 longest_log = 1024
@@ -49,6 +44,11 @@ longest_log = 1024
 -- how many sectors are the log's in each format
 abbrev pub shortest_log : ℕ
 shortest_log = 1020
+
+-- how many sectors the log of a format has
+abbrev pub log_size : Format → ℕ
+log_size One = longest_log
+log_size Two = shortest_log
 
 -- how many sectors a device needs
 abbrev pub least_size : ℕ

@@ -19,7 +19,7 @@ is_marked sector = number_at 8 0 sector == number_at 8 0 (codes "RS274NGC")
 abbrev pub is_valid_header : Header → Bool
 is_valid_header h = nat_le 1 h.epoch && nat_le h.epoch greatest_count && nat_le h.area greatest_area && nat_le h.length longest_program
 
--- the same where all of its numbers are within their limits and it stands in the sector of its epoch
+-- this header, where the sector begins with that text, each of its numbers is within its limits, and it stands in the sector of its epoch
 abbrev pub header_by : ℕ → List ℕ → Header → Option Header
 header_by k sector h = if is_marked sector && is_valid_header h && h.epoch % 2 == k then Some h else None
 

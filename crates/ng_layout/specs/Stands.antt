@@ -23,6 +23,10 @@ use Rattle.ng_layout.specs.Stored.{HalfModel, StoredModel, DurableState}
 unfoldable pub stretch : ℕ → ℕ → (ℕ → List ℕ) → ℕ → List ℕ
 stretch first size image n = if nat_lt n size then image (first + n) else []
 
+-- the text of the program that a header names
+abbrev pub program_under : Header → (ℕ → List ℕ) → List ℕ
+program_under h image = program_text h.length (stretch (program_first h.area) (program_size h.area) image)
+
 -- of two valid headers that of the greater epoch
 abbrev pub newer : Option Header → Option Header → Option Header
 newer None b = b

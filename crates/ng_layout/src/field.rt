@@ -106,10 +106,10 @@ fn get_kept(bytes: &[u8]) -> KeptField
     ensures { result ≡ kept_at bytes.now }
 {
     KeptField {
-        r: get_i64(bytes, field_places::KEPT_R),
-        z: get_i64(bytes, field_places::KEPT_Z),
-        p: get_i64(bytes, field_places::KEPT_P),
-        q: get_i64(bytes, field_places::KEPT_Q),
+        r: get_i64(bytes, field_places::KEPT_R_AT),
+        z: get_i64(bytes, field_places::KEPT_Z_AT),
+        p: get_i64(bytes, field_places::KEPT_P_AT),
+        q: get_i64(bytes, field_places::KEPT_Q_AT),
     }
 }
 
@@ -117,10 +117,10 @@ fn put_kept(bytes: &mut [u8], kept: KeptField)
     requires { codes_first ≤ length bytes.old }
     ensures { Puts kept_at kept_first codes_first kept bytes.old bytes.new }
 {
-    put_i64(bytes, field_places::KEPT_R, kept.r);
-    put_i64(bytes, field_places::KEPT_Z, kept.z);
-    put_i64(bytes, field_places::KEPT_P, kept.p);
-    put_i64(bytes, field_places::KEPT_Q, kept.q);
+    put_i64(bytes, field_places::KEPT_R_AT, kept.r);
+    put_i64(bytes, field_places::KEPT_Z_AT, kept.z);
+    put_i64(bytes, field_places::KEPT_P_AT, kept.p);
+    put_i64(bytes, field_places::KEPT_Q_AT, kept.q);
 }
 
 #[tactic(auto, unfolding(crate::specs::StateField::codes_at))]
@@ -129,20 +129,20 @@ fn get_codes(bytes: &[u8]) -> CodeField
     ensures { result ≡ codes_at bytes.now }
 {
     CodeField {
-        motion: get_u8(bytes, field_places::MOTION),
-        plane: get_u8(bytes, field_places::PLANE),
-        distance: get_u8(bytes, field_places::DISTANCE),
-        feed_mode: get_u8(bytes, field_places::FEED_MODE),
-        unit: get_u8(bytes, field_places::UNIT),
-        retract: get_u8(bytes, field_places::RETRACT),
-        system: get_u8(bytes, field_places::SYSTEM),
-        path: get_u8(bytes, field_places::PATH),
-        spindle: get_u8(bytes, field_places::SPINDLE),
-        mist: get_u8(bytes, field_places::MIST),
-        flood: get_u8(bytes, field_places::FLOOD),
-        overrides: get_u8(bytes, field_places::OVERRIDES),
-        point_known: get_u8(bytes, field_places::PLACE_KNOWN),
-        kept: get_u8(bytes, field_places::KEPT),
+        motion: get_u8(bytes, field_places::MOTION_AT),
+        plane: get_u8(bytes, field_places::PLANE_AT),
+        distance: get_u8(bytes, field_places::DISTANCE_AT),
+        feed_mode: get_u8(bytes, field_places::FEED_MODE_AT),
+        unit: get_u8(bytes, field_places::UNIT_AT),
+        retract: get_u8(bytes, field_places::RETRACT_AT),
+        system: get_u8(bytes, field_places::SYSTEM_AT),
+        path: get_u8(bytes, field_places::PATH_AT),
+        spindle: get_u8(bytes, field_places::SPINDLE_AT),
+        mist: get_u8(bytes, field_places::MIST_AT),
+        flood: get_u8(bytes, field_places::FLOOD_AT),
+        overrides: get_u8(bytes, field_places::OVERRIDES_AT),
+        point_known: get_u8(bytes, field_places::POINT_KNOWN_AT),
+        kept: get_u8(bytes, field_places::KEPT_WORDS_AT),
     }
 }
 
@@ -150,20 +150,20 @@ fn put_codes(bytes: &mut [u8], codes: CodeField)
     requires { slots_first ≤ length bytes.old }
     ensures { Puts codes_at codes_first slots_first codes bytes.old bytes.new }
 {
-    put_u8(bytes, field_places::MOTION, codes.motion);
-    put_u8(bytes, field_places::PLANE, codes.plane);
-    put_u8(bytes, field_places::DISTANCE, codes.distance);
-    put_u8(bytes, field_places::FEED_MODE, codes.feed_mode);
-    put_u8(bytes, field_places::UNIT, codes.unit);
-    put_u8(bytes, field_places::RETRACT, codes.retract);
-    put_u8(bytes, field_places::SYSTEM, codes.system);
-    put_u8(bytes, field_places::PATH, codes.path);
-    put_u8(bytes, field_places::SPINDLE, codes.spindle);
-    put_u8(bytes, field_places::MIST, codes.mist);
-    put_u8(bytes, field_places::FLOOD, codes.flood);
-    put_u8(bytes, field_places::OVERRIDES, codes.overrides);
-    put_u8(bytes, field_places::PLACE_KNOWN, codes.point_known);
-    put_u8(bytes, field_places::KEPT, codes.kept);
+    put_u8(bytes, field_places::MOTION_AT, codes.motion);
+    put_u8(bytes, field_places::PLANE_AT, codes.plane);
+    put_u8(bytes, field_places::DISTANCE_AT, codes.distance);
+    put_u8(bytes, field_places::FEED_MODE_AT, codes.feed_mode);
+    put_u8(bytes, field_places::UNIT_AT, codes.unit);
+    put_u8(bytes, field_places::RETRACT_AT, codes.retract);
+    put_u8(bytes, field_places::SYSTEM_AT, codes.system);
+    put_u8(bytes, field_places::PATH_AT, codes.path);
+    put_u8(bytes, field_places::SPINDLE_AT, codes.spindle);
+    put_u8(bytes, field_places::MIST_AT, codes.mist);
+    put_u8(bytes, field_places::FLOOD_AT, codes.flood);
+    put_u8(bytes, field_places::OVERRIDES_AT, codes.overrides);
+    put_u8(bytes, field_places::POINT_KNOWN_AT, codes.point_known);
+    put_u8(bytes, field_places::KEPT_WORDS_AT, codes.kept);
 }
 
 #[tactic(auto, unfolding(crate::specs::StateField::half_at))]
@@ -172,13 +172,13 @@ fn get_half(bytes: &[u8]) -> HalfField
     ensures { result ≡ half_at bytes.now }
 {
     HalfField {
-        source: get_u8(bytes, field_places::SOURCE),
-        opened: get_u8(bytes, field_places::OPENED),
-        at_known: get_u8(bytes, field_places::AT_KNOWN),
-        length: get_u16(bytes, field_places::LENGTH),
-        index: get_u64(bytes, field_places::INDEX),
-        at: get_triple(bytes, field_places::AT),
-        text: get_text(bytes, field_places::LONGEST_TEXT),
+        source: get_u8(bytes, field_places::SOURCE_AT),
+        opened: get_u8(bytes, field_places::OPENED_AT),
+        at_known: get_u8(bytes, field_places::HALF_POINT_KNOWN_AT),
+        length: get_u16(bytes, field_places::TEXT_LENGTH_AT),
+        index: get_u64(bytes, field_places::INDEX_AT),
+        at: get_triple(bytes, field_places::HALF_POINT_AT),
+        text: get_text(bytes, field_places::TEXT_AT),
     }
 }
 
@@ -187,13 +187,13 @@ fn put_half(bytes: &mut [u8], half: &HalfField)
     ensures put { Puts half_at half_first field_size half.now bytes.old bytes.new }
     ensures gap { bytes_at 1 free_byte bytes.new ≡ bytes_at 1 free_byte bytes.old }
 {
-    put_u8(bytes, field_places::SOURCE, half.source);
-    put_u8(bytes, field_places::OPENED, half.opened);
-    put_u8(bytes, field_places::AT_KNOWN, half.at_known);
-    put_u16(bytes, field_places::LENGTH, half.length);
-    put_u64(bytes, field_places::INDEX, half.index);
-    put_triple(bytes, field_places::AT, half.at);
-    put_text(bytes, field_places::LONGEST_TEXT, &half.text);
+    put_u8(bytes, field_places::SOURCE_AT, half.source);
+    put_u8(bytes, field_places::OPENED_AT, half.opened);
+    put_u8(bytes, field_places::HALF_POINT_KNOWN_AT, half.at_known);
+    put_u16(bytes, field_places::TEXT_LENGTH_AT, half.length);
+    put_u64(bytes, field_places::INDEX_AT, half.index);
+    put_triple(bytes, field_places::HALF_POINT_AT, half.at);
+    put_text(bytes, field_places::TEXT_AT, &half.text);
 }
 
 impl StateField {
@@ -204,18 +204,18 @@ impl StateField {
         ensures { result ≡ field_at bytes.now }
     {
         StateField {
-            entries: get_u64(bytes, field_places::ENTRIES),
-            place: get_u64(bytes, field_places::PLACE),
-            point: get_triple(bytes, field_places::POINT),
-            feed: get_u64(bytes, field_places::FEED),
-            speed: get_u64(bytes, field_places::SPEED),
-            g92: get_triple(bytes, field_places::G92),
-            origin: get_triple(bytes, field_places::ORIGIN),
-            tool_length: get_i64(bytes, field_places::TOOL_LENGTH),
+            entries: get_u64(bytes, field_places::ENTRIES_AT),
+            place: get_u64(bytes, field_places::PLACE_AT),
+            point: get_triple(bytes, field_places::POINT_AT),
+            feed: get_u64(bytes, field_places::FEED_AT),
+            speed: get_u64(bytes, field_places::SPEED_AT),
+            g92: get_triple(bytes, field_places::G92_AT),
+            origin: get_triple(bytes, field_places::ORIGIN_AT),
+            tool_length: get_i64(bytes, field_places::TOOL_LENGTH_AT),
             kept: get_kept(bytes),
             codes: get_codes(bytes),
-            selected_slot: get_u16(bytes, field_places::SELECTED_SLOT),
-            spindle_slot: get_u16(bytes, field_places::SPINDLE_SLOT),
+            selected_slot: get_u16(bytes, field_places::SELECTED_SLOT_AT),
+            spindle_slot: get_u16(bytes, field_places::SPINDLE_SLOT_AT),
             half: get_half(bytes),
         }
     }
@@ -226,18 +226,18 @@ impl StateField {
         ensures put { Puts field_at 0 field_size self.now bytes.old bytes.new }
         ensures gap { bytes_at 1 free_byte bytes.new ≡ bytes_at 1 free_byte bytes.old }
     {
-        put_u64(bytes, field_places::ENTRIES, self.entries);
-        put_u64(bytes, field_places::PLACE, self.place);
-        put_triple(bytes, field_places::POINT, self.point);
-        put_u64(bytes, field_places::FEED, self.feed);
-        put_u64(bytes, field_places::SPEED, self.speed);
-        put_triple(bytes, field_places::G92, self.g92);
-        put_triple(bytes, field_places::ORIGIN, self.origin);
-        put_i64(bytes, field_places::TOOL_LENGTH, self.tool_length);
+        put_u64(bytes, field_places::ENTRIES_AT, self.entries);
+        put_u64(bytes, field_places::PLACE_AT, self.place);
+        put_triple(bytes, field_places::POINT_AT, self.point);
+        put_u64(bytes, field_places::FEED_AT, self.feed);
+        put_u64(bytes, field_places::SPEED_AT, self.speed);
+        put_triple(bytes, field_places::G92_AT, self.g92);
+        put_triple(bytes, field_places::ORIGIN_AT, self.origin);
+        put_i64(bytes, field_places::TOOL_LENGTH_AT, self.tool_length);
         put_kept(bytes, self.kept);
         put_codes(bytes, self.codes);
-        put_u16(bytes, field_places::SELECTED_SLOT, self.selected_slot);
-        put_u16(bytes, field_places::SPINDLE_SLOT, self.spindle_slot);
+        put_u16(bytes, field_places::SELECTED_SLOT_AT, self.selected_slot);
+        put_u16(bytes, field_places::SPINDLE_SLOT_AT, self.spindle_slot);
         put_half(bytes, &self.half);
     }
 }

@@ -4,7 +4,7 @@ ghost use Rattle.std.specs.Prelude.{◌≡◌, ◌≤◌, IfSome};
 use crate::areas::{GREATEST_AREA, LONGEST_LOG, SHORTEST_LOG};
 use crate::bytes::{get_u32, get_u64, put_u32, put_u64};
 use crate::report::GREATEST_COUNT;
-use crate::sectors::BYTES;
+use crate::sectors::SECTOR_BYTES;
 
 /// The text that a header begins with.
 const MAGIC: &[u8; 8] = b"RS274NGC";
@@ -83,7 +83,7 @@ impl Header {
 
     /// The header that sector `k` holds; none where it isn't valid.
     #[tactic(auto, unfolding(crate::specs::Header::header_in, crate::specs::Header::header_at, crate::specs::Header::is_marked))]
-    pub fn read(k: u64, sector: &[u8; BYTES]) -> Option<Header>
+    pub fn read(k: u64, sector: &[u8; SECTOR_BYTES]) -> Option<Header>
         ensures value { result ≡ header_in k sector.now }
         ensures lawful { IfSome result IsValidHeader }
     {
@@ -119,10 +119,10 @@ impl Header {
     }
 
     /// The sector that holds it, in which what it doesn't name is 0.
-    pub fn write(self) -> [u8; BYTES]
+    pub fn write(self) -> [u8; SECTOR_BYTES]
         ensures { HoldsHeader self result }
     {
-        let mut sector = [0; BYTES];
+        let mut sector = [0; SECTOR_BYTES];
         put_u64(&mut sector, 0, get_u64(MAGIC, 0));
         put_u32(&mut sector, FORMAT_AT, self.format.number());
         put_u64(&mut sector, EPOCH_AT, self.epoch);

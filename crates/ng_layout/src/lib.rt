@@ -27,9 +27,10 @@ pub use field::{CodeField, HalfField, KeptField, StateField, Triple};
 pub use half::{Half, LONGEST_TEXT, Opened, Source, text_from};
 pub use header::{Format, Header, LONGEST_PROGRAM};
 pub use part::{
-    CHANGES, PartLabel, changes_part, decoded_state_of_part, first_part, parts_for, take_changes,
+    PART_CHANGES, PartLabel, changes_part, decoded_state_of_part, first_part, parts_for,
+    take_changes,
 };
 pub use report::{DecodedState, GREATEST_COUNT};
-pub use sectors::{BYTES, VALUES, take_values, text_sector};
+pub use sectors::{SECTOR_BYTES, VALUES, take_values, text_sector};
 pub use stored::{Stored, fresh_sector};
 pub use tools::{take_area, take_slot};

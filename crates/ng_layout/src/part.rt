@@ -16,15 +16,16 @@ ghost use Rattle.ng_layout.specs.Storable.{IsStorable};
 use crate::bytes::{get_i64, get_u16, get_u64, put_i64, put_u16, put_u64};
 use crate::field::StateField;
 use crate::report::DecodedState;
-use crate::sectors::BYTES;
+use crate::sectors::SECTOR_BYTES;
 use crate::stored::Stored;
+use crate::tools::{SLOT_AT, SLOT_LENGTH_AT};
 use ng_num::Num;
 use ng_offsets::SlotChange;
 use ng_params::{Change, Index, Params};
 use std::alloc::Allocator;
 
 /// How many changes a part has room for.
-pub const CHANGES: usize = 48;
+pub const PART_CHANGES: usize = 48;
 
 /// The byte of a part at which its content begins.
 const CONTENT: usize = 32;
@@ -46,11 +47,6 @@ const CHANGES_AT: usize = 20;
 /// The byte of a change at which its value begins.
 const VALUE_AT: usize = 2;
 
-/// The bytes of a first part at which the slot that changes stands, and its length.
-const SLOT_AT: usize = 488;
-
-const SLOT_LENGTH_AT: usize = 496;
-
 /// What a part says of itself (own).
 #[derive(Clone, Copy, Debug, PartialEq, Eq)]
 pub struct PartLabel {
@@ -68,7 +64,7 @@ pub struct PartLabel {
 
 impl PartLabel {
     /// What a sector says of itself where it is a part; whether it is one, and of which record, has to be seen from that.
-    pub fn read(sector: &[u8; BYTES]) -> PartLabel
+    pub fn read(sector: &[u8; SECTOR_BYTES]) -> PartLabel
         ensures { result ≡ label_at sector.now }
     {
         PartLabel {
@@ -82,7 +78,7 @@ impl PartLabel {
 
     /// Whether a sector says this of itself.
     #[tactic(auto, unfolding(crate::specs::Log::is_part))]
-    pub fn is_of(self, sector: &[u8; BYTES]) -> bool
+    pub fn is_of(self, sector: &[u8; SECTOR_BYTES]) -> bool
         ensures { result ≡ is_part (label_of self) sector.now }
     {
         get_u64(sector, EPOCH_AT) == self.epoch
@@ -93,11 +89,11 @@ impl PartLabel {
     }
 
     /// A sector that says this, in which all else is 0.
-    fn sector(self) -> [u8; BYTES]
+    fn sector(self) -> [u8; SECTOR_BYTES]
         ensures label { HoldsLabel (label_of self) result }
         ensures rest { SameFrom label_size (replicate sector_size 0) result }
     {
-        let mut sector = [0; BYTES];
+        let mut sector = [0; SECTOR_BYTES];
         put_u64(&mut sector, EPOCH_AT, self.epoch);
         put_u64(&mut sector, NUMBER_AT, self.number);
         put_u16(&mut sector, PART_AT, self.part);
@@ -113,7 +109,7 @@ pub fn parts_for(changes: usize) -> usize
     ensures value { result ≡ parts_for changes }
     ensures few { result ≤ record_parts }
 {
-    1 + (changes + CHANGES - 1) / CHANGES
+    1 + (changes + PART_CHANGES - 1) / PART_CHANGES
 }
 
 /// The first part of a record of what is stored, and of the slot that changes with it, in which what no field names is 0; its label says
@@ -122,7 +118,7 @@ pub fn first_part<A: Allocator + Copy + Drop>(
     label: PartLabel,
     stored: &Stored<A>,
     change: Option<SlotChange>,
-) -> [u8; BYTES]
+) -> [u8; SECTOR_BYTES]
     requires count { stored.now.entries ≤ greatest_count }
     requires storable { IsStorable stored.now }
     ensures label { HoldsLabel (label_of label) result }
@@ -135,11 +131,12 @@ pub fn first_part<A: Allocator + Copy + Drop>(
 }
 
 /// Puts the slot that changes after a state field, and its length; 0 where none does. All before it stays.
-fn put_change(sector: &mut [u8; BYTES], change: Option<SlotChange>)
+fn put_change(sector: &mut [u8; SECTOR_BYTES], change: Option<SlotChange>)
     ensures below { SameBelow slot_at sector.old sector.new }
     ensures slot { number_at 2 slot_at sector.new ≡ slot_number change }
     ensures tool { signed_at slot_length_at sector.new ≡ slot_length change }
-    ensures between { bytes_at (slot_length_at - (slot_at + 2)) (slot_at + 2) sector.new ≡ bytes_at (slot_length_at - (slot_at + 2)) (slot_at + 2) sector.old }
+    ensures between { bytes_at (slot_length_at - (slot_at + 2)) (slot_at + 2) sector.new
+        ≡ bytes_at (slot_length_at - (slot_at + 2)) (slot_at + 2) sector.old }
     ensures beyond { SameFrom (slot_length_at + 8) sector.old sector.new }
 {
     let (slot, length) = change_numbers(change);
@@ -160,7 +157,7 @@ fn change_numbers(change: Option<SlotChange>) -> (u16, i64)
 }
 
 /// Puts a state field after a label. The byte of the content that it leaves free stays, and so do all after it.
-fn put_content(sector: &mut [u8; BYTES], field: &StateField)
+fn put_content(sector: &mut [u8; SECTOR_BYTES], field: &StateField)
     ensures label { SameBelow content_first sector.old sector.new }
     ensures put { Puts field_at 0 field_size field.now (drop content_first sector.old) (drop content_first sector.new) }
     ensures gap { bytes_at 1 free_byte (drop content_first sector.new) ≡ bytes_at 1 free_byte (drop content_first sector.old) }
@@ -170,7 +167,7 @@ fn put_content(sector: &mut [u8; BYTES], field: &StateField)
 
 /// What the state field of a record's first part says beside a program of this length, in bytes; none where a number of it is out of
 /// its range.
-pub fn decoded_state_of_part(sector: &[u8; BYTES], length: u64) -> Option<DecodedState>
+pub fn decoded_state_of_part(sector: &[u8; SECTOR_BYTES], length: u64) -> Option<DecodedState>
     ensures value { result ≡ decoded_state_of length (field_at (drop content_first sector.now)) }
     ensures sound { IfSome result (IsSound length) }
 {
@@ -178,7 +175,7 @@ pub fn decoded_state_of_part(sector: &[u8; BYTES], length: u64) -> Option<Decode
 }
 
 /// Another part of a record, with these changes, in which what none of them names is 0. It takes no memory.
-pub fn changes_part(label: PartLabel, changes: &[Change]) -> [u8; BYTES]
+pub fn changes_part(label: PartLabel, changes: &[Change]) -> [u8; SECTOR_BYTES]
     requires { length changes.now ≤ part_changes }
     ensures label { HoldsLabel (label_of label) result }
     ensures changes { HoldsChanges changes.now result }
@@ -193,7 +190,7 @@ pub fn changes_part(label: PartLabel, changes: &[Change]) -> [u8; BYTES]
 }
 
 /// The change at a place of a part; none where its index or its value is out of range.
-fn change_at(sector: &[u8; BYTES], at: usize) -> Option<Change>
+fn change_at(sector: &[u8; SECTOR_BYTES], at: usize) -> Option<Change>
     requires { at + change_size ≤ sector_size }
     ensures { result ≡ change_at sector.now at }
 {
@@ -206,7 +203,7 @@ fn change_at(sector: &[u8; BYTES], at: usize) -> Option<Change>
 /// Makes the first changes of a part in a table; false where one is out of its range, and those before it were made.
 pub fn take_changes<A: Allocator + Copy + Drop>(
     table: &mut Params<A>,
-    sector: &[u8; BYTES],
+    sector: &[u8; SECTOR_BYTES],
     count: usize,
 ) -> bool
     requires { count ≤ part_changes }

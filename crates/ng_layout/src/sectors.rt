@@ -18,17 +18,17 @@ pub const VALUES: usize = 64;
 const VALUE: usize = 8;
 
 /// How many bytes a sector has.
-pub const BYTES: usize = 512;
+pub const SECTOR_BYTES: usize = 512;
 
 /// The sector of parameters, the first of them at this index of the table, counted from 0.
 pub(crate) fn values_sector<A: Allocator + Copy + Drop>(
     table: &Params<A>,
     first: usize,
-) -> [u8; BYTES]
+) -> [u8; SECTOR_BYTES]
     requires { first ≤ parameter_count }
     ensures { HoldsValues table.now first result }
 {
-    let mut sector = [0; BYTES];
+    let mut sector = [0; SECTOR_BYTES];
     for k in 0..VALUES {
         if first + k < PARAMETER_COUNT {
             let value = table.get(Index::known((first + k) as u16 + 1));
@@ -45,11 +45,11 @@ const SYSTEM_INDEX: usize = 5219;
 const ONE: i64 = 1_000_000;
 
 /// The same sector of the table of a fresh controller, in which the system in force is 1 and all else 0.
-pub(crate) fn fresh_values_sector(first: usize) -> [u8; BYTES]
+pub(crate) fn fresh_values_sector(first: usize) -> [u8; SECTOR_BYTES]
     requires { first ≤ parameter_count }
     ensures { HoldsValues defaults first result }
 {
-    let mut sector = [0; BYTES];
+    let mut sector = [0; SECTOR_BYTES];
     if first <= SYSTEM_INDEX && SYSTEM_INDEX < first + VALUES {
         put_i64(&mut sector, VALUE * (SYSTEM_INDEX - first), ONE);
     }
@@ -61,7 +61,7 @@ pub(crate) fn fresh_values_sector(first: usize) -> [u8; BYTES]
 pub fn take_values<A: Allocator + Copy + Drop>(
     table: &mut Params<A>,
     first: usize,
-    sector: &[u8; BYTES],
+    sector: &[u8; SECTOR_BYTES],
 ) -> bool
     requires { first ≤ parameter_count }
     ensures taken { OnTrue result (TakesValues table.old table.new first sector.now) }
@@ -91,21 +91,21 @@ pub(crate) fn copy_table<A: Allocator + Copy + Drop>(into: &mut Params<A>, from:
 }
 
 /// The sector that begins with these bytes and goes on with zeros.
-fn padded(bytes: &[u8]) -> [u8; BYTES]
+fn padded(bytes: &[u8]) -> [u8; SECTOR_BYTES]
     requires { length bytes.now ≤ sector_size }
     ensures { result ≡ bytes.now ++ replicate (sector_size - length bytes.now) 0 }
 {
-    let mut sector = [0; BYTES];
+    let mut sector = [0; SECTOR_BYTES];
     sector[..bytes.len()].copy_from_slice(bytes);
     sector
 }
 
 /// The sector of bytes of a text, the first of them at this index; zeros past the text's end.
-pub fn text_sector(text: &[u8], first: usize) -> [u8; BYTES]
+pub fn text_sector(text: &[u8], first: usize) -> [u8; SECTOR_BYTES]
     requires within { first ≤ length text.now }
     requires small { length text.now ≤ longest_program }
     ensures { HoldsText text.now first result }
 {
-    let end = text.len().min(first + BYTES);
+    let end = text.len().min(first + SECTOR_BYTES);
     padded(&text[first..end])
 }

@@ -16,7 +16,7 @@ use crate::bytes::put_u16;
 use crate::field::StateField;
 use crate::half::Half;
 use crate::report::DecodedState;
-use crate::sectors::{BYTES, VALUES, copy_table, fresh_values_sector, values_sector};
+use crate::sectors::{SECTOR_BYTES, VALUES, copy_table, fresh_values_sector, values_sector};
 use crate::tools::{LENGTHS, SLOTS_AT, lengths_sector};
 use ng_offsets::Tools;
 use ng_state::{Machine, State};
@@ -145,7 +145,7 @@ impl<A: Allocator + Copy + Drop> Stored<A> {
     }
 
     /// The sector of a snapshot that holds this part of it: the state field first, then the parameters. What no field names is 0.
-    pub fn sector(&self, part: usize) -> [u8; BYTES]
+    pub fn sector(&self, part: usize) -> [u8; SECTOR_BYTES]
         requires part { part < snapshot_size }
         requires count { self.now.entries ≤ greatest_count }
         requires storable { IsStorable self.now }
@@ -159,7 +159,7 @@ impl<A: Allocator + Copy + Drop> Stored<A> {
     }
 
     /// The sector of a tool area that holds this part of its tool table. What no slot has is 0.
-    pub fn tool_sector(&self, part: usize) -> [u8; BYTES]
+    pub fn tool_sector(&self, part: usize) -> [u8; SECTOR_BYTES]
         requires part { part < tools_size }
         ensures { HoldsToolPart self.now part result }
     {
@@ -168,7 +168,7 @@ impl<A: Allocator + Copy + Drop> Stored<A> {
 }
 
 /// The sector of a fresh controller's snapshot that holds this part of it. It takes no memory.
-pub fn fresh_sector(part: usize) -> [u8; BYTES]
+pub fn fresh_sector(part: usize) -> [u8; SECTOR_BYTES]
     requires { part < snapshot_size }
     ensures { HoldsPart fresh_stored part result }
 {
@@ -180,14 +180,14 @@ pub fn fresh_sector(part: usize) -> [u8; BYTES]
 }
 
 /// The sector that holds a state field and a number of slots, in which all else is 0.
-fn first_sector(field: &StateField, slots: usize) -> [u8; BYTES]
+fn first_sector(field: &StateField, slots: usize) -> [u8; SECTOR_BYTES]
     requires { slots ≤ greatest_slot }
     ensures field { field_at result ≡ field.now }
     ensures gap { AreZero 1 free_byte result }
     ensures slots { number_at 2 slots_at result ≡ slots }
     ensures rest { AreZero (sector_size - (slots_at + 2)) (slots_at + 2) result }
 {
-    let mut sector = [0; BYTES];
+    let mut sector = [0; SECTOR_BYTES];
     field.write(&mut sector);
     put_u16(&mut sector, SLOTS_AT, slots as u16);
     sector

@@ -12,7 +12,7 @@ ghost use Rattle.ng_layout.specs.Tools.{tools_in, tool_length_of, lengths_in, sl
 
 use crate::bytes::{get_i64, get_u16, put_i64};
 use crate::header::Format;
-use crate::sectors::BYTES;
+use crate::sectors::SECTOR_BYTES;
 use ng_num::Len;
 use ng_offsets::{SLOTS, SlotChange, Tools};
 
@@ -26,9 +26,9 @@ const LENGTH: usize = 8;
 const LONGEST_TOOL: i64 = 1_000_000_000;
 
 /// The bytes of a record's first part at which the slot that changes stands, and its length.
-const SLOT_AT: usize = 488;
+pub(crate) const SLOT_AT: usize = 488;
 
-const SLOT_LENGTH_AT: usize = 496;
+pub(crate) const SLOT_LENGTH_AT: usize = 496;
 
 /// The byte of a snapshot's first sector at which the number of slots stands.
 pub(crate) const SLOTS_AT: usize = 456;
@@ -45,11 +45,11 @@ fn tool_length_of(nm: i64) -> Option<Len>
 }
 
 /// The sector of tool lengths, the first of them at this index of the table, counted from 0.
-pub(crate) fn lengths_sector(tools: &Tools, first: usize) -> [u8; BYTES]
-    requires { first ≤ 64 }
+pub(crate) fn lengths_sector(tools: &Tools, first: usize) -> [u8; SECTOR_BYTES]
+    requires { first ≤ sector_lengths }
     ensures { HoldsLengths tools.now first result }
 {
-    let mut sector = [0; BYTES];
+    let mut sector = [0; SECTOR_BYTES];
     for k in 0..LENGTHS {
         if first + k < tools.slots() {
             let length = tools.length((first + k) as u8 + 1);
@@ -60,12 +60,13 @@ pub(crate) fn lengths_sector(tools: &Tools, first: usize) -> [u8; BYTES]
 }
 
 /// Adds so many lengths of a sector of a tool area to the table; false where one is out of its range, and those before it were added.
-pub fn take_lengths(tools: &mut Tools, part: usize, sector: &[u8; BYTES], count: usize) -> bool
+fn take_lengths(tools: &mut Tools, part: usize, sector: &[u8; SECTOR_BYTES], count: usize) -> bool
     requires count { count ≤ sector_lengths }
     requires room { sector_lengths * part + count ≤ SLOTS }
     requires before { length tools.old ≡ sector_lengths * part }
     ensures adds { (area : ℕ → List ℕ) → area part ≡ sector.now → lengths_in area (sector_lengths * part) ≡ Some tools.old
-        → MatchBool result (lengths_in area (sector_lengths * part + count) ≡ Some tools.new) (lengths_in area (sector_lengths * part + count) ≡ None) }
+        → MatchBool result (lengths_in area (sector_lengths * part + count) ≡ Some tools.new)
+        (lengths_in area (sector_lengths * part + count) ≡ None) }
     ensures long { OnTrue result (length tools.new ≡ sector_lengths * part + count) }
     ensures storable { OnTrue result (IsStorableTools tools.old → IsStorableTools tools.new) }
 {
@@ -80,7 +81,7 @@ pub fn take_lengths(tools: &mut Tools, part: usize, sector: &[u8; BYTES], count:
 
 /// What changes of a table of so many slots, by the first part of a record; none where that is out of its range.
 #[tactic(auto, unfolding(crate::specs::Tools::slot_change_in))]
-pub fn slot_change(sector: &[u8; BYTES], slots: usize) -> Option<Option<SlotChange>>
+fn slot_change(sector: &[u8; SECTOR_BYTES], slots: usize) -> Option<Option<SlotChange>>
     requires { slots ≤ SLOTS }
     ensures value { result ≡ slot_change_in slots sector.now }
     ensures slot { IfSome result (λ c. IfSome c (λ change. (1 ≤ change.slot) × (change.slot ≤ slots + 1) × (change.slot ≤ SLOTS))) }
@@ -102,8 +103,9 @@ pub fn slot_change(sector: &[u8; BYTES], slots: usize) -> Option<Option<SlotChan
 }
 
 /// Makes in a tool table what the first part of a record changes of it; false where that is out of its range. In format 1 there is none.
-pub fn take_slot(format: Format, tools: &mut Tools, sector: &[u8; BYTES]) -> bool
-    ensures makes { MatchBool result (tools_after format sector.now tools.old ≡ Some tools.new) (tools_after format sector.now tools.old ≡ None) }
+pub fn take_slot(format: Format, tools: &mut Tools, sector: &[u8; SECTOR_BYTES]) -> bool
+    ensures makes { MatchBool result (tools_after format sector.now tools.old ≡ Some tools.new)
+        (tools_after format sector.now tools.old ≡ None) }
     ensures storable { OnTrue result (IsStorableTools tools.old → IsStorableTools tools.new) }
     ensures none { format ≡ One → tools.new ≡ tools.old }
 {
@@ -121,7 +123,7 @@ pub fn take_slot(format: Format, tools: &mut Tools, sector: &[u8; BYTES]) -> boo
 }
 
 /// The number of slots of a snapshot, by its first sector; none where that is out of its range.
-pub fn slots_of(sector: &[u8; BYTES]) -> Option<usize>
+fn slots_of(sector: &[u8; SECTOR_BYTES]) -> Option<usize>
     ensures { result ≡ up_to greatest_slot (number_at 2 slots_at sector.now) }
 {
     let slots = get_u16(sector, SLOTS_AT) as usize;
@@ -131,12 +133,13 @@ pub fn slots_of(sector: &[u8; BYTES]) -> Option<usize>
 /// Takes over the tool table of a snapshot with this first sector, by the two sectors of its tool area; false where that is damaged.
 pub fn take_area(
     tools: &mut Tools,
-    first: &[u8; BYTES],
-    lower: &[u8; BYTES],
-    upper: &[u8; BYTES],
+    first: &[u8; SECTOR_BYTES],
+    lower: &[u8; SECTOR_BYTES],
+    upper: &[u8; SECTOR_BYTES],
 ) -> bool
     requires { tools.old ≡ [] }
-    ensures takes { (area : ℕ → List ℕ) → area 0 ≡ lower.now → area 1 ≡ upper.now → MatchBool result (tools_in Two first.now area ≡ Some tools.new) (tools_in Two first.now area ≡ None) }
+    ensures takes { (area : ℕ → List ℕ) → area 0 ≡ lower.now → area 1 ≡ upper.now
+        → MatchBool result (tools_in Two first.now area ≡ Some tools.new) (tools_in Two first.now area ≡ None) }
     ensures storable { OnTrue result (IsStorableTools tools.new) }
 {
     match slots_of(first) {

@@ -22,6 +22,7 @@ use Rattle.ng_layout.specs.Part.{piece, HoldsLabel, HoldsState, HoldsChanges, Ho
 use Rattle.ng_layout.specs.Stored.{StoredModel, DurableState}
 use Rattle.ng_log.specs.declared.log_end.LogEnd.{LogEnd}
 use Rattle.ng_log.specs.Appends.{WritesRecord, AppendSpec}
+use Rattle.ng_log.specs.Private.WriteSteps.{WritesParts}
 use Rattle.ng_log.specs.AtEnd.{end_after, EndsIn, IsAtEnd, IsEither}
 use Rattle.ng_params.specs.Differences.{differences}
 use Rattle.ng_log.specs.Records.{LogRecord, size_of, label, IsPartOf, BelongsToRecord, record_at}
@@ -99,24 +100,24 @@ record_more k e old mid new n bytes place right p is = record {
 }
 
 -- or a write that failed
-pub record_failed : {T E F : Type 0} (f : F) (result : Result T E) (k : ℕ) (e : LogRecord) (old mid new : Trace) (n : ℕ) (bytes : List ℕ) → n ≡ log_first + (e.at + k) → IsPartOf e (e.at + k) bytes → RecordTo k e old mid → WriteSpec result n bytes mid new → WritesRecord {T = T} (Err f) e old new
+pub record_failed : {T E F : Type 0} (f : F) (result : Result T E) (k : ℕ) (e : LogRecord) (old mid new : Trace) (n : ℕ) (bytes : List ℕ) → n ≡ log_first + (e.at + k) → IsPartOf e (e.at + k) bytes → RecordTo k e old mid → WriteSpec result n bytes mid new → WritesParts {T = T} (Err f) e old new
 record_failed f result k e old mid new n bytes place right p w = record {
   writes = only_more (BelongsToRecord e) old mid new p.writes (only_write (BelongsToRecord e) result n bytes mid new (subst (λ (x : ℕ). BelongsToRecord e x bytes) (sym place) (belongs e (e.at + k) bytes right)) w);
   parts = tt;
 }
 
-pub record_done : {T E : Type 0} (v : T) (k : ℕ) (e : LogRecord) (old new : Trace) → k ≡ size_of e → RecordTo k e old new → WritesRecord {E = E} (Ok v) e old new
+pub record_done : {T E : Type 0} (v : T) (k : ℕ) (e : LogRecord) (old new : Trace) → k ≡ size_of e → RecordTo k e old new → WritesParts {E = E} (Ok v) e old new
 record_done v k e old new is p = record { writes = p.writes; parts = λ j lt. p.parts j (omega (arith, is)) }
 
 -- and the sync, or the failure before it
-pub record_cut : {T U E F : Type 0} (f : F) (result : Result T E) (e : LogRecord) (old new : Trace) → WritesRecord result e old new → WritesRecord {T = U} (Err f) e old new
-record_cut f result e old new w = record { writes = w.writes; parts = tt }
+pub record_cut : {T U E F : Type 0} (f : F) (result : Result T E) (e : LogRecord) (old new : Trace) → WritesParts result e old new → WritesRecord {T = U} (Err f) e old new
+record_cut f result e old new w = record { writes = w.writes; parts = tt; synced = tt }
 
-pub record_unsynced : {T U E F : Type 0} (f : F) (result : Result T E) (e : LogRecord) (old mid new : Trace) → WritesRecord result e old mid → new ≡ mid → WritesRecord {T = U} (Err f) e old new
-record_unsynced f result e old mid new w is = record { writes = subst (λ (l : Trace). WritesOnly (BelongsToRecord e) old l) (sym is) w.writes; parts = tt }
+pub record_unsynced : {T U E F : Type 0} (f : F) (result : Result T E) (e : LogRecord) (old mid new : Trace) → WritesParts result e old mid → new ≡ mid → WritesRecord {T = U} (Err f) e old new
+record_unsynced f result e old mid new w is = record { writes = subst (λ (l : Trace). WritesOnly (BelongsToRecord e) old l) (sym is) w.writes; parts = tt; synced = tt }
 
-pub record_synced : {T U E F : Type 0} (v : T) (u : U) (e : LogRecord) (old mid new : Trace) → WritesRecord {E = E} (Ok v) e old mid → new ≡ Synced mid → WritesRecord {E = F} (Ok u) e old new
-record_synced {F = F} v u e old mid new w is = subst (λ (l : Trace). WritesRecord {E = F} (Ok u) e old l) (sym is) (record { writes = only_synced (BelongsToRecord e) old mid w.writes; parts = w.parts })
+pub record_synced : {T U E F : Type 0} (v : T) (u : U) (e : LogRecord) (old mid new : Trace) → WritesParts {E = E} (Ok v) e old mid → new ≡ Synced mid → WritesRecord {E = F} (Ok u) e old new
+record_synced {F = F} v u e old mid new w is = subst (λ (l : Trace). WritesRecord {E = F} (Ok u) e old l) (sym is) (record { writes = only_synced (BelongsToRecord e) old mid w.writes; parts = w.parts; synced = is_synced mid })
 
 -- The stops of all that.
 module _ (old : Trace) (header : Header) (before : DurableState) (end : LogEnd) (saved : StoredModel) (changes : List Change) (slot : Option SlotChange) (at : IsAtEnd old header before end) (next : IsNext (reads old) header before end saved changes slot) where
@@ -134,17 +135,17 @@ module _ (old : Trace) (header : Header) (before : DurableState) (end : LogEnd) 
     handed_is = b.handed_is;
   }
 
-  pub exit_parts : {T F : Type 0} {E : Type 0} (f : E) (result : Result T F) (mid : Trace) → WritesRecord result e old mid → AppendSpec (Err f) header before saved old mid
+  pub exit_parts : {T F : Type 0} {E : Type 0} (f : E) (result : Result T F) (mid : Trace) → WritesParts result e old mid → AppendSpec (Err f) header before saved old mid
   exit_parts f result mid w = record {
     stops = weaker old mid (IsMixOf old (BelongsToRecord e)) (IsEither (Ok before) (Ok (record before { saved = saved })) (items old)) w.writes.stops either;
     items_are = w.writes.items_are;
     at = tt;
   }
 
-  pub exit_sync : {T F : Type 0} {E : Type 0} (f : E) (result : Result T F) (mid new : Trace) → WritesRecord result e old mid → new ≡ mid → AppendSpec (Err f) header before saved old new
+  pub exit_sync : {T F : Type 0} {E : Type 0} (f : E) (result : Result T F) (mid new : Trace) → WritesParts result e old mid → new ≡ mid → AppendSpec (Err f) header before saved old new
   exit_sync f result mid new w is = subst (λ (l : Trace). AppendSpec (Err f) header before saved old l) (sym is) (exit_parts f result mid w)
 
-  on_disk : {T F : Type 0} {E : Type 0} (v : T) (mid : Trace) → WritesRecord {E = F} (Ok v) e old mid → AppendSpec {E = E} (Ok (end_after end (length changes))) header before saved old (Synced mid)
+  on_disk : {T F : Type 0} {E : Type 0} (v : T) (mid : Trace) → WritesParts {E = F} (Ok v) e old mid → AppendSpec {E = E} (Ok (end_after end (length changes))) header before saved old (Synced mid)
   on_disk v mid w = record {
     stops = weaker old (Synced mid) (IsMixOf old (BelongsToRecord e)) (IsEither (Ok before) (Ok (record before { saved = saved })) (items old)) (only_sync (BelongsToRecord e) old mid w.writes) either;
     items_are = w.writes.items_are;
@@ -154,6 +155,6 @@ module _ (old : Trace) (header : Header) (before : DurableState) (end : LogEnd) 
     };
   }
 
-  pub finished : {T F : Type 0} {E : Type 0} (v : T) (after : LogEnd) (mid new : Trace) → after ≡ end_after end (length changes) → WritesRecord {E = F} (Ok v) e old mid → new ≡ Synced mid → AppendSpec {E = E} (Ok after) header before saved old new
+  pub finished : {T F : Type 0} {E : Type 0} (v : T) (after : LogEnd) (mid new : Trace) → after ≡ end_after end (length changes) → WritesParts {E = F} (Ok v) e old mid → new ≡ Synced mid → AppendSpec {E = E} (Ok after) header before saved old new
   finished {F = F} {E = E} v after mid new after_is w is =
       subst (λ (l : Trace). AppendSpec {E = E} (Ok after) header before saved old l) (sym is) (subst (λ (x : LogEnd). AppendSpec {E = E} (Ok x) header before saved old (Synced mid)) (sym after_is) (on_disk v mid w))

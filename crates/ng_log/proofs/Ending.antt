@@ -7,7 +7,7 @@ use Rattle.ng_rig.specs.Trace.{Image, Trace, reads}
 use Rattle.ng_rig.specs.Continuation.{IsSynced}
 use Rattle.ng_layout.specs.declared.header.Header.{Header}
 use Rattle.ng_layout.specs.Fields.{number_at}
-use Rattle.ng_layout.specs.Areas.{log_size, log_size_of, log_first, program_first, program_size, snapshot_first, snapshot_size, tools_first, tools_size}
+use Rattle.ng_layout.specs.Areas.{shortest_log, log_size, log_size_of, log_first, program_first, program_size, snapshot_first, snapshot_size, tools_first, tools_size}
 use Rattle.ng_layout.specs.Log.{LogPosition}
 use Rattle.ng_layout.specs.Sectors.{program_text}
 use Rattle.ng_layout.specs.Stands.{by_header, epoch_in_force, in_force, IsWritten, snapshot, standing, durable_state_under, stands, stretch}
@@ -64,8 +64,8 @@ module _ (base image : Image) (header : Header) (before : DurableState) (end : L
   abbrev e : LogRecord
   e = record_at header.epoch end saved changes slot
 
-  outside : (m : ℕ) → (m < log_first) ⊎ (1706 ≤ m) → image m ≡ base m
-  outside m out = ⊎_elim (λ same. same) (λ there. absurd (let room = n.room in let short : log_size_of header ≡ 1020 = ap log_size n.two in ⊎_elim (λ low. omega (arith, there.log)) (λ high. omega (arith, there.log, there.part.to)) out)) (b.each m)
+  outside : (m : ℕ) → (m < log_first) ⊎ (log_first + shortest_log ≤ m) → image m ≡ base m
+  outside m out = ⊎_elim (λ same. same) (λ there. absurd (let room = n.room in let short : log_size_of header ≡ shortest_log = ap log_size n.two in ⊎_elim (λ low. omega (arith, there.log)) (λ high. omega (arith, there.log, there.part.to)) out)) (b.each m)
 
   pub blend-force : in_force image ≡ Some header
   blend-force = force-same image base (outside 0 (inl (omega arith))) (outside 1 (inl (omega arith))) ∙ n.was.force

@@ -33,8 +33,8 @@ ends-new image base old new saved program was written now later same snap text l
     room = omega arith;
     clean = record {
       none = λ m ge lt is.
-          let short : log_size_of new ≡ 1020 = ap log_size two in
-          let low : m < 1020 = omega arith in
+          let short : log_size_of new ≡ shortest_log = ap log_size two in
+          let low : m < shortest_log = omega arith in
           omega (arith, none-of-new base old was written m low, later, is, ap (number_at 8 0) (stretch-at log_first (log_size_of new) image m lt ∙ same m low));
     };
   };

@@ -5,11 +5,10 @@ use Rattle.ng_canon.specs.declared.item.Item.{Item}
 use Rattle.ng_rig.specs.Trace.{Image, Trace, reads}
 use Rattle.ng_rig.specs.Continuation.{IsSynced}
 use Rattle.ng_layout.specs.declared.header.Header.{Header}
-use Rattle.ng_layout.specs.Areas.{log_size_of, program_first, program_size}
+use Rattle.ng_layout.specs.Areas.{log_size_of}
 use Rattle.ng_layout.specs.Log.{ReplayState, LogPosition, parts_for}
-use Rattle.ng_layout.specs.Sectors.{program_text}
 use Rattle.ng_layout.specs.Snapshot.{decoded_state_in}
-use Rattle.ng_layout.specs.Stands.{stretch, in_force, stands, IsModern, IsWritten}
+use Rattle.ng_layout.specs.Stands.{program_under, in_force, stands, IsModern, IsWritten}
 use Rattle.ng_layout.specs.declared.header.Format.TheVariants.{Two}
 use Rattle.ng_layout.specs.Stored.{StoredModel, DurableState}
 use Rattle.ng_log.specs.declared.log_end.LogEnd.{LogEnd}
@@ -36,7 +35,7 @@ pub record EndsIn (image : Image) (header : Header) (standing : DurableState) (e
   pub format : header.format ≡ Two
   pub written : IsWritten image
   pub ends : EndsAt header.format header.length (log_of header image) header.epoch (beginning image header) (position_of end standing.saved)
-  pub program : program_text header.length (stretch (program_first header.area) (program_size header.area) image) ≡ standing.program
+  pub program : program_under header image ≡ standing.program
   pub long : standing.saved.length ≡ header.length
 
 -- The device has one image, and that is such.

@@ -18,8 +18,8 @@ ghost use Rattle.ng_log.specs.Private.ReadSteps.{begins, LaterPartsStand, MakesA
 use crate::log_end::LogEnd;
 use crate::reading::read_sector;
 use ng_layout::{
-    BYTES, CHANGES, Header, LOG_FIRST, PartLabel, Stored, decoded_state_of_part, parts_for,
-    take_changes, take_slot,
+    Header, LOG_FIRST, PART_CHANGES, PartLabel, SECTOR_BYTES, Stored, decoded_state_of_part,
+    parts_for, take_changes, take_slot,
 };
 use ng_params::Params;
 use ng_rig::{Failed, Rig};
@@ -88,7 +88,7 @@ fn take_all_changes<R: Rig, A: Allocator + Copy + Drop>(
 {
     for i in 0..parts_for(changes) - 1 {
         let sector = read_sector(rig, LOG_FIRST + at + 1 + i)?;
-        let count = CHANGES.min(changes - CHANGES * i);
+        let count = PART_CHANGES.min(changes - PART_CHANGES * i);
         if !take_changes(table, &sector, count) {
             return Ok(false);
         }
@@ -99,7 +99,7 @@ fn take_all_changes<R: Rig, A: Allocator + Copy + Drop>(
 /// Takes over what a record says that begins at a sector of the log, whose content was read as `first`; false where it is damaged.
 fn take_record<R: Rig, A: Allocator + Copy + Drop>(
     rig: &mut R,
-    first: &[u8; BYTES],
+    first: &[u8; SECTOR_BYTES],
     at: usize,
     changes: usize,
     header: Header,
@@ -112,7 +112,8 @@ fn take_record<R: Rig, A: Allocator + Copy + Drop>(
     requires tools { IsStorableTools stored.old.tools }
     requires long { length stored.old.setup.params ≡ parameter_count }
     ensures read { IfHonest (R.honest rig.old) (R.honest rig.new)
-        (ReadSpec result (TakesRecord header.format header.length first.now at changes stored.old stored.new) (R.trace rig.old) (R.trace rig.new)) }
+        (ReadSpec result (TakesRecord header.format header.length first.now at changes stored.old stored.new)
+        (R.trace rig.old) (R.trace rig.new)) }
     // without honesty too
     ensures storable { IfOk result (λ whole. OnTrue whole (IsStorable stored.new)) }
     ensures count { IfOk result (λ whole. OnTrue whole (stored.new.entries ≤ greatest_count)) }

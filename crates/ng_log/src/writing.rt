@@ -11,13 +11,14 @@ ghost use Rattle.ng_layout.specs.Storable.{IsStorable, IsStorableChange};
 ghost use Rattle.ng_layout.specs.Stored.{DurableState};
 ghost use Rattle.ng_log.specs.Appends.{WritesRecord, AppendSpec};
 ghost use Rattle.ng_log.specs.AtEnd.{end_after, IsAtEnd};
+ghost use Rattle.ng_log.specs.Private.WriteSteps.{WritesParts};
 ghost use Rattle.ng_params.specs.Differences.{differences, TakesDifferences};
 ghost use Rattle.ng_log.specs.Records.{record_from};
 
 use crate::log_end::LogEnd;
 use arrayvec::ArrayVec;
 use ng_layout::{
-    CHANGES, Header, LOG_FIRST, PartLabel, Stored, changes_part, first_part, parts_for,
+    Header, LOG_FIRST, PART_CHANGES, PartLabel, Stored, changes_part, first_part, parts_for,
 };
 use ng_offsets::SlotChange;
 use ng_params::{Change, Params, next_differences};
@@ -29,7 +30,7 @@ fn next_changes<A: Allocator + Copy + Drop>(
     old: &Params<A>,
     stored: &Stored<A>,
     from: usize,
-) -> (ArrayVec<Change, CHANGES>, usize)
+) -> (ArrayVec<Change, PART_CHANGES>, usize)
     requires { from ≤ parameter_count }
     ensures { TakesDifferences part_changes old.now stored.now.setup.params from result.1 result.0.items }
 {
@@ -53,7 +54,7 @@ fn write_parts<R: Rig, A: Allocator + Copy + Drop>(
     requires entries { stored.now.entries ≤ greatest_count }
     requires storable { IsStorable stored.now }
     ensures writes { IfHonest (R.honest rig.old) (R.honest rig.new)
-        (WritesRecord result (record_from epoch end old.now slot stored.now) (R.trace rig.old) (R.trace rig.new)) }
+        (WritesParts result (record_from epoch end old.now slot stored.now) (R.trace rig.old) (R.trace rig.new)) }
     ensures size { R.sectors rig.new ≡ R.sectors rig.old }
     ensures failures { FailureCountSpec result (R.failed rig.old) (R.failed rig.new) }
 {
@@ -85,7 +86,7 @@ fn write_parts<R: Rig, A: Allocator + Copy + Drop>(
 /// Writes what is stored as a record after the end of a log, syncs it, and gives the log's end after it. It takes no memory (own).
 ///
 /// `old` is the table that stands, and `count` says in how many parameters that of `stored` differs from it (`difference_count`); `slot`
-/// what changes of the tool table that stands. In format 1 nothing is written.
+/// what changes of the tool table that stands. Records are written in format 2 alone.
 /// Fails where a write or the sync fails. Then some of the record's parts may have been written, and a stop leaves what stood or the whole
 /// record.
 pub fn append<R: Rig, A: Allocator + Copy + Drop>(
@@ -108,7 +109,9 @@ pub fn append<R: Rig, A: Allocator + Copy + Drop>(
     requires long { stored.now.length ≡ header.length }
     requires format { header.format ≡ Two }
     ensures appends { IfHonest (R.honest rig.old) (R.honest rig.new) ((before : DurableState) → IsAtEnd (R.trace rig.old) header before end
-        → before.saved.setup.params ≡ old.now → IfSome slot (IsStorableChange before.saved.tools) → with_change slot before.saved.tools ≡ stored.now.tools → AppendSpec result header before stored.now (R.trace rig.old) (R.trace rig.new)) }
+        → before.saved.setup.params ≡ old.now → IfSome slot (IsStorableChange before.saved.tools)
+        → with_change slot before.saved.tools ≡ stored.now.tools
+        → AppendSpec result header before stored.now (R.trace rig.old) (R.trace rig.new)) }
     // whatever stands on the device
     ensures writes { IfHonest (R.honest rig.old) (R.honest rig.new)
         (WritesRecord result (record_from header.epoch end old.now slot stored.now) (R.trace rig.old) (R.trace rig.new)) }

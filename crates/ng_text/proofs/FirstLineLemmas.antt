@@ -12,7 +12,7 @@ use Rattle.ng_text.specs.Percent.{first_kind, kind_before}
 use Rattle.ng_text.specs.Newlines.{HasNoNewline}
 use Rattle.ng_text.proofs.LineLemmas.{lines-newline, lines-alone, split, HasNoNewline-append}
 use Rattle.ng_text.proofs.PercentLemmas.{kind_before-blank}
-use Rattle.ng_text.specs.FirstLines.{kind_in, shortest, DecidesFirstLine}
+use Rattle.ng_text.specs.FirstLines.{kind_in, shortest, DecidesFirstLine, IsDecided}
 use Rattle.ng_text.specs.declared.first_line.FirstLine.{FirstLine}
 use Rattle.ng_text.specs.declared.first_line.FirstLine.TheVariants as seen
 
@@ -175,6 +175,22 @@ sign_blank b more e = elim (split more) [
         ap kind_of (strip-after (37 ∷ (b ∷ [])) c x)
         ∙ kind_of-sign_blank b (strip_carriage_return (c ∷ x)) e
         ∙ sym (ap kind_of (strip-after (37 ∷ []) c x))
+
+-- ---- what decides it
+
+differ : (front one other : List ℕ) (kind : LineKind) → kind_in (front ++ one) ≢ kind_in (front ++ other) → IsDecided front kind → ⊥
+differ front one other kind apart is = apart (is one ∙ sym (is other))
+
+undecided_as : (seen : FirstLine) (one other : List ℕ) (kind : LineKind) → kind_in (shortest seen ++ one) ≢ kind_in (shortest seen ++ other)
+    → (now : FirstLine) → now ≡ seen → IsDecided (shortest now) kind → ⊥
+undecided_as seen one other kind apart now is = subst (λ (s : FirstLine). IsDecided (shortest s) kind → ⊥) (sym is) (differ (shortest seen) one other kind apart)
+
+-- a digit or a newline may follow, or nothing
+pub undecided : (now : FirstLine) → (now ≡ seen.Unseen) ⊎ ((now ≡ seen.Return) ⊎ ((now ≡ seen.Sign) ⊎ (now ≡ seen.SignReturn))) → (kind : LineKind) → IsDecided (shortest now) kind → ⊥
+undecided now (inl is) kind = undecided_as seen.Unseen [] (48 ∷ []) kind (λ e. cc e) now is
+undecided now (inr (inl is)) kind = undecided_as seen.Return [] (10 ∷ []) kind (λ e. cc e) now is
+undecided now (inr (inr (inl is))) kind = undecided_as seen.Sign [] (48 ∷ []) kind (λ e. cc e) now is
+undecided now (inr (inr (inr is))) kind = undecided_as seen.SignReturn [] (10 ∷ []) kind (λ e. cc e) now is
 
 -- ---- what a byte more decides
 

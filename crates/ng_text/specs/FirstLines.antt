@@ -22,3 +22,7 @@ shortest Other = 48 ∷ []
 -- the beginning of a text decides as much as that, whatever follows
 abbrev pub DecidesFirstLine : List ℕ → FirstLine → Type 0
 DecidesFirstLine front seen = (more : List ℕ) → kind_in (front ++ more) ≡ kind_in (shortest seen ++ more)
+
+-- the beginning of a text decides the kind of its first line that isn't blank: it is this one, whatever follows
+abbrev pub IsDecided : List ℕ → LineKind → Type 0
+IsDecided front kind = (more : List ℕ) → kind_in (front ++ more) ≡ kind

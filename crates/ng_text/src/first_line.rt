@@ -1,8 +1,8 @@
 //! The kind of the first line of a text that isn't blank, found as its bytes come.
-ghost use Rattle.std.specs.Prelude.{◌≡◌, ◌≢◌, [], ◌∷◌, ◌++◌, List, ℕ, IfSome};
+ghost use Rattle.std.specs.Prelude.{◌≡◌, ◌≢◌, [], ◌∷◌, ◌++◌, MatchOption};
 ghost use Rattle.ng_words.specs.Plain.{is_blank};
 ghost use Rattle.ng_text.specs.declared.first_line.FirstLine.TheVariants.{Other};
-ghost use Rattle.ng_text.specs.FirstLines.{kind_in, shortest, DecidesFirstLine};
+ghost use Rattle.ng_text.specs.FirstLines.{kind_in, shortest, DecidesFirstLine, IsDecided};
 
 use ng_words::LineKind;
 
@@ -114,10 +114,10 @@ impl FirstLine {
         }
     }
 
-    /// The kind, where it is the same whatever follows.
-    #[tactic(auto, using(crate::proofs::FirstLineLemmas::sign_newline, crate::proofs::FirstLineLemmas::known_other))]
+    /// The kind, exactly where it is the same whatever follows.
+    #[tactic(auto, using(crate::proofs::FirstLineLemmas::sign_newline, crate::proofs::FirstLineLemmas::known_other, crate::proofs::FirstLineLemmas::undecided))]
     pub fn known(self) -> Option<LineKind>
-        ensures { IfSome result (λ kind. (more : List ℕ) → kind_in (shortest self ++ more) ≡ kind) }
+        ensures { MatchOption result ((kind : LineKind) → IsDecided (shortest self) kind → ⊥) (IsDecided (shortest self)) }
     {
         match self {
             FirstLine::Percent => Some(LineKind::Percent),

@@ -9,3 +9,4 @@ pub mod Lines
 pub mod ReadLaws
 pub mod Kept
 pub mod Adding
+pub mod OneNumber

@@ -23,6 +23,7 @@ mod value;
 pub use comment::message;
 pub use letter::Letter;
 pub use line::{Line, PIECES, is_too_long, read_line};
+pub use number::read_number;
 pub use pieces::{PieceRef, Pieces};
 pub use start::{LineKind, is_deletable, kind_of};
 pub use tree::{Function, NODES, Node, Operation, Tree};

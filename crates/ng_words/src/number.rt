@@ -1,9 +1,13 @@
-ghost use Rattle.std.specs.Prelude.{◌≡◌, ◌+◌, ◌-◌, ◌*◌, ◌≤◌, [], ◌∷◌, Some, None, MatchOption, IfSome, IsTrue, min};
-ghost use Rattle.ng_words.specs.Grammar.{is_digit};
+//! Numbers: the one that comes next on a line, and a text that is one.
+ghost use Rattle.std.specs.Prelude.{◌≡◌, ◌⊎◌, ◌↔◌, ◌+◌, ◌-◌, ◌*◌, ◌≤◌, [], ◌∷◌, ℤ, Some, None, MatchOption, IfSome, IfOk, IfErr, IsErrOf, IsTrue, min};
+ghost use Rattle.std.specs.List.{list_any};
+ghost use Rattle.ng_num.specs.Range.{in_range};
+ghost use Rattle.ng_words.specs.Plain.{is_blank};
+ghost use Rattle.ng_words.specs.Grammar.{IsNumber, is_digit};
 ghost use Rattle.ng_words.specs.Scan.{fraction_from, front_digits, after_digits, whole_after, is_empty, unsigned_at, sign_at, number_at};
 
-use crate::cursor::Cursor;
-use ng_num::Num;
+use crate::cursor::{Cursor, is_blank};
+use ng_num::{Fault, Num};
 
 /// The whole part past which every number is out of range.
 const WHOLE_LIMIT: u32 = 10_000_000;
@@ -104,4 +108,32 @@ pub(crate) fn number(cursor: &mut Cursor<'_>) -> Option<Option<Num>>
     let size = unsigned(cursor)? as i128;
     let count = if negative { -size } else { size };
     Some(Num::of(count).ok())
+}
+
+/// Whether a blank or a tab is among some bytes.
+fn has_blank(bytes: &[u8]) -> bool
+    ensures { result ≡ list_any is_blank bytes.now }
+{
+    bytes.iter().any(|byte| is_blank(*byte))
+}
+
+/// Reads a text that is one number, of any length: an optional sign, then digits with at most one point. No blank
+/// belongs to it. Its seventh decimal and those after it round half away from zero.
+///
+/// E1 where it isn't a number, E3 where the rounded number is beyond the range. It takes no memory. Source: NISTIR
+/// 6556, 3.3.2.1; rounding, range and faults are own.
+pub fn read_number(text: &[u8]) -> Result<Num, Fault>
+    ensures value { (z : ℤ) → IsNumber text.now z → result ≡ in_range z }
+    ensures reads { IfOk result (IsNumber text.now) }
+    ensures unreadable { IsErrOf result Fault.Unreadable ↔ ((z : ℤ) → IsNumber text.now z → ⊥) }
+    ensures errors { IfErr result (λ e. (e ≡ Fault.Unreadable) ⊎ (e ≡ Fault.OutOfRange)) }
+{
+    if has_blank(text) {
+        return Err(Fault::Unreadable);
+    }
+    let mut cursor = Cursor::new(text);
+    match number(&mut cursor) {
+        Some(value) if cursor.is_empty() => value.ok_or(Fault::OutOfRange),
+        _ => Err(Fault::Unreadable),
+    }
 }

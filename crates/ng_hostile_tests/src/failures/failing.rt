@@ -1,9 +1,11 @@
 //! A device fails one of its calls, each in turn.
 use crate::devices::{Device, cut, formatted, found_on, give, powered, rig_of, shown};
+use crate::old::of_format_1;
 use crate::rows::{EACH_KIND, Row, entries_after, event_of, reply_to};
 use crate::scripts::{
-    AFTER_A_CUT, AFTER_A_CUT_OF_A_PROGRAM, BEFORE_A_CUT, BEFORE_A_CUT_OF_A_PROGRAM, GIVEN_UP,
-    READ_AHEAD, STORED_AND_RUN, filling_the_log,
+    AFTER_A_CUT, AFTER_A_CUT_OF_A_PROGRAM, AFTER_A_MIGRATION, BEFORE_A_CUT,
+    BEFORE_A_CUT_OF_A_PROGRAM, GIVEN_UP, READ_AHEAD, STORED_AND_RUN, TOOLS, TOOLS_OF_A_PROGRAM,
+    filling_the_log,
 };
 use crate::standing::Standing;
 use ng_core::{Condition, Controller, HalfShown, Reply, Source, Status};
@@ -13,7 +15,10 @@ use std::alloc::{AllocError, Global};
 use std::test::Fail;
 
 /// How many writes and syncs power on makes.
-const POWER_ON: usize = 90;
+const POWER_ON: usize = 92;
+
+/// How many it makes over a device of format 1.
+const MIGRATION: usize = 181;
 
 /// What is astray after a device failed.
 #[derive(Clone, Copy, Debug, PartialEq, Eq)]
@@ -149,10 +154,19 @@ impl<'a> Choice<'a> {
         })
     }
 
+    /// Of power on over a device of format 1 that stands for this: until that is over, its settings' tools aren't stored.
+    fn at_migration(rows: &'a [Row], before: Standing) -> Result<Choice<'a>, AllocError> {
+        let mut choice = Choice::at_power_on(rows, before)?;
+        choice.after.migrate();
+        choice.own = MIGRATION;
+        Ok(choice)
+    }
+
     /// Goes to the next event.
     fn go_on(&mut self) -> Result<(), Fault> {
-        if let Some((_, does, _)) = self.event.checked_sub(1).and_then(|n| self.rows.get(n)) {
-            self.before.take(*does)?;
+        match self.event.checked_sub(1).and_then(|n| self.rows.get(n)) {
+            Some((_, does, _)) => self.before.take(*does)?,
+            None => self.before = self.after.copy()?,
         }
         let (_, does, calls) = self.rows.get(self.event).ok_or(Fault::Broken)?;
         self.after.take(*does)?;
@@ -262,16 +276,18 @@ fn swept_of(alloc: Global, rows: &[Row], sweep: Sweep) -> Result<Swept, Fault> {
     swept(alloc, &formatted(alloc)?, &mut choice, sweep)
 }
 
-/// How many calls power on over a new device makes: besides its writes and syncs, it reads two headers, a snapshot's 86 sectors, and the log's
-/// first.
-const POWERED_ON: u64 = 89 + POWER_ON as u64;
+/// How many calls power on over a new device makes: besides its writes and syncs, it reads two headers, a snapshot's 86 sectors, two of tools
+/// and the log's first.
+const POWERED_ON: u64 = 91 + POWER_ON as u64;
 
 /// Sessions over a new device, the first call that fails, and how many writes, syncs and hand-outs each makes.
 const SESSIONS: &[(&[Row], u64, usize)] = &[
-    (&[], 0, 90),
-    (STORED_AND_RUN, POWERED_ON, 192),
-    (READ_AHEAD, POWERED_ON, 206),
-    (BEFORE_A_CUT, POWERED_ON, 97),
+    (&[], 0, 92),
+    (STORED_AND_RUN, POWERED_ON, 196),
+    (READ_AHEAD, POWERED_ON, 210),
+    (BEFORE_A_CUT, POWERED_ON, 99),
+    (TOOLS, POWERED_ON, 108),
+    (TOOLS_OF_A_PROGRAM, POWERED_ON, 212),
 ];
 
 #[test]
@@ -309,13 +325,13 @@ fn swept_after_a_cut(
 /// What opened a line, a session after the cut, the first call that fails, and how many writes, syncs and hand-outs the session makes. Power
 /// on makes one read more, since the log has a record.
 const SESSIONS_AFTER_A_CUT: &[(&[Row], &[Row], u64, usize)] = &[
-    (BEFORE_A_CUT, AFTER_A_CUT, 0, 106),
-    (BEFORE_A_CUT, GIVEN_UP, POWERED_ON + 1, 92),
+    (BEFORE_A_CUT, AFTER_A_CUT, 0, 108),
+    (BEFORE_A_CUT, GIVEN_UP, POWERED_ON + 1, 96),
     (
         BEFORE_A_CUT_OF_A_PROGRAM,
         AFTER_A_CUT_OF_A_PROGRAM,
         POWERED_ON + 1,
-        109,
+        111,
     ),
 ];
 
@@ -327,6 +343,19 @@ fn each_call_after_a_cut(rt: HostRuntime) -> Result<(), Fail> {
             Ok(Ok(Some(*calls)))
         );
     }
+    Ok(())
+}
+
+/// What comes of one over a device of format 1 whose half-done line goes on.
+fn swept_in_migration(alloc: Global) -> Result<Swept, Fault> {
+    let (rig, before) = of_format_1(alloc, 0)?;
+    let mut choice = Choice::at_migration(AFTER_A_MIGRATION, before)?;
+    swept(alloc, &rig, &mut choice, each_from(0))
+}
+
+#[test]
+fn each_call_of_a_migration(rt: HostRuntime) -> Result<(), Fail> {
+    assert_eq!(rt; swept_in_migration(rt.alloc()), Ok(Ok(Some(197))));
     Ok(())
 }
 
@@ -371,10 +400,10 @@ fn each_call_of_moves_363_to_443(rt: HostRuntime) -> Result<(), Fail> {
     Ok(())
 }
 
-/// Before the entry of the last move, the 512th, what stands is written anew.
+/// Before the entry of the last move, the 510th, what stands is written anew.
 #[test]
 fn each_call_from_move_444_on(rt: HostRuntime) -> Result<(), Fail> {
-    assert_eq!(rt; swept_from_move(rt.alloc(), 444, None), Ok(Ok(Some(2_741))));
+    assert_eq!(rt; swept_from_move(rt.alloc(), 444, None), Ok(Ok(Some(2_735))));
     Ok(())
 }
 
@@ -382,14 +411,14 @@ fn each_call_from_move_444_on(rt: HostRuntime) -> Result<(), Fail> {
 /// whether it is known where the machine stands, and the half-done block.
 type Shown = (usize, u64, u64, bool, Option<HalfShown>);
 
-/// Events, after how many calls one fails, the number of the event that meets it, and what is found then. Power on makes 179 calls. An
-/// item isn't handed out: the first of a line, which two calls open. A line isn't read: a load makes 91 calls, and the first tick after it
+/// Events, after how many calls one fails, the number of the event that meets it, and what is found then. Power on makes 183 calls. An
+/// item isn't handed out: the first of a line, which two calls open. A line isn't read: a load makes 93 calls, and the first tick after it
 /// reads three lines, of which the second or the third fails; five calls later the tick that begins the second line reads the fourth and
 /// the fifth, of which either fails.
 const MET: &[(&[Row], u64, usize, Shown)] = &[
     (
         BEFORE_A_CUT,
-        181,
+        185,
         3,
         (
             0,
@@ -402,10 +431,10 @@ const MET: &[(&[Row], u64, usize, Shown)] = &[
             }),
         ),
     ),
-    (READ_AHEAD, 271, 3, (0, 1, 0, true, None)),
-    (READ_AHEAD, 272, 3, (0, 1, 0, true, None)),
-    (READ_AHEAD, 278, 7, (1, 2, 10, true, None)),
-    (READ_AHEAD, 279, 7, (1, 2, 10, true, None)),
+    (READ_AHEAD, 277, 3, (0, 1, 0, true, None)),
+    (READ_AHEAD, 278, 3, (0, 1, 0, true, None)),
+    (READ_AHEAD, 284, 7, (1, 2, 10, true, None)),
+    (READ_AHEAD, 285, 7, (1, 2, 10, true, None)),
 ];
 
 /// The number of the event that meets a failure after so many calls, and what is found then.

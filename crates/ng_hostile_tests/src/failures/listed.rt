@@ -50,7 +50,7 @@ fn answered(alloc: Global, counts: [usize; 2]) -> Result<([Option<Fault>; 2], bo
 fn a_list_without_memory_for_its_replies(rt: HostRuntime) -> Result<(), Fail> {
     assert_eq!(rt;
         answered(rt.alloc(), [100_000, 1]),
-        Ok(([Some(Fault::OutOfMemory), None], true, 90))
+        Ok(([Some(Fault::OutOfMemory), None], true, 92))
     );
     Ok(())
 }

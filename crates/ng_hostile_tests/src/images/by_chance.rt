@@ -3,15 +3,15 @@ use crate::devices::{Device, copy_of};
 use crate::images::chance::Chance;
 use crate::images::generations::generations;
 use crate::images::powered::{Astray, Outcome, outcome_of};
-use crate::images::sectors::{GREATEST, number_at, put, sector_of, store, sync};
+use crate::sectors::{GREATEST, number_at, put, sector_of, store, sync};
 use ng_num::Fault;
 use std::alloc::Global;
 use std::test::Fail;
 
-/// The sectors that are changed: headers, parts of both snapshots, both programs, the log's first and its last.
+/// The sectors that are changed: headers, parts of both snapshots, both programs, the log's first and its last, both tool tables.
 const SECTORS: &[usize] = &[
     0, 1, 2, 2, 3, 4, 84, 87, 88, 88, 89, 90, 170, 173, 174, 430, 686, 687, 688, 689, 690, 691,
-    692, 693, 694, 695, 696, 697, 698, 699, 700, 1_709,
+    692, 693, 694, 695, 696, 697, 698, 699, 700, 1_705, 1_706, 1_707, 1_708, 1_709,
 ];
 
 /// Epochs that a header or a part is given.
@@ -29,6 +29,8 @@ const EPOCHS: &[u64] = &[
     9,
     10,
     11,
+    12,
+    13,
     GREATEST - 2,
     GREATEST - 1,
     GREATEST,
@@ -66,12 +68,13 @@ fn nudge(chance: &mut Chance, sector: &mut [u8; 512]) {
     }
 }
 
-/// Makes the epoch of a header another, or a byte of one of its fields.
+/// Makes the epoch of a header another, or its format, or a byte of one of its fields.
 fn change_header(chance: &mut Chance, header: &mut [u8; 512]) {
     let place = chance.below(EPOCHS.len());
     let at = chance.below(40);
-    match chance.below(2) {
+    match chance.below(3) {
         0 => put(header, 16, 8, EPOCHS.get(place).copied().unwrap_or(0)),
+        1 => put(header, 8, 4, chance.number() % 4),
         _ => put(header, at, 1, u64::from(chance.byte())),
     }
 }
@@ -89,13 +92,22 @@ fn date(chance: &mut Chance, sector: &mut [u8; 512]) {
     put(sector, 0, 8, EPOCHS.get(place).copied().unwrap_or(0));
 }
 
-/// The numbers of a part's label: their bytes and widths.
-const LABEL: &[(usize, usize)] = &[(0, 8), (8, 8), (16, 2), (18, 2), (20, 2)];
+/// Numbers that stand before and after a state field, in a part of the log or a snapshot: their bytes and widths.
+const NUMBERS: &[(usize, usize)] = &[
+    (0, 8),
+    (8, 8),
+    (16, 2),
+    (18, 2),
+    (20, 2),
+    (456, 2),
+    (488, 2),
+    (496, 8),
+];
 
-/// Makes a number of a part's label a small one, or one more.
-fn label(chance: &mut Chance, sector: &mut [u8; 512]) {
-    let place = chance.below(LABEL.len());
-    let (at, width) = LABEL.get(place).copied().unwrap_or((0, 8));
+/// Makes one of them a small one, or one more.
+fn renumber(chance: &mut Chance, sector: &mut [u8; 512]) {
+    let place = chance.below(NUMBERS.len());
+    let (at, width) = NUMBERS.get(place).copied().unwrap_or((0, 8));
     let number = match chance.below(4) {
         0 => 0,
         1 => 1,
@@ -112,7 +124,7 @@ fn change_sector(chance: &mut Chance, sector: &mut [u8; 512]) {
         2 | 3 => nudge(chance, sector),
         4 => scatter(chance, sector),
         5 => date(chance, sector),
-        6 => label(chance, sector),
+        6 => renumber(chance, sector),
         _ => *sector = [0; 512],
     }
 }
@@ -166,6 +178,7 @@ fn changed(chance: &mut Chance, all: &mut Vec<Device>) -> Result<Device, Fault> 
 #[derive(Clone, Copy, Debug, PartialEq, Eq)]
 struct Tally {
     recovered: u64,
+    migrated: u64,
     not_formatted: u64,
     damaged: u64,
     counters_used: u64,
@@ -176,6 +189,7 @@ impl Tally {
     fn count(&mut self, outcome: Outcome) -> Option<Astray> {
         let counted = match outcome {
             Outcome::Recovered => &mut self.recovered,
+            Outcome::Migrated => &mut self.migrated,
             Outcome::NotFormatted => &mut self.not_formatted,
             Outcome::Damaged => &mut self.damaged,
             Outcome::CountersUsed => &mut self.counters_used,
@@ -189,6 +203,7 @@ impl Tally {
     /// Whether none of them is rare.
     fn has_each(&self) -> bool {
         self.recovered >= 500
+            && self.migrated >= 100
             && self.not_formatted >= 50
             && self.damaged >= 250
             && self.counters_used >= 5
@@ -204,6 +219,7 @@ fn outcomes(alloc: Global, seed: u64) -> Result<(Option<(u64, Astray)>, Tally), 
     let mut all = generations(alloc)?;
     let mut tally = Tally {
         recovered: 0,
+        migrated: 0,
         not_formatted: 0,
         damaged: 0,
         counters_used: 0,

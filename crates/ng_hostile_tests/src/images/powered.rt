@@ -1,16 +1,20 @@
 //! What a changed image stands for, by its headers alone, and whether power on answers so; what was found then is found again.
 use crate::devices::{Device, powered, recovered, rig_of, shown};
-use crate::images::sectors::{GREATEST, number_at, put, sector_of};
+use crate::sectors::{GREATEST, number_at, put, sector_of};
+use crate::standing::is_same_table;
 use ng_core::{Condition, HalfShown, Status};
 use ng_layout::{Half, Stored};
 use ng_num::Fault;
 use ng_rig::Rig;
+use ng_settings::Settings;
 use std::alloc::{AllocError, Global};
 
 /// What power on made of an image.
 #[derive(Clone, Copy, Debug, PartialEq, Eq)]
 pub enum Outcome {
     Recovered,
+    /// Recovered from format 1.
+    Migrated,
     NotFormatted,
     Damaged,
     CountersUsed,
@@ -31,6 +35,8 @@ pub enum Astray {
     Name,
     /// The name by which it is refused again.
     Again,
+    /// The tools that an image of format 1 is given.
+    Tools,
     /// The state that is found again.
     State,
     /// The program that its header names.
@@ -39,24 +45,40 @@ pub enum Astray {
     Status,
 }
 
-/// The epoch of a header, if it is valid in this sector.
-fn epoch_of(sector: &[u8; 512], place: u64) -> Option<u64> {
+/// The epoch and the format of a header, if it is valid in this sector.
+fn epoch_and_format(sector: &[u8; 512], place: u64) -> Option<(u64, u64)> {
+    let format = number_at(sector, 8, 4);
     let epoch = number_at(sector, 16, 8);
     let is_valid = sector.starts_with(b"RS274NGC")
-        && number_at(sector, 8, 4) == 1
+        && format >= 1
+        && format <= 2
         && epoch >= 1
         && epoch <= GREATEST
         && epoch % 2 == place
         && number_at(sector, 24, 8) <= 1
         && number_at(sector, 32, 8) <= 131_072;
-    if is_valid { Some(epoch) } else { None }
+    if is_valid {
+        Some((epoch, format))
+    } else {
+        None
+    }
 }
 
-/// The greatest epoch of a valid header; 0 where none is valid.
-fn epoch_in_force(rig: &mut Device) -> u64 {
-    let even = epoch_of(&sector_of(rig, 0), 0).unwrap_or(0);
-    let odd = epoch_of(&sector_of(rig, 1), 1).unwrap_or(0);
-    even.max(odd)
+/// The greatest epoch of a valid header, and the format of that one; epoch 0 where none is valid.
+fn in_force(rig: &mut Device) -> (u64, u64) {
+    let even = epoch_and_format(&sector_of(rig, 0), 0).unwrap_or((0, 0));
+    let odd = epoch_and_format(&sector_of(rig, 1), 1).unwrap_or((0, 0));
+    if even.0 > odd.0 { even } else { odd }
+}
+
+/// How many epochs a power on takes over this format.
+fn epochs(format: u64) -> u64 {
+    if format == 1 { 2 } else { 1 }
+}
+
+/// How many calls it makes.
+fn calls(format: u64) -> usize {
+    if format == 1 { 181 } else { 92 }
 }
 
 /// The header of this epoch, as another epoch would have it.
@@ -90,6 +112,7 @@ fn is_same(one: &Stored<Global>, other: &Stored<Global>) -> Result<bool, AllocEr
             && one.place == other.place
             && one.length == other.length
             && one.state.machine == other.state.machine
+            && is_same_table(&one.tools, &other.tools)
             && changes.is_empty()
             && is_same_half(&one.half, &other.half),
     )
@@ -132,8 +155,8 @@ fn is_shown(alloc: Global, rig: Device, epoch: u64, stored: &Stored<Global>) -> 
     }
 }
 
-/// What isn't so of a device that was powered on, and so is under this epoch: it gives this state again, under the next epoch and with the
-/// same program.
+/// What isn't so of a device that was powered on, and so is of format 2 under this epoch: it gives this state again, under the next epoch
+/// and with the same program.
 fn stands_not(
     alloc: Global,
     rig: Device,
@@ -142,7 +165,7 @@ fn stands_not(
 ) -> Result<Option<Astray>, AllocError> {
     let mut rig = rig;
     let next = epoch.saturating_add(1);
-    if epoch_in_force(&mut rig) != epoch {
+    if in_force(&mut rig) != (epoch, 2) {
         return Ok(Some(Astray::Epoch));
     }
     let wanted = header_as_of(&mut rig, epoch, next);
@@ -172,48 +195,77 @@ fn not_used_up(fault: Fault, epoch: u64) -> Option<Astray> {
     }
 }
 
-/// What a refusal comes to where the headers have this epoch, 0 for none.
-fn refusal(fault: Fault, epoch: u64) -> Outcome {
+/// What a refusal comes to where the header in force has this epoch, 0 for none, and this format.
+fn refusal(fault: Fault, epoch: u64, format: u64) -> Outcome {
+    let is_used_up = epoch.saturating_add(epochs(format)) > GREATEST;
     match fault {
         Fault::NotFormatted if epoch == 0 => Outcome::NotFormatted,
         Fault::Damaged if epoch != 0 => Outcome::Damaged,
-        Fault::CountersUsed if epoch == GREATEST => Outcome::CountersUsed,
+        Fault::CountersUsed if is_used_up => Outcome::CountersUsed,
         _ => Outcome::Astray(Astray::Name),
     }
 }
 
-/// What power on makes of an image. It makes one call where it refuses it, and refuses it again; and 90 where it recovers it.
+/// Whether an image of this format, of which this is recovered, was given the tools that it should be: of format 1 those of the settings.
+fn has_tools(format: u64, stored: &Stored<Global>) -> bool {
+    format != 1 || is_same_table(&stored.tools, &Settings::standard().tools)
+}
+
+/// What is recovered from an image of this format, which is under this epoch then.
+fn recovery(
+    alloc: Global,
+    rig: Device,
+    (epoch, format): (u64, u64),
+    stored: &Stored<Global>,
+) -> Result<Outcome, AllocError> {
+    if !has_tools(format, stored) {
+        return Ok(Outcome::Astray(Astray::Tools));
+    }
+    Ok(match stands_not(alloc, rig, epoch, stored)? {
+        None if format == 1 => Outcome::Migrated,
+        None => Outcome::Recovered,
+        Some(astray) => Outcome::Astray(astray),
+    })
+}
+
+/// What comes of an image that is recovered, whose log begins with a part of an epoch to come or not.
+fn unless_ahead(outcome: Outcome, is_ahead: bool) -> Outcome {
+    match outcome {
+        Outcome::Astray(Astray::Again | Astray::State | Astray::Status) if is_ahead => {
+            Outcome::Ahead
+        }
+        _ => outcome,
+    }
+}
+
+/// What power on makes of an image. It makes one call where it refuses it, and refuses it again; and where it recovers it 92, of format 1 181.
 pub fn outcome_of(alloc: Global, rig: Device) -> Result<Outcome, AllocError> {
     let mut rig = rig;
-    let epoch = epoch_in_force(&mut rig);
+    let (epoch, format) = in_force(&mut rig);
     let is_ahead = number_at(&sector_of(&mut rig, 686), 0, 8) > epoch;
     let before = rig.calls();
     match recovered(alloc, rig) {
         Ok((stored, rig)) => {
-            if rig.calls() != before.saturating_add(90) {
+            if rig.calls() != before.saturating_add(calls(format)) {
                 return Ok(Outcome::Astray(Astray::Calls));
             }
-            match stands_not(alloc, rig, epoch.saturating_add(1), &stored)? {
-                None => Ok(Outcome::Recovered),
-                Some(Astray::Again | Astray::State | Astray::Status) if is_ahead => Ok(
-                    Outcome::Ahead,
-                ),
-                Some(astray) => Ok(Outcome::Astray(astray)),
-            }
+            let after = (epoch.saturating_add(epochs(format)), format);
+            let outcome = recovery(alloc, rig, after, &stored)?;
+            Ok(unless_ahead(outcome, is_ahead))
         }
         Err((fault, rig)) => {
             if rig.calls() != before.saturating_add(1) {
                 return Ok(Outcome::Astray(Astray::Calls));
             }
-            Ok(refused_again(alloc, rig, fault, epoch))
+            Ok(refused_again(alloc, rig, fault, (epoch, format)))
         }
     }
 }
 
 /// What the refusal of a device comes to, which is refused again by the same name.
-fn refused_again(alloc: Global, rig: Device, fault: Fault, epoch: u64) -> Outcome {
+fn refused_again(alloc: Global, rig: Device, fault: Fault, (epoch, format): (u64, u64)) -> Outcome {
     match recovered(alloc, rig) {
-        Err((again, _)) if again == fault => refusal(fault, epoch),
+        Err((again, _)) if again == fault => refusal(fault, epoch, format),
         _ => Outcome::Astray(Astray::Again),
     }
 }

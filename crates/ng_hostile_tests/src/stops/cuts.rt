@@ -8,7 +8,10 @@ use ng_num::Fault;
 use std::alloc::{AllocError, Global};
 
 /// How many writes and syncs power on makes.
-pub const POWER_ON: usize = 90;
+pub const POWER_ON: usize = 92;
+
+/// How many it makes over a device of format 1.
+pub const MIGRATION: usize = 181;
 
 /// What a stop may leave.
 #[derive(Drop)]
@@ -26,6 +29,14 @@ impl Choice {
             before: wanted.copy()?,
             after: wanted,
         })
+    }
+
+    /// Before power on over a device of format 1: until that is over, its settings' tools aren't stored.
+    pub fn in_migration(wanted: Standing) -> Result<Choice, AllocError> {
+        let before = wanted.copy()?;
+        let mut after = wanted;
+        after.migrate();
+        Ok(Choice { before, after })
     }
 
     /// The next event comes.
@@ -167,7 +178,7 @@ fn first_astray_in_power_on(
     notes: &Notes,
     wanted: &Standing,
 ) -> Result<Option<usize>, Fault> {
-    for calls in 1..=POWER_ON {
+    for calls in 1..=notes.count() {
         if notes.ends_in_write(calls)
             && !stands_for(alloc, stopped(rig, calls, Kept::All)?, wanted)?
         {
@@ -203,10 +214,48 @@ pub fn first_astray(
     rows: &[Row],
     cuts: Cuts,
 ) -> Result<Astray, Fault> {
-    let (rig, notes) = played(alloc, rig, rows, wanted.entries())?;
+    let power = PowerOn {
+        choice: Choice::one(wanted)?,
+        calls: POWER_ON,
+    };
+    first_astray_from(alloc, rig, power, rows, cuts)
+}
+
+/// The same over a device of format 1.
+pub fn first_astray_in_migration(
+    alloc: Global,
+    rig: Device,
+    wanted: Standing,
+    rows: &[Row],
+    cuts: Cuts,
+) -> Result<Astray, Fault> {
+    let power = PowerOn {
+        choice: Choice::in_migration(wanted)?,
+        calls: MIGRATION,
+    };
+    first_astray_from(alloc, rig, power, rows, cuts)
+}
+
+/// A power on: what a stop in it may leave, and how many calls it makes.
+#[derive(Drop)]
+struct PowerOn {
+    choice: Choice,
+    calls: usize,
+}
+
+/// The first stop that leaves something else, where this power on and these events come over a device.
+fn first_astray_from(
+    alloc: Global,
+    rig: Device,
+    power: PowerOn,
+    rows: &[Row],
+    cuts: Cuts,
+) -> Result<Astray, Fault> {
+    let PowerOn { choice, calls } = power;
+    let mut choice = choice;
+    let (rig, notes) = played(alloc, rig, rows, choice.after().entries())?;
     let played = Played { rig, notes, cuts };
-    let mut choice = Choice::one(wanted)?;
-    let mut over = POWER_ON;
+    let mut over = calls;
     let mut astray = first_astray_between(alloc, &played, 0, over, &choice)?;
     for (_, does, calls) in rows {
         let begin = over.saturating_add(1);

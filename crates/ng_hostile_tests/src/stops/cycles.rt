@@ -128,10 +128,10 @@ fn first_astray(alloc: Global, first: u64) -> Result<(Option<u64>, u64), Fault> 
     Ok((None, wanted.entries()))
 }
 
-/// The first cycles end within power on, which makes 89 reads of a log that is empty, 87 writes and 3 syncs, and the last ones in work.
+/// The first cycles end within power on, which makes 91 reads of a log that is empty, 89 writes and 3 syncs, and the last ones in work.
 #[test]
 fn power_comes_and_goes(rt: HostRuntime) -> Result<(), Fail> {
-    let Ok((astray, entries)) = first_astray(rt.alloc(), 150) else {
+    let Ok((astray, entries)) = first_astray(rt.alloc(), 154) else {
         panic!(rt; "an event is answered otherwise")
     };
     assert_eq!(rt; astray, None);

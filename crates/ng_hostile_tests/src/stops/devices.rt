@@ -1,5 +1,5 @@
 //! Devices, and what is found on them.
-use crate::devices::{Device, give, read_again, rig_of, shown, started};
+use crate::devices::{Device, give, read_again, rig_of, shown, started, started_bare};
 use crate::rows::{Row, entries_after, event_of, reply_to};
 use crate::standing::{Found, Standing};
 use crate::stops::recorder::{Notes, Recorder};
@@ -37,9 +37,10 @@ pub fn stopped(rig: &Device, calls: usize, kept: Kept) -> Result<Device, AllocEr
     rig.stopped(calls, &writes_kept(kept))
 }
 
-/// What is found on a device that is powered on, the calls of that, and the device then, which was read again after those calls.
+/// What is found on a device that is powered on with settings that have no tools, the calls of that, and the device then, which was read
+/// again after those calls.
 pub fn found(alloc: Global, rig: Device) -> Result<(Found, Notes, Device), Fault> {
-    let mut controller = started(alloc, Recorder::new(alloc, rig))?;
+    let mut controller = started_bare(alloc, Recorder::new(alloc, rig))?;
     let status = shown(&mut controller);
     let (rig, notes) = rig_of(controller).into_parts();
     let (stored, lines, rig) = read_again(alloc, rig)?;

@@ -15,9 +15,9 @@ const OLD: &str = "G0 X0.002\nM2\n";
 
 const NEW: &str = "G0 Y0.001\nM2\n";
 
-const BEFORE: &[Row] = &[(Order::Load(OLD), Does::Loads(OLD), 91)];
+const BEFORE: &[Row] = &[(Order::Load(OLD), Does::Loads(OLD), 93)];
 
-const LOADS: &[Row] = &[(Order::Load(NEW), Does::Loads(NEW), 91)];
+const LOADS: &[Row] = &[(Order::Load(NEW), Does::Loads(NEW), 93)];
 
 /// A device that stands for a program, and what it stands for.
 fn loaded(alloc: Global) -> Result<(Device, Standing), Fault> {

@@ -18,18 +18,18 @@ const SETS: &str = "#1=5 #5161=7";
 
 /// A program is stored, and two parameters are set: one that a load leaves as it is, and one that it makes 0.
 const BEFORE: &[Row] = &[
-    (Order::Load(OLD), Does::Loads(OLD), 91),
+    (Order::Load(OLD), Does::Loads(OLD), 93),
     (Order::Mdi(SETS), Does::Begins, 0),
     (Order::Tick, Does::Executes(SETS, 0), 3),
 ];
 
-/// 89 writes and 3 syncs.
-const LOADS: &[Row] = &[(Order::Load(NEW), Does::Loads(NEW), 92)];
+/// 91 writes and 3 syncs.
+const LOADS: &[Row] = &[(Order::Load(NEW), Does::Loads(NEW), 94)];
 
 /// The first stop in a load, after power on, that leaves something else.
 fn first_astray_in_load(alloc: Global) -> Result<Astray, Fault> {
     let (rig, wanted) = left_by(alloc, formatted(alloc)?, Standing::fresh(alloc)?, BEFORE)?;
-    first_astray(alloc, rig, wanted, LOADS, Cuts::deep(90, 182))
+    first_astray(alloc, rig, wanted, LOADS, Cuts::deep(92, 186))
 }
 
 #[test]

@@ -36,6 +36,11 @@ impl Notes {
         }
     }
 
+    /// How many writes, syncs and hand-outs were noted.
+    pub fn count(&self) -> usize {
+        self.calls.len()
+    }
+
     /// How many reads there were.
     pub fn reads(&self) -> u64 {
         self.reads

@@ -2,7 +2,7 @@
 use crate::devices::formatted;
 use crate::rows::{BEGUN, Does, IDLE, MOVED, Order, Row};
 use crate::standing::Standing;
-use crate::stops::cuts::{Astray, Cuts, first_astray};
+use crate::stops::cuts::{Astray, Cuts, POWER_ON, first_astray};
 use crate::stops::devices::left_by;
 use ng_core::Source;
 use ng_num::Fault;
@@ -45,7 +45,7 @@ const GOES_ON: &[Row] = &[
 
 /// The first stop in the session before the cut, after its power on, that leaves something else.
 fn first_astray_before(alloc: Global) -> Result<Astray, Fault> {
-    let cuts = Cuts::deep(90, usize::MAX);
+    let cuts = Cuts::deep(POWER_ON, usize::MAX);
     first_astray(alloc, formatted(alloc)?, Standing::fresh(alloc)?, CUT, cuts)
 }
 
@@ -63,14 +63,14 @@ fn first_astray_after(alloc: Global, cuts: Cuts) -> Result<Astray, Fault> {
 
 #[test]
 fn a_stop_at_each_call_of_power_on_after_the_cut(rt: HostRuntime) -> Result<(), Fail> {
-    let cuts = Cuts::deep(0, 90);
+    let cuts = Cuts::deep(0, POWER_ON);
     assert_eq!(rt; first_astray_after(rt.alloc(), cuts), Ok(None));
     Ok(())
 }
 
 #[test]
 fn a_stop_at_each_call_as_a_block_goes_on(rt: HostRuntime) -> Result<(), Fail> {
-    let cuts = Cuts::deep(90, usize::MAX);
+    let cuts = Cuts::deep(POWER_ON, usize::MAX);
     assert_eq!(rt; first_astray_after(rt.alloc(), cuts), Ok(None));
     Ok(())
 }

@@ -17,7 +17,7 @@ fn calls_of_a_session(rt: HostRuntime) -> Result<(), Fail> {
     let Ok((rig, notes)) = played(rt.alloc(), rig, STORED_AND_RUN, 0) else {
         panic!(rt; "an event is answered otherwise")
     };
-    assert_eq!(rt; (notes.counts(), rig.calls()), ([179, 10, 3, 0], 192));
+    assert_eq!(rt; (notes.counts(), rig.calls()), ([183, 10, 3, 0], 196));
     Ok(())
 }
 
@@ -34,18 +34,18 @@ fn first_astray_of(alloc: Global, first: usize, last: usize) -> Result<Astray, F
 
 #[test]
 fn a_stop_at_each_call_of_power_on(rt: HostRuntime) -> Result<(), Fail> {
-    assert_eq!(rt; first_astray_of(rt.alloc(), 0, 90), Ok(None));
+    assert_eq!(rt; first_astray_of(rt.alloc(), 0, 92), Ok(None));
     Ok(())
 }
 
 #[test]
 fn a_stop_at_each_call_of_a_load(rt: HostRuntime) -> Result<(), Fail> {
-    assert_eq!(rt; first_astray_of(rt.alloc(), 90, 181), Ok(None));
+    assert_eq!(rt; first_astray_of(rt.alloc(), 92, 185), Ok(None));
     Ok(())
 }
 
 #[test]
 fn a_stop_at_each_call_of_a_program(rt: HostRuntime) -> Result<(), Fail> {
-    assert_eq!(rt; first_astray_of(rt.alloc(), 181, 192), Ok(None));
+    assert_eq!(rt; first_astray_of(rt.alloc(), 185, 196), Ok(None));
     Ok(())
 }

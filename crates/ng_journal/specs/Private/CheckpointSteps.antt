@@ -13,7 +13,7 @@ use Rattle.ng_journal.specs.Area.{BelongsIn}
 use Rattle.ng_rig.specs.Continuation.{IsContinuation, IsSynced}
 use Rattle.ng_layout.specs.declared.header.Header.{Header}
 use Rattle.ng_layout.specs.Sectors.{program_text}
-use Rattle.ng_layout.specs.Stands.{stretch, in_force, snapshot, stands, IsWritten}
+use Rattle.ng_layout.specs.Stands.{stretch, program_under, in_force, snapshot, stands, IsWritten}
 use Rattle.ng_log.specs.AtEnd.{replay_state_in}
 use Rattle.ng_journal.specs.AtRest.{BelongsToAreas, BelongsTo, IsLaidOut}
 
@@ -48,7 +48,7 @@ pub record BeginsIn (image : Image) (header : Header) (standing : DurableState) 
   pub written : IsWritten image
   pub clean : (m : ℕ) → m < shortest_log → number_at 8 0 (image (log_first + m)) ≢ header.epoch
   pub snapshot_is : snapshot header.format header.length (stretch (snapshot_first header.epoch) snapshot_size image) (stretch (tools_first header.epoch) tools_size image) ≡ Some (replay_state_in standing.saved)
-  pub program : program_text header.length (stretch (program_first header.area) (program_size header.area) image) ≡ standing.program
+  pub program : program_under header image ≡ standing.program
   pub long : standing.saved.length ≡ header.length
 
 -- the device has one image, and that is such

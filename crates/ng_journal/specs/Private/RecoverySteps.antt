@@ -1,17 +1,18 @@
 -- What the steps of a recovery find and leave.
 use Rattle.ng_canon.specs.declared.item.Item.{Item}
-use Rattle.std.specs.Prelude.{◌≡◌, ◌⊎◌, ℕ, ℤ, List, Some, Result, Ok, Err, IfOk, IfErr}
+use Rattle.std.specs.Prelude.{◌≡◌, ◌⊎◌, ℕ, ℤ, List, Some, Result, Ok, Err, OnOk, IfOk, IfErr}
 use Rattle.ng_num.specs.declared.fault.Fault.{Fault}
 use Rattle.ng_num.specs.declared.fault.Fault.TheVariants.{NotFormatted, Damaged, CountersUsed}
 use Rattle.ng_rig.specs.Trace.{Image, Trace, Synced, reads, items}
-use Rattle.ng_rig.specs.Continuation.{IsContinuation}
+use Rattle.ng_rig.specs.Continuation.{IsContinuation, IsSynced}
+use Rattle.ng_rig.specs.Only.{WritesOnly}
 use Rattle.ng_layout.specs.declared.header.Format.{Format}
 use Rattle.ng_layout.specs.declared.header.Format.TheVariants.{One, Two}
 use Rattle.ng_layout.specs.declared.header.Header.{Header}
-use Rattle.ng_layout.specs.Stands.{in_force, stands, stands_beside, beside_format, IsWritten}
+use Rattle.ng_layout.specs.Stands.{in_force, stands, stands_beside, beside_format, saved_beside, IsWritten}
 use Rattle.ng_layout.specs.Stored.{StoredModel, DurableState}
 use Rattle.ng_log.specs.AtEnd.{no_records, IsAtEnd}
-use Rattle.ng_journal.specs.AtRest.{BelongsTo, migrated}
+use Rattle.ng_journal.specs.AtRest.{BelongsTo, IsLaidOut, migrated}
 use Rattle.ng_journal.specs.Journal.{StandsBeside}
 use Rattle.ng_journal.specs.Private.CheckpointSteps.{beside}
 use Rattle.ng_journal.specs.Recovery.{HasCause, IsFound, IsNextEpoch, Renews, IsEitherBeside, recovered_of}
@@ -47,12 +48,14 @@ pub record KeepsStanding {E : Type 0} (tools : List ℤ) (result : Result (Resul
   pub stops : IsContinuation old new (IsEitherBeside tools (stands_beside tools (reads old)) (recovered_of (stands_beside tools (reads old))) (items old))
   pub ready : IfOk result (λ answer. IfOk answer (λ header. IsReady tools header saved old new))
 
--- What is found, or why nothing is, and what is written, over any image: nothing where there is a reason to recover nothing. What stops
--- leave over an image that only this journal wrote.
+-- What is found, or why nothing is, and what is written, over any image: nothing where there is a reason to recover nothing, else what was found,
+-- all of it synced. What stops leave over an image that only this journal wrote.
 pub record RestoreSpec {E : Type 0} (tools : List ℤ) (result : Result (Result Header Fault) E) (saved : StoredModel) (old new : Trace) : Type 0 where
   pub outcome : IfOk result (λ answer. RecoveryOutcome tools answer saved (reads old))
   pub refused : IfOk result (λ answer. IfErr answer (λ fault. new ≡ Synced old))
   pub renews : Renews tools old new
+  pub laid : IfOk result (λ answer. IfOk answer (λ header. IsLaidOut header saved (reads new)))
+  pub synced : IfOk result (λ answer. OnOk answer (IsSynced new))
   pub kept : IsWritten (reads old) → KeepsStanding tools result saved old new
 
 -- what a header becomes in format 2
@@ -69,3 +72,9 @@ pub record ModernizeSpec {E : Type 0} (tools : List ℤ) (result : Result Header
 -- what is written of it: in format 2 nothing
 abbrev pub BelongsToModern : List ℤ → Header → StoredModel → ℕ → List ℕ → Type 0
 BelongsToModern tools header saved n bytes = (header.format ≡ One) × BelongsTo (migrated header) (record saved { tools = tools }) n bytes
+
+-- Only that is written, and nothing is handed out. What was laid out and synced is so after Ok, beside the table.
+pub record StoresModern {E : Type 0} (tools : List ℤ) (result : Result Header E) (header : Header) (saved : StoredModel) (old new : Trace) : Type 0 where
+  pub writes : WritesOnly (λ n bytes. BelongsToModern tools header saved n bytes) old new
+  pub laid : IsLaidOut header saved (reads old) → IfOk result (λ last. IsLaidOut last (saved_beside tools header.format saved) (reads new))
+  pub synced : IsSynced old → OnOk result (IsSynced new)

@@ -2,7 +2,11 @@
 ghost use Rattle.std.specs.Prelude.{◌≡◌, ◌≤◌, ◌<◌, false, IfOk, IfErr, IfSome};
 ghost use Rattle.ng_num.specs.declared.fault.Fault.TheVariants.{DeviceFailed};
 ghost use Rattle.ng_rig.specs.Calls.{IfHonest};
+ghost use Rattle.ng_layout.specs.Stands.{program_under};
 ghost use Rattle.ng_layout.specs.Stored.{DurableState};
+ghost use Rattle.ng_log.specs.Reading.{ReadSpec};
+ghost use Rattle.ng_text.specs.Percent.{first_kind};
+ghost use Rattle.ng_text.specs.Programs.{lines_before, program_line_at};
 ghost use Rattle.ng_journal.specs.Journal.{CountsFailure};
 ghost use Rattle.ng_journal.specs.ProgramLines.{FirstKindSpec, ProgramLineSpec};
 ghost use Rattle.ng_journal.specs.Storing.{ledger_of};
@@ -25,7 +29,11 @@ impl<R: Rig, A: Allocator + Copy + Drop> Journal<R, A> {
     pub fn first_kind(&mut self, place: u64) -> Result<LineKind, Fault>
         requires whole { self.old.broken ≡ false }
         requires place { place ≤ self.old.saved.length }
-        ensures kind { IfHonest (R.honest self.old.rig) (R.honest self.new.rig) ((standing : DurableState) → IsDurablyAt (R.trace self.old.rig) self.old standing
+        ensures reads { IfHonest (R.honest self.old.rig) (R.honest self.new.rig)
+            (ReadSpec result (λ image kind. kind ≡ first_kind (lines_before (program_under self.old.header image) place))
+            (R.trace self.old.rig) (R.trace self.new.rig)) }
+        ensures kind { IfHonest (R.honest self.old.rig) (R.honest self.new.rig)
+            ((standing : DurableState) → IsDurablyAt (R.trace self.old.rig) self.old standing
             → FirstKindSpec result self.new standing place (R.trace self.old.rig) (R.trace self.new.rig)) }
         ensures ledger { ledger_of self.new ≡ ledger_of self.old }
         ensures broken { IsBrokenBy result self.new.broken }
@@ -50,7 +58,11 @@ impl<R: Rig, A: Allocator + Copy + Drop> Journal<R, A> {
     pub fn program_line(&mut self, place: u64) -> Result<Option<ProgramLine>, Fault>
         requires whole { self.old.broken ≡ false }
         requires place { place ≤ self.old.saved.length }
-        ensures line { IfHonest (R.honest self.old.rig) (R.honest self.new.rig) ((standing : DurableState) → IsDurablyAt (R.trace self.old.rig) self.old standing
+        ensures reads { IfHonest (R.honest self.old.rig) (R.honest self.new.rig)
+            (ReadSpec result (λ image line. line ≡ program_line_at (program_under self.old.header image) place)
+            (R.trace self.old.rig) (R.trace self.new.rig)) }
+        ensures line { IfHonest (R.honest self.old.rig) (R.honest self.new.rig)
+            ((standing : DurableState) → IsDurablyAt (R.trace self.old.rig) self.old standing
             → ProgramLineSpec result self.new standing place (R.trace self.old.rig) (R.trace self.new.rig)) }
         ensures next { IfOk result (λ line. IfSome line (λ l. (place < l.next) × (l.next ≤ self.old.saved.length))) }
         ensures ledger { ledger_of self.new ≡ ledger_of self.old }

@@ -1,5 +1,5 @@
 #!/usr/bin/env python3
-"""Prints what a device of format 1 stands for, and where its log ends. docs/DEVICE.md says where each number stands.
+"""Prints what a device of format 1 or 2 stands for, and where its log ends. docs/DEVICE.md says where each number stands.
 
     read_device.py DEVICE     DEVICE is the file that `ngc format` made, or a disk that is used as one; it is read, never written
 
@@ -10,6 +10,10 @@ import struct
 import sys
 
 SIZE = 512 * 1710
+# The sector after the log, by the device's format.
+LOG_END = {1: 1710, 2: 1706}
+# The most slots of the tool table, and the range of a tool's length in nm.
+SLOTS, LENGTH = 64, range(10**9 + 1)
 COUNT = range(9_999_999_999_999 + 1)
 SIGNED = range(-9_999_999_999_999, 9_999_999_999_999 + 1)
 FIELDS = [  # name, byte, type: Q u64, q i64, H u16, B u8; the range
@@ -21,7 +25,7 @@ FIELDS = [  # name, byte, type: Q u64, q i64, H u16, B u8; the range
     ("retract mode", 149, "B", (98, 99)), ("coordinate system", 150, "B", range(1, 10)), ("path mode", 151, "B", (0, 1, 2)),
     ("spindle", 152, "B", (0, 1, 2)), ("mist", 153, "B", (0, 1)), ("flood", 154, "B", (0, 1)), ("overrides allowed", 155, "B", (0, 1)),
     ("machine point known", 156, "B", (0, 1)), ("which of R, Z, P, Q are kept", 157, "B", range(16)),
-    ("selected slot", 158, "H", range(65)), ("slot in the spindle", 160, "H", range(65)), ("half-done block", 162, "B", (0, 1, 2))]
+    ("selected slot", 158, "H", range(SLOTS + 1)), ("slot in the spindle", 160, "H", range(SLOTS + 1)), ("half-done block", 162, "B", (0, 1, 2))]
 HALF = [("what of it is open", 163, "B", (0, 1, 2)), ("its point known", 164, "B", (0, 1)), ("its segment", 168, "Q", range(2**64)),
         ("its point, nm", 176, "3q", SIGNED)]
 
@@ -31,7 +35,7 @@ class NoDevice(Exception):
 
 
 class Device:
-    """What an image stands for: its header, records, state field, parameters, program, and in `damage` what is out of its range."""
+    """What an image stands for: its header, records, state field, parameters, tool table, program, and in `damage` what is out of its range."""
 
     def __init__(self, image):
         self.image, self.damage = image, []
@@ -41,17 +45,19 @@ class Device:
         valid = [header for header in self.headers if header]
         if not valid:
             raise NoDevice("it isn't formatted: neither sector 0 nor sector 1 holds a valid header")
-        self.epoch, self.area, self.length = max(valid)
+        self.epoch, self.area, self.length, self.format = max(valid)
+        self.log_end = LOG_END[self.format]
         snapshot = 2 + 86 * (self.epoch % 2)
         self.state = 512 * snapshot
         self.check(f"sector {snapshot}")
         self.params = {p: self.number("q", 512 * (snapshot + 1 + (p - 1) // 64) + 8 * ((p - 1) % 64)) for p in range(1, 5400)}
         self.damage += [f"sector {snapshot + 1 + (p - 1) // 64}: #{p} {value}" for p, value in self.params.items() if value not in SIGNED]
+        self.tools = self.table(snapshot) if self.format == 2 else []
         self.records, self.end = 0, 686
         while parts := self.complete(self.end):
             self.take(parts)
         # of a record that was being written when power was cut
-        self.torn = [sector for sector in range(self.end, 1710) if self.number("Q", 512 * sector) == self.epoch]
+        self.torn = [sector for sector in range(self.end, self.log_end) if self.number("Q", 512 * sector) == self.epoch]
         start = 512 * (174 + 256 * self.area)
         self.program = image[start:start + self.length]
 
@@ -59,27 +65,48 @@ class Device:
         return struct.unpack_from("<" + kind, self.image, byte)[0]
 
     def header_in(self, sector):
-        """Epoch, program area and length, where the sector holds a valid header."""
-        if self.image[512 * sector:512 * sector + 8] != b"RS274NGC" or self.number("I", 512 * sector + 8) != 1:
+        """Epoch, program area, program length and format, where the sector holds a valid header."""
+        form = self.number("I", 512 * sector + 8)
+        if self.image[512 * sector:512 * sector + 8] != b"RS274NGC" or form not in LOG_END:
             return None
         epoch, area, length = (self.number("Q", 512 * sector + byte) for byte in (16, 24, 32))
-        return (epoch, area, length) if 1 <= epoch <= 10**12 and epoch % 2 == sector and area <= 1 and length <= 131072 else None
+        return (epoch, area, length, form) if 1 <= epoch <= 10**12 and epoch % 2 == sector and area <= 1 and length <= 131072 else None
+
+    def table(self, snapshot):
+        """The tool lengths beside a snapshot of format 2, which has their number."""
+        first, slots = 1706 + 2 * (self.epoch % 2), self.number("H", 512 * snapshot + 456)
+        if slots > SLOTS:
+            self.damage.append(f"sector {snapshot}: number of slots {slots}")
+            return []
+        tools = list(struct.unpack_from(f"<{slots}q", self.image, 512 * first))
+        self.damage += [f"sector {first}: slot {slot} {nm}" for slot, nm in enumerate(tools, 1) if nm not in LENGTH]
+        return tools
+
+    def take_slot(self):
+        """Takes over what the record at the log's end changes of the tool table: a slot, or one more after the last."""
+        slot, nm = self.number("H", 512 * self.end + 488), self.number("q", 512 * self.end + 496)
+        if slot > min(len(self.tools) + 1, SLOTS) or nm not in LENGTH:
+            self.damage.append(f"sector {self.end}, record {self.records}: slot {slot} {nm}")
+        elif slot:
+            self.tools[slot - 1:slot] = [nm]
 
     def complete(self, first):
         """How many parts the record has that begins at a sector, where it is complete, else 0."""
-        if first == 1710:
+        if first == self.log_end:
             return 0
         parts, changes = self.number("H", 512 * first + 18), self.number("H", 512 * first + 20)
-        if parts != 1 + (changes + 47) // 48 or first + parts > 1710:
+        if parts != 1 + (changes + 47) // 48 or first + parts > self.log_end:
             return 0
         labels = (struct.unpack_from("<QQHHH", self.image, 512 * (first + part)) for part in range(parts))
         wanted = ((self.epoch, self.records, part, parts, changes) for part in range(parts))
         return parts if all(label == right for label, right in zip(labels, wanted)) else 0
 
     def take(self, parts):
-        """Takes over the record at the log's end: its state field whole, its changes in order."""
+        """Takes over the record at the log's end: its state field whole, its slot, its changes in order."""
         self.state = 512 * self.end + 32
         self.check(f"sector {self.end}, record {self.records}")
+        if self.format == 2:
+            self.take_slot()
         for n in range(self.number("H", 512 * self.end + 20)):
             sector = self.end + 1 + n // 48
             index, value = struct.unpack_from("<Hq", self.image, 512 * sector + 32 + 10 * (n % 48))
@@ -117,17 +144,20 @@ class Device:
 
 def tell(device):
     """Prints it, a field a line."""
+    print("format:", device.format)
     print("epoch:", device.epoch)
     for sector, header in enumerate(device.headers):
-        said = "epoch {}, program area {}, {} bytes".format(*header) if header else "none that is valid"
+        said = "epoch {}, program area {}, {} bytes, format {}".format(*header) if header else "none that is valid"
         print(f"header in sector {sector}: {said}{', in force' if header and header[0] == device.epoch else ''}")
-    print(f"log: {device.records} records; it ends {f'at sector {device.end}' if device.end < 1710 else 'after sector 1709: it is full'}")
+    print(f"log: {device.records} records; it ends {f'at sector {device.end}' if device.end < device.log_end else f'after sector {device.end - 1}: it is full'}")
     if device.torn:
         print("log: parts of a record that isn't complete in sectors", *device.torn)
     for name, numbers in device.fields().items():
         print(f"{name}:", *numbers)
     if device.number("B", device.state + 162):
         print("its text:", device.text().decode("latin-1"))
+    for slot, nm in enumerate(device.tools, 1):
+        print(f"tool length of slot {slot}, nm:", nm)
     for p, value in device.params.items():
         if value != (1_000_000 if p == 5220 else 0):
             print(f"#{p}: {value} millionths")

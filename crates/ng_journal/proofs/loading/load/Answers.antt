@@ -56,7 +56,7 @@ returns-in_err-write_program-clause-stores g c =
     rw p.1 (record {
       keeps = text.keeps;
       back = text.back;
-      holds = λ h. record { writes = load_text c.write_program.result c.spare_area-area.result c.args.header loaded _ _ c.spare_area-area.ensures (text.holds h); text = tt; laid = tt };
+      holds = λ h. record { writes = load_text c.write_program.result c.spare_area-area.result c.args.header loaded _ _ c.spare_area-area.ensures (text.holds h); text = tt; laid = tt; synced = tt };
     })
 
 pub returns-in_err-sync-clause-stores : goal.returns-in_err-sync-clause-stores
@@ -70,7 +70,7 @@ returns-in_err-sync-clause-stores g c =
       back = λ h. text.back (sync.back h);
       holds = λ h.
           let one = load_text c.write_program.result c.spare_area-area.result c.args.header loaded _ _ c.spare_area-area.ensures (text.holds h) in
-          record { writes = load_sync c.sync.result c.args.header loaded _ _ _ one (sync.holds (text.keeps h)); text = tt; laid = tt };
+          record { writes = load_sync c.sync.result c.args.header loaded _ _ _ one (sync.holds (text.keeps h)); text = tt; laid = tt; synced = tt };
     })
 
 pub returns-clause-stores : goal.returns-clause-stores
@@ -94,5 +94,6 @@ returns-clause-stores g c =
             writes = load_state c.args.header loaded _ _ _ two stored.writes;
             text = text_stays c.checkpoint.result _ c.spare_area-area.result c.args.header loaded _ _ _ _ short c.spare_area-area.ensures (done.holds h) (on.holds (text.keeps h)) stored.writes;
             laid = stored.laid;
+            synced = stored.synced;
           };
     }

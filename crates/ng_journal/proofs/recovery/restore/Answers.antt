@@ -64,7 +64,7 @@ returns-in_err-last-in-Ok-clause-restores g c =
     let last = c.in_ok-checkpoint-in-Ok.ensures.stops in
     let stores = c.in_ok-checkpoint-in-Ok.ensures.stores in
     let again = c.modernize.ensures.stops in
-    let writes = c.modernize.ensures.writes in
+    let modern = c.modernize.ensures.stores in
     let header = c.in-Ok.header in
     rw p.1 (record {
       keeps = λ h. again.keeps (last.keeps (found.keeps (sync.keeps h)));
@@ -76,7 +76,7 @@ returns-in_err-last-in-Ok-clause-restores g c =
           let u = found_under c.in_ok-fault.field-0 header c.found.new.stored _ _ c.in-Ok.is f.same f.right in
           let force = subst (λ (l : Trace). in_force (reads l) ≡ Some header) now u.force in
           let given : c.next_header-next.result.format ≡ One → table ≡ c.args.tools.now = λ one. over header force (sym (ap (λ (x : Header). x.format) c.next_header-next.ensures) ∙ one) in
-          exit_modern table header c.found.new.stored c.close.new.self _ _ now u c.close.ensures.value _ c.next_header-next.result _ _ (next_is header c.next_header-next.result c.found.new.stored c.close.new.self _ u c.close.ensures.value c.next_header-next.ensures) (stores.holds at).writes (last.holds at) p.0 c.modernize.result c.modernize.new.stored (writes.holds (last.keeps at) table given) (again.holds (last.keeps at) table given);
+          exit_modern table header c.found.new.stored c.close.new.self _ _ now u c.close.ensures.value _ c.next_header-next.result _ _ (next_is header c.next_header-next.result c.found.new.stored c.close.new.self _ u c.close.ensures.value c.next_header-next.ensures) (stores.holds at) (last.holds at) p.0 c.modernize.result c.modernize.new.stored (modern.holds (last.keeps at) table given) (again.holds (last.keeps at) table given);
     })
 
 pub returns-in_ok-last-in-Ok-clause-restores : goal.returns-in_ok-last-in-Ok-clause-restores
@@ -86,7 +86,7 @@ returns-in_ok-last-in-Ok-clause-restores g c =
     let last = c.in_ok-checkpoint-in-Ok.ensures.stops in
     let stores = c.in_ok-checkpoint-in-Ok.ensures.stores in
     let again = c.in_ok-last-in-Ok.ensures.stops in
-    let writes = c.in_ok-last-in-Ok.ensures.writes in
+    let modern = c.in_ok-last-in-Ok.ensures.stores in
     let header = c.in-Ok.header in
     record {
       keeps = λ h. again.keeps (last.keeps (found.keeps (sync.keeps h)));
@@ -98,5 +98,5 @@ returns-in_ok-last-in-Ok-clause-restores g c =
           let u = found_under c.in_ok-fault.field-0 header c.found.new.stored _ _ c.in-Ok.is f.same f.right in
           let force = subst (λ (l : Trace). in_force (reads l) ≡ Some header) now u.force in
           let given : c.next_header-next.result.format ≡ One → table ≡ c.args.tools.now = λ one. over header force (sym (ap (λ (x : Header). x.format) c.next_header-next.ensures) ∙ one) in
-          exit_restored table header c.found.new.stored c.close.new.self _ _ now u c.close.ensures.value _ c.next_header-next.result _ _ (next_is header c.next_header-next.result c.found.new.stored c.close.new.self _ u c.close.ensures.value c.next_header-next.ensures) (stores.holds at).writes (last.holds at) c.in_ok-last-in-Ok.last c.modernize.new.stored (writes.holds (last.keeps at) table given) (again.holds (last.keeps at) table given) c.in_ok-last-in-Ok.ensures.header (c.in_ok-last-in-Ok.ensures.saved table given);
+          exit_restored table header c.found.new.stored c.close.new.self _ _ now u c.close.ensures.value _ c.next_header-next.result _ _ (next_is header c.next_header-next.result c.found.new.stored c.close.new.self _ u c.close.ensures.value c.next_header-next.ensures) (stores.holds at) (last.holds at) c.in_ok-last-in-Ok.last c.modernize.new.stored (modern.holds (last.keeps at) table given) (again.holds (last.keeps at) table given) c.in_ok-last-in-Ok.ensures.header (c.in_ok-last-in-Ok.ensures.saved table given);
     }

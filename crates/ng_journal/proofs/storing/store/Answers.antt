@@ -3,7 +3,7 @@ use Rattle.std.proofs.lemmas.Result.{err_from_is_err_and}
 use Rattle.ng_rig.proofs.Promise.{onto, meaning}
 use Rattle.ng_layout.specs.Stored.{StoredModel}
 use Rattle.ng_journal.specs.Private.Records.{ledger}
-use Rattle.ng_journal.proofs.Recording.{no_room, stored_after, not_stored, stored, has_room, same_length}
+use Rattle.ng_journal.proofs.Recording.{no_room, stored_after, not_stored, stored, ledger_after, has_room, same_length}
 use Rattle.ng_journal.proofs.storing.store.Goals as goal
 
 pub append_to-requires-clause-tip : goal.append_to-requires-clause-tip
@@ -32,3 +32,6 @@ pub returns-clause-stores : goal.returns-clause-stores
 returns-clause-stores g c =
     onto _ c.in_ok-tip.ensures.stores c.append_to.ensures.writes (λ r w.
     stored c.append_to.result c.in_ok-tip.tip (ledger c.args.tip c.args.old.now) c.args.count c.args.stored.now _ _ _ c.requires.few c.requires.count c.in_ok-tip.ensures.room r w)
+
+pub returns-clause-ledger : goal.returns-clause-ledger
+returns-clause-ledger g c = ledger_after c.append_to.result c.in_ok-tip.tip (ledger c.args.tip c.args.old.now) c.args.count c.args.stored.now c.requires.count c.in_ok-tip.ensures.room c.append_to.ensures.end

@@ -1,10 +1,12 @@
-use Rattle.std.proofs.Common.{◌∙◌, Some, sym, ap, arith}
+use Rattle.std.proofs.Common.{◌≡◌, ◌∙◌, Some, sym, ap, subst, arith}
+use Rattle.std.specs.Prelude.{IfOk}
 use Rattle.std.proofs.lemmas.Result.{err_from_is_err_and}
 use Rattle.ng_rig.proofs.Promise.{onto, meaning}
 use Rattle.ng_layout.specs.Stored.{StoredModel}
-use Rattle.ng_journal.specs.Private.Records.{ledger}
+use Rattle.ng_journal.specs.Private.Records.{ledger, tip_of}
+use Rattle.ng_journal.specs.Storing.{with_record}
 use Rattle.ng_layout.proofs.ToolTables.{no-change}
-use Rattle.ng_journal.proofs.Recording.{no_room, stored_after, not_stored, stored, has_room, same_length, none_changed, as_taken, recorded_as}
+use Rattle.ng_journal.proofs.Recording.{no_room, stored_after, not_stored, stored, ledger_after, has_room, same_length, none_changed, as_taken, recorded_as}
 use Rattle.ng_journal.proofs.storing.store_half.Goals as goal
 
 pub append_to-requires-clause-tip : goal.append_to-requires-clause-tip
@@ -45,3 +47,9 @@ returns-clause-stores g c =
 
 pub append_to-requires-clause-slot : goal.append_to-requires-clause-slot
 append_to-requires-clause-slot g c = no-change c.take_half.new.self.tools
+
+pub returns-clause-ledger : goal.returns-clause-ledger
+returns-clause-ledger g c =
+    let opened : StoredModel = record c.args.stored.now { half = Some c.args.half.now } in
+    let end = subst (λ (s : StoredModel). IfOk c.append_to.result (λ t. t ≡ tip_of (with_record (ledger c.in_ok-tip.tip s) s))) c.take_half.ensures c.append_to.ensures.end in
+    ledger_after c.append_to.result c.in_ok-tip.tip (ledger c.args.tip c.args.stored.now) 0 opened (none_changed c.args.stored.now) c.in_ok-tip.ensures.room end

@@ -21,4 +21,4 @@ returns-in-Err-clause-stops g c =
     not_loaded _ c.load.result _ c.self.inside.tip.header c.self.inside.tip.end before after _ _ rest.at (f (own rest.at))))
 
 pub returns-in-Ok-clause-stores : goal.returns-in-Ok-clause-stores
-returns-in-Ok-clause-stores g c = rw (← c.self.view_is) (meaning c.in-Ok.ensures.stores (λ s. record { writes = s.writes; text = s.text; laid = s.laid }))
+returns-in-Ok-clause-stores g c = rw (← c.self.view_is) (meaning c.in-Ok.ensures.stores (λ s. record { writes = s.writes; text = s.text; laid = s.laid; synced = s.synced }))

@@ -1,6 +1,6 @@
 use Rattle.std.proofs.Common.{refl}
 use Rattle.ng_rig.proofs.Promise.{meaning}
-use Rattle.ng_journal.proofs.Moving.{moved, not_moved, stored_as, not_stored_as}
+use Rattle.ng_journal.proofs.Moving.{moved, not_moved, ledger_moved, stored_as, not_stored_as}
 use Rattle.ng_journal.proofs.journal.Journal.open_segment.Goals as goal
 
 pub returns-in-Ok-clause-stops : goal.returns-in-Ok-clause-stops
@@ -9,6 +9,9 @@ returns-in-Ok-clause-stops g c =
 
 pub returns-in-Ok-clause-stores : goal.returns-in-Ok-clause-stores
 returns-in-Ok-clause-stores g c = rw (← c.self.view_is) (meaning c.in-Ok.ensures.stores (λ s. stored_as _ c.in-Ok.tip _ _ _ _ s))
+
+pub returns-in-Ok-clause-ledger : goal.returns-in-Ok-clause-ledger
+returns-in-Ok-clause-ledger g c = rw (← c.self.view_is) (ledger_moved c.in-Ok.tip _ _ _ c.in-Ok.ensures.saved c.in-Ok.ensures.ledger)
 
 pub returns-in-Err-clause-stops : goal.returns-in-Err-clause-stops
 returns-in-Err-clause-stops g c =

@@ -1,0 +1,64 @@
+//! A load that finds no memory.
+use crate::devices::{formatted, give, rig_of, shown, started};
+use crate::failures::counting::Counting;
+use crate::rows::{Order, event_of};
+use linked_list_allocator::LocalHeap;
+use ng_core::{Controller, Reply};
+use ng_num::Fault;
+use std::alloc::{AllocError, Global};
+use std::cell::Cell;
+use std::test::Fail;
+
+/// The bytes of a heap: power on finds its memory there.
+const HEAP: usize = 400_000;
+
+/// A controller over a heap, and a device that counts its calls.
+type Machine<'c, 'h> = Controller<Counting<'c>, &'h LocalHeap>;
+
+/// Blocks that take all of a heap, but less than a thousand bytes that follow one another.
+fn blocks(alloc: Global, heap: &LocalHeap) -> Result<Vec<Vec<u8, &LocalHeap>>, AllocError> {
+    let mut blocks = Vec::new(alloc);
+    for _ in 0..HEAP {
+        match Vec::with_capacity(heap, 1_000) {
+            Ok(block) => blocks.push(block)?,
+            Err(_) => break,
+        }
+    }
+    Ok(blocks)
+}
+
+/// What a load is answered once the heap is full, and again once it isn't; whether the first shows nowhere; and the calls after both.
+fn answers<'h>(
+    alloc: Global,
+    heap: &'h LocalHeap,
+    controller: &mut Machine<'_, 'h>,
+    calls: &Cell<[u64; 2]>,
+) -> Result<([Reply; 2], bool, [u64; 2]), Fault> {
+    let full = event_of(heap, Order::Load("M2"))?;
+    let again = event_of(heap, Order::Load("M2"))?;
+    let before = (shown(controller), calls.get());
+    let blocks = blocks(alloc, heap)?;
+    let refused = give(controller, full);
+    drop(blocks);
+    let is_same = (shown(controller), calls.get()) == before;
+    let done = give(controller, again);
+    Ok(([refused, done], is_same, calls.get()))
+}
+
+/// That over a new device.
+fn answered(alloc: Global) -> Result<([Reply; 2], bool, [u64; 2]), Fault> {
+    let calls = Cell::new([0, 0]);
+    let heap = LocalHeap::new(alloc, HEAP)?;
+    let mut controller = started(&heap, Counting::new(formatted(alloc)?, &calls))?;
+    let answers = answers(alloc, &heap, &mut controller, &calls);
+    drop(rig_of(controller));
+    answers
+}
+
+/// Power on makes 91 reads and 92 other calls, the load that is refused none, and the same load once more 93.
+#[test]
+fn a_load_without_memory_makes_no_call(rt: HostRuntime) -> Result<(), Fail> {
+    let replies = [Reply::Refused(Fault::OutOfMemory), Reply::Done(1)];
+    assert_eq!(rt; answered(rt.alloc()), Ok((replies, true, [91, 185])));
+    Ok(())
+}

@@ -1,0 +1,62 @@
+//! Power on over a device of format 1 makes it one of format 2.
+//!
+//! The settings of the power on after a stop have no tools. So a stop leaves the device without tools until the header of format 2 is
+//! stored, and from then on with those of the settings under which it was written.
+use crate::old::{FILLING, of_format_1};
+use crate::scripts::AFTER_A_MIGRATION;
+use crate::stops::cuts::{Astray, Cuts, first_astray_in_migration};
+use crate::stops::devices::{Kept, played, stopped};
+use ng_num::Fault;
+use std::alloc::Global;
+use std::test::Fail;
+
+/// What the first power on over a device of format 1 makes, and the one after it: writes, syncs, hand-outs and calls that weren't noted.
+fn counts(alloc: Global) -> Result<[[usize; 4]; 2], Fault> {
+    let (rig, wanted) = of_format_1(alloc, 0)?;
+    let (rig, first) = played(alloc, rig, &[], wanted.entries())?;
+    let rig = stopped(&rig, usize::MAX, Kept::None)?;
+    let (_, second) = played(alloc, rig, &[], wanted.entries())?;
+    Ok([first.counts(), second.counts()])
+}
+
+#[test]
+fn calls_of_a_migration_and_of_the_next_power_on(rt: HostRuntime) -> Result<(), Fail> {
+    assert_eq!(rt; counts(rt.alloc()), Ok([[176, 5, 0, 0], [89, 3, 0, 0]]));
+    Ok(())
+}
+
+/// The first of these stops, in a migration or as a half-done line goes on after it, that leaves something else: with the power on after
+/// it stopped too, and over a log that is full.
+fn first_astray_of(alloc: Global, first: usize, last: usize) -> Result<Astray, Fault> {
+    for (blanks, is_deep) in [(0, true), (FILLING, false)] {
+        let (rig, wanted) = of_format_1(alloc, blanks)?;
+        let cuts = Cuts {
+            first,
+            last,
+            is_deep,
+        };
+        let astray = first_astray_in_migration(alloc, rig, wanted, AFTER_A_MIGRATION, cuts)?;
+        if astray.is_some() {
+            return Ok(astray);
+        }
+    }
+    Ok(None)
+}
+
+#[test]
+fn a_stop_in_the_first_third_of_a_migration(rt: HostRuntime) -> Result<(), Fail> {
+    assert_eq!(rt; first_astray_of(rt.alloc(), 0, 66), Ok(None));
+    Ok(())
+}
+
+#[test]
+fn a_stop_in_the_second_third_of_a_migration(rt: HostRuntime) -> Result<(), Fail> {
+    assert_eq!(rt; first_astray_of(rt.alloc(), 67, 140), Ok(None));
+    Ok(())
+}
+
+#[test]
+fn a_stop_in_the_last_third_of_a_migration_and_after_it(rt: HostRuntime) -> Result<(), Fail> {
+    assert_eq!(rt; first_astray_of(rt.alloc(), 141, usize::MAX), Ok(None));
+    Ok(())
+}

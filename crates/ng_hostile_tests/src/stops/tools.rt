@@ -1,0 +1,35 @@
+//! Tools' lengths are given, between lines of the operator and as a program has stopped.
+use crate::devices::formatted;
+use crate::rows::Row;
+use crate::scripts::{TOOLS, TOOLS_OF_A_PROGRAM};
+use crate::standing::Standing;
+use crate::stops::cuts::{Astray, Cuts, POWER_ON, first_astray};
+use ng_num::Fault;
+use std::alloc::Global;
+use std::test::Fail;
+
+/// Sessions, and how many calls come before the first stop: power on; and after it two tools' lengths, one of them twice, and a load.
+const SESSIONS: &[(&[Row], usize)] = &[
+    (TOOLS, POWER_ON),
+    (TOOLS_OF_A_PROGRAM, POWER_ON + 3 * 2 + 93),
+];
+
+/// The first stop in a session, after so many calls, that leaves something else.
+fn first_astray_of(alloc: Global, rows: &[Row], first: usize) -> Result<Astray, Fault> {
+    let cuts = Cuts::deep(first, usize::MAX);
+    first_astray(
+        alloc,
+        formatted(alloc)?,
+        Standing::fresh(alloc)?,
+        rows,
+        cuts,
+    )
+}
+
+#[test]
+fn a_stop_at_each_call_beside_tools(rt: HostRuntime) -> Result<(), Fail> {
+    for (rows, first) in SESSIONS {
+        assert_eq!(rt; first_astray_of(rt.alloc(), rows, *first), Ok(None));
+    }
+    Ok(())
+}
