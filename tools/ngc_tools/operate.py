@@ -64,9 +64,10 @@ FIRST_TICKS, MOST_TICKS = 20, 1000
 
 
 def explained(refusal: str) -> str:
-    """A refusal, as `refused K1 Busy`, and the sentence that says what it means."""
+    """A refusal, as `refused K1 Busy`, the sentence that says what it means, and of a line what to write instead."""
     code = refusal.split()[1] if len(refusal.split()) > 1 else ""
-    said = REFUSALS.get(code) if code[:1] in "JKMSU" else faults.sentence(code)
+    fault = faults.fault(code)
+    said = f"{fault.holds}\n  {fault.cure}" if fault else REFUSALS.get(code)
     return refusal + (f": {said}" if said else "")
 
 

@@ -94,7 +94,7 @@ class Scripted(InFolder):
     def test_session(self) -> None:
         """A session, to the byte."""
         done = self.tool("ngc-operate", *operate("mill.dev", "first.toml", "out"), text=TYPED)
-        sentences = {code: faults.sentence(code) for code in ("X1", "X2", "E1")}
+        sentences = {code: f"{faults.fault(code).holds}\n  {faults.fault(code).cure}" for code in ("X1", "X2", "E1")}
         self.assertEqual((done.stdout, done.stderr, done.returncode), (SESSION.format(**sentences), "", 0))
 
     def test_resume(self) -> None:
