@@ -111,6 +111,21 @@ class Terminal:
             got += piece
         return got
 
+    def send_to_end(self, key: bytes) -> bytes:
+        """Presses a key again and again until the program ends; returns what is shown meanwhile."""
+        got, until = b"", time.monotonic() + PATIENCE_S
+        while time.monotonic() < until:
+            try:
+                os.write(self.file, key)
+                while select.select([self.file], [], [], 0.3)[0]:
+                    piece = os.read(self.file, 4096)
+                    if not piece:
+                        return got
+                    got += piece
+            except OSError:
+                return got
+        raise AssertionError(f"it doesn't end: {got!r}")
+
     def status(self) -> int:
         """Waits for its end."""
         status = os.waitstatus_to_exitcode(os.waitpid(self.pid, 0)[1])

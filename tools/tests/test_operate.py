@@ -3,6 +3,7 @@ import fcntl
 import os
 import sys
 import threading
+import tty
 import unittest
 from contextlib import redirect_stderr
 from io import StringIO
@@ -223,7 +224,9 @@ class FakePlayer:
                 self.listener.answer(asked[0] + b" " + report.text(), asked[1])
 
     def close(self) -> None:
-        """Ends it."""
+        """Ends it, once."""
+        if self.end.is_set():
+            return
         self.end.set()
         self.thread.join()
         self.listener.close()
@@ -289,6 +292,59 @@ class AtTerminal(InFolder):
                   "segment 0 of your line g1 f60 x3 stays half-done: it is taken up or given up in the next session\n"
                   "quit? yes ends the session: yes\n")
         self.assertEqual(shown.decode(), wanted.replace("\n", "\r\n"))
+
+    def test_player_dies(self) -> None:
+        """Where the player is gone nothing more is handed out."""
+        words = operate("mill.dev", "first.toml", "axis", "--player", "progress")
+        terminal = Terminal(str(TOOLS / "ngc-operate"), *words)
+        terminal.read_to(PROMPT)
+        self.player.lazy = True
+        terminal.send(b"G1 F60 X3\n")
+        self.wait_for("it waits for the player", lambda: self.player.most_behind > 90)
+        self.player.close()
+        gone = "progress: the player is gone: "
+        shown = terminal.read_to(PROMPT).decode().split("\r\n")
+        self.assertEqual(shown[0], "G1 F60 X3")
+        self.assertTrue(shown[1].startswith(gone), shown)
+        rest = "; nothing more is handed out. Quit, and start a player and this again"
+        self.assertTrue(shown[1].endswith(rest), shown)
+        self.assertEqual(shown[2:4], ["held", "held; X 0.000000 Y 0.000000 Z 0.000000 before the block; segment 0 of"
+                                      " your line G1 F60 X3"])
+        terminal.send(b"\x04")
+        terminal.read_to(b"never")
+        self.assertEqual(terminal.status(), 0)
+
+    def test_reader_stands_still(self) -> None:
+        """Without a player, a pipe that nobody reads stops `ngc`: it says so, and the third Ctrl-C ends it."""
+        os.mkfifo("slow")
+        pipe = os.open("slow", os.O_RDONLY | os.O_NONBLOCK)
+        self.addCleanup(os.close, pipe)
+        terminal = Terminal(str(TOOLS / "ngc-operate"), *operate("mill.dev", "first.toml", "slow"))
+        self.assertTrue(terminal.read_to(PROMPT).decode().startswith(
+            "not metered: slow holds 65,536 bytes, so some 5,957 lines can be ahead of the motors, and a loss of power"
+            " can cost them; --player bounds it\r\n"))
+        terminal.send(b"G1 F60 X30\n")
+        said = terminal.read_to(b"would\r\n").decode()
+        self.assertEqual(said, "G1 F60 X30\r\nngc waits until the reader of OUT takes lines; a hold is heeded after"
+                         " that. Ctrl-C three times ends ngc, as a loss of power would\r\n")
+        said = terminal.send_to_end(b"\x03").decode()
+        self.assertTrue(said.startswith("^C^C^C"), said)
+        self.assertTrue(said.endswith("ngc-operate: ended; a block that was under way is half-done\r\n"), said)
+        self.assertEqual(terminal.status(), 2)
+
+    def test_serial_line(self) -> None:
+        """A serial line has to be raw."""
+        ours, theirs = os.openpty()
+        self.addCleanup(os.close, ours)
+        self.addCleanup(os.close, theirs)
+        name = os.ttyname(theirs)
+        done = self.tool("ngc-operate", *operate("mill.dev", "first.toml", name))
+        wanted = (f"ngc-operate: {name}: a serial line that isn't raw, so it changes lines or sends them back:"
+                  f" `stty -F {name} raw -echo` first\n")
+        self.assertEqual((done.stderr, done.returncode), (wanted, 2))
+        tty.setraw(theirs)
+        done = self.tool("ngc-operate", *operate("mill.dev", "first.toml", name), text="G0 X0.001\nquit\n")
+        self.assertEqual((os.read(ours, 100), done.returncode), (b"P 1 0 0 50\n", 0))
 
     def test_motors_elsewhere(self) -> None:
         """A program isn't started where the player says that the motors are elsewhere than `ngc` takes them to be."""
