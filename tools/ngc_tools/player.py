@@ -5,9 +5,7 @@ import os
 import select
 import stat
 import sys
-import termios
 import time
-from array import array
 from collections import deque
 from dataclasses import dataclass, replace
 from pathlib import Path
@@ -317,10 +315,3 @@ def save_wakeups() -> None:
         ctypes.CDLL(None).prctl(29, 1, 0, 0, 0)  # PR_SET_TIMERSLACK, 1 ns
     except (AttributeError, OSError):
         pass
-
-
-def waiting_bytes(pipe: int) -> int:
-    """How many bytes wait in a pipe."""
-    count = array("i", [0])
-    fcntl.ioctl(pipe, termios.FIONREAD, count)
-    return count[0]

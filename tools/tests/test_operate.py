@@ -55,6 +55,30 @@ ngc> idle
 ngc> none.ngc: No such file or directory
 ngc> refused X2 OutsideTravel: {X2}
 ngc> """
+HELD = """\
+metered: OUT is at most 50 lines ahead of the player, which is what a loss of power can cost
+idle; X 0.000000 Y 0.000000 Z 0.000000
+the motors are at X 0.000000 Y 0.000000 Z 0.000000, 0 lines behind
+ngc> load part.ngc
+done 1: part.ngc, 62 bytes, 7 lines
+ngc> run
+message, line 4: turn the part
+stopped; the tool in the spindle is none. run goes on
+stopped; X 0.500000 Y 0.000000 Z 0.000000; next line 6 of 7: G1 X1
+the motors are at X 0.000000 Y 0.000000 Z 0.000000, 0 lines behind
+ngc> g1 f60 x3
+
+held; up to 50 lines that are handed out are still carried out
+held; X 0.500000 Y 0.000000 Z 0.000000 before the block; segment 0 of your line g1 f60 x3
+the motors are at X 0.000000 Y 0.000000 Z 0.000000, 49 lines behind
+ngc> continue
+^Cheld; up to 50 lines that are handed out are still carried out
+held; X 0.500000 Y 0.000000 Z 0.000000 before the block; segment 0 of your line g1 f60 x3
+the motors are at X 0.000000 Y 0.000000 Z 0.000000, 49 lines behind
+ngc> quit
+segment 0 of your line g1 f60 x3 stays half-done: it is taken up or given up in the next session
+quit? yes ends the session: yes
+"""
 TYPED = """load part.ngc
 RUN
 G0 Y1
@@ -269,29 +293,7 @@ class AtTerminal(InFolder):
         shown += terminal.read_to(b"never")
         self.assertEqual(terminal.status(), 0)
         self.assertLessEqual(self.player.most_behind, 50)
-        wanted = ("metered: OUT is at most 50 lines ahead of the player, which is what a loss of power can cost\n"
-                  "idle; X 0.000000 Y 0.000000 Z 0.000000\n"
-                  "the motors are at X 0.000000 Y 0.000000 Z 0.000000, 0 lines behind\n"
-                  "ngc> load part.ngc\n"
-                  "done 1: part.ngc, 62 bytes, 7 lines\n"
-                  "ngc> run\n"
-                  "message, line 4: turn the part\n"
-                  "stopped; the tool in the spindle is none. run goes on\n"
-                  "stopped; X 0.500000 Y 0.000000 Z 0.000000; next line 6 of 7: G1 X1\n"
-                  "the motors are at X 0.000000 Y 0.000000 Z 0.000000, 0 lines behind\n"
-                  "ngc> g1 f60 x3\n"
-                  "\n"
-                  "held; up to 50 lines that are handed out are still carried out\n"
-                  "held; X 0.500000 Y 0.000000 Z 0.000000 before the block; segment 0 of your line g1 f60 x3\n"
-                  "the motors are at X 0.000000 Y 0.000000 Z 0.000000, 49 lines behind\n"
-                  "ngc> continue\n"
-                  "^Cheld; up to 50 lines that are handed out are still carried out\n"
-                  "held; X 0.500000 Y 0.000000 Z 0.000000 before the block; segment 0 of your line g1 f60 x3\n"
-                  "the motors are at X 0.000000 Y 0.000000 Z 0.000000, 49 lines behind\n"
-                  "ngc> quit\n"
-                  "segment 0 of your line g1 f60 x3 stays half-done: it is taken up or given up in the next session\n"
-                  "quit? yes ends the session: yes\n")
-        self.assertEqual(shown.decode(), wanted.replace("\n", "\r\n"))
+        self.assertEqual(shown.decode(), HELD.replace("\n", "\r\n"))
 
     def test_player_dies(self) -> None:
         """Where the player is gone nothing more is handed out."""
