@@ -25,7 +25,7 @@ class PulledPlug(unittest.TestCase):
         wanted = MOMENTS - MOMENTS // 8
         result = pull(Options(ngc(), 100, 4096, None, 0.3), wanted, seed=1)
         self.assertEqual((len(result.lost), max(result.lost) <= 100), (wanted, True))
-        self.assertGreaterEqual(result.finished, 1)
+        self.assertGreaterEqual(result.finished + result.ended_short, 1)
 
     def test_c(self) -> None:
         """Metered by 20 lines, player.c."""
@@ -35,7 +35,7 @@ class PulledPlug(unittest.TestCase):
             wanted = MOMENTS // 8
             result = pull(Options(ngc(), 20, 4096, program, 0.3), wanted, seed=2)
         self.assertEqual((len(result.lost), max(result.lost) <= 20), (wanted, True))
-        self.assertGreaterEqual(result.finished, 1)
+        self.assertGreaterEqual(result.finished + result.ended_short, 1)
 
 
 if __name__ == "__main__":
