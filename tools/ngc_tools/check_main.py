@@ -41,7 +41,7 @@ def parser() -> argparse.ArgumentParser:
     words.add_argument("--settings", metavar="FILE", help="the machine's settings; without it the default ones hold")
     words.add_argument("--settings-only", action="store_true", help="check the settings, and no program")
     words.add_argument("--block-delete", action="store_true", help="leave out the lines that begin with a slash")
-    words.add_argument("--most", metavar="N", type=int, default=0, help="stop after N refusals; without it none is left")
+    words.add_argument("--most", metavar="N", type=int, default=0, help="stop after N refusals; else all are found")
     words.add_argument("--ngc", metavar="PATH", help="the program ngc; without it the one beside this tool, or on PATH")
     return words
 
@@ -97,7 +97,7 @@ def check(ngc: str, given: argparse.Namespace) -> int:
     for finding in find_all(lines, ask, given.most):
         report.refused(finding)
     more = given.most and report.count == given.most and ask(b"".join(lines.all))
-    found = dangers(lines, run) if not more else []
+    found = [danger for danger in dangers(lines, run) if danger.line not in report.lines] if not more else []
     kinds: Counter[str] = Counter()
     for danger in found:
         kinds[danger.kind] += 1
@@ -121,12 +121,14 @@ class Report:
     def __init__(self, path: str) -> None:
         self.path = path
         self.count = 0
+        self.lines: set[int] = set()  # those that are refused
         self._said: set[str] = set()  # sentences and advice that stand further up already
 
     def refused(self, finding: Finding) -> None:
         """Prints a refusal: its fault and cause, the line, the carets, what to write, how it goes on."""
         self.count += 1
         fault = finding.refusal
+        self.lines.add(fault.line)
         print(f"{self.path}:{fault.line}: {fault.code} {fault.name}")
         if finding.text.strip():
             print(f"    {shown(finding.text)}".rstrip())
