@@ -1,5 +1,4 @@
 /* The core of ngc-player in C99 for a small computer: cc -std=c99 -O2 -pthread player.c -o player
- *
  * player [-u] [-n] [-b BYTES] [-s SOCKET] [-p PINS] OUT SETTINGS POSITION
  *   -u keeps no times   -n begins with a file's first line   -b makes the pipe as small as this (4096)
  *   -s tells there how far it is   -p appends there each line as it is carried out
@@ -19,6 +18,7 @@
 #include <stdio.h>
 #include <stdlib.h>
 #include <string.h>
+#include <sys/file.h>
 #include <sys/prctl.h>
 #include <sys/socket.h>
 #include <sys/stat.h>
@@ -127,7 +127,8 @@ static int64_t in_steps(const char *text, int64_t step) { /* of millimetres with
 static void open_record(int anew) { /* what was carried out before, and where the machine stands */
     char text[SECTOR + 1] = "", path[SECTOR] = "", outputs[100] = "", at[3][32], folder[PATH_MAX];
     record = open(position_path, O_RDWR | O_CREAT | O_CLOEXEC, 0644);
-    if (record < 0) fail("%s: %s", position_path, strerror(errno));
+    if (record < 0 || flock(record, LOCK_EX | LOCK_NB)) /* held by another player */
+        fail("%s: %s", position_path, errno == EWOULDBLOCK ? "another player keeps it" : strerror(errno));
     if (pread(record, text, SECTOR, 0) != 0) {
         if (sscanf(text, "out %511[^\n] lines %" SCNu64 " bytes %" SCNu64 " outputs %99[^\n] reference %31s %31s %31s",
                    path, &state.lines, &state.bytes, outputs, at[0], at[1], at[2]) != 7
@@ -233,7 +234,8 @@ static int play(void) {
     if (!why) return 0;
     fprintf(stderr, "%s:%" PRIu64 ": %s; stopped, spindle and coolant off\n", out_path, state.lines + 1, why);
     pins(&off, "off\n", 4);
-    state.outputs.spindle = state.outputs.mist = state.outputs.flood = 0;
+    pthread_mutex_lock(&lock), state.outputs.spindle = state.outputs.mist = state.outputs.flood = 0;
+    pthread_mutex_unlock(&lock);
     return 1;
 }
 
@@ -262,8 +264,7 @@ static void stop(int number) { (void)number; stopping = 1; }
 int main(int count, char **words) {
     const struct sigaction heed = { .sa_handler = stop };
     int anew = 0, pipe_bytes = 4096, option;
-    struct stat what;
-    pthread_t keeper;
+    struct stat what; pthread_t keeper;
     while ((option = getopt(count, words, "unb:s:p:")) != -1)
         if (option == 'u') timed = 0;
         else if (option == 'n') anew = 1;

@@ -28,9 +28,15 @@ def _different(paths: dict[str, str]) -> None:
     names = list(paths)
     for one, two in ((names[0], names[1]), (names[0], names[2]), (names[1], names[2])):
         a, b = paths[one], paths[two]
-        same = os.path.samefile(a, b) if os.path.exists(a) and os.path.exists(b) else os.path.abspath(a) == os.path.abspath(b)
-        if same:
+        if _same(a, b):
             raise Refused(f"{one} and {two} are one file: {a}" + ("" if a == b else f" and {b}"))
+
+
+def _same(a: str, b: str) -> bool:
+    """Whether two paths name one file, by a link too."""
+    if os.path.exists(a) and os.path.exists(b):
+        return os.path.samefile(a, b)
+    return os.path.abspath(a) == os.path.abspath(b)
 
 
 def _settings(path: str) -> None:
@@ -60,8 +66,8 @@ def _device(path: str) -> None:
             raise Refused(f"{path}: not a device: it has {size:,} bytes of {DEVICE_BYTES:,}; remove it, then"
                           f" `ngc format {path}`")
         if b"RS274NGC" not in marks:
-            raise Refused(f"{path}: not a device: it isn't formatted. `ngc format {path}` makes one of it, AND OVERWRITES"
-                          " WHAT IT HOLDS")
+            raise Refused(f"{path}: not a device: it isn't formatted. `ngc format {path}` makes one of it, AND"
+                          " OVERWRITES WHAT IT HOLDS")
     finally:
         os.close(file)
 
@@ -131,8 +137,8 @@ def _whole_lines(path: str) -> None:
             size = file.seek(0, os.SEEK_END)
             file.seek(max(0, size - 1))
             if file.read(1) not in (b"", b"\n"):
-                raise Refused(f"{path}: it ends in a part of a line, and the next line would stand on the same one: give a"
-                              " new OUT, or cut that part off")
+                raise Refused(f"{path}: it ends in a part of a line, and the next line would stand on the same one:"
+                              " give a new OUT, or cut that part off")
     except OSError:
         pass  # it can be written and not read
 

@@ -12,6 +12,7 @@ from ngc_tools.console import Console, Status
 from ngc_tools.device import Device, NoDevice
 from ngc_tools.lines import Program
 from ngc_tools.meter import Meter
+from ngc_tools.position import Position, nanometres
 from ngc_tools.progress import NoAnswer, Report
 from ngc_tools.screen import Screen
 
@@ -45,15 +46,28 @@ REFUSALS = {
     "S6": "the settings have more than 64 tool lengths",
     "U1": "not a command, or a number of it isn't in range: help",
 }
+# what is said of a block that is taken up
+TAKEN_UP = """\
+{half} is taken up. Its outputs are switched on as they were; then the tool goes
+in one straight line at the traverse rate from {place} to where that segment begins.
+Z isn't lifted first."""
+SWITCHED = """\
+The outputs are switched, and nothing has moved. Does the spindle turn, is the right tool in, is the straight way free?
+yes goes on, anything else holds: """
+NOT_MOVED = """\
+nothing has moved. continue goes on; after quit the block is still half-done.
+Spindle and coolant stay as they are: stop them yourself"""
+ENDS = ("idle", "stopped", "held", "refused")
 PLAIN = ("hold", "continue", "abandon", "reference", "tool", "optional", "delete")
 WORDS = ("load", "run", "start", "where", "status", "resume", "go", "help", "?", "quit", "exit", "tick", "mdi", *PLAIN)
 FIRST_TICKS, MOST_TICKS = 20, 1000
 
 
 def explained(refusal: str) -> str:
-    """A refusal, as `refused K1 Busy`, and the sentence that says what it means."""
+    """A refusal, as `refused K1 Busy`, the sentence that says what it means, and of a line what to write instead."""
     code = refusal.split()[1] if len(refusal.split()) > 1 else ""
-    said = REFUSALS.get(code) if code[:1] in "JKMSU" else faults.sentence(code)
+    fault = faults.fault(code)
+    said = f"{fault.holds}\n  {fault.cure}" if fault else REFUSALS.get(code)
     return refusal + (f": {said}" if said else "")
 
 
@@ -74,8 +88,10 @@ class Chunk:
 class Operator:
     """A person's session. It sends no tick that nobody asked for, and hides no refusal."""
 
-    def __init__(self, console: Console, device: str | Path, screen: Screen, meter: Meter | None) -> None:
-        self.console, self.device, self.screen, self.meter = console, device, screen, meter
+    def __init__(self, console: Console, device: str | Path, step_nm: tuple[int, int, int], screen: Screen,
+                 meter: Meter | None) -> None:
+        """`step_nm` is the settings' size of one step of X, Y, Z."""
+        self.console, self.device, self.step_nm, self.screen, self.meter = console, device, step_nm, screen, meter
         self.program = Program(b"")
         self.told = 0          # messages of lines before this place are shown
         self.delete = False
@@ -83,6 +99,7 @@ class Operator:
         self.over = False
         self.own = ""          # a line of the operator's that is under way
         self.motors = ""       # where the player said last that they are
+        self.gone = False      # whether the player stopped to answer
         self._doings: dict[str, Callable[[str], None]] = {
             "load": self._load, "run": self._run, "start": self._start, "where": self._where, "status": self._status,
             "resume": self._resume, "go": self._go, "help": self._help, "?": self._help, "quit": self._quit,
@@ -181,23 +198,18 @@ class Operator:
             if reply.startswith("refused K3"):
                 self._offer_place()
             return
-        self.screen.say(f"{self._half(status)} is taken up. Its outputs are switched on as they were; then the tool goes in"
-                        f" one straight line\nat the traverse rate from {place(status)} to where that segment begins. Z"
-                        " isn't lifted first.")
+        self.screen.say(TAKEN_UP.format(half=self._half(status), place=place(status)))
         if not self._await_motors() or not self._room():
             self._hold()
             return
         if any(map(self._is_refusal, self.console.ask("tick 2"))) or not self._await_motors():
             self._hold()
             return
-        said = self.screen.ask("The outputs are switched, and nothing has moved. Does the spindle turn, is the right tool in,"
-                               " is the straight way free?\nyes goes on, anything else holds: ")
-        if said.strip().lower() == "yes":
+        if self.screen.ask(SWITCHED).strip().lower() == "yes":
             self._work()
         else:
             self._hold()
-            self.screen.say("nothing has moved. continue goes on; after quit the block is still half-done. Spindle and coolant"
-                            " stay as they are: stop them yourself")
+            self.screen.say(NOT_MOVED)
 
     def _go(self, _: str) -> None:
         if not self.meter:
@@ -241,7 +253,7 @@ class Operator:
             replies = self.console.ask(f"tick {count}")
             self.chunk.lasted(time.monotonic() - begun)
             status = self.console.status()
-            ended = [reply.split()[0] for reply in replies if reply.split()[0] in ("idle", "stopped", "held", "refused")]
+            ended = [reply.split()[0] for reply in replies if reply.split()[0] in ENDS]
             self._show_messages(status)
             for reply in replies:
                 self._is_refusal(reply, status)
@@ -259,7 +271,8 @@ class Operator:
         try:
             return min(self.meter.room(self._goes_on), MOST_TICKS)
         except NoAnswer as why:
-            self.screen.say(f"{why}; nothing more is handed out")
+            self.gone = True
+            self.screen.say(f"{why}; nothing more is handed out. Quit, and start a player and this again")
             return 0
 
     def _goes_on(self, report: Report) -> bool:
@@ -269,8 +282,8 @@ class Operator:
         return not self.screen.interrupted()
 
     def _await_motors(self) -> bool:
-        """Waits until the player has carried out what was handed out; False where somebody wants to hold before that, or
-        the player is gone."""
+        """Waits until the player has carried out what was handed out; False where somebody wants to hold before that,
+        or the player is gone."""
         try:
             if not self.meter or self.meter.drained(self._goes_on):
                 return True
@@ -281,9 +294,10 @@ class Operator:
 
     def _hold(self) -> None:
         reply = self.console.ask("hold")[0]
-        ahead = f"; up to {self.meter.limit} lines that are handed out are still carried out" if self.meter else \
-            "; the lines in OUT are still carried out"
-        self.screen.say(reply + (ahead if reply == "held" else ""))
+        if reply == "held" and not self.gone:
+            ahead = f"up to {self.meter.limit} lines that are handed out" if self.meter else "the lines in OUT"
+            reply += f"; {ahead} are still carried out"
+        self.screen.say(reply)
         self._where("")
 
     def _rest(self, ended: str) -> None:
@@ -307,7 +321,7 @@ class Operator:
         """The line that is being done."""
         if self.own:
             return f"your line: {self.own}"
-        return f"line {self.program.number(status.place)}: {self.program.line(status.place)}"
+        return self._line(status)
 
     def _where(self, _: str) -> None:
         status = self.console.status()
@@ -317,8 +331,8 @@ class Operator:
         if status.half != "none":
             parts.append(self._half(status))
         elif self.program.text:
-            line = self.program.line(status.place)
-            parts.append(f"next line {self.program.number(status.place)} of {self.program.count}" + (f": {line}" if line else ""))
+            line, number = self.program.line(status.place), self.program.number(status.place)
+            parts.append(f"next line {number} of {self.program.count}" + (f": {line}" if line else ""))
         self.screen.say("; ".join(parts))
         if report := self._report():
             self.screen.say(f"the motors are at {axes(report.at.split())}, {report.behind} lines behind")
@@ -331,8 +345,13 @@ class Operator:
         """The block that is half-done or under way."""
         if status.half == "mdi":
             return f"segment {status.segment} of {f'your line {self.own}' if self.own else 'a line of yours'}"
-        line = f"line {self.program.number(status.place)}: {self.program.line(status.place)}" if self.program.text else "the program"
-        return f"segment {status.segment} of {line}"
+        if not self.program.text:
+            return f"segment {status.segment} of a line of the program"
+        return f"segment {status.segment} of {self._line(status)}"
+
+    def _line(self, status: Status) -> str:
+        """The program's line at the place."""
+        return f"line {self.program.number(status.place)}: {self.program.line(status.place)}"
 
     def _report(self) -> Report | None:
         try:
@@ -341,7 +360,7 @@ class Operator:
             self.screen.say(str(why))
             return None
 
-    def _stored(self) -> Device:
+    def _stored(self) -> "Device | _Nothing":
         """What the device holds, which `ngc` has synced."""
         try:
             return Device.read(self.device)
@@ -350,21 +369,28 @@ class Operator:
 
     def _warn_place(self, status: Status) -> None:
         report = self._report()
-        if report and (report.at != " ".join(status.at) or not status.known):
+        if report and not (status.known and self._same(report, status)):
             self.screen.say(f"the player says: reference {report.at}")
 
     def _place_fits(self, status: Status) -> bool:
         """Whether the motors are where `ngc` takes them to be; says it where they aren't."""
         report = self._report()
-        if not report or report.behind or not status.known or report.at == " ".join(status.at):
+        if not report or report.behind or not status.known or self._same(report, status):
             return True
         self.screen.say(f"the motors are at {axes(report.at.split())}, and ngc takes them to be at {place(status)}:"
                         f" reference {report.at} first")
         return False
 
+    def _same(self, report: Report, status: Status) -> bool:
+        """Whether both say the same place, in whole steps."""
+        places = [Position(self.step_nm, [nanometres(number) for number in at]).steps
+                  for at in (report.at.split(), status.at)]
+        return places[0] == places[1]
+
     def _offer_place(self) -> None:
         report = self._report()
-        self.screen.say("where does the machine stand? reference X Y Z" + (f"; the player says: reference {report.at}" if report else ""))
+        said = f"; the player says: reference {report.at}" if report else ""
+        self.screen.say("where does the machine stand? reference X Y Z" + said)
 
     def _taken(self, reply: str) -> bool:
         return not self._is_refusal(reply)
@@ -374,13 +400,13 @@ class Operator:
         if not reply.startswith("refused"):
             return False
         of_line = status is not None and re.match(r"refused [EBCYX]\d", reply)
-        where = f"line {self.program.number(status.place)}: {self.program.line(status.place)}\n  " if of_line else ""
+        where = f"{self._line(status)}\n  " if of_line else ""
         self.screen.say(where + explained(reply))
         return True
 
 
 class _Nothing:
-    """A device that can't be read."""
+    """What is shown of a device that can't be read."""
 
     program = b""
     slot = 0

@@ -80,23 +80,24 @@ def metered(given: argparse.Namespace) -> Meter | None:
 def bound(given: argparse.Namespace, meter: Meter | None, pipe: int | None) -> str:
     """How far OUT may be ahead of the motors, in words."""
     if meter:
-        return f"metered: OUT is at most {meter.limit} lines ahead of the player, which is what a loss of power can cost"
+        return (f"metered: OUT is at most {meter.limit} lines ahead of the player, which is what a loss of power can"
+                " cost")
     if pipe is None:
         kind = "a file" if not os.path.exists(given.out) or stat.S_ISREG(os.stat(given.out).st_mode) else "no pipe"
         return f"not metered: {given.out} is {kind}, which takes any number of lines ahead of the motors"
     size = fcntl.fcntl(pipe, fcntl.F_GETPIPE_SZ)
     line = len(f"P 1 0 0 {Settings.read(given.settings).period_us}\n")
-    return (f"not metered: {given.out} holds {size:,} bytes, so some {size // line:,} lines can be ahead of the motors, and a"
-            " loss of power can cost them; --player bounds it")
+    return (f"not metered: {given.out} holds {size:,} bytes, so some {size // line:,} lines can be ahead of the motors,"
+            " and a loss of power can cost them; --player bounds it")
 
 
 def session(ngc: str, given: argparse.Namespace, meter: Meter | None, pipe: int | None) -> int:
     """From the start of `ngc` to its end. Raises Ended where it ends by itself."""
     screen = Screen()
     console = Console(ngc, given.device, given.settings, given.out, Patience(screen))
-    operator = Operator(console, given.device, screen, meter)
     try:
         console.status()
+        operator = Operator(console, given.device, Settings.read(given.settings).step_nm, screen, meter)
         said = bound(given, meter, pipe)
         if pipe is not None:
             os.close(pipe)
@@ -136,8 +137,8 @@ class Patience:
     def __call__(self, seconds: float) -> None:
         """Is called while a reply doesn't come."""
         if seconds > 2:
-            self.screen.once("ngc waits until the reader of OUT takes lines; a hold is heeded after that. Ctrl-C three times"
-                             " ends ngc, as a loss of power would")
+            self.screen.once("ngc waits until the reader of OUT takes lines; a hold is heeded after that. Ctrl-C three"
+                             " times ends ngc, as a loss of power would")
             if self.screen.asked_to_hold >= 3:
                 raise Refused("ended; a block that was under way is half-done")
 

@@ -106,5 +106,5 @@ def _in_range(line: Line, number: int, least_period_us: int) -> None:
 
 
 def _shown(text: bytes) -> str:
-    """The line in quotes, its end left out where it is long, other bytes than ASCII escaped."""
-    return repr(text[:60].decode("latin-1") + ("..." if len(text) > 60 else "")).encode("ascii", "backslashreplace").decode()
+    """The line in quotes, its end left out where it is long, other bytes than printable ASCII escaped."""
+    return ascii(text[:60].decode("latin-1") + ("..." if len(text) > 60 else ""))

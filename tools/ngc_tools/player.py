@@ -181,6 +181,7 @@ class Player:
         self.keeper: Keeper | None = None
         self.listener: Listener | None = None
         self.timed = True
+        self.spindle_us = 0  # how long the spindle takes to start, to stop, or to turn the other way
         self.asks: TextIO | None = None  # where a person says that the tool is in
         self.waits = False
         self.stopping = False
@@ -194,7 +195,8 @@ class Player:
             while (text := self._next()) is not None:
                 self._carry_out(text)
             if self.source.part():
-                raise BadLine(self.lines + 1, f"OUT ends in a part of a line: {self.source.part()[:60].decode('latin-1')!r}")
+                part = ascii(self.source.part()[:60].decode("latin-1"))
+                raise BadLine(self.lines + 1, f"OUT ends in a part of a line: {part}")
         except (BadLine, Stopped):
             self.pins.off()
             self.outputs = stopped(self.outputs)
@@ -240,6 +242,8 @@ class Player:
         self._heed()
         self.pins.set(text)
         self.schedule.begun(line.lasts_us)
+        if isinstance(line, Switch) and line.spindle != self.outputs.spindle and self.spindle_us:
+            self._wait_until(time.monotonic_ns() + self.spindle_us * 1000)
         self.position.take(line)
         self.counts.add(line)
         self.lines += 1

@@ -15,7 +15,7 @@ from ngc_tools.settings import BadSettings, Settings
 ABOUT = """Carry out the lines of OUT, each in its time, and keep in POSITION what was carried out.
 
 It drives no motors: that is what --pins stands for. POSITION is a file of 512 bytes: which OUT, how many of its lines
-are carried out, the outputs, and a command `reference X Y Z` for `ngc run`. It is synced every 20 ms, and at the end."""
+are carried out, the outputs, and a command `reference X Y Z` for `ngc run`. It is synced every 20 ms and at the end."""
 
 EXAMPLE = """example:
   mkfifo axis
@@ -36,10 +36,12 @@ def words() -> argparse.ArgumentParser:
     parser.add_argument("settings", metavar="SETTINGS", help="the machine's settings, as `ngc run` has them")
     parser.add_argument("position", metavar="POSITION", help="the record; it is made where there is none, and then the"
                         " machine stands at 0")
-    parser.add_argument("--at", nargs=3, metavar=("X", "Y", "Z"), help="where the machine stands, in machine millimetres")
-    parser.add_argument("--anew", action="store_true", help="begin with the first line of a file, not where POSITION ends")
+    parser.add_argument("--at", nargs=3, metavar=("X", "Y", "Z"), help="where the machine stands, in machine mm")
+    parser.add_argument("--anew", action="store_true", help="begin with a file's first line, not where POSITION ends")
     parser.add_argument("--follow", action="store_true", help="wait for more at a file's end, until Ctrl-C")
     parser.add_argument("--ask-tool", action="store_true", help="at a tool change wait until somebody presses Enter")
+    parser.add_argument("--spindle", type=float, default=0, metavar="SECONDS",
+                        help="wait so long after a switch that starts, stops or turns the spindle the other way")
     parser.add_argument("--pipe", type=int, default=PIPE_BYTES, metavar="BYTES",
                         help=f"make the pipe as small as this (default {PIPE_BYTES:,})")
     parser.add_argument("--progress", metavar="SOCKET", help="tell there how far it is, to whoever asks")
@@ -74,6 +76,7 @@ def main(arguments: list[str] | None = None) -> int:
 def play(player: Player, given: argparse.Namespace) -> int:
     """Plays OUT to its end, and tells what was done."""
     player.timed = not given.untimed
+    player.spindle_us = round(given.spindle * 1_000_000)
     player.asks = sys.stdin if given.ask_tool else None
     _heed_signals(player)
     save_wakeups()

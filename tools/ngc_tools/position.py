@@ -22,7 +22,7 @@ class Position:
     """A point in steps. `step_nm` is the settings' size of one step of X, Y, Z; `steps` counts from machine 0."""
 
     def __init__(self, step_nm: Sequence[int], at_nm: Sequence[int] = (0, 0, 0)) -> None:
-        """`at_nm` is where the machine stands first; it is rounded to whole steps, half away from zero, as `ngc` does."""
+        """`at_nm` is where the machine stands first; it is rounded to steps, half away from zero, as `ngc` does."""
         self.step_nm = tuple(step_nm)
         self.steps = [rounded(nm, step) for nm, step in zip(at_nm, self.step_nm, strict=True)]
 

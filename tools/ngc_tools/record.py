@@ -1,4 +1,5 @@
 """The record that a player keeps of what it carried out: one sector, overwritten in place and synced."""
+import fcntl
 import os
 import threading
 import time
@@ -50,8 +51,10 @@ class Record:
                      ((out, "out"), (lines, "lines"), (size, "bytes"), (outputs, "outputs"), (reference, "reference"))]
             switch = parse(words[3], 4)
             x, y, z = map(nanometres, words[4].split(" "))
-            if len(text.encode("utf-8", "surrogateescape")) != SIZE or not isinstance(switch, Switch) or "".join(rest).strip():
-                raise ValueError("it has other lines")
+            if len(text.encode("utf-8", "surrogateescape")) != SIZE or "".join(rest).strip():
+                raise ValueError(f"it has other lines, or not {SIZE} bytes")
+            if not isinstance(switch, Switch):
+                raise ValueError("no outputs")
             return Record(words[0], int(words[1]), int(words[2]), switch, (x, y, z))
         except (ValueError, BadLine) as why:
             raise BadRecord(f"{path}: not a record of ngc-player: {why}") from None
@@ -75,7 +78,8 @@ class Keeper:
     `worst_ms` is how old the record on the disk was at most while something newer was there."""
 
     def __init__(self, path: str | Path, first: Record, every_ms: int = 20) -> None:
-        """Writes the first record, and syncs it and its folder. Raises OSError or BadRecord."""
+        """Writes the first record, and syncs it and its folder; holds the file by the system's lock. Raises OSError,
+        also where another player holds it, or BadRecord."""
         self.now = first
         self.worst_ms = 0.0
         self.failed: OSError | None = None
@@ -83,6 +87,10 @@ class Keeper:
         self._end = threading.Event()
         self._file = os.open(path, os.O_RDWR | os.O_CREAT | os.O_CLOEXEC, 0o644)
         self._kept: Record | None = None
+        try:
+            fcntl.flock(self._file, fcntl.LOCK_EX | fcntl.LOCK_NB)
+        except BlockingIOError as why:
+            raise OSError(why.errno, "another player keeps it", str(path)) from None
         self._keep()
         os.ftruncate(self._file, SIZE)
         os.fsync(self._file)

@@ -1,6 +1,6 @@
 #!/usr/bin/env python3
-"""Pulls the plug: kills `ngc run` and the player together, at moments by chance, and counts the lines that no motor ever
-carries out.
+"""Pulls the plug: kills `ngc run` and the player together, at moments by chance, and counts the lines that no motor
+ever carries out.
 
     pulled_plug.py --ngc PATH [--moments N] [--ahead LINES | --unmetered] [--pipe BYTES] [--player PATH] [--seed N]
 
@@ -46,14 +46,14 @@ class Wrong(AssertionError):
 
 
 def program(blocks: int) -> bytes:
-    """Short moves of 0.05 mm at F600 up and down a stair, an arc, a hole, waits and switches."""
+    """Short moves of 0.05 mm at F600 to and fro on stairs, an arc, a hole, waits and switches."""
     lines = ["G17 G21 G40 G49 G54 G80 G90 G94", "M3 S1000", "G0 Z0.1", "G1 Z-0.1 F600"]
     x = y = 0
     for block in range(blocks):
         if block % 3 == 2:
-            y += 1
+            y += 1 if block // 30 % 2 == 0 else -1
         else:
-            x += 1
+            x += 1 if block // 21 % 2 == 0 else -1
         lines.append(f"G1 X{5 * x / 100:.2f} Y{5 * y / 100:.2f}")
         if block % 40 == 20:
             lines.append("G4 P0.002")
@@ -103,10 +103,8 @@ def run_uncut(ngc: str, folder: Path, text: bytes) -> Uncut:
             break
     console.quit()
     whole = out.read_bytes()
-    def index(size: int) -> int:
-        return whole.count(b"\n", 0, size)
-    return Uncut(text, whole.splitlines(), {key: index(size) for key, size in segments.items()},
-                 {key: index(size) for key, size in places.items()})
+    return Uncut(text, whole.splitlines(), {key: whole.count(b"\n", 0, size) for key, size in segments.items()},
+                 {key: whole.count(b"\n", 0, size) for key, size in places.items()})
 
 
 @dataclass
@@ -149,34 +147,35 @@ class Job:
         """From power on to the cut, or to the end; True where the program is at its end."""
         self.sessions += 1
         session = Session(self.folder, self.device, self.options, self.stands)
-        begins, back = 0, 0
         try:
             status = session.console.status()
             begins = self._next_line(status)
             if self.sessions > 1:
-                lost = max(0, begins - self.done)
-                result.lost.append(lost)
-                if self.options.ahead and lost > self.options.ahead:
-                    raise Wrong(f"{lost} lines are never carried out, and the bound is {self.options.ahead}: {status}")
-            self.done = max(self.done, begins)
+                self._note_lost(result, begins)
             if begins == len(self.uncut.lines):
                 result.ended_short += 1
-                session.kill()
                 return True
             back = self._take_up(session, status, begins)
             if cut:
-                session.kill_after(self.chance.uniform(0, self.options.longest_s))
-            session.work()
-            session.forget_kill()
-            ended = True
-        except (Ended, NoAnswer):
-            ended = False
-        if ended:
-            session.end()
-        self._look(session, begins, back, ended)
-        if ended:
-            result.finished += 1
-        return ended
+                session.kill_after(self._moment())
+            ended = session.work_on()
+            self._look(session, begins, back, ended)
+            result.finished += ended
+            return ended
+        finally:
+            session.kill()
+
+    def _moment(self) -> float:
+        """When to pull the plug, in seconds: often soon, as in an approach."""
+        return self.chance.uniform(0, self.options.longest_s / self.chance.choice((1, 1, 6, 6, 6)))
+
+    def _note_lost(self, result: Result, begins: int) -> None:
+        """Notes how many lines the last cut lost. Raises Wrong where it is more than the bound."""
+        lost = max(0, begins - self.done)
+        result.lost.append(lost)
+        if self.options.ahead and lost > self.options.ahead:
+            raise Wrong(f"{lost} lines before line {begins} are never carried out; the bound is {self.options.ahead}")
+        self.done = max(self.done, begins)
 
     def _next_line(self, status: Status) -> int:
         """The index of the line that comes next by the status."""
@@ -186,7 +185,9 @@ class Job:
             return self.uncut.segments[status.place, status.segment]
         if status.half != "none":
             raise Wrong(f"a block of the operator's: {status}")
-        return self.uncut.places[status.place] if status.place else len(self.uncut.lines)
+        if status.place or not self.done:
+            return self.uncut.places[status.place]
+        return len(self.uncut.lines)  # after M2 the place is the beginning again
 
     def _take_up(self, session: "Session", status: Status, begins: int) -> int:
         """Gives the commands of docs/RECOVERY.md; returns how many lines the way back has."""
@@ -217,7 +218,7 @@ class Job:
         stood = self.stands
         self.stands = steps_after(got, self.stands)
         if len(got) >= back:
-            there = steps_after([line for line in way], stood)
+            there = steps_after(way, stood)
             if there != self.uncut.at(begins):
                 raise Wrong(f"the way back leads to {there}, and the segment begins at {self.uncut.at(begins)}")
             if worked != self.uncut.lines[begins:begins + len(worked)]:
@@ -234,7 +235,8 @@ class Session:
     def __init__(self, folder: Path, device: Path, options: Options, stands: tuple[int, ...]) -> None:
         """Starts both; `stands` is where the motors are, in steps, as somebody has measured it."""
         self.folder, self.options = folder, options
-        self.fifo, self.socket, self.log, self.record = (folder / name for name in ("axis", "progress", "pins", "record"))
+        self.fifo, self.socket = folder / "axis", folder / "progress"
+        self.log, self.record = folder / "pins", folder / "record"
         for path in (self.fifo, self.socket, self.log):
             path.unlink(missing_ok=True)
         os.mkfifo(self.fifo)
@@ -245,6 +247,7 @@ class Session:
         self.meter = Meter(self.link, options.ahead) if options.ahead else None
         self.console = Console(options.ngc, device, folder / "settings.toml", self.fifo)
         self.timer: threading.Timer | None = None
+        self.over = False
 
     def _start_player(self) -> int:
         words = [self.fifo, self.folder / "settings.toml", self.record]
@@ -292,12 +295,21 @@ class Session:
             except ProcessLookupError:
                 pass
 
-    def forget_kill(self) -> None:
-        """Lets it go on, if it isn't killed yet. Raises Ended where it is."""
-        if self.timer:
-            self.timer.cancel()
-            self.timer.join()
-        self.console.status()
+    def work_on(self) -> bool:
+        """Works until the program is at its end, and ends both as an operator does; False where the plug was pulled."""
+        try:
+            self.work()
+            if self.timer:
+                self.timer.cancel()
+                self.timer.join()
+            self.drain()
+            self.console.status()
+        except (Ended, NoAnswer):
+            self.kill()
+            return False
+        self.console.quit()
+        self._reap()
+        return True
 
     def work(self) -> None:
         """Gives ticks until there is nothing to do. Raises Ended or NoAnswer where the plug was pulled."""
@@ -305,46 +317,41 @@ class Session:
             count = self.meter.room() if self.meter else 500
             replies = self.console.ask(f"tick {count}")
             if any(reply.startswith("refused") for reply in replies):
-                raise Wrong(" ".join(replies)) if self.console.child.poll() is None and not self._pulled() else Ended(-9, replies)
+                if not self._pulled():
+                    raise Wrong(" ".join(replies))
+                raise Ended(-9, replies)
             if "idle" in replies or "stopped" in replies:
                 return
 
     def _pulled(self) -> bool:
-        """Whether the plug was pulled, by now or in a moment: a controller whose reader is gone refuses before it dies."""
-        return self.timer is not None and (self.timer.join(5) or not self.timer.is_alive())
+        """Whether the plug is being pulled: a controller whose reader is gone refuses before it is killed itself."""
+        if self.timer is None:
+            return False
+        self.timer.join(5)
+        return not self.timer.is_alive()
 
     def drain(self) -> None:
         """Waits until the player has carried out everything."""
         while self.link.ask().behind:
             time.sleep(0.002)
 
-    def end(self) -> None:
-        """Ends both as an operator does."""
-        self.drain()
-        self.console.quit()
-        self._reap()
-
     def kill(self) -> None:
-        """Kills both now."""
-        self._kill_both()
-        self._reap()
+        """Kills both now, if they aren't over."""
+        if self.timer:
+            self.timer.cancel()
+            self.timer.join()
+        if not self.over:
+            self._kill_both()
+            self._reap()
 
     def _reap(self) -> None:
+        self.over = True
         os.waitpid(self.player, 0)
         self.console.close_pipes()
         self.link.close()
 
     def pins(self) -> list[bytes]:
         """The lines that the pins got, once both have ended."""
-        if self.timer:
-            self.timer.join()
-        if self.console.child.poll() is None or self.console.child.stdout and not self.console.child.stdout.closed:
-            self.kill()
-        else:
-            try:
-                self._reap()
-            except ChildProcessError:
-                pass
         return self.log.read_bytes().splitlines() if self.log.exists() else []
 
     def check_record(self, got: list[bytes], stood: tuple[int, ...]) -> None:
@@ -384,7 +391,7 @@ def main() -> int:
     parser.add_argument("--unmetered", action="store_true")
     parser.add_argument("--pipe", type=int, default=4096)
     parser.add_argument("--player", help="the player of tools/player.c, in place of ngc-player")
-    parser.add_argument("--longest", type=float, default=0.1, help="a cut comes after so many seconds at most")
+    parser.add_argument("--longest", type=float, default=0.3, help="a cut comes after so many seconds at most")
     given = parser.parse_args()
     options = Options(given.ngc, None if given.unmetered else given.ahead, given.pipe, given.player, given.longest)
     begun = time.monotonic()
@@ -392,7 +399,8 @@ def main() -> int:
     lost = sorted(result.lost)
     print(f"{len(lost)} moments in {time.monotonic() - begun:.0f} s; never carried out: {lost[0]} to {lost[-1]} lines,"
           f" median {statistics.median(lost):.0f}; {sum(map(bool, lost))} moments with any;"
-          f" {result.finished} jobs ended where the uncut one does, {result.ended_short} were cut after their last block")
+          f" {result.finished} jobs ended where the uncut one does, {result.ended_short} were cut after their last"
+          " block")
     return 0
 
 

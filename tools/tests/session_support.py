@@ -67,8 +67,8 @@ class InFolder(unittest.TestCase):
 
     def run_ngc(self, commands: str, out: str = "out") -> list[str]:
         """Gives commands to `ngc run` over mill.dev, and returns its replies."""
-        done = subprocess.run([ngc(), "run", "mill.dev", "first.toml", out], input=commands, capture_output=True, text=True,
-                              timeout=PATIENCE_S)
+        words = [ngc(), "run", "mill.dev", "first.toml", out]
+        done = subprocess.run(words, input=commands, capture_output=True, text=True, timeout=PATIENCE_S)
         return done.stdout.splitlines()
 
     def wait_for(self, what: str, holds: Callable[[], bool]) -> None:
@@ -110,6 +110,21 @@ class Terminal:
                 break
             got += piece
         return got
+
+    def send_to_end(self, key: bytes) -> bytes:
+        """Presses a key again and again until the program ends; returns what is shown meanwhile."""
+        got, until = b"", time.monotonic() + PATIENCE_S
+        while time.monotonic() < until:
+            try:
+                os.write(self.file, key)
+                while select.select([self.file], [], [], 0.3)[0]:
+                    piece = os.read(self.file, 4096)
+                    if not piece:
+                        return got
+                    got += piece
+            except OSError:
+                return got
+        raise AssertionError(f"it doesn't end: {got!r}")
 
     def status(self) -> int:
         """Waits for its end."""

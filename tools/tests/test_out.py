@@ -25,11 +25,13 @@ class Lines(unittest.TestCase):
 
     def test_other_lines(self) -> None:
         """A line that isn't exactly one of them is refused, with its number."""
-        wrong = ["", "P", "P 1 0 0", "P 1 0 0 50 ", " P 1 0 0 50", "P 1  0 0 50", "P 2 0 0 50", "P -0 0 0 50", "P +1 0 0 50",
-                 "P 1 0 0 050", "P 1 0 0 -50", "P 1 0 0 5x", "p 1 0 0 50", "P 1 0 0 50\r", "P 1 0 0 18446744073709551616", "D",
+        wrong = ["", "P", "P 1 0 0", "P 1 0 0 50 ", " P 1 0 0 50", "P 1  0 0 50", "P 2 0 0 50", "P -0 0 0 50",
+                 "P +1 0 0 50", "P 1 0 0 050", "P 1 0 0 -50", "P 1 0 0 5x", "p 1 0 0 50", "P 1 0 0 50\r",
+                 "P 1 0 0 18446744073709551616", "D",
                  "D -1", "D 1.5", "D 00", "S 0 0 0 0 0 0", "S 3 0.000000 0 0 0 0", "S 0 0.00000 0 0 0 0",
-                 "S 0 00.000000 0 0 0 0", "S 0 10000000.000000 0 0 0 0", "S 0 0.000000 2 0 0 0", "S 0 0.000000 0 0 65 0",
-                 "S 0 0.000000 0 0 0 01", "S 0 0.000000 0 0 0", "P 1 0 0 50P 1 0 0 50", "P 1 0 0 \N{DEVANAGARI DIGIT FIVE}0"]
+                 "S 0 00.000000 0 0 0 0", "S 0 10000000.000000 0 0 0 0", "S 0 0.000000 2 0 0 0",
+                 "S 0 0.000000 0 0 65 0", "S 0 0.000000 0 0 0 01", "S 0 0.000000 0 0 0", "P 1 0 0 50P 1 0 0 50",
+                 "P 1 0 0 \N{DEVANAGARI DIGIT FIVE}0"]
         for line in wrong:
             with self.assertRaises(BadLine, msg=line) as caught:
                 parse(line, 7)
@@ -61,7 +63,8 @@ class Positions(unittest.TestCase):
         """Nanometres as text and back."""
         self.assertEqual([millimetres(nm) for nm in (0, -1, 7_210_000, -12_000_000_001)],
                          ["0.000000", "-0.000001", "7.210000", "-12000.000001"])
-        self.assertEqual([nanometres(text) for text in ("-7.21", ".5", "+3", "-0.000001")], [-7_210_000, 500_000, 3_000_000, -1])
+        self.assertEqual([nanometres(text) for text in ("-7.21", ".5", "+3", "-0.000001")],
+                         [-7_210_000, 500_000, 3_000_000, -1])
         for text in ("", ".", "-", "1.2345678", "1e3", "1_0", "x"):
             with self.assertRaises(ValueError, msg=text):
                 nanometres(text)
@@ -82,7 +85,8 @@ class Records(InFolder):
 
     def test_other_files(self) -> None:
         """Another file is refused, and so is a path that is too long."""
-        for text in (b"", b"7.21 0 0\n", b"x" * 512, Record("/axis").text()[:-1], Record("/axis").text().replace(b"lines", b"LINES")):
+        right = Record("/axis").text()
+        for text in (b"", b"7.21 0 0\n", b"x" * 512, right[:-1], right.replace(b"lines", b"LINES")):
             Path("position").write_bytes(text)
             with self.assertRaisesRegex(BadRecord, "^position: not a record of ngc-player"):
                 Record.read("position")

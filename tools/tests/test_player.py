@@ -1,6 +1,7 @@
 """ngc-player, and player.c beside it: what is carried out, when, what is kept, and what is told."""
 import fcntl
 import os
+import random
 import re
 import signal
 import subprocess
@@ -14,6 +15,7 @@ sys.path.insert(0, str(Path(__file__).resolve().parent))
 
 from session_support import PATIENCE_S, TOOLS, InFolder  # noqa: E402
 
+from ngc_tools.out import BadLine, parse  # noqa: E402
 from ngc_tools.progress import Link, NoAnswer, Report  # noqa: E402
 from ngc_tools.record import Record  # noqa: E402
 
@@ -35,10 +37,30 @@ def record(path: str = "position") -> str:
     return Path(path).read_text().split("\n", 1)[1].rstrip(" \n") + "\n"
 
 
+def damaged(line: str, chance: random.Random) -> str:
+    """The line, of one in thirty with a byte changed, added or left out."""
+    if chance.random() > 1 / 30:
+        return line
+    at = chance.randrange(len(line))
+    byte = chance.choice("0123456789 -.PDS\0\n\xe9")
+    return chance.choice((line[:at] + byte + line[at + 1:], line[:at] + byte + line[at:], line[:at] + line[at + 1:]))
+
+
+def accepted(text: bytes) -> tuple[list[bytes], int]:
+    """The lines up to the first that isn't one, and the number of that, 0 for none."""
+    *lines, part = text.split(b"\n")
+    for number, line in enumerate(lines, 1):
+        try:
+            parse(line, number, 50)
+        except BadLine:
+            return lines[:number - 1], number
+    return lines, len(lines) + 1 if part else 0
+
+
 class Both:
     """What the player in Python and the one in C have to do alike."""
 
-    command: list[str]
+    wrong = ["P 1 0 0", "P 1 0 0 49", "", "x" * 5000]
 
     def words(self, *words: str) -> list[str]:
         """The command line, by the long names of ngc-player's options."""
@@ -46,13 +68,13 @@ class Both:
 
     def play(self, *words: str) -> subprocess.CompletedProcess[str]:
         """Plays `out` to its end."""
-        return subprocess.run(self.words(*words, "--pins", "pins", "out", "first.toml", "position"), capture_output=True,
-                              text=True, timeout=PATIENCE_S)
+        command = self.words(*words, "--pins", "pins", "out", "first.toml", "position")
+        return subprocess.run(command, capture_output=True, text=True, timeout=PATIENCE_S)
 
     def begin(self, *words: str) -> subprocess.Popen[str]:
         """Starts it."""
-        child = subprocess.Popen(self.words(*words), stdin=subprocess.PIPE, stdout=subprocess.PIPE, stderr=subprocess.PIPE,
-                                 text=True)
+        child = subprocess.Popen(self.words(*words), stdin=subprocess.PIPE, stdout=subprocess.PIPE,
+                                 stderr=subprocess.PIPE, text=True)
         self.addCleanup(self._end, child)
         return child
 
@@ -106,14 +128,14 @@ class Both:
         Path("out").write_text(LINES)
         self.play("--untimed")
         Path("other").write_text("P 1 1 1 50\n")
-        done = subprocess.run(self.words("--untimed", "other", "first.toml", "position"), capture_output=True, text=True)
+        command = self.words("--untimed", "other", "first.toml", "position")
+        done = subprocess.run(command, capture_output=True, text=True)
         self.assertEqual(done.stdout.splitlines()[-1], "reference 0.003000 0.000000 0.000000")
         self.assertEqual(record().split("\n")[0], "lines 1")
 
     def test_wrong_line(self) -> None:
         """It stops at the first line that isn't one of OUT, with its number, and turns spindle and coolant off."""
-        for wrong in ("P 1 0 0", "P 1 0 0 49", "P 1 0 0 50P 1 0 0 50", "", "S 0 0 0 0 0 0", "D -1", "P 2 0 0 50", "P 1 0 0 50\r",
-                      "D 18446744073709551616", "P 1 0 0 50\0", "D 1 ", "S 0 0.000000 0 0 65 0", "x" * 5000, "P -0 0 0 50"):
+        for wrong in self.wrong:
             for name in ("pins", "position"):
                 Path(name).unlink(missing_ok=True)
             Path("out").write_text("S 1 5.000000 1 1 0 0\nP 1 0 0 50\n" + wrong + "\nP 1 0 0 50\n", newline="")
@@ -121,7 +143,8 @@ class Both:
             self.assertEqual(done.returncode, 1, wrong)
             self.assertTrue(done.stderr.startswith("out:3: "), done.stderr)
             self.assertEqual(Path("pins").read_text(), "S 1 5.000000 1 1 0 0\nP 1 0 0 50\noff\n", wrong)
-            self.assertEqual(record(), "lines 2\nbytes 32\noutputs S 0 5.000000 0 0 0 0\nreference 0.001000 0.000000 0.000000\n")
+            self.assertEqual(record(), "lines 2\nbytes 32\noutputs S 0 5.000000 0 0 0 0\n"
+                             "reference 0.001000 0.000000 0.000000\n")
 
     def test_part_of_a_line(self) -> None:
         """A line counts once its newline is there."""
@@ -185,7 +208,19 @@ class Both:
             self.wait_for("the record is there", lambda: os.path.exists("position") and "lines 2" in record())
             child.kill()
             child.wait()
-        self.assertEqual(record(), "lines 2\nbytes 24\noutputs S 0 0.000000 0 0 0 0\nreference 0.000000 0.001000 0.000000\n")
+        self.assertEqual(record(), "lines 2\nbytes 24\noutputs S 0 0.000000 0 0 0 0\n"
+                         "reference 0.000000 0.001000 0.000000\n")
+
+    def test_one_record(self) -> None:
+        """A record has one player at a time."""
+        os.mkfifo("out")
+        self.begin("--progress", "progress", "out", "first.toml", "position")
+        self.linked()
+        Path("other").write_text(LINES)
+        command = self.words("--untimed", "other", "first.toml", "position")
+        done = subprocess.run(command, capture_output=True, text=True)
+        self.assertEqual(done.returncode, 2)
+        self.assertIn("player: position: another player keeps it", done.stderr)
 
     def test_cannot(self) -> None:
         """Files that can't be used are named, with status 2."""
@@ -226,6 +261,21 @@ class Python(Both, InFolder):
             self.wait_for("it goes on", lambda: link.ask().carried == 6)
         self.assertEqual(child.wait(PATIENCE_S), 0)
 
+    def test_live(self) -> None:
+        """It shows the line and the position while it works."""
+        Path("out").write_text("P 1 0 0 50\nD 1000000\nD 0\n")
+        done = self.play("--live")
+        self.assertEqual(done.returncode, 0)
+        self.assertIn("line 2: 0.001000 0.000000 0.000000", done.stderr)
+
+    def test_spindle(self) -> None:
+        """Told so, it waits while the spindle starts, turns the other way, and stops, and not at other switches."""
+        Path("out").write_text("S 1 5.000000 0 0 0 0\nS 1 5.000000 0 1 0 0\nS 2 5.000000 0 1 0 0\n"
+                               "S 0 5.000000 0 0 0 0\nS 0 5.000000 0 0 0 0\n")
+        begun = time.monotonic()
+        self.assertEqual(self.play("--untimed", "--spindle", "0.2").returncode, 0)
+        self.assertGreater(time.monotonic() - begun, 0.6)
+
     def test_at(self) -> None:
         """Where the machine stands can be told."""
         Path("out").write_text(LINES)
@@ -259,6 +309,9 @@ class Python(Both, InFolder):
 class C(Both, InFolder):
     """tools/player.c, built by cc."""
 
+    wrong = [*Both.wrong, "P 1 0 0 50P 1 0 0 50", "S 0 0 0 0 0 0", "D -1", "P 2 0 0 50", "P 1 0 0 50\r", "P 1 0 0 50\0",
+             "D 18446744073709551616", "D 1 ", "S 0 0.000000 0 0 65 0", "P -0 0 0 50", "D 00", "S 3 0.000000 0 0 0 0"]
+
     @classmethod
     def setUpClass(cls) -> None:
         """Builds it without a warning."""
@@ -278,8 +331,25 @@ class C(Both, InFolder):
         """It has less than 300 lines."""
         self.assertLess(len((TOOLS / "player.c").read_text().splitlines()), 300)
 
+    def test_by_chance(self) -> None:
+        """With bytes changed by chance it takes the lines that `parse` takes, up to the first that is none."""
+        chance = random.Random(7)
+        for _ in range(60):
+            whole = chance.choices(("P 1 0 -1 50", "D 100", "S 1 1000.000000 0 0 2 2"), k=20)
+            lines = [damaged(line, chance) for line in whole]
+            text = "\n".join(lines) + chance.choice(("\n", ""))
+            Path("out").write_text(text, encoding="latin-1", newline="")
+            for name in ("pins", "position"):
+                Path(name).unlink(missing_ok=True)
+            done = self.play("--untimed")
+            taken, wrong = accepted(text.encode("latin-1"))
+            pins = b"".join(line + b"\n" for line in taken) + b"off\n" * bool(wrong)
+            self.assertEqual(Path("pins").read_bytes(), pins, text)
+            said = (1, f"out:{wrong}") if wrong else (0, "")
+            self.assertEqual((done.returncode, done.stderr.partition(": ")[0]), said, text)
+
     def test_alike(self) -> None:
-        """Over the lines of a program with arcs, cycles, waits, switches and tools, both leave the same pins and record."""
+        """Over the lines of a program with an arc, a cycle, a wait and switches both leave the same pins and record."""
         self.device()
         text = ("G21 G90 G17\nM3 S1500\nG0 X1 Y1 Z1\nG2 X1.5 Y1.5 I0.5 F300\nG4 P0.01\nT1 M6\nM4\n"
                 "G83 X2 Y2 Z-0.5 R0.2 Q0.2\nG80 M8\nG0 X0 Y-0.5\nM2\n")
@@ -290,8 +360,8 @@ class C(Both, InFolder):
         self.assertEqual(ours[0], Path("out").read_text())
         for name in ("pins", "position"):
             Path(name).unlink()
-        python = [sys.executable, str(TOOLS / "ngc-player"), "--untimed", "--pins", "pins", "out", "first.toml", "position"]
-        subprocess.run(python, check=True, capture_output=True)
+        words = ["--untimed", "--pins", "pins", "out", "first.toml", "position"]
+        self.assertEqual(self.tool("ngc-player", *words).returncode, 0)
         self.assertEqual((Path("pins").read_text(), Path("position").read_bytes()), ours)
         self.assertEqual(Record.read("position").at_nm, (0, -500_000, 1_000_000))
         self.assertGreater(len(re.findall("^P", ours[0], re.M)), 5000)

@@ -23,7 +23,7 @@ class PulledPlug(unittest.TestCase):
     def test_python(self) -> None:
         """Metered by 100 lines, the player of ngc-player."""
         wanted = MOMENTS - MOMENTS // 8
-        result = pull(Options(ngc(), 100, 4096, None, 0.06), wanted, seed=1)
+        result = pull(Options(ngc(), 100, 4096, None, 0.3), wanted, seed=1)
         self.assertEqual((len(result.lost), max(result.lost) <= 100), (wanted, True))
         self.assertGreaterEqual(result.finished, 1)
 
@@ -33,7 +33,7 @@ class PulledPlug(unittest.TestCase):
             program = f"{folder}/player"
             subprocess.run(["cc", "-std=c99", "-O2", "-pthread", TOOLS / "player.c", "-o", program], check=True)
             wanted = MOMENTS // 8
-            result = pull(Options(ngc(), 20, 4096, program, 0.06), wanted, seed=2)
+            result = pull(Options(ngc(), 20, 4096, program, 0.3), wanted, seed=2)
         self.assertEqual((len(result.lost), max(result.lost) <= 20), (wanted, True))
         self.assertGreaterEqual(result.finished, 1)
 
