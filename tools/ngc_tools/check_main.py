@@ -48,6 +48,8 @@ def parser() -> argparse.ArgumentParser:
 
 def main() -> int:
     """Checks, and returns the exit status."""
+    for stream in (sys.stdout, sys.stderr):
+        stream.reconfigure(errors="backslashreplace")
     words = parser()
     given = words.parse_args()
     if given.settings_only and (given.program or not given.settings):

@@ -180,9 +180,15 @@ def _modes(lines: Lines, printed: Printed, run: Run) -> list[Danger]:
         # machine 0 has other coordinates then, so that 0 absolute isn't 0 incremental
         shift = b"G92 X0.001 Y0.001 Z0.001\n" if other == b"G91" else b""
         base = by_line(lines, run, shift) if shift else printed
+        if len(base) < len(printed):  # the shift alone is refused, at the edge of the travel
+            shift, base = b"", printed
         changed = by_line(lines, run, shift + other + b"\n")
         first = next((number for number in sorted(base) if number and base[number] != changed.get(number)), None)
-        if first is not None:
-            found.append(Danger(first, "mode", f"relies on {name}: the dry run begins with {fresh}, ngc run goes on"
-                                f" with what the last block left; write {write} before it"))
+        if first is None:
+            continue
+        text = (f"relies on {name}: the dry run begins with {fresh}, ngc run goes on with what the last block left;"
+                f" write {write} before it")
+        if any(command.name == "USE_LENGTH_UNITS" for command in base[first]):
+            text += ", on a line of its own: F is read in the unit before that of its line"
+        found.append(Danger(first, "mode", text))
     return found

@@ -46,11 +46,12 @@ def parser() -> argparse.ArgumentParser:
 
 def main() -> int:
     """Draws, and returns the exit status."""
+    sys.stderr.reconfigure(errors="backslashreplace")
     given = parser().parse_args()
     try:
         return draw(given)
     except UnicodeEncodeError:
-        print("ngc-plot: a name or a title isn't text", file=sys.stderr)
+        print("the title isn't text: give another by --title", file=sys.stderr)
     except (moves.Unplottable, canonical.BadText, out.BadLine) as why:
         print(f"{given.input or 'standard input'}: {why}", file=sys.stderr)
     except subprocess.CalledProcessError as why:

@@ -63,7 +63,7 @@ p.ngc: 5 refusals, no warnings
 """ + AFTER))
 
     def test_two_words(self) -> None:
-        """Either of two words is to blame; two words are, and neither alone helps; a line with one fault after another."""
+        """Either of two words is to blame; or both are, and leaving out one alone doesn't help."""
         program = HEAD + "G0G80X0\nG71G91.1\nG1 X1 Q1 H1\nM2\n"
         self.assertEqual(self.check(program), (1, """p.ngc:3: B4 GroupTwice
     G0G80X0
@@ -195,8 +195,8 @@ class Warnings(InFolder):
     def test_nearly_a_turn(self) -> None:
         """An end that was rounded to behind its start goes nearly round; one ahead of it doesn't."""
         self.assertEqual(self.warnings(HEAD + "G2 Y-0.001 I5\nM2\n"), [
-            "3: warning: nearly a full turn of radius 5.000, to 0.001 beside the arc's start. Is it meant? A short arc whose"
-            " end was rounded goes round so too"])
+            "3: warning: nearly a full turn of radius 5.000, to 0.001 beside the arc's start. Is it meant? A short arc"
+            " whose end was rounded goes round so too"])
         self.assertEqual(self.warnings(HEAD + "G2 Y0.001 I5\nM2\n"), [])
 
     def test_deep(self) -> None:
@@ -216,7 +216,8 @@ class Warnings(InFolder):
         self.assertEqual(self.warnings("G21 G90 G17\nF600\nG0 Z5\nG81 X0 Z-1 R1\nM2\n"), [
             f"4: warning: relies on the way that cycles end: {cycles}"])
         self.assertEqual(self.warnings("%\nG21 F600 G90 G17\nG1 X1\nM2\n%\n"), [
-            f"2: warning: relies on the unit: {unit}"])
+            f"2: warning: relies on the unit: {unit}, on a line of its own: F is read in the unit before that of its"
+            " line"])
 
     def test_bytes(self) -> None:
         """131,072 bytes are taken, one more isn't."""
@@ -257,8 +258,8 @@ class Words(InFolder):
         self.assertEqual(self.failed(".", "--ngc", ngc()), ".: Is a directory")
         self.assertEqual(self.failed("p.ngc", "--ngc", ngc(), "--settings", "none.toml"),
                          "none.toml: No such file or directory")
-        self.assertEqual(self.failed("p.ngc", "--ngc", ngc(), "--settings", "bad.toml"),
-                         "    tools_nm is missing: an array of at most 64 whole numbers of nanometres, 0 to 1,000,000,000")
+        self.assertEqual(self.failed("p.ngc", "--ngc", ngc(), "--settings", "bad.toml"), "    tools_nm is missing: an"
+                         " array of at most 64 whole numbers of nanometres, 0 to 1,000,000,000")
         self.assertEqual(self.failed("p.ngc", "--ngc", sys.executable),
                          "ngc dry ended with status 2, and says nothing")
 

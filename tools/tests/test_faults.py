@@ -29,7 +29,8 @@ class Faults(unittest.TestCase):
     def test_cures_of_words(self) -> None:
         """What CAM systems write."""
         for code, word, said in (("E1", b"; tool 3", "write the comment in ( ), with no ( or ) in it"),
-                                 ("E1", b"O1000", "leave the program's number out; there are no subroutines and no loops"),
+                                 ("E1", b"O1000", "leave the program's number out; there are no subroutines and no"
+                                  " loops"),
                                  ("E1", b"\xef\xbb\xbf", "save the file without a byte order mark"),
                                  ("B2", b"G91.1", "leave it out: I, J and K count from the start of the arc, always"),
                                  ("B2", b"G71 ", "write G21"),

@@ -116,7 +116,8 @@ tool 3    moves 2.000 s   waits 0.001 s   in all 2.001 s
     def test_cross_and_frame(self) -> None:
         """The point of --at, and the travel where it is near."""
         Path("t.txt").write_text(TEXT)
-        Path("near.toml").write_text(FIRST.replace("[-1000000000, -1000000000, -1000000000]", "[-5000000, 0, -3000000]"))
+        far = "[-1000000000, -1000000000, -1000000000]"
+        Path("near.toml").write_text(FIRST.replace(far, "[-5000000, 0, -3000000]"))
         self.figures("t.txt", "--settings", "near.toml", "--at", "5", "2.5", "-1", "--title", "a < b")
         text = Path("x.svg").read_text()
         self.assertIn(">a &lt; b</text>", text)
@@ -185,7 +186,8 @@ class Geometry(unittest.TestCase):
 
     def test_full_turns_in_planes(self) -> None:
         """An end at the start is once round, in each plane from its first axis to its second."""
-        for plane, start, quarter in (("XY", (5, 0, 0), (0, 5, 0)), ("XZ", (0, 0, 5), (5, 0, 0)), ("YZ", (0, 5, 0), (0, 0, 5))):
+        cases = (("XY", (5, 0, 0), (0, 5, 0)), ("XZ", (0, 0, 5), (5, 0, 0)), ("YZ", (0, 5, 0), (0, 0, 5)))
+        for plane, start, quarter in cases:
             points = arc_points(start, start, Arc(plane, (0, 0), True))
             self.assertEqual((len(points), points[16], points[-1]), (65, quarter, start))
 
