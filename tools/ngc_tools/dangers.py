@@ -10,11 +10,11 @@ from ngc_tools.canonical import MOTIONS, Command
 from ngc_tools.figures import duration, millimetres
 from ngc_tools.moves import PLANES, Point, arc_of
 from ngc_tools.refused import Lines
+from ngc_tools.run import MOST_BYTES
 
 Run = Callable[[bytes], bytes]
 """Gives a text to `ngc dry`, and returns what it prints."""
 
-MOST_BYTES = 131_072  # of a program of `ngc run`
 LONG_DWELL_US = 30_000_000
 NEARLY_NM = 10_000  # an arc whose ends are as near as that is taken as rounded
 

@@ -29,6 +29,10 @@ exit status:
   2  the words are wrong, a file can't be used, or ngc didn't hand out the moves"""
 
 
+class Unplottable(ValueError):
+    """A text that can't be drawn; it says why."""
+
+
 def parser() -> argparse.ArgumentParser:
     """The words of the command line."""
     words = argparse.ArgumentParser("ngc-plot", description=ABOUT, epilog=EXAMPLE,
@@ -52,7 +56,7 @@ def main() -> int:
         return draw(given)
     except UnicodeEncodeError:
         print("the title isn't text: give another by --title", file=sys.stderr)
-    except (moves.Unplottable, canonical.BadText, out.BadLine) as why:
+    except (Unplottable, canonical.BadText, out.BadLine) as why:
         print(f"{given.input or 'standard input'}: {why}", file=sys.stderr)
     except subprocess.CalledProcessError as why:
         print(f"{why.cmd[0]} {why.cmd[1]}: status {why.returncode}", file=sys.stderr)
@@ -72,7 +76,7 @@ def draw(given: argparse.Namespace) -> int:
     refused = False
     if is_out(text):
         if settings is None:
-            raise moves.Unplottable("an OUT counts steps; name their settings by --settings FILE")
+            raise Unplottable("an OUT counts steps; name their settings by --settings FILE")
         steps, exact = moves.of_out(text, settings, start or (0, 0, 0)), True
         if not text.endswith(b"\n"):
             print(f"{name or 'standard input'}: the part of a line at its end isn't drawn", file=sys.stderr)

@@ -110,7 +110,7 @@ def find_all(lines: Lines, ask: Ask, most: int = 0) -> Iterator[Finding]:
     refusal = ask(b"".join(lines.all))
     count = 0
     while refusal is not None and (count < most or not most):
-        if refusal.line > len(lines.all):
+        if refusal.code in ("X3", "X4") or refusal.line > len(lines.all):  # the text's end, no line
             yield Finding(refusal, b"")
             return
         finding, body = _looked_at(lines, refusal, ask)

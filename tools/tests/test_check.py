@@ -1,10 +1,16 @@
 """`ngc-check`: refused lines with carets, what to write, how it goes on; warnings; status."""
+import random
 import sys
 from pathlib import Path
 
 sys.path.insert(0, str(Path(__file__).resolve().parent))
 
 from session_support import FIRST, TOOLS, InFolder, ngc  # noqa: E402
+
+from ngc_tools.canonical import parse  # noqa: E402
+from ngc_tools.dangers import by_line  # noqa: E402
+from ngc_tools.refused import Lines, find_all  # noqa: E402
+from ngc_tools.run import Refusal, dry, refusal  # noqa: E402
 
 HEAD = "G17 G21 G90 G98\nF600\n"
 UNUSED = """    a word that nothing takes: H but with G43; I, J, K but as offsets of an arc in the plane after
@@ -232,6 +238,43 @@ class Warnings(InFolder):
         said = self.warnings(HEAD + "G4 P31\n" * 12 + "M2\n")
         self.assertEqual(said[9:], ["12: warning: a dwell of 31.000 s: P is in seconds",
                                     " 2 more warnings as those of line 3"])
+
+
+class ByChance(InFolder):
+    """Texts of words by chance, valid and not."""
+
+    WORDS = ("G0 G1 G2 G3 G4 G17 G18 G20 G28 G41 G43 G53 G54 G80 G81 G86 G90 G91 G92 G93 G91.1 G64 M0 M3 M6 M8 M2 T1 T2"
+             " H1 F100 S500 X1 X2 Y3 Z-1 R1 R-2 Q1 P40 L0 I1 J-1 K0 X[1/0] Y#6000 #1=2 #[1]=[2+ (a) (b c) ;d % / N1 O1"
+             " A1 U \u00e9 . [ ] X2000 \r").split(" ")
+
+    def test_texts(self) -> None:
+        """The first refusal is that of the program; what it went on with is taken; each command has its line."""
+        chance = random.Random(52)
+        for _ in range(20):
+            words = [chance.choices(self.WORDS, k=chance.randint(0, 6)) for _ in range(chance.randint(1, 7))]
+            text = "\n".join(map(" ".join, [*words, [chance.choice(("M2", "%", ""))]])).encode()
+            lines = Lines(text)
+            first = self.ask(text)
+            found = [finding.refusal for finding in find_all(lines, self.ask, 200)]
+            self.assertEqual(found[:1], [first] if first else [], text)
+            self.assertLess(len(found), 200, text)
+            mended = b"".join(lines.all)
+            left = self.ask(mended)
+            self.assertTrue(left is None or left.code in ("X3", "X4"), text)
+            printed = [command for _, each in sorted(by_line(lines, self.dry).items()) for command in each]
+            whole = [command for command in parse(self.dry(mended)) if command.name not in
+                     ("COMMENT", "MESSAGE", "REFUSED")]
+            self.assertEqual(printed, whole, text)
+
+    @staticmethod
+    def ask(text: bytes) -> Refusal | None:
+        """What `ngc dry` refuses."""
+        return refusal(*dry(ngc(), text))
+
+    @staticmethod
+    def dry(text: bytes) -> bytes:
+        """What `ngc dry` prints."""
+        return dry(ngc(), text)[1]
 
 
 class Words(InFolder):

@@ -4,13 +4,17 @@ import sys
 import unittest
 import xml.etree.ElementTree as ElementTree
 from pathlib import Path
+from unittest import mock
 
 sys.path.insert(0, str(Path(__file__).resolve().parent))
 
 from session_support import FIRST, TOOLS, InFolder, ngc  # noqa: E402
 
+from ngc_tools import timing  # noqa: E402
+from ngc_tools.canonical import parse  # noqa: E402
 from ngc_tools.figures import duration, micrometres  # noqa: E402
-from ngc_tools.moves import Arc, arc_points  # noqa: E402
+from ngc_tools.moves import Arc, arc_points, of_canonical  # noqa: E402
+from ngc_tools.timing import timed  # noqa: E402
 
 EXAMPLES = TOOLS.parent / "examples"
 NAMES = ("bolts", "bores", "face", "first", "mill", "parameters", "percent", "pocket", "ring")
@@ -101,6 +105,16 @@ class Plot(InFolder):
         self.assertEqual(out[-1].split("in all ")[1], duration(moves + 250_000))
         self.assertIn("no tool   cutting 15.000 s", text)  # a twentieth and a fifth of a minute
         self.assertEqual(out[0], text[1])  # the extents of all moves
+
+    def test_times_in_parts(self) -> None:
+        """Moves that don't fit in one program, by bytes or by pulses, have the same times."""
+        steps = list(of_canonical(parse((EXAMPLES / "pocket.txt").read_bytes())))
+        whole = timed(ngc(), "first.toml", steps)
+        for name, most in (("MOST_BYTES", 300), ("MOST_PULSES", 30_000)):
+            with mock.patch.object(timing, name, most):
+                self.assertEqual(timed(ngc(), "first.toml", steps), whole)
+        # the first level: down 3 mm at F200, 8 mm at F900, a diagonal of 4 mm and 4 mm, 16 mm
+        self.assertEqual([step.us for step in whole[2:6]], [900_000, 536_000, 380_000, 1_072_000])
 
     def test_out(self) -> None:
         """An OUT: steps of the settings from a point on; a part of a line at its end isn't drawn."""
