@@ -1,5 +1,6 @@
 """The words of `ngc-check`, and what it says."""
 import argparse
+import os
 import sys
 import textwrap
 from collections import Counter
@@ -61,7 +62,11 @@ def main() -> int:
         if given.settings and (refused := _settings_refused(ngc, given.settings)):
             print("\n".join(settings_report.explained(ngc, given.settings, refused)), file=sys.stderr)
             return 2
-        return say_settings(given.settings) if given.settings_only else check(ngc, given)
+        status = say_settings(given.settings) if given.settings_only else check(ngc, given)
+        sys.stdout.flush()
+        return status
+    except BrokenPipeError:
+        os.dup2(os.open(os.devnull, os.O_WRONLY), sys.stdout.fileno())  # nobody reads any more
     except OSError as why:
         print(f"{why.filename}: {why.strerror}" if why.filename else str(why), file=sys.stderr)
     except (BadSettings, CannotRun) as why:

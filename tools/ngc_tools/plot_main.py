@@ -1,5 +1,6 @@
 """The words of `ngc-plot`, and what it draws."""
 import argparse
+import os
 import subprocess
 import sys
 from pathlib import Path
@@ -53,7 +54,11 @@ def main() -> int:
     sys.stderr.reconfigure(errors="backslashreplace")
     given = parser().parse_args()
     try:
-        return draw(given)
+        status = draw(given)
+        sys.stdout.flush()
+        return status
+    except BrokenPipeError:
+        os.dup2(os.open(os.devnull, os.O_WRONLY), sys.stdout.fileno())  # nobody reads any more
     except UnicodeEncodeError:
         print("the title isn't text: give another by --title", file=sys.stderr)
     except (Unplottable, canonical.BadText, out.BadLine) as why:
