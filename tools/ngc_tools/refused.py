@@ -105,8 +105,8 @@ def find_all(lines: Lines, ask: Ask, most: int = 0) -> Iterator[Finding]:
     """Each refusal of a program in turn, `most` of them at most, 0 for all. `lines` are at last what it went on with.
 
     After X1 it goes on with an F on the line; else with the line without a marked piece, or without all of them, if it
-    is taken so; where one piece alone is marked without it in any case, so that the line's next fault is told too; else
-    with a blank line in its place."""
+    is taken so; where one piece alone is marked without it, so that the line's next fault is told too; else with a blank
+    line in its place."""
     refusal = ask(b"".join(lines.all))
     count = 0
     while refusal is not None and (count < most or not most):
@@ -143,7 +143,8 @@ def _looked_at(lines: Lines, refusal: Refusal, ask: Ask) -> tuple[Finding, bytes
         return Finding(refusal, body, marks, added=b" F100"), body + b" F100"
     for left_out in ((taken[0],) if taken else (), marks):
         other = without(body, left_out, code)
-        alone = len(left_out) == 1  # then what is refused of the rest is told next
+        # what is refused of the rest is told next, unless the word's absence alone brings it
+        alone = len(left_out) == 1 and goes(code, each[left_out[0]])
         if left_out and other.strip() and (alone or asked(left_out) is None):
             return Finding(refusal, body, marks, left_out), other
     return Finding(refusal, body, marks), b""
