@@ -1,0 +1,125 @@
+"""The words of `ngc-player`, and what it says."""
+import argparse
+import signal
+import sys
+import threading
+from contextlib import ExitStack
+
+from ngc_tools.out import BadLine
+from ngc_tools.player import PIPE_BYTES, Pins, Player, Source, Stopped, begin, save_wakeups
+from ngc_tools.position import nanometres
+from ngc_tools.progress import Listener
+from ngc_tools.record import BadRecord, Keeper
+from ngc_tools.settings import BadSettings, Settings
+
+ABOUT = """Carry out the lines of OUT, each in its time, and keep in POSITION what was carried out.
+
+It drives no motors: that is what --pins stands for. POSITION is a file of 512 bytes: which OUT, how many of its lines
+are carried out, the outputs, and a command `reference X Y Z` for `ngc run`. It is synced every 20 ms and at the end."""
+
+EXAMPLE = """example:
+  mkfifo axis
+  ngc-player axis mill.toml position --progress progress
+  (in another terminal) ngc-operate mill.dev mill.toml axis --player progress
+
+exit status:
+  0  OUT ended, and all of its lines are carried out
+  1  it stopped: at a line that isn't one of OUT, at a part of a line, or by Ctrl-C; spindle and coolant are off
+  2  the words are wrong, or a file can't be used"""
+
+
+def words() -> argparse.ArgumentParser:
+    """The words that it takes."""
+    parser = argparse.ArgumentParser("ngc-player", description=ABOUT, epilog=EXAMPLE,
+                                     formatter_class=argparse.RawDescriptionHelpFormatter)
+    parser.add_argument("out", metavar="OUT", help="a file, or a named pipe: it waits until `ngc run` opens the pipe")
+    parser.add_argument("settings", metavar="SETTINGS", help="the machine's settings, as `ngc run` has them")
+    parser.add_argument("position", metavar="POSITION", help="the record; it is made where there is none, and then the"
+                        " machine stands at 0")
+    parser.add_argument("--at", nargs=3, metavar=("X", "Y", "Z"), help="where the machine stands, in machine mm")
+    parser.add_argument("--anew", action="store_true", help="begin with a file's first line, not where POSITION ends")
+    parser.add_argument("--follow", action="store_true", help="wait for more at a file's end, until Ctrl-C")
+    parser.add_argument("--ask-tool", action="store_true", help="at a tool change wait until somebody presses Enter")
+    parser.add_argument("--spindle", type=float, default=0, metavar="SECONDS",
+                        help="wait so long after a switch that starts, stops or turns the spindle the other way")
+    parser.add_argument("--pipe", type=int, default=PIPE_BYTES, metavar="BYTES",
+                        help=f"make the pipe as small as this (default {PIPE_BYTES:,})")
+    parser.add_argument("--progress", metavar="SOCKET", help="tell there how far it is, to whoever asks")
+    parser.add_argument("--pins", metavar="FILE", help="append there each line as it is carried out")
+    parser.add_argument("--untimed", action="store_true", help="keep no times")
+    parser.add_argument("--live", action="store_true", help="show the position, also where the output is no terminal")
+    return parser
+
+
+def main(arguments: list[str] | None = None) -> int:
+    """Runs it, and returns the exit status."""
+    given = words().parse_args(arguments)
+    try:
+        at_nm = tuple(map(nanometres, given.at)) if given.at else None
+        settings = Settings.read(given.settings)
+        begun, position = begin(given.position, given.out, settings.step_nm, at_nm, given.anew)
+        source = Source(given.out, begun, given.pipe, given.follow)
+        player = Player(source, position, begun, Pins(given.pins), settings.period_us)
+        with ExitStack() as stack:
+            if given.progress:
+                player.listener = Listener(given.progress)
+                stack.callback(player.listener.close)
+            player.keeper = Keeper(given.position, begun)
+            return play(player, given)
+    except (BadSettings, BadRecord, ValueError) as why:
+        print(f"ngc-player: {why}", file=sys.stderr)
+    except OSError as why:
+        print(f"ngc-player: {why.filename or given.position}: {why.strerror}", file=sys.stderr)
+    return 2
+
+
+def play(player: Player, given: argparse.Namespace) -> int:
+    """Plays OUT to its end, and tells what was done."""
+    player.timed = not given.untimed
+    player.spindle_us = round(given.spindle * 1_000_000)
+    player.asks = sys.stdin if given.ask_tool else None
+    _heed_signals(player)
+    save_wakeups()
+    over = threading.Event()
+    if given.live or sys.stderr.isatty():
+        threading.Thread(target=_show, args=(player, over), daemon=True).start()
+    status = 0
+    try:
+        player.run()
+    except BadLine as why:
+        print(f"{given.out}:{why.number}: {why.cause}; stopped, spindle and coolant off", file=sys.stderr)
+        status = 1
+    except Stopped:
+        print(f"{given.out}: stopped after line {player.lines}, spindle and coolant off", file=sys.stderr)
+        status = 1
+    finally:
+        over.set()
+        player.keeper.close()
+    tell(player, given.out)
+    return status
+
+
+def tell(player: Player, out: str) -> None:
+    """What was carried out, how well, and where the machine stands."""
+    counts, schedule = player.counts, player.schedule
+    total = counts.pulses + counts.waits + counts.switches
+    print(f"{out}: {total} lines carried out, {counts.pulses} pulses, {counts.waits} waits, {counts.switches} switches")
+    if player.timed:
+        print(f"late at most {schedule.latest_ns / 1000:.0f} us, slower by {schedule.slower_ns / 1e6:.1f} ms in all;"
+              f" the record was behind by at most {player.keeper.worst_ms:.0f} ms")
+    print(player.position.reference())
+
+
+def _heed_signals(player: Player) -> None:
+    def stop(*_: object) -> None:
+        player.stopping = True
+
+    for number in (signal.SIGINT, signal.SIGTERM, signal.SIGHUP):
+        signal.signal(number, stop)
+
+
+def _show(player: Player, over: threading.Event) -> None:
+    """Shows the live position, ten times a second."""
+    while not over.wait(0.1):
+        print(f"\rline {player.lines}: {player.position}   ", end="", file=sys.stderr, flush=True)
+    print(file=sys.stderr)

@@ -1,0 +1,133 @@
+"""What tests share: the paths of `ngc` and of the tools, a folder, the settings of docs/SESSION.md's first session."""
+import os
+import pty
+import select
+import subprocess
+import sys
+import tempfile
+import time
+import unittest
+from collections.abc import Callable
+from pathlib import Path
+
+TOOLS = Path(__file__).resolve().parents[1]
+sys.path.insert(0, str(TOOLS))
+
+FIRST = """step_nm = [1000, 1000, 1000]
+low_nm = [-1000000000, -1000000000, -1000000000]
+high_nm = [1000000000, 1000000000, 1000000000]
+traverse_nm_per_min = 6000000000
+period_us = 50
+tools_nm = [50000000]
+"""
+PATIENCE_S = 60
+
+
+def ngc() -> str:
+    """The path of `ngc`, which the environment variable NGC names."""
+    path = os.environ.get("NGC", "")
+    if not os.access(path, os.X_OK):
+        raise AssertionError("set the environment variable NGC to the path of the program ngc")
+    return path
+
+
+class InFolder(unittest.TestCase):
+    """A test in a folder of its own, with settings and a fresh device on demand."""
+
+    def setUp(self) -> None:
+        """Makes the folder and works in it."""
+        folder = tempfile.TemporaryDirectory(prefix="ngc-tools-")
+        self.addCleanup(folder.cleanup)
+        self.folder = Path(folder.name).resolve()
+        before = os.getcwd()
+        os.chdir(self.folder)
+        self.addCleanup(os.chdir, before)
+        Path("first.toml").write_text(FIRST)
+
+    def device(self) -> None:
+        """A fresh device, mill.dev."""
+        subprocess.run([ngc(), "format", "mill.dev"], check=True, capture_output=True)
+
+    def tool(self, name: str, *words: str, text: str = "") -> subprocess.CompletedProcess[str]:
+        """Runs a tool to its end."""
+        return subprocess.run([sys.executable, TOOLS / name, *words], input=text, capture_output=True, text=True,
+                              timeout=PATIENCE_S)
+
+    def start(self, name: str, *words: str) -> subprocess.Popen[str]:
+        """Starts a tool, and ends it with the test."""
+        child = subprocess.Popen([sys.executable, TOOLS / name, *words], stdin=subprocess.PIPE, stdout=subprocess.PIPE,
+                                 stderr=subprocess.PIPE, text=True)
+        self.addCleanup(self._end, child)
+        return child
+
+    @staticmethod
+    def _end(child: subprocess.Popen[str]) -> None:
+        child.kill()
+        child.communicate()
+
+    def run_ngc(self, commands: str, out: str = "out") -> list[str]:
+        """Gives commands to `ngc run` over mill.dev, and returns its replies."""
+        words = [ngc(), "run", "mill.dev", "first.toml", out]
+        done = subprocess.run(words, input=commands, capture_output=True, text=True, timeout=PATIENCE_S)
+        return done.stdout.splitlines()
+
+    def wait_for(self, what: str, holds: Callable[[], bool]) -> None:
+        """Waits until something holds."""
+        until = time.monotonic() + PATIENCE_S
+        while not holds():
+            if time.monotonic() > until:
+                self.fail(f"waited in vain until {what}")
+            time.sleep(0.01)
+
+
+class Terminal:
+    """A program on a pseudo-terminal that can't clear lines."""
+
+    def __init__(self, *words: str) -> None:
+        """Starts it."""
+        self.pid, self.file = pty.fork()
+        if self.pid == 0:
+            os.environ.update(TERM="dumb", PYTHONUNBUFFERED="1", INPUTRC="/dev/null")
+            os.execv(sys.executable, [sys.executable, *words])
+
+    def send(self, text: bytes) -> None:
+        """Types."""
+        os.write(self.file, text)
+
+    def read_to(self, end: bytes) -> bytes:
+        """What is shown up to such an end."""
+        got, until = b"", time.monotonic() + PATIENCE_S
+        while not got.endswith(end):
+            if time.monotonic() > until:
+                raise AssertionError(f"{end!r} doesn't come: {got!r}")
+            if not select.select([self.file], [], [], 0.2)[0]:
+                continue
+            try:
+                piece = os.read(self.file, 4096)
+            except OSError:
+                break
+            if not piece:
+                break
+            got += piece
+        return got
+
+    def send_to_end(self, key: bytes) -> bytes:
+        """Presses a key again and again until the program ends; returns what is shown meanwhile."""
+        got, until = b"", time.monotonic() + PATIENCE_S
+        while time.monotonic() < until:
+            try:
+                os.write(self.file, key)
+                while select.select([self.file], [], [], 0.3)[0]:
+                    piece = os.read(self.file, 4096)
+                    if not piece:
+                        return got
+                    got += piece
+            except OSError:
+                return got
+        raise AssertionError(f"it doesn't end: {got!r}")
+
+    def status(self) -> int:
+        """Waits for its end."""
+        status = os.waitstatus_to_exitcode(os.waitpid(self.pid, 0)[1])
+        os.close(self.file)
+        return status

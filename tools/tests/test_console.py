@@ -1,0 +1,90 @@
+"""A running console, and the meter, by docs/SESSION.md."""
+import sys
+import unittest
+from pathlib import Path
+
+sys.path.insert(0, str(Path(__file__).resolve().parent))
+
+from session_support import InFolder, ngc  # noqa: E402
+
+from ngc_tools.console import Console, Ended, Status  # noqa: E402
+from ngc_tools.meter import Meter  # noqa: E402
+from ngc_tools.progress import Report  # noqa: E402
+
+
+class Consoles(InFolder):
+    """The first session of docs/SESSION.md, and how a session ends."""
+
+    def test_first_session(self) -> None:
+        """Each reply is with its command."""
+        self.device()
+        console = Console(ngc(), "mill.dev", "first.toml", "pulses")
+        self.assertEqual(console.load(b"G0 X0.002\nM2\n"), "done 1")
+        self.assertEqual(console.ask("start"), ["going"])
+        self.assertEqual(console.ask("tick 100"), ["done 2", "done 3", "idle", "ticks 10"])
+        self.assertEqual(console.ask("tick 0"), ["refused U1 BadCommand"])
+        self.assertEqual(console.status(), Status(3, 0, ("0.002000", "0.000000", "0.000000"), True, "none", 0, "idle"))
+        self.assertEqual(console.quit(), 0)
+        self.assertEqual(Path("pulses").read_text(), "P 1 0 0 50\nP 1 0 0 50\nS 0 0.000000 0 0 0 0\n")
+        with self.assertRaises(Ended):
+            console.ask("status")
+
+    def test_half_done(self) -> None:
+        """A block that a kill broke off."""
+        self.device()
+        console = Console(ngc(), "mill.dev", "first.toml", "pulses")
+        self.assertEqual(console.ask("mdi G0 X1"), ["begun"])
+        self.assertEqual(console.ask("tick 5"), ["ticks 5"])
+        console.kill()
+        console = Console(ngc(), "mill.dev", "first.toml", "pulses")
+        status = console.status()
+        self.assertEqual((status.half, status.segment, status.known, status.does), ("mdi", 0, False, "idle"))
+        self.assertEqual(console.quit(), 0)
+
+    def test_refused_at_the_start(self) -> None:
+        """What `ngc` says before it ends is told."""
+        self.device()
+        Path("first.toml").write_text("step_nm = 5\n")
+        with self.assertRaises(Ended) as caught:
+            Console(ngc(), "mill.dev", "first.toml", "pulses").status()
+        self.assertEqual((caught.exception.status, caught.exception.replies), (2, ["refused S2 MissingKey"]))
+
+    def test_status(self) -> None:
+        """Other text isn't a status."""
+        for text in ("status", "idle", "status entries 3 place 0 at 0 0 0 known half none", "refused U1 BadCommand"):
+            with self.assertRaises(ValueError, msg=text):
+                Status.read(text)
+
+
+class FakeLink:
+    """A player that says what a test has it say."""
+
+    def __init__(self, *behind: int) -> None:
+        self.behind = list(behind)
+
+    def ask(self) -> Report:
+        """The next of its reports."""
+        return Report(1000, 1000 + self.behind.pop(0), False, "0.000000 0.000000 0.000000", "/axis")
+
+
+class Meters(unittest.TestCase):
+    """How many ticks there is room for."""
+
+    def test_room(self) -> None:
+        """Never more than the bound, with what the player has in hand."""
+        self.assertEqual(Meter(FakeLink(0)).room(), 100)
+        self.assertEqual(Meter(FakeLink(99, 51, 50)).room(), 50)
+        self.assertEqual(Meter(FakeLink(2, 1), 3).room(), 2)
+        self.assertEqual(Meter(FakeLink(99)).room(lambda report: False), 0)
+        for limit in (1, 0, -5, 5001):
+            with self.assertRaises(ValueError):
+                Meter(FakeLink(), limit)
+
+    def test_drained(self) -> None:
+        """It waits until nothing is left, or somebody says no."""
+        self.assertTrue(Meter(FakeLink(2, 1, 0)).drained())
+        self.assertFalse(Meter(FakeLink(2, 1)).drained(lambda report: report.behind > 1))
+
+
+if __name__ == "__main__":
+    unittest.main()

@@ -1,0 +1,391 @@
+"""ngc-operate: sessions by a script and at a terminal, to the byte, and why a session can't begin."""
+import fcntl
+import os
+import sys
+import threading
+import tty
+import unittest
+from contextlib import redirect_stderr
+from io import StringIO
+from pathlib import Path
+
+sys.path.insert(0, str(Path(__file__).resolve().parent))
+
+from session_support import TOOLS, InFolder, Terminal, ngc  # noqa: E402
+
+from ngc_tools import faults  # noqa: E402
+from ngc_tools.lines import Program  # noqa: E402
+from ngc_tools.operate_main import main  # noqa: E402
+from ngc_tools.progress import Listener, Report  # noqa: E402
+
+PROMPT = b"ngc> "
+PART = """G21 G90 G17
+M3 S1000
+G0 X0.5
+(MSG, turn the part)
+M0
+G1 X1
+M2
+"""
+SESSION = """\
+not metered: out is a file, which takes any number of lines ahead of the motors
+idle; X 0.000000 Y 0.000000 Z 0.000000
+ngc> done 1: part.ngc, 62 bytes, 7 lines
+ngc> message, line 4: turn the part
+stopped; the tool in the spindle is none. run goes on
+stopped; X 0.500000 Y 0.000000 Z 0.000000; next line 6 of 7: G1 X1
+ngc> stopped; the tool in the spindle is none. run goes on
+stopped; X 0.500000 Y 1.000000 Z 0.000000; next line 6 of 7: G1 X1
+ngc> line 6: G1 X1
+  refused X1 NoFeed: {X1}
+stopped; X 0.500000 Y 1.000000 Z 0.000000; next line 6 of 7: G1 X1
+ngc> stopped; the tool in the spindle is none. run goes on
+stopped; X 2.000000 Y 1.000000 Z 0.000000; next line 6 of 7: G1 X1
+ngc> idle; X 1.000000 Y 1.000000 Z 0.000000; next line 1 of 7: G21 G90 G17
+ngc> refused E1 Unreadable: {E1}
+nor is halp a command: help? help lists them
+ngc> ngc> status entries 10 place 0 at 1.000000 1.000000 0.000000 known half none idle
+idle; X 1.000000 Y 1.000000 Z 0.000000; next line 1 of 7: G21 G90 G17
+ngc> refused U1 BadCommand: not a command, or a number of it isn't in range: help
+ngc> done 11
+ngc> refused K4 NothingHalfDone: no block is half-done
+ngc> taken
+ngc> done 12
+ngc> idle
+ngc> none.ngc: No such file or directory
+ngc> refused X2 OutsideTravel: {X2}
+ngc> """
+TYPED = """load part.ngc
+RUN
+G0 Y1
+run
+ g1 f100 x2
+ Run\x20
+halp
+
+status
+reference 1 2
+Reference 1  2   3
+resume
+optional  ON
+tool 1 0.5
+hold
+load none.ngc
+reference 5000 0 0
+quit
+"""
+
+
+def operate(*words: str) -> list[str]:
+    """The words that start it."""
+    return ["--ngc", ngc(), *words]
+
+
+class Scripted(InFolder):
+    """Commands from a pipe."""
+
+    maxDiff = None
+
+    def setUp(self) -> None:
+        """A fresh device and a program."""
+        super().setUp()
+        self.device()
+        Path("part.ngc").write_text(PART)
+
+    def test_session(self) -> None:
+        """A session, to the byte."""
+        done = self.tool("ngc-operate", *operate("mill.dev", "first.toml", "out"), text=TYPED)
+        sentences = {code: f"{faults.fault(code).holds}\n  {faults.fault(code).cure}" for code in ("X1", "X2", "E1")}
+        self.assertEqual((done.stdout, done.stderr, done.returncode), (SESSION.format(**sentences), "", 0))
+
+    def test_resume(self) -> None:
+        """A half-done block: the switch, the question, the approach, the block, the rest of the program."""
+        self.run_ngc("load 22\nM3 S1000\nG0 X0.005\nM2\nstart\ntick 10\n", "before")
+        typed = "run\nresume\nreference 0.001 0 0\nresume\nno\nquit\nyes\n"
+        done = self.tool("ngc-operate", *operate("mill.dev", "first.toml", "out"), text=typed)
+        head = ("stored: a program of 3 lines\n"
+                "not metered: out is a file, which takes any number of lines ahead of the motors\n"
+                "idle; X 0.000000 Y 0.000000 Z 0.000000 before the block; segment 0 of line 2: G0 X0.005\n"
+                "ngc> refused K1 Busy: a block is under way or half-done, the program runs, or it is held\n"
+                "ngc> refused K3 PlaceUnknown: it isn't known where the machine stands: reference X Y Z\n"
+                "where does the machine stand? reference X Y Z\n"
+                "ngc> done 3\n")
+        asked = ("ngc> segment 0 of line 2: G0 X0.005 is taken up. Its outputs are switched on as they were; then the"
+                 " tool goes\nin one straight line at the traverse rate from X 0.001000 Y 0.000000 Z 0.000000 to where"
+                 " that segment begins.\nZ isn't lifted first.\n"
+                 "The outputs are switched, and nothing has moved. Does the spindle turn, is the right tool in, is the"
+                 " straight way free?\nyes goes on, anything else holds: ")
+        held = "held; the lines in OUT are still carried out\n"
+        self.assertTrue(done.stdout.startswith(head + asked + held), done.stdout)
+        self.assertEqual(Path("out").read_text(), "S 1 1000.000000 0 0 0 0\n")
+        typed = "reference 0.001 0 0\nresume\nyes\nquit\n"
+        done = self.tool("ngc-operate", *operate("mill.dev", "first.toml", "out2"), text=typed)
+        self.assertIn(asked + "idle; X 0.005000 Y 0.000000 Z 0.000000; next line 1 of 3: M3 S1000\n", done.stdout)
+        self.assertEqual(Path("out2").read_text(), "S 1 1000.000000 0 0 0 0\nP -1 0 0 50\n" + "P 1 0 0 50\n" * 5
+                         + "S 0 1000.000000 0 0 0 0\n")
+
+    def test_tool_at_a_stop(self) -> None:
+        """The tool in the spindle is named at M0."""
+        Path("part.ngc").write_text("T1 M6\nM0\nM2\n")
+        typed = "tool 1 5\nload part.ngc\nrun\nquit\n"
+        done = self.tool("ngc-operate", *operate("mill.dev", "first.toml", "out"), text=typed)
+        self.assertIn("stopped; the tool in the spindle is 1. run goes on\n", done.stdout)
+
+    def test_cannot(self) -> None:
+        """Why `ngc` would end without a word, or wait without one: said before it is started, with status 2."""
+        Path("short.dev").write_bytes(b"x" * 600)
+        Path("blank.dev").write_bytes(bytes(875_520))
+        Path("part").write_text("P 1 0 0 50\nP 1")
+        os.mkfifo("axis")
+        os.mkdir("folder")
+        os.symlink("mill.dev", "link.dev")
+        cases = [
+            (("mill.dev", "first.toml", "mill.dev"), "DEVICE and OUT are one file: mill.dev"),
+            (("mill.dev", "link.dev", "out"), "DEVICE and SETTINGS are one file: mill.dev and link.dev"),
+            (("mill.dev", "none.toml", "out"), "none.toml: there are no such settings; docs/SETTINGS.md says how to"
+             " write them"),
+            (("mill.dev", "folder", "out"), "folder: the settings can't be read: Is a directory"),
+            (("none.dev", "first.toml", "out"), "none.dev: there is no such device; `ngc format none.dev` makes one"),
+            (("folder", "first.toml", "out"), "folder: a folder, not a device"),
+            (("short.dev", "first.toml", "out"), "short.dev: not a device: it has 600 bytes of 875,520; remove it, then"
+             " `ngc format short.dev`"),
+            (("blank.dev", "first.toml", "out"), "blank.dev: not a device: it isn't formatted. `ngc format blank.dev`"
+             " makes one of it, AND OVERWRITES WHAT IT HOLDS"),
+            (("mill.dev", "first.toml", "none/out"), f"none/out: there is no folder {self.folder}/none"),
+            (("mill.dev", "first.toml", "folder"), "folder: a folder; OUT is a file, a named pipe or a serial line"),
+            (("mill.dev", "first.toml", "axis"), "axis: nobody reads this pipe yet, and `ngc run` would wait for a"
+             " reader: start the player first"),
+            (("mill.dev", "first.toml", "part"), "part: it ends in a part of a line, and the next line would stand on"
+             " the same one: give a new OUT, or cut that part off"),
+            (("mill.dev", "first.toml", "out", "--player", "none"), "none: no player listens there: No such file or"
+             " directory"),
+        ]
+        for words, wanted in cases:
+            with redirect_stderr(StringIO()) as said:
+                self.assertEqual(main(operate(*words)), 2, words)
+            self.assertEqual(said.getvalue(), f"ngc-operate: {wanted}\n", words)
+        self.assertFalse(os.path.exists("out"))
+        done = self.tool("ngc-operate", "--ngc", "none", "mill.dev", "first.toml", "out")
+        self.assertEqual(done.returncode, 2)
+        self.assertIn("none", done.stderr)
+
+    def test_in_use(self) -> None:
+        """A device, and an OUT, that another process holds."""
+        for name, what in (("mill.dev", "the device"), ("out", "OUT")):
+            with open(name, "ab") as file:
+                fcntl.flock(file, fcntl.LOCK_EX)
+                done = self.tool("ngc-operate", *operate("mill.dev", "first.toml", "out"))
+            self.assertRegex(done.stderr, rf"^ngc-operate: {name}: {what} is in use by another process( \(\d+\))?; end"
+                             " that first\n$")
+            self.assertEqual(done.returncode, 2)
+
+    def test_refused_settings(self) -> None:
+        """What `ngc` refuses itself is said with its sentence."""
+        Path("first.toml").write_text(Path("first.toml").read_text().replace("period_us = 50", "period_us = 0"))
+        done = self.tool("ngc-operate", *operate("mill.dev", "first.toml", "out"))
+        wanted = ("ngc-operate: ngc ended with status 2: refused S5 OutOfLimits: a number of the settings is beyond its"
+                  " limits\n")
+        self.assertEqual((done.stderr, done.returncode), (wanted, 2))
+
+    def test_help(self) -> None:
+        """The help has an example."""
+        done = self.tool("ngc-operate", "--help")
+        self.assertEqual(done.returncode, 0)
+        self.assertIn("example:", done.stdout)
+
+
+class FakePlayer:
+    """A player that reads what stands in OUT, and carries out nothing until it is told to."""
+
+    def __init__(self) -> None:
+        self.listener = Listener("progress")
+        os.mkfifo("axis")
+        self.pipe = os.open("axis", os.O_RDONLY | os.O_NONBLOCK)
+        self.got = b""
+        self.lazy = False
+        self.most_behind = self.asked = 0
+        self.end = threading.Event()
+        self.thread = threading.Thread(target=self._work)
+        self.thread.start()
+
+    def _work(self) -> None:
+        carried = 0
+        while not self.end.wait(0.0005):
+            while asked := self.listener.next():
+                try:
+                    self.got += os.read(self.pipe, 65536)
+                except BlockingIOError:
+                    pass
+                received = self.got.count(b"\n")
+                self.most_behind = max(self.most_behind, received - carried)
+                self.asked += 1
+                carried = carried if self.lazy else received
+                report = Report(carried, received, False, "0.000000 0.000000 0.000000", os.path.abspath("axis"))
+                self.listener.answer(asked[0] + b" " + report.text(), asked[1])
+
+    def close(self) -> None:
+        """Ends it, once."""
+        if self.end.is_set():
+            return
+        self.end.set()
+        self.thread.join()
+        self.listener.close()
+        os.close(self.pipe)
+
+
+class AtTerminal(InFolder):
+    """A person at a terminal, to the byte. A player that carries out nothing makes what is shown certain."""
+
+    maxDiff = None
+
+    def setUp(self) -> None:
+        """A fresh device, a program, a player."""
+        super().setUp()
+        self.device()
+        Path("part.ngc").write_text(PART)
+        self.player = FakePlayer()
+        self.addCleanup(self.player.close)
+
+    def test_session(self) -> None:
+        """A program with a stop; a move that Enter holds, that goes on, and that Ctrl-C holds; a quit in its midst."""
+        words = operate("mill.dev", "first.toml", "axis", "--player", "progress", "--ahead", "50")
+        terminal = Terminal(str(TOOLS / "ngc-operate"), *words)
+        shown = terminal.read_to(PROMPT)
+        for typed in (b"load part.ngc\n", b"run\n"):
+            terminal.send(typed)
+            shown += terminal.read_to(PROMPT)
+        self.player.lazy = True
+        for typed, key in ((b"g1 f60 x3\n", b"\n"), (b"continue\n", b"\x03")):
+            enough = self.player.asked + 5  # it asks once as the work begins, then as long as it waits for room
+            terminal.send(typed)
+            shown += terminal.read_to(typed.replace(b"\n", b"\r\n"))
+            self.wait_for("it waits for the player",
+                          lambda: self.player.most_behind > 40 and self.player.asked > enough)
+            terminal.send(key)
+            shown += terminal.read_to(PROMPT)
+        terminal.send(b"quit\n")
+        shown += terminal.read_to(b"session: ")
+        terminal.send(b"yes\n")
+        shown += terminal.read_to(b"never")
+        self.assertEqual(terminal.status(), 0)
+        self.assertLessEqual(self.player.most_behind, 50)
+        wanted = ("metered: OUT is at most 50 lines ahead of the player, which is what a loss of power can cost\n"
+                  "idle; X 0.000000 Y 0.000000 Z 0.000000\n"
+                  "the motors are at X 0.000000 Y 0.000000 Z 0.000000, 0 lines behind\n"
+                  "ngc> load part.ngc\n"
+                  "done 1: part.ngc, 62 bytes, 7 lines\n"
+                  "ngc> run\n"
+                  "message, line 4: turn the part\n"
+                  "stopped; the tool in the spindle is none. run goes on\n"
+                  "stopped; X 0.500000 Y 0.000000 Z 0.000000; next line 6 of 7: G1 X1\n"
+                  "the motors are at X 0.000000 Y 0.000000 Z 0.000000, 0 lines behind\n"
+                  "ngc> g1 f60 x3\n"
+                  "\n"
+                  "held; up to 50 lines that are handed out are still carried out\n"
+                  "held; X 0.500000 Y 0.000000 Z 0.000000 before the block; segment 0 of your line g1 f60 x3\n"
+                  "the motors are at X 0.000000 Y 0.000000 Z 0.000000, 49 lines behind\n"
+                  "ngc> continue\n"
+                  "^Cheld; up to 50 lines that are handed out are still carried out\n"
+                  "held; X 0.500000 Y 0.000000 Z 0.000000 before the block; segment 0 of your line g1 f60 x3\n"
+                  "the motors are at X 0.000000 Y 0.000000 Z 0.000000, 49 lines behind\n"
+                  "ngc> quit\n"
+                  "segment 0 of your line g1 f60 x3 stays half-done: it is taken up or given up in the next session\n"
+                  "quit? yes ends the session: yes\n")
+        self.assertEqual(shown.decode(), wanted.replace("\n", "\r\n"))
+
+    def test_player_dies(self) -> None:
+        """Where the player is gone nothing more is handed out."""
+        words = operate("mill.dev", "first.toml", "axis", "--player", "progress")
+        terminal = Terminal(str(TOOLS / "ngc-operate"), *words)
+        terminal.read_to(PROMPT)
+        self.player.lazy = True
+        terminal.send(b"G1 F60 X3\n")
+        self.wait_for("it waits for the player", lambda: self.player.most_behind > 90)
+        self.player.close()
+        gone = "progress: the player is gone: "
+        shown = terminal.read_to(PROMPT).decode().split("\r\n")
+        self.assertEqual(shown[0], "G1 F60 X3")
+        self.assertTrue(shown[1].startswith(gone), shown)
+        rest = "; nothing more is handed out. Quit, and start a player and this again"
+        self.assertTrue(shown[1].endswith(rest), shown)
+        self.assertEqual(shown[2:4], ["held", "held; X 0.000000 Y 0.000000 Z 0.000000 before the block; segment 0 of"
+                                      " your line G1 F60 X3"])
+        terminal.send(b"\x04")
+        terminal.read_to(b"never")
+        self.assertEqual(terminal.status(), 0)
+
+    def test_reader_stands_still(self) -> None:
+        """Without a player, a pipe that nobody reads stops `ngc`: it says so, and the third Ctrl-C ends it."""
+        os.mkfifo("slow")
+        pipe = os.open("slow", os.O_RDONLY | os.O_NONBLOCK)
+        self.addCleanup(os.close, pipe)
+        terminal = Terminal(str(TOOLS / "ngc-operate"), *operate("mill.dev", "first.toml", "slow"))
+        self.assertTrue(terminal.read_to(PROMPT).decode().startswith(
+            "not metered: slow holds 65,536 bytes, so some 5,957 lines can be ahead of the motors, and a loss of power"
+            " can cost them; --player bounds it\r\n"))
+        terminal.send(b"G1 F60 X30\n")
+        said = terminal.read_to(b"would\r\n").decode()
+        self.assertEqual(said, "G1 F60 X30\r\nngc waits until the reader of OUT takes lines; a hold is heeded after"
+                         " that. Ctrl-C three times ends ngc, as a loss of power would\r\n")
+        said = terminal.send_to_end(b"\x03").decode()
+        self.assertTrue(said.startswith("^C^C^C"), said)
+        self.assertTrue(said.endswith("ngc-operate: ended; a block that was under way is half-done\r\n"), said)
+        self.assertEqual(terminal.status(), 2)
+
+    def test_serial_line(self) -> None:
+        """A serial line has to be raw."""
+        ours, theirs = os.openpty()
+        self.addCleanup(os.close, ours)
+        self.addCleanup(os.close, theirs)
+        name = os.ttyname(theirs)
+        done = self.tool("ngc-operate", *operate("mill.dev", "first.toml", name))
+        wanted = (f"ngc-operate: {name}: a serial line that isn't raw, so it changes lines or sends them back:"
+                  f" `stty -F {name} raw -echo` first\n")
+        self.assertEqual((done.stderr, done.returncode), (wanted, 2))
+        tty.setraw(theirs)
+        done = self.tool("ngc-operate", *operate("mill.dev", "first.toml", name), text="G0 X0.001\nquit\n")
+        self.assertEqual((os.read(ours, 100), done.returncode), (b"P 1 0 0 50\n", 0))
+
+    def test_motors_elsewhere(self) -> None:
+        """A program isn't started where the player says that the motors are elsewhere than `ngc` takes them to be."""
+        self.run_ngc("mdi G0 X1\ntick 9999\n", "before")
+        done = self.tool("ngc-operate", *operate("mill.dev", "first.toml", "axis", "--player", "progress"),
+                         text="load part.ngc\nrun\nreference 0 0 0\nrun\nquit\n")
+        lines = done.stdout.splitlines()
+        self.assertIn("the player says: reference 0.000000 0.000000 0.000000", lines)
+        self.assertIn("ngc> the motors are at X 0.000000 Y 0.000000 Z 0.000000, and ngc takes them to be at X 1.000000"
+                      " Y 0.000000 Z 0.000000: reference 0.000000 0.000000 0.000000 first", lines)
+        self.assertIn("ngc> message, line 4: turn the part", lines)
+
+    def test_motors_between_steps(self) -> None:
+        """A point between two steps is the same place as the step that the motors went to."""
+        self.run_ngc("mdi G0 X-0.0004\ntick 9999\n", "before")
+        done = self.tool("ngc-operate", *operate("mill.dev", "first.toml", "axis", "--player", "progress"),
+                         text="load part.ngc\nrun\nquit\n")
+        self.assertNotIn("reference", done.stdout)
+        self.assertIn("idle; X -0.000400 Y 0.000000 Z 0.000000\n", done.stdout)
+        self.assertIn("ngc> message, line 4: turn the part\n", done.stdout)
+
+    def test_other_player(self) -> None:
+        """The player of another OUT isn't taken."""
+        done = self.tool("ngc-operate", *operate("mill.dev", "first.toml", "out", "--player", "progress"))
+        self.assertEqual((done.stderr, done.returncode),
+                         (f"ngc-operate: progress: that player reads {self.folder}/axis, not out\n", 2))
+
+
+class Lines(unittest.TestCase):
+    """A program's lines for people."""
+
+    def test_lines(self) -> None:
+        """Numbers, texts and messages by places."""
+        program = Program(b"G0 X1\r\n\n( msg , first)(MSG,last\x01)\n/ (msg, deleted)\n(a)(MSG, no) X1 (b)\nM2")
+        self.assertEqual(program.count, 6)
+        self.assertEqual([(program.number(place), program.line(place)) for place in (0, 7, 8)],
+                         [(1, "G0 X1"), (2, ""), (3, "( msg , first)(MSG,last\\x01)")])
+        every = (0, len(program.text))
+        self.assertEqual(program.messages(*every, False), [(3, "last\\x01"), (4, "deleted")])
+        self.assertEqual(program.messages(*every, True), [(3, "last\\x01")])
+
+
+if __name__ == "__main__":
+    unittest.main()

@@ -1,0 +1,98 @@
+"""OUT's lines, positions and records, by docs/OUTPUT.md and docs/SETTINGS.md."""
+import sys
+import unittest
+from pathlib import Path
+
+sys.path.insert(0, str(Path(__file__).resolve().parent))
+
+from session_support import InFolder  # noqa: E402
+
+from ngc_tools.out import BadLine, Dwell, Pulse, Switch, parse  # noqa: E402
+from ngc_tools.position import Position, millimetres, nanometres  # noqa: E402
+from ngc_tools.record import BadRecord, Record  # noqa: E402
+
+
+class Lines(unittest.TestCase):
+    """Each of the three lines, and what is none."""
+
+    def test_lines(self) -> None:
+        """What each line says."""
+        self.assertEqual(parse("P 1 0 -1 50", 1), Pulse(1, 0, -1, 50))
+        self.assertEqual(parse(b"D 0", 1), Dwell(0))
+        self.assertEqual(parse("D 9999999999999", 1), Dwell(9_999_999_999_999))
+        self.assertEqual(parse("S 2 1000.500000 0 1 64 3", 1), Switch(2, 1_000_500_000, False, True, 64, 3))
+        self.assertEqual(str(parse("S 0 0.000000 1 0 0 0", 1)), "S 0 0.000000 1 0 0 0")
+
+    def test_other_lines(self) -> None:
+        """A line that isn't exactly one of them is refused, with its number."""
+        wrong = ["", "P", "P 1 0 0", "P 1 0 0 50 ", " P 1 0 0 50", "P 1  0 0 50", "P 2 0 0 50", "P -0 0 0 50",
+                 "P +1 0 0 50", "P 1 0 0 050", "P 1 0 0 -50", "P 1 0 0 5x", "p 1 0 0 50", "P 1 0 0 50\r",
+                 "P 1 0 0 18446744073709551616", "D",
+                 "D -1", "D 1.5", "D 00", "S 0 0 0 0 0 0", "S 3 0.000000 0 0 0 0", "S 0 0.00000 0 0 0 0",
+                 "S 0 00.000000 0 0 0 0", "S 0 10000000.000000 0 0 0 0", "S 0 0.000000 2 0 0 0",
+                 "S 0 0.000000 0 0 65 0", "S 0 0.000000 0 0 0 01", "S 0 0.000000 0 0 0", "P 1 0 0 50P 1 0 0 50",
+                 "P 1 0 0 \N{DEVANAGARI DIGIT FIVE}0"]
+        for line in wrong:
+            with self.assertRaises(BadLine, msg=line) as caught:
+                parse(line, 7)
+            self.assertEqual(caught.exception.number, 7)
+
+    def test_period(self) -> None:
+        """A pulse lasts as long as the settings' period at least."""
+        self.assertEqual(parse("P 0 1 0 50", 1, 50).lasts_us, 50)
+        with self.assertRaisesRegex(BadLine, "^line 3: a period of 49 us, and period_us of the settings is 50$"):
+            parse("P 0 1 0 49", 3, 50)
+
+
+class Positions(unittest.TestCase):
+    """Steps and millimetres."""
+
+    def test_steps(self) -> None:
+        """Pulses count; waits and switches move nothing."""
+        position = Position((5000, 1000, 2500), (10_000, -1000, 0))
+        lines = ["P 1 0 -1 50", "D 5", "S 0 0.000000 0 0 0 0", "P 1 -1 -1 50"]
+        position.take_all(parse(line, number) for number, line in enumerate(lines, 1))
+        self.assertEqual(position.steps, [4, -2, -2])
+        self.assertEqual(position.reference(), "reference 0.020000 -0.002000 -0.005000")
+
+    def test_rounding(self) -> None:
+        """A point is rounded to steps, half away from zero."""
+        self.assertEqual(Position((1000, 1000, 1000), (1499, 1500, -1500)).steps, [1, 2, -2])
+
+    def test_millimetres(self) -> None:
+        """Nanometres as text and back."""
+        self.assertEqual([millimetres(nm) for nm in (0, -1, 7_210_000, -12_000_000_001)],
+                         ["0.000000", "-0.000001", "7.210000", "-12000.000001"])
+        self.assertEqual([nanometres(text) for text in ("-7.21", ".5", "+3", "-0.000001")],
+                         [-7_210_000, 500_000, 3_000_000, -1])
+        for text in ("", ".", "-", "1.2345678", "1e3", "1_0", "x"):
+            with self.assertRaises(ValueError, msg=text):
+                nanometres(text)
+
+
+class Records(InFolder):
+    """A player's record."""
+
+    def test_record(self) -> None:
+        """It is one sector, and is read as it was written."""
+        record = Record("/a b/axis", 412, 4532, Switch(1, 1_000_000_000, False, False, 2, 2), (7_210_000, 0, -1000))
+        wanted = ("out /a b/axis\nlines 412\nbytes 4532\noutputs S 1 1000.000000 0 0 2 2\n"
+                  "reference 7.210000 0.000000 -0.001000\n")
+        self.assertEqual(len(record.text()), 512)
+        self.assertEqual(record.text().decode().rstrip(" \n") + "\n", wanted)
+        Path("position").write_bytes(record.text())
+        self.assertEqual(Record.read("position"), record)
+
+    def test_other_files(self) -> None:
+        """Another file is refused, and so is a path that is too long."""
+        right = Record("/axis").text()
+        for text in (b"", b"7.21 0 0\n", b"x" * 512, right[:-1], right.replace(b"lines", b"LINES")):
+            Path("position").write_bytes(text)
+            with self.assertRaisesRegex(BadRecord, "^position: not a record of ngc-player"):
+                Record.read("position")
+        with self.assertRaisesRegex(BadRecord, "too long a path"):
+            Record("/" + "a" * 450).text()
+
+
+if __name__ == "__main__":
+    unittest.main()

@@ -1,0 +1,371 @@
+"""ngc-player, and player.c beside it: what is carried out, when, what is kept, and what is told."""
+import fcntl
+import os
+import random
+import re
+import signal
+import subprocess
+import sys
+import tempfile
+import time
+import unittest
+from pathlib import Path
+
+sys.path.insert(0, str(Path(__file__).resolve().parent))
+
+from session_support import PATIENCE_S, TOOLS, InFolder  # noqa: E402
+
+from ngc_tools.out import BadLine, parse  # noqa: E402
+from ngc_tools.progress import Link, NoAnswer, Report  # noqa: E402
+from ngc_tools.record import Record  # noqa: E402
+
+LINES = """S 0 1000.000000 0 0 2 0
+S 0 1000.000000 0 0 2 2
+S 1 1000.000000 0 0 2 2
+P 1 0 0 50
+P 1 -1 0 50
+D 100
+P 0 0 -1 60
+S 0 1000.000000 0 0 2 2
+"""
+RECORD = "lines 8\nbytes 137\noutputs S 0 1000.000000 0 0 2 2\nreference 0.002000 -0.001000 -0.001000\n"
+SHORT = {"--untimed": "-u", "--anew": "-n", "--pipe": "-b", "--progress": "-s", "--pins": "-p"}
+
+
+def record(path: str = "position") -> str:
+    """A record's text after its first line, without the blanks at its end."""
+    return Path(path).read_text().split("\n", 1)[1].rstrip(" \n") + "\n"
+
+
+def damaged(line: str, chance: random.Random) -> str:
+    """The line, of one in thirty with a byte changed, added or left out."""
+    if chance.random() > 1 / 30:
+        return line
+    at = chance.randrange(len(line))
+    byte = chance.choice("0123456789 -.PDS\0\n\xe9")
+    return chance.choice((line[:at] + byte + line[at + 1:], line[:at] + byte + line[at:], line[:at] + line[at + 1:]))
+
+
+def accepted(text: bytes) -> tuple[list[bytes], int]:
+    """The lines up to the first that isn't one, and the number of that, 0 for none."""
+    *lines, part = text.split(b"\n")
+    for number, line in enumerate(lines, 1):
+        try:
+            parse(line, number, 50)
+        except BadLine:
+            return lines[:number - 1], number
+    return lines, len(lines) + 1 if part else 0
+
+
+class Both:
+    """What the player in Python and the one in C have to do alike."""
+
+    wrong = ["P 1 0 0", "P 1 0 0 49", "", "x" * 5000]
+
+    def words(self, *words: str) -> list[str]:
+        """The command line, by the long names of ngc-player's options."""
+        raise NotImplementedError
+
+    def play(self, *words: str) -> subprocess.CompletedProcess[str]:
+        """Plays `out` to its end."""
+        command = self.words(*words, "--pins", "pins", "out", "first.toml", "position")
+        return subprocess.run(command, capture_output=True, text=True, timeout=PATIENCE_S)
+
+    def begin(self, *words: str) -> subprocess.Popen[str]:
+        """Starts it."""
+        child = subprocess.Popen(self.words(*words), stdin=subprocess.PIPE, stdout=subprocess.PIPE,
+                                 stderr=subprocess.PIPE, text=True)
+        self.addCleanup(self._end, child)
+        return child
+
+    def linked(self, path: str = "progress") -> Link:
+        """A link to the player, once it listens."""
+        found: list[Link] = []
+
+        def tried() -> bool:
+            try:
+                found.append(Link(path, PATIENCE_S))
+            except NoAnswer:
+                return False
+            return True
+
+        self.wait_for("the player listens", tried)
+        self.addCleanup(found[0].close)
+        return found[0]
+
+    def test_file(self) -> None:
+        """Each line of a file reaches the pins, and the record says so."""
+        Path("out").write_text(LINES)
+        done = self.play()
+        self.assertEqual((done.returncode, done.stderr), (0, ""))
+        first, times, last = done.stdout.splitlines()
+        self.assertEqual(first, "out: 8 lines carried out, 3 pulses, 1 waits, 4 switches")
+        self.assertRegex(times, r"^late at most \d+ us, slower by \d+\.\d ms in all")
+        self.assertEqual(last, "reference 0.002000 -0.001000 -0.001000")
+        self.assertEqual(Path("pins").read_text(), LINES)
+        self.assertEqual(Path("position").read_text().split("\n")[0], f"out {self.folder}/out")
+        self.assertEqual(record(), RECORD)
+
+    def test_goes_on(self) -> None:
+        """Of a file that has grown the new lines are carried out, from where the record says."""
+        Path("out").write_text(LINES)
+        self.play("--untimed")
+        with open("out", "a") as file:
+            file.write("P 0 1 0 50\n")
+        done = self.play("--untimed")
+        self.assertEqual((done.returncode, done.stdout.splitlines()[-1]), (0, "reference 0.002000 0.000000 -0.001000"))
+        self.assertEqual(Path("pins").read_text(), LINES + "P 0 1 0 50\n")
+        self.assertEqual(record().split("\n")[0], "lines 9")
+        Path("out").write_text("P 1 0 0 50\n")
+        done = self.play("--untimed")
+        self.assertEqual(done.returncode, 2)
+        self.assertIn("not the file whose first 9 lines are carried out", done.stderr)
+        done = self.play("--untimed", "--anew")
+        self.assertEqual((done.returncode, done.stdout.splitlines()[-1]), (0, "reference 0.003000 0.000000 -0.001000"))
+
+    def test_another_file(self) -> None:
+        """A new OUT is carried out from its first line; the position goes on."""
+        Path("out").write_text(LINES)
+        self.play("--untimed")
+        Path("other").write_text("P 1 1 1 50\n")
+        command = self.words("--untimed", "other", "first.toml", "position")
+        done = subprocess.run(command, capture_output=True, text=True)
+        self.assertEqual(done.stdout.splitlines()[-1], "reference 0.003000 0.000000 0.000000")
+        self.assertEqual(record().split("\n")[0], "lines 1")
+
+    def test_wrong_line(self) -> None:
+        """It stops at the first line that isn't one of OUT, with its number, and turns spindle and coolant off."""
+        for wrong in self.wrong:
+            for name in ("pins", "position"):
+                Path(name).unlink(missing_ok=True)
+            Path("out").write_text("S 1 5.000000 1 1 0 0\nP 1 0 0 50\n" + wrong + "\nP 1 0 0 50\n", newline="")
+            done = self.play("--untimed")
+            self.assertEqual(done.returncode, 1, wrong)
+            self.assertTrue(done.stderr.startswith("out:3: "), done.stderr)
+            self.assertEqual(Path("pins").read_text(), "S 1 5.000000 1 1 0 0\nP 1 0 0 50\noff\n", wrong)
+            self.assertEqual(record(), "lines 2\nbytes 32\noutputs S 0 5.000000 0 0 0 0\n"
+                             "reference 0.001000 0.000000 0.000000\n")
+
+    def test_part_of_a_line(self) -> None:
+        """A line counts once its newline is there."""
+        Path("out").write_text("P 1 0 0 50\nP 1 0 0 50")
+        done = self.play("--untimed")
+        self.assertEqual((done.returncode, done.stdout.splitlines()[-1]), (1, "reference 0.001000 0.000000 0.000000"))
+        self.assertTrue(done.stderr.startswith("out:2: "), done.stderr)
+        self.assertIn("a part of a line", done.stderr)
+
+    def test_times(self) -> None:
+        """No line comes before its time: 100 pulses of 2 ms, of which each may come a tenth sooner, and a wait."""
+        Path("out").write_text("P 1 0 0 2000\n" * 100 + "D 200000\nD 0\n")
+        begun = time.monotonic()
+        self.assertEqual(self.play().returncode, 0)
+        self.assertGreater(time.monotonic() - begun, 0.2 * 0.9 + 0.2 * 0.9)
+
+    def test_run(self) -> None:
+        """Over a named pipe, which it makes small, from `ngc run` itself."""
+        os.mkfifo("out")
+        self.device()
+        child = self.begin("--untimed", "--pins", "pins", "--progress", "progress", "out", "first.toml", "position")
+        self.linked()
+        writer = os.open("out", os.O_WRONLY)
+        self.assertEqual(fcntl.fcntl(writer, fcntl.F_GETPIPE_SZ), 4096)
+        self.run_ngc("mdi M3 S1000\ntick 9\nmdi G0 X1 Y-0.5\ntick 9999\n")
+        os.close(writer)
+        said, wrong = child.communicate(timeout=PATIENCE_S)
+        self.assertEqual((child.returncode, wrong), (0, ""))
+        self.assertEqual(said.splitlines(), ["out: 1002 lines carried out, 1000 pulses, 0 waits, 2 switches",
+                                             "reference 1.000000 -0.500000 0.000000"])
+        self.assertEqual(record().split("\n")[2], "outputs S 1 1000.000000 0 0 0 0")
+        self.assertFalse(os.path.exists("progress"))
+
+    def test_progress(self) -> None:
+        """It tells how many lines it has carried out of those that stand in OUT, while it waits and while it works."""
+        os.mkfifo("out")
+        child = self.begin("--progress", "progress", "out", "first.toml", "position")
+        link = self.linked()
+        self.assertEqual(link.ask(), Report(0, 0, False, "0.000000 0.000000 0.000000", f"{self.folder}/out"))
+        with open("out", "wb", buffering=0) as pipe:
+            pipe.write(b"P 1 0 0 50\nP 1 0 0 50\n")
+            self.wait_for("two lines are carried out", lambda: link.ask().carried == 2)
+            pipe.write(b"D 3600000000\n" + b"P 1 0 0 50\n" * 200 + b"P 1 0")
+            self.wait_for("it waits", lambda: link.ask().carried == 3)
+            report = link.ask()
+            self.assertEqual((report.carried, report.received, report.behind), (3, 203, 200))
+            self.assertEqual(report.at, "0.002000 0.000000 0.000000")
+            child.send_signal(signal.SIGTERM)
+            said, wrong = child.communicate(timeout=PATIENCE_S)
+        self.assertEqual(child.returncode, 1)
+        self.assertEqual(said.splitlines()[-1], "reference 0.002000 0.000000 0.000000")
+        with self.assertRaisesRegex(NoAnswer, "^progress: the player is gone"):
+            link.ask()
+
+    def test_kept_while_it_waits(self) -> None:
+        """The record is on the disk while the player still works, and a kill leaves it."""
+        os.mkfifo("out")
+        child = self.begin("out", "first.toml", "position")
+        with open("out", "wb", buffering=0) as pipe:
+            pipe.write(b"P 0 1 0 50\nD 3600000000\n")
+            self.wait_for("the record is there", lambda: os.path.exists("position") and "lines 2" in record())
+            child.kill()
+            child.wait()
+        self.assertEqual(record(), "lines 2\nbytes 24\noutputs S 0 0.000000 0 0 0 0\n"
+                         "reference 0.000000 0.001000 0.000000\n")
+
+    def test_one_record(self) -> None:
+        """A record has one player at a time."""
+        os.mkfifo("out")
+        self.begin("--progress", "progress", "out", "first.toml", "position")
+        self.linked()
+        Path("other").write_text(LINES)
+        command = self.words("--untimed", "other", "first.toml", "position")
+        done = subprocess.run(command, capture_output=True, text=True)
+        self.assertEqual(done.returncode, 2)
+        self.assertIn("player: position: another player keeps it", done.stderr)
+
+    def test_cannot(self) -> None:
+        """Files that can't be used are named, with status 2."""
+        Path("out").write_text(LINES)
+        Path("bad").write_text("nothing\n")
+        wrong = [("none", "first.toml", "position"), ("out", "none", "position"), ("out", "bad", "position"),
+                 ("out", "first.toml", "bad"), ("out", "first.toml", "none/position")]
+        for words in wrong:
+            done = subprocess.run(self.words("--untimed", *words), capture_output=True, text=True)
+            self.assertEqual((done.returncode, done.stdout), (2, ""), words)
+            self.assertRegex(done.stderr, "player: .*(none|bad)", words)
+
+
+class Python(Both, InFolder):
+    """tools/ngc-player."""
+
+    def words(self, *words: str) -> list[str]:
+        """As they are."""
+        return [sys.executable, str(TOOLS / "ngc-player"), *words]
+
+    def test_ask_tool(self) -> None:
+        """Told so, it waits at a tool change until somebody presses Enter, or says go; not where the tool is in."""
+        os.mkfifo("out")
+        child = self.begin("--untimed", "--ask-tool", "--progress", "progress", "out", "first.toml", "position")
+        link = self.linked()
+        with open("out", "wb", buffering=0) as pipe:
+            pipe.write(b"S 0 0.000000 0 0 2 0\nS 0 0.000000 0 0 2 2\nP 1 0 0 50\n")
+            self.wait_for("it waits", lambda: link.ask().waits)
+            self.assertEqual((link.ask().carried, link.ask().received), (1, 3))
+            self.assertEqual(child.stderr.readline(), "line 2: put in tool 2, then press Enter\n")
+            child.stdin.write("\n")
+            child.stdin.flush()
+            self.wait_for("it goes on", lambda: link.ask().carried == 3)
+            pipe.write(b"S 1 5.000000 0 0 2 2\nS 0 5.000000 0 0 0 0\nP 1 0 0 50\n")
+            self.wait_for("it waits", lambda: link.ask().waits)
+            self.assertEqual(child.stderr.readline(), "line 5: take the tool out, then press Enter\n")
+            link.go()
+            self.wait_for("it goes on", lambda: link.ask().carried == 6)
+        self.assertEqual(child.wait(PATIENCE_S), 0)
+
+    def test_live(self) -> None:
+        """It shows the line and the position while it works."""
+        Path("out").write_text("P 1 0 0 50\nD 1000000\nD 0\n")
+        done = self.play("--live")
+        self.assertEqual(done.returncode, 0)
+        self.assertIn("line 2: 0.001000 0.000000 0.000000", done.stderr)
+
+    def test_spindle(self) -> None:
+        """Told so, it waits while the spindle starts, turns the other way, and stops, and not at other switches."""
+        Path("out").write_text("S 1 5.000000 0 0 0 0\nS 1 5.000000 0 1 0 0\nS 2 5.000000 0 1 0 0\n"
+                               "S 0 5.000000 0 0 0 0\nS 0 5.000000 0 0 0 0\n")
+        begun = time.monotonic()
+        self.assertEqual(self.play("--untimed", "--spindle", "0.2").returncode, 0)
+        self.assertGreater(time.monotonic() - begun, 0.6)
+
+    def test_at(self) -> None:
+        """Where the machine stands can be told."""
+        Path("out").write_text(LINES)
+        done = self.play("--untimed", "--at", "10", "0", "-5.5")
+        self.assertEqual(done.stdout.splitlines()[-1], "reference 10.002000 -0.001000 -5.501000")
+        done = self.play("--untimed", "--at", "ten", "0", "0")
+        self.assertEqual((done.returncode, done.stderr),
+                         (2, "ngc-player: not a number of millimetres with at most six decimals: ten\n"))
+
+    def test_two_players(self) -> None:
+        """A socket has one player; that of a dead one is taken over."""
+        os.mkfifo("out")
+        first = self.begin("--progress", "progress", "out", "first.toml", "position")
+        self.linked()
+        Path("other").write_text(LINES)
+        second = [*self.words("--untimed", "--progress", "progress"), "other", "first.toml", "position2"]
+        done = subprocess.run(second, capture_output=True, text=True)
+        self.assertEqual((done.returncode, done.stderr), (2, "ngc-player: progress: another player listens there\n"))
+        first.kill()
+        first.wait()
+        self.assertEqual(subprocess.run(second, capture_output=True).returncode, 0)
+
+    def test_help(self) -> None:
+        """The help has an example."""
+        done = self.tool("ngc-player", "--help")
+        self.assertEqual(done.returncode, 0)
+        self.assertIn("example:", done.stdout)
+        self.assertEqual(self.tool("ngc-player", "out").returncode, 2)
+
+
+class C(Both, InFolder):
+    """tools/player.c, built by cc."""
+
+    wrong = [*Both.wrong, "P 1 0 0 50P 1 0 0 50", "S 0 0 0 0 0 0", "D -1", "P 2 0 0 50", "P 1 0 0 50\r", "P 1 0 0 50\0",
+             "D 18446744073709551616", "D 1 ", "S 0 0.000000 0 0 65 0", "P -0 0 0 50", "D 00", "S 3 0.000000 0 0 0 0"]
+
+    @classmethod
+    def setUpClass(cls) -> None:
+        """Builds it without a warning."""
+        cls.build = tempfile.TemporaryDirectory(prefix="ngc-player-")
+        cls.addClassCleanup(cls.build.cleanup)
+        cls.program = os.path.join(cls.build.name, "player")
+        options = ["-std=c99", "-Wall", "-Wextra", "-Werror", "-O2", "-pthread"]
+        built = subprocess.run(["cc", *options, TOOLS / "player.c", "-o", cls.program], capture_output=True, text=True)
+        if built.returncode:
+            raise AssertionError("tools/player.c isn't built:\n" + built.stderr)
+
+    def words(self, *words: str) -> list[str]:
+        """By their short names."""
+        return [self.program, *(SHORT.get(word, word) for word in words)]
+
+    def test_length(self) -> None:
+        """It has less than 300 lines."""
+        self.assertLess(len((TOOLS / "player.c").read_text().splitlines()), 300)
+
+    def test_by_chance(self) -> None:
+        """With bytes changed by chance it takes the lines that `parse` takes, up to the first that is none."""
+        chance = random.Random(7)
+        for _ in range(60):
+            whole = chance.choices(("P 1 0 -1 50", "D 100", "S 1 1000.000000 0 0 2 2"), k=20)
+            lines = [damaged(line, chance) for line in whole]
+            text = "\n".join(lines) + chance.choice(("\n", ""))
+            Path("out").write_text(text, encoding="latin-1", newline="")
+            for name in ("pins", "position"):
+                Path(name).unlink(missing_ok=True)
+            done = self.play("--untimed")
+            taken, wrong = accepted(text.encode("latin-1"))
+            pins = b"".join(line + b"\n" for line in taken) + b"off\n" * bool(wrong)
+            self.assertEqual(Path("pins").read_bytes(), pins, text)
+            said = (1, f"out:{wrong}") if wrong else (0, "")
+            self.assertEqual((done.returncode, done.stderr.partition(": ")[0]), said, text)
+
+    def test_alike(self) -> None:
+        """Over the lines of a program with an arc, a cycle, a wait and switches both leave the same pins and record."""
+        self.device()
+        text = ("G21 G90 G17\nM3 S1500\nG0 X1 Y1 Z1\nG2 X1.5 Y1.5 I0.5 F300\nG4 P0.01\nT1 M6\nM4\n"
+                "G83 X2 Y2 Z-0.5 R0.2 Q0.2\nG80 M8\nG0 X0 Y-0.5\nM2\n")
+        commands = f"tool 1 0.5\nload {len(text)}\n{text}start\ntick 1000000\n"
+        self.assertEqual(self.run_ngc(commands)[-2], "idle")
+        self.play("--untimed")
+        ours = Path("pins").read_text(), Path("position").read_bytes()
+        self.assertEqual(ours[0], Path("out").read_text())
+        for name in ("pins", "position"):
+            Path(name).unlink()
+        words = ["--untimed", "--pins", "pins", "out", "first.toml", "position"]
+        self.assertEqual(self.tool("ngc-player", *words).returncode, 0)
+        self.assertEqual((Path("pins").read_text(), Path("position").read_bytes()), ours)
+        self.assertEqual(Record.read("position").at_nm, (0, -500_000, 1_000_000))
+        self.assertGreater(len(re.findall("^P", ours[0], re.M)), 5000)
+
+
+if __name__ == "__main__":
+    unittest.main()

@@ -1,0 +1,42 @@
+"""Power is lost for controller and player together, over a named pipe: what is never carried out is bounded.
+
+NGC_MOMENTS says how many moments are tried (default 200, an eighth of them with player.c)."""
+import os
+import subprocess
+import sys
+import tempfile
+import unittest
+from pathlib import Path
+
+sys.path.insert(0, str(Path(__file__).resolve().parent))
+
+from pulled_plug import Options, pull  # noqa: E402
+from session_support import TOOLS, ngc  # noqa: E402
+
+MOMENTS = int(os.environ.get("NGC_MOMENTS", "200"))
+
+
+class PulledPlug(unittest.TestCase):
+    """`pull` raises where more lines than the bound are lost, where a session hands out other lines than the uncut run,
+    where a record isn't true of its session, and where a job that was cut ends elsewhere than the uncut one."""
+
+    def test_python(self) -> None:
+        """Metered by 100 lines, the player of ngc-player."""
+        wanted = MOMENTS - MOMENTS // 8
+        result = pull(Options(ngc(), 100, 4096, None, 0.3), wanted, seed=1)
+        self.assertEqual((len(result.lost), max(result.lost) <= 100), (wanted, True))
+        self.assertGreaterEqual(result.finished, 1)
+
+    def test_c(self) -> None:
+        """Metered by 20 lines, player.c."""
+        with tempfile.TemporaryDirectory(prefix="ngc-player-") as folder:
+            program = f"{folder}/player"
+            subprocess.run(["cc", "-std=c99", "-O2", "-pthread", TOOLS / "player.c", "-o", program], check=True)
+            wanted = MOMENTS // 8
+            result = pull(Options(ngc(), 20, 4096, program, 0.3), wanted, seed=2)
+        self.assertEqual((len(result.lost), max(result.lost) <= 20), (wanted, True))
+        self.assertGreaterEqual(result.finished, 1)
+
+
+if __name__ == "__main__":
+    unittest.main()
