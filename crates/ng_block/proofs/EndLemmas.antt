@@ -69,7 +69,7 @@ stays : (b : Block) (m : Machine) (o : Offsets) (table : List ℤ) (feed : ℤ) 
 stays b m o table feed geometry e h = rw (e, h) refl
 
 -- one text asks for one block
-same_block : (s : StateModel) (tools : List ℤ) (geometry : Geometry) (text : List ℕ) (done : Done) (b : Block) (a : IsAccepted s tools geometry text done) → AsksFor s text b → b ≡ a.block
+pub same_block : (s : StateModel) (tools : List ℤ) (geometry : Geometry) (text : List ℕ) (done : Done) (b : Block) (a : IsAccepted s tools geometry text done) → AsksFor s text b → b ≡ a.block
 same_block s tools geometry text done b a asks =
     let line : asks.line ≡ a.line = same_ok asks.line a.line (sym ((reads_iff text asks.line).1 asks.is_line) ∙ a.read_is) in
     let values : asks.values ≡ a.values =

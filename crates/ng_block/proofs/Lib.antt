@@ -8,3 +8,4 @@ pub mod CauseLemmas
 pub mod AcceptedLemmas
 pub mod TravelLemmas
 pub mod EndLemmas
+pub mod SameModeLemmas

@@ -21,6 +21,7 @@ pub mod Effects
 pub mod Travel
 pub mod OffsetsAlone
 pub mod ProgramEnd
+pub mod SameModes
 pub mod Commands
 pub mod SegmentsWithOutputs
 pub mod BlockSegments

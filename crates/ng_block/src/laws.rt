@@ -11,6 +11,7 @@ ghost use Rattle.ng_block.specs.Causes.{causes};
 ghost use Rattle.ng_block.specs.Effects.{Done, executed};
 ghost use Rattle.ng_block.specs.OffsetsAlone.{AsksFor, SetsOffsetsAlone};
 ghost use Rattle.ng_block.specs.ProgramEnd.{IsEnded};
+ghost use Rattle.ng_block.specs.SameModes.{HasSameModes};
 ghost use Rattle.ng_block.specs.Steps.{order};
 ghost use Rattle.ng_block.specs.Travel.{Joins, NoneMoves, StaysInside};
 ghost use Rattle.ng_block.specs.declared.effect.ProgramFlow.TheVariants.{Ends};
@@ -49,4 +50,10 @@ pub fn travel()
 /// A line that ends the program leaves what M2 and M30 do, in a table of all 5,399 parameters (NISTIR 6556, 3.6.1).
 pub fn program_end()
     ensures { (setup : StateModel) (tools : List ℤ) (geometry : Geometry) (text : List ℕ) (done : Done) → length setup.params ≡ parameter_count → executed setup tools geometry text ≡ Ok done → done.stop ≡ Ends → IsEnded done.setup }
+{}
+
+/// A second line of the same modes changes none: a lawful line leaves the modes as they are where the line before it had the same words of
+/// the groups of modes (NISTIR 6556, 3.4).
+pub fn modes_stay()
+    ensures { (setup : StateModel) (tools : List ℤ) (geometry : Geometry) (text again : List ℕ) (done next : Done) (one other : Block) → executed setup tools geometry text ≡ Ok done → AsksFor setup text one → executed done.setup tools geometry again ≡ Ok next → AsksFor done.setup again other → HasSameModes one other → next.setup.machine.modes ≡ done.setup.machine.modes }
 {}

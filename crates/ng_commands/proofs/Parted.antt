@@ -4,7 +4,8 @@ use Rattle.std.proofs.lemmas.List.{take_all}
 use Rattle.ng_num.specs.declared.point.Point.{Point}
 use Rattle.ng_commands.specs.Commands.{AreDigitsOf, HasNo, SpellsLength, SpellsPoint, SpellsTool}
 use Rattle.ng_words.specs.Grammar.{AreDigits}
-use Rattle.ng_commands.proofs.Numbers.{bytes_without, digits_bytes, length_whole}
+use Rattle.ng_words.proofs.OneNumber.{digits_bytes}
+use Rattle.ng_commands.proofs.Numbers.{bytes_without, length_bare}
 
 blank_within : (words : List ℕ) (n m : ℕ) → n < length words → m ≡ n + 1 → get_or words n 0 ≢ 32 → HasNo 32 (take n words) → HasNo 32 (take m words)
 blank_within [] n m less next none before = absurd (omega (arith, less))
@@ -51,8 +52,8 @@ not_whole (c ∷ words) (b ∷ x) xs none is = not_whole words x xs none.1 (ap (
 pub placed : (words x others y z : List ℕ) → words ≡ x ++ 32 ∷ others → HasNo 32 x → others ≡ y ++ 32 ∷ z → HasNo 32 y → (p : Point) → SpellsPoint words p
     → SpellsLength x p.x × SpellsLength y p.y × SpellsLength z p.z
 placed words x others y z is bare also bare_too p (x_as, y_as, z_as, are, writes_x, writes_y, writes_z) =
-    let first = one_part x x_as others (y_as ++ 32 ∷ z_as) bare (length_whole x_as p.x writes_x).1 (sym is ∙ are) in
-    let second = one_part y y_as z z_as bare_too (length_whole y_as p.y writes_y).1 (sym also ∙ first.1) in
+    let first = one_part x x_as others (y_as ++ 32 ∷ z_as) bare (length_bare x_as p.x writes_x) (sym is ∙ are) in
+    let second = one_part y y_as z z_as bare_too (length_bare y_as p.y writes_y) (sym also ∙ first.1) in
     (subst (λ (l : List ℕ). SpellsLength l p.x) (sym first.0) writes_x, subst (λ (l : List ℕ). SpellsLength l p.y) (sym second.0) writes_y, subst (λ (l : List ℕ). SpellsLength l p.z) (sym second.1) writes_z)
 
 -- words without a first or a second blank write no point
@@ -61,7 +62,7 @@ one_word words none p writes = not_whole words writes.0 (writes.1 ++ 32 ∷ writ
 
 pub two_words : (words x others : List ℕ) → words ≡ x ++ 32 ∷ others → HasNo 32 x → HasNo 32 others → (p : Point) → SpellsPoint words p → ⊥
 two_words words x others is bare none p writes =
-    let first = one_part x writes.0 others (writes.1 ++ 32 ∷ writes.2) bare (length_whole writes.0 p.x writes.4).1 (sym is ∙ writes.3) in
+    let first = one_part x writes.0 others (writes.1 ++ 32 ∷ writes.2) bare (length_bare writes.0 p.x writes.4) (sym is ∙ writes.3) in
     not_whole others writes.1 writes.2 none first.1
 
 pub refused : (words : List ℕ) (r : Option Point) → r ≡ None → ((p : Point) → SpellsPoint words p → ⊥) → MatchOption r ((p : Point) → SpellsPoint words p → ⊥) (SpellsPoint words)

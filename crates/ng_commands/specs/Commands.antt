@@ -1,8 +1,8 @@
 -- The commands of the console, a line each, and their words parted by one blank (own).
-use Rattle.std.specs.Prelude.{◌≡◌, ◌≢◌, ◌≤◌, ◌<◌, ℕ, ℤ, Bool, true, false, List, [], ◌∷◌, ◌++◌, Some, length, codes}
+use Rattle.std.specs.Prelude.{◌≡◌, ◌≢◌, ◌≤◌, ◌<◌, ℕ, ℤ, Bool, true, false, List, [], ◌∷◌, ◌++◌, length, codes}
 use Rattle.ng_num.specs.declared.point.Point.{Point}
-use Rattle.ng_words.specs.Grammar.{AreDigits, IsNumber, Piece, count_of, number, word, written_after}
-use Rattle.ng_words.specs.declared.letter.Letter.{Letter}
+use Rattle.ng_num.specs.Range.{IsCount}
+use Rattle.ng_words.specs.Grammar.{AreDigits, IsNumber, written_after}
 use Rattle.ng_commands.specs.declared.asked.ConsoleCommand.{ConsoleCommand}
 use Rattle.ng_commands.specs.declared.asked.ConsoleCommand.TheVariants.{Load, Start, Hold, Continue, Mdi, Reference, Resume, Abandon, Tool, OptionalStop, BlockDelete, Tick, Status, Quit}
 
@@ -10,10 +10,10 @@ use Rattle.ng_commands.specs.declared.asked.ConsoleCommand.TheVariants.{Load, St
 abbrev pub AreDigitsOf : List ℕ → ℕ → Type 0
 AreDigitsOf digits n = AreDigits digits × (0 < length digits) × (n ≡ written_after 0 digits)
 
--- A text writes a length in millimetres, this many nanometres: it is a number as it stands after a letter on a line of a program, and
--- its rounded value is in range.
+-- A text writes a length in millimetres, this many nanometres: it is a number as on a line of a program, of any length, and its rounded
+-- value is in range.
 abbrev pub SpellsLength : List ℕ → ℤ → Type 0
-SpellsLength text nm = (length text ≤ 255) × ((value : ℤ) × IsNumber text value × (count_of value ≡ Some nm))
+SpellsLength text nm = IsNumber text nm × IsCount nm
 
 -- three words, parted by one blank, write the coordinates of a point
 abbrev pub SpellsPoint : List ℕ → Point → Type 0
@@ -78,7 +78,3 @@ IsNoSwitch line = (is_on : Bool) → (line ≢ codes "optional " ++ switch_word 
 abbrev pub HasNo : ℕ → List ℕ → Type 0
 HasNo b [] = Unit {0}
 HasNo b (c ∷ bytes) = (c ≢ b) × HasNo b bytes
-
--- the pieces of a line are one word with this number, in range
-abbrev pub AreNumber : List Piece → ℤ → Type 0
-AreNumber pieces n = (letter : Letter) × (pieces ≡ word letter (number (Some n)) ∷ [])

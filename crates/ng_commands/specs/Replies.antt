@@ -76,8 +76,18 @@ reply_line (reply.Refused fault) = refused_line fault
 
 -- the line of a tick's reply: a line of the program that is begun has none
 abbrev pub tick_line : Reply → List ℕ
+tick_line (reply.Done entries) = reply_line (reply.Done entries)
+tick_line reply.Going = reply_line reply.Going
+tick_line reply.Held = reply_line reply.Held
+tick_line reply.Idle = reply_line reply.Idle
+tick_line reply.Stopped = reply_line reply.Stopped
 tick_line reply.Begun = []
-tick_line r = reply_line r
+tick_line reply.Taken = reply_line reply.Taken
+tick_line reply.Moved = reply_line reply.Moved
+tick_line (reply.Opened index) = reply_line (reply.Opened index)
+tick_line reply.Approaching = reply_line reply.Approaching
+tick_line (reply.Status status) = reply_line (reply.Status status)
+tick_line (reply.Refused fault) = reply_line (reply.Refused fault)
 
 -- the last line of a command of ticks: how many were made
 abbrev pub ticks_line : ℕ → List ℕ
@@ -85,8 +95,15 @@ ticks_line count = codes "ticks " ++ decimal count ++ codes "\n"
 
 -- whether a command of ticks goes on after this reply
 abbrev pub continues_ticks : Reply → Bool
-continues_ticks reply.Idle = false
+continues_ticks (reply.Done entries) = true
+continues_ticks reply.Going = true
 continues_ticks reply.Held = false
+continues_ticks reply.Idle = false
 continues_ticks reply.Stopped = false
+continues_ticks reply.Begun = true
+continues_ticks reply.Taken = true
+continues_ticks reply.Moved = true
+continues_ticks (reply.Opened index) = true
+continues_ticks reply.Approaching = true
+continues_ticks (reply.Status status) = true
 continues_ticks (reply.Refused fault) = false
-continues_ticks r = true

@@ -1,5 +1,5 @@
 -- What the job `format` does (own).
-use Rattle.std.specs.Prelude.{ℕ, ◌≡◌, ◌⊎◌, ◌≤◌, List, Option, Result, Ok, Err, IfErr}
+use Rattle.std.specs.Prelude.{ℕ, ◌≡◌, ◌⊎◌, ◌↔◌, ◌<◌, ◌≤◌, List, Option, Result, Ok, Err, IfErr, IsErrOf}
 use Rattle.std.specs.declared.io.Error.{Error}
 use Rattle.ng_num.specs.declared.fault.Fault.{Fault}
 use Rattle.ng_num.specs.declared.fault.Fault.TheVariants.{DeviceFailed, NotFormatted}
@@ -16,10 +16,12 @@ abbrev pub FormatStatus : {T : Type 0} → Result T Fault → Option (List ℕ) 
 FormatStatus (Ok _) old new status = (status ≡ 0) × (new ≡ old)
 FormatStatus (Err fault) old new status = IsRefusedWith fault old new status
 
--- The answer is that of formatting the device, which the journal defines.
+-- The answer is that of formatting the device, which the journal defines. One that is too small is refused as such, no other is, and it stays as it was.
 pub record FormatsRig {R : Type 0} (sectors failed : R → ℕ) (honest : R → Type 0) (trace : R → Trace) (rig_old rig_new : R) (old new : Option (List ℕ)) (status : ℕ) : Type 0 where
   pub formatted : Result (Unit {0}) Fault
   pub answers : FormatStatus formatted old new status
+  pub small : IsErrOf formatted NotFormatted ↔ (sectors rig_old < least_size)
+  pub unchanged : IsErrOf formatted NotFormatted → rig_new ≡ rig_old
   pub faults : IfErr formatted (λ fault. (fault ≡ NotFormatted) ⊎ (fault ≡ DeviceFailed))
   pub formats : least_size ≤ sectors rig_old → IfHonest (honest rig_old) (honest rig_new) (FormatSpec formatted (trace rig_old) (trace rig_new))
   pub tells : CountsFailure formatted (failed rig_old) (failed rig_new)

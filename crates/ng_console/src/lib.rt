@@ -8,7 +8,7 @@
 //! Each job is done by a crate below: `ng_dry` reads a program and writes its text, `ng_journal` formats a device, and `ng_run`
 //! talks to an operator. `clap` reads the words and `ng_settings` the settings; `ng_file` opens devices and makes a `Rig` (`ng_rig`)
 //! of a file; `ng_num` has the faults. The crate leaves out what a file holds and what the system does with the bytes that are
-//! written.
+//! written. It sees to it that no file is taken for a standard stream that is closed (`start`).
 #![tactic(auto)]
 
 mod command_line;

@@ -7,13 +7,13 @@ ghost use Rattle.ng_console.specs.Operating.{OperatesChosen, OperatesDevice, Ope
 use crate::format::{refuse_device, refuse_storage};
 use crate::program::{FAILED, refuse_settings};
 use crate::settings_file::NoSettings;
-use ng_file::{FileRig, Hold, Storage, is_same_file, open_device};
+use ng_file::{FileRig, Hold, NotHeld, Storage, is_same_file, open_device};
 use ng_run::console;
 use ng_settings::Settings;
 use std::alloc::Global;
 use std::fs::OpenOptions;
 use std::io;
-use std::io::{Read, Write};
+use std::io::{ErrorKind, Read, Write};
 use std::rt::Files;
 
 /// Operates the machine of a device with the settings that were found, and gives the exit status. Where there are none no file is
@@ -45,8 +45,8 @@ pub(crate) fn are_three_files<R: Files>(rt: &R, device: &str, settings: &str, ou
         && !is_same_file(rt, settings, out)
 }
 
-/// Opens the device, then the file to which is handed out, and operates the machine. Where there is no device the other file isn't
-/// opened, and so not made.
+/// Opens the device, then the file to which is handed out, holds each, and operates the machine. Where there is no device the other file
+/// isn't opened, and so not made.
 fn operate_files<R: Files + AllocGlobal, I: Read, W: Write>(
     rt: &R,
     settings: Settings,
@@ -61,7 +61,7 @@ where
     ensures range { IfOk result (λ status. status ≤ 2) }
 {
     match open_device(rt, device) {
-        Ok(file) => match open_to_append(rt, out) {
+        Ok(file) => match open_out(rt, out) {
             Ok(out) => operate_device(rt.alloc(), settings, file, out, reader, writer),
             Err(_) => Ok(FAILED),
         },
@@ -69,9 +69,17 @@ where
     }
 }
 
-/// Opens a file to append to it, and makes it where there is none.
-fn open_to_append<R: Files>(rt: &R, path: &str) -> io::Result<R::File> {
-    OpenOptions::new().append(true).create(true).open(rt, path)
+/// Opens the file to which is handed out, to append to it, makes it where there is none, and holds it for this process alone: of two
+/// sessions over two devices it would keep a mixture. The error where another process holds it is `WouldBlock`.
+fn open_out<R: Files>(rt: &R, path: &str) -> io::Result<R::File>
+where
+    R::File: Hold,
+{
+    let file = OpenOptions::new().append(true).create(true).open(rt, path)?;
+    match file.hold() {
+        Ok(()) => Ok(file),
+        Err(NotHeld) => Err(io::Error::from(ErrorKind::WouldBlock)),
+    }
 }
 
 /// Operates the machine of the device in these bytes, and appends what is handed out to a file. The error is that of the writer,

@@ -11,10 +11,11 @@ use crate::operating::{are_three_files, operate_chosen};
 use crate::settings_file::{NoSettings, chosen_settings};
 use ng_dry::{DryFault, Ended, dry};
 use ng_file::{Hold, make_device};
-use ng_layout::{BYTES, LEAST_SIZE};
+use ng_layout::LEAST_SIZE;
 use ng_num::Fault;
 use ng_settings::Settings;
 use std::alloc::{Allocator, Global};
+use std::fs::OpenOptions;
 use std::io::{Read, Write};
 use std::rt::{Env, Files};
 use std::{env, fs, io};
@@ -28,12 +29,11 @@ const REFUSED: u8 = 1;
 /// The words, a file, the settings, the device, the reader, the writer or memory kept the program from its work.
 pub(crate) const FAILED: u8 = 2;
 
-/// The bytes of a file that is made for a device.
-const NEW_DEVICE_BYTES: u64 = (LEAST_SIZE * BYTES) as u64;
-
-/// Does what the words that the process was started with ask for, and gives the exit status.
+/// Does what the words that the process was started with ask for, and gives the exit status. A standard stream that is closed at the start
+/// is `/dev/null` to the end.
 ///
-/// Words that are not text, and memory wanting for them, print nothing and give 2; for the rest see `ngc`.
+/// Where `/dev/null` can't be opened, and where the words are not text or there is no memory for them, nothing is printed and the status
+/// is 2; for the rest see `ngc`. Source: own.
 pub fn start<R: Env + Files + AllocGlobal, I: Read, W: Write>(
     rt: &R,
     reader: &mut I,
@@ -44,6 +44,9 @@ where
     ensures status { result ≤ 2 }
     ensures run { (result ≡ 2) ⊎ ((texts : List (List ℕ)) × ((job : Job) × RequestsJob texts job × JobSpec R.File.remaining job (I.remaining reader.old) (W.contents writer.old) (W.contents writer.new) result)) }
 {
+    let Ok(_streams) = open_streams(rt) else {
+        return FAILED;
+    };
     let Ok(given) = given_words(rt) else {
         return FAILED;
     };
@@ -55,6 +58,20 @@ where
         return FAILED;
     };
     ngc(rt, texts.as_slice(), reader, writer)
+}
+
+/// Opens `/dev/null` three times. A file that is opened takes the least descriptor that is free, so those of the standard streams, 0 to 2,
+/// are then open, and no other file is taken for one of them.
+fn open_streams<R: Files>(rt: &R) -> io::Result<(R::File, R::File, R::File)> {
+    Ok((open_null(rt)?, open_null(rt)?, open_null(rt)?))
+}
+
+/// Opens `/dev/null` to read and write.
+fn open_null<R: Files>(rt: &R) -> io::Result<R::File> {
+    OpenOptions::new()
+        .read(true)
+        .write(true)
+        .open(rt, "/dev/null")
 }
 
 /// The words that the process was started with.
@@ -69,8 +86,8 @@ fn given_words<R: Env + AllocGlobal>(rt: &R) -> io::Result<Vec<String>> {
 /// refused, and the last line written says where and why. 2, for the first of these that holds: the words ask for nothing that
 /// `ngc` does, or for help, and clap's text is written; two of the three files of `run` are one, and nothing is written or made;
 /// the settings file can't be opened or read, and nothing is written, or it is refused, and one line with its fault is written;
-/// another file can't be opened or read, and nothing is written, or a device can't be used, and one line with its fault is written;
-/// the device, the reader or the writer fails, or memory is wanting.
+/// another file can't be opened or read, or the one to which is handed out can't be held, and nothing is written, or a device can't be
+/// used, and one line with its fault is written; the device, the reader or the writer fails, or memory is wanting.
 /// Source: own.
 pub fn ngc<R: Files + AllocGlobal, I: Read, W: Write>(
     rt: &R,
@@ -121,7 +138,7 @@ where
             run_chosen(rt.alloc(), chosen, program, writer, block_delete).unwrap_or(FAILED)
         }
         Job::Format { device } => {
-            let opened = make_device(rt, device, NEW_DEVICE_BYTES);
+            let opened = make_device(rt, device, LEAST_SIZE);
             format_opened(rt.alloc(), opened, writer).unwrap_or(FAILED)
         }
         Job::Run {

@@ -73,7 +73,7 @@ fn give<R: Rig, O: Origin<R>, W: Wait>(
     reply
 }
 
-/// Gives an event until a reply tells what is awaited.
+/// Gives an event until a reply tells what is awaited, at most so often.
 fn give_until<R: Rig, O: Origin<R>, W: Wait>(
     rt: &W,
     desk: &Desk<R, Global, O>,
@@ -149,7 +149,8 @@ fn work_all<R: Rig + Drop + Send, O: Origin<R> + Send + Sync, W: Threads + Wait 
     );
 }
 
-/// Whether a caller was answered as its work has it: held at the end, and by a load and a start at first.
+/// Whether a caller was answered as its work has it: held at the end. One that commands first loaded and started the program, and saw a
+/// half-done block right before it held: the others had their turns before it was through.
 fn is_answered(role: Role, calls: &[Call<Global>]) -> bool {
     let Some(last) = calls.last() else {
         return false;
@@ -160,6 +161,7 @@ fn is_answered(role: Role, calls: &[Call<Global>]) -> bool {
             calls.len() > 3
                 && calls[0].reply == Reply::Done(1)
                 && calls[1].reply == Reply::Going
+                && tells(calls[calls.len() - 2].reply, Awaited::HalfDone)
                 && last.reply == Reply::Held
         }
     }

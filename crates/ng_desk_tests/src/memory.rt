@@ -94,18 +94,18 @@ fn came_of<A: Allocator + Copy + Drop, W: Wait>(
     Ok(outcome_of(called, before == after))
 }
 
-/// The bytes of a heap, and what comes of a desk there. Power on takes two tables of parameters of 43,192 bytes and 46,072 for the lines that are
-/// planned, the program 1,000, the seats 32 each; a call then grows the seat's list, grows the history, and copies the program three times,
-/// and each of these five is refused in turn; a load takes one more table.
+/// The bytes of a heap, and what comes of a desk there. Power on takes two tables of parameters of 43,192 bytes and 62,712 for the lines that
+/// are planned, the program 1,000, the seats 32 each; a call then grows the seat's list, grows the history, and copies the program three
+/// times, and each of these five is refused in turn; a load takes one more table.
 const HEAPS: &[(usize, Outcome)] = &[
-    (134_072, Outcome::NoDesk),
-    (135_872, Outcome::NoCall),
-    (136_372, Outcome::NoCall),
-    (137_072, Outcome::NoCall),
-    (138_072, Outcome::NoCall),
-    (139_072, Outcome::NoCall),
-    (141_072, Outcome::NoProgram),
-    (196_072, Outcome::Loaded),
+    (150_712, Outcome::NoDesk),
+    (152_512, Outcome::NoCall),
+    (153_012, Outcome::NoCall),
+    (153_712, Outcome::NoCall),
+    (154_712, Outcome::NoCall),
+    (155_712, Outcome::NoCall),
+    (157_712, Outcome::NoProgram),
+    (212_712, Outcome::Loaded),
 ];
 
 #[test]

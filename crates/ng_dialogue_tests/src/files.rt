@@ -235,10 +235,11 @@ fn what_is_handed_out_is_a_line_after_those_before(rt: HostRuntime) -> Result<()
     Ok(())
 }
 
-/// A writer whose calls fail but for so many at first.
+/// A writer that takes so many bytes at a call at most, and whose calls fail but for so many at first.
 #[derive(Drop)]
 struct Short {
     taken: Vec<u8>,
+    most: usize,
     calls_left: usize,
 }
 
@@ -248,8 +249,9 @@ impl Write for Short {
             return Err(io::Error::from(ErrorKind::StorageFull));
         }
         self.calls_left -= 1;
-        match self.taken.extend_from_slice(buf) {
-            Ok(()) => Ok(buf.len()),
+        let count = buf.len().min(self.most);
+        match self.taken.extend_from_slice(&buf[..count]) {
+            Ok(()) => Ok(count),
             Err(_) => Err(io::Error::from(ErrorKind::OutOfMemory)),
         }
     }
@@ -263,14 +265,20 @@ impl Write for Short {
     }
 }
 
-/// Calls of a writer that succeed, the items of three that are handed out then, and what is written.
-const CALLS: &[(usize, usize, &str)] = &[
-    (0, 0, ""),
-    (1, 0, "D 5\n"),
-    (2, 1, "D 5\n"),
-    (3, 1, "D 5\nD 5\n"),
-    (4, 2, "D 5\nD 5\n"),
-    (6, 3, "D 5\nD 5\nD 5\n"),
+/// Calls of a writer that succeed and the bytes that it takes at each, the items of three that are handed out then, and what is written.
+const CALLS: &[(usize, usize, usize, &str)] = &[
+    (0, 9, 0, ""),
+    (1, 9, 0, "D 5\n"),
+    (2, 9, 1, "D 5\n"),
+    (3, 9, 1, "D 5\nD 5\n"),
+    (4, 9, 2, "D 5\nD 5\n"),
+    (6, 9, 3, "D 5\nD 5\nD 5\n"),
+    (1, 3, 0, "D 5"),
+    (2, 3, 0, "D 5\n"),
+    (3, 3, 1, "D 5\n"),
+    (4, 3, 1, "D 5\nD 5"),
+    (9, 3, 3, "D 5\nD 5\nD 5\n"),
+    (9, 0, 0, ""),
 ];
 
 /// Hands out three items: how many of them are.
@@ -284,11 +292,16 @@ fn hand_out_three<R: Rig>(rig: &mut R) -> usize {
     good
 }
 
-/// Hands out three items over a writer of which so many calls succeed: how many are, how many failures are counted, and what
-/// is written.
-fn three_over_short(alloc: Global, calls_left: usize) -> io::Result<(usize, u64, Vec<u8>)> {
+/// Hands out three items over a writer of which so many calls succeed, with so many bytes each: how many are, how many failures are
+/// counted, and what is written.
+fn three_over_short(
+    alloc: Global,
+    calls_left: usize,
+    most: usize,
+) -> io::Result<(usize, u64, Vec<u8>)> {
     let out = Short {
         taken: Vec::new(alloc),
+        most,
         calls_left,
     };
     let mut rig = FileRig::over(alloc, disk_with(alloc, 0, 0)?, out)?;
@@ -299,14 +312,14 @@ fn three_over_short(alloc: Global, calls_left: usize) -> io::Result<(usize, u64,
 }
 
 #[test]
-fn a_hand_out_is_a_write_and_a_flush_and_fails_with_each(rt: HostRuntime) -> Result<(), Fail> {
-    for (calls_left, handed, written) in CALLS {
-        let (good, failures, taken) = three_over_short(rt.alloc(), *calls_left)?;
+fn a_hand_out_is_writes_and_a_flush_and_fails_with_each(rt: HostRuntime) -> Result<(), Fail> {
+    for (calls_left, most, handed, written) in CALLS {
+        let (good, failures, taken) = three_over_short(rt.alloc(), *calls_left, *most)?;
         let failing = 3u64.saturating_sub(*handed as u64);
         assert_eq!(rt;
             (good, failures, taken.as_slice() == written.as_bytes()),
             (*handed, failing, true),
-            "{calls_left}"
+            "{calls_left} {most}"
         );
     }
     Ok(())

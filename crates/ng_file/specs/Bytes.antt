@@ -1,5 +1,6 @@
 -- The bytes of a file, and its sectors of 512 (own).
 use Rattle.std.specs.Prelude.{◌≡◌, ◌⊎◌, ◌≤◌, ◌+◌, ◌*◌, ℕ, List, ◌++◌, Option, Some, IfSome, length, take, drop, slice_range}
+use Rattle.std.specs.Io.KnownBytes.{Appends}
 
 -- what sector n of these bytes holds
 abbrev pub sector_of : ℕ → List ℕ → List ℕ
@@ -17,3 +18,7 @@ Put place bytes old new = IfSome old (λ held. place + 512 ≤ length held → n
 abbrev pub PutInPart : ℕ → Option (List ℕ) → Option (List ℕ) → Type 0
 PutInPart place old new = IfSome old (λ held. place + 512 ≤ length held →
     (new ≡ Some held) ⊎ ((bytes : List ℕ) × (length bytes ≡ 512) × (new ≡ Some (with_bytes place bytes held))))
+
+-- a beginning of these bytes is appended, perhaps none of them or all
+abbrev pub AppendsBeginning : Option (List ℕ) → Option (List ℕ) → List ℕ → Type 0
+AppendsBeginning old new bytes = (n : ℕ) × Appends old new (take n bytes)

@@ -1,8 +1,14 @@
 //! The files of devices, found by their names.
+ghost use Rattle.std.specs.Prelude.{◌*◌, OnOk, replicate};
+ghost use Rattle.std.specs.Io.KnownBytes.{Appends};
+
 use crate::hold::Hold;
 use crate::opened::OpenedFile;
+use crate::storage::SECTOR;
 use std::fs::{OpenFile, OpenOptions};
-use std::io::ErrorKind;
+use std::io;
+use std::io::{ErrorKind, Write};
+use std::path::Path;
 use std::rt::Files;
 
 /// Why a device's file wasn't opened.
@@ -10,7 +16,7 @@ use std::rt::Files;
 pub enum NoDevice {
     /// It isn't there, or the system doesn't let it be read and written.
     Unopened,
-    /// It is a directory, or another process holds it, or a new one can't be made as long as it has to be.
+    /// It is a directory, or another process holds it, or a new one can't be made as long as it has to be, or can't be made to last.
     Unusable,
 }
 
@@ -32,14 +38,15 @@ where
     held(file)
 }
 
-/// Opens the file of a device and holds it for this process alone; where there is none makes one of so many bytes, all zeros (own).
+/// Opens the file of a device and holds it for this process alone; where there is none makes one of so many sectors, each written in
+/// full with zeros, and makes it and the directory in which it stands last over a loss of power (own).
 ///
 /// `Unopened` where it can't be made, or is there and may not be read and written; `Unusable` as for `open_device`, or where a new file
-/// can't be made so long: it stays then, too short.
+/// can't be written so long or can't be made to last: it stays then, perhaps too short.
 pub fn make_device<R: Files>(
     rt: &R,
     path: &str,
-    size_bytes: u64,
+    sectors: usize,
 ) -> Result<OpenedFile<R::File>, NoDevice>
 where
     R::File: Hold,
@@ -50,13 +57,58 @@ where
         .create_new(true)
         .open(rt, path);
     match made {
-        Ok(file) => match file.set_len(size_bytes) {
-            Ok(()) => held(file),
-            Err(_) => Err(NoDevice::Unusable),
-        },
+        Ok(file) => made_whole(rt, path, file, sectors),
         Err(error) if error.kind() == ErrorKind::AlreadyExists => open_device(rt, path),
         Err(_) => Err(NoDevice::Unopened),
     }
+}
+
+/// The bytes of a new file, which this process alone holds, once it has so many sectors and lasts.
+fn made_whole<R: Files>(
+    rt: &R,
+    path: &str,
+    mut file: R::File,
+    sectors: usize,
+) -> Result<OpenedFile<R::File>, NoDevice>
+where
+    R::File: Hold,
+{
+    let Ok(()) = file.hold() else {
+        return Err(NoDevice::Unusable);
+    };
+    match fill(rt, path, &mut file, sectors) {
+        Ok(()) => Ok(OpenedFile::of(file)),
+        Err(_) => Err(NoDevice::Unusable),
+    }
+}
+
+/// Writes so many sectors of zeros to a new file, and makes it and the directory in which it stands last.
+fn fill<R: Files>(rt: &R, path: &str, file: &mut R::File, sectors: usize) -> io::Result<()> {
+    write_zeros(file, sectors)?;
+    file.sync_all()?;
+    sync_directory(rt, path)
+}
+
+/// Writes so many sectors of zeros.
+fn write_zeros<W: Write>(file: &mut W, sectors: usize) -> io::Result<()>
+    ensures { OnOk result (Appends (W.contents file.old) (W.contents file.new) (replicate (512 * sectors) 0)) }
+{
+    for _ in 0..sectors {
+        file.write_all(&[0; SECTOR])?;
+    }
+    Ok(())
+}
+
+/// Makes the names in a file's directory last.
+fn sync_directory<R: Files>(rt: &R, path: &str) -> io::Result<()> {
+    let directory = match Path::new(path).parent() {
+        Some(parent) if !parent.as_str().is_empty() => parent,
+        _ => Path::new("."),
+    };
+    OpenOptions::new()
+        .read(true)
+        .open(rt, directory)?
+        .sync_all()
 }
 
 /// Whether a path names a directory.

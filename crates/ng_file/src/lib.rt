@@ -6,8 +6,9 @@
 //!
 //! What is trusted, and said by no contract: that a file of the system gives back the bytes that were put at a place, that
 //! after `sync_all` power leaves what a read gives, that a write of 512 bytes at a multiple of 512 is kept whole or not at
-//! all, and that no other program writes to the file. So a `FileRig` is nowhere honest to the prover, and what is proved of
-//! honest devices holds of it as far as the file keeps this.
+//! all, that the file to which is handed out keeps the lines in the order in which they were appended, and that no other
+//! program writes to either. So a `FileRig` is nowhere honest to the prover, and what is proved of honest devices holds of
+//! it as far as the files keep this.
 #![tactic(auto)]
 
 mod device;
@@ -17,6 +18,7 @@ mod opened;
 mod rig;
 mod same;
 mod storage;
+mod writing;
 
 pub use device::{NoDevice, make_device, open_device};
 pub use hold::{Hold, NotHeld};

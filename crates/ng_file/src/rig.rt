@@ -2,15 +2,13 @@
 ghost use Rattle.std.specs.Prelude.{◌*◌, ◌<◌, ◌^◌, ℕ};
 
 use crate::line::push_item;
-use crate::storage::Storage;
+use crate::storage::{SECTOR, Storage};
+use crate::writing::write_out;
 use ng_canon::Item;
 use ng_rig::{Failed, Rig};
 use std::alloc::Allocator;
 use std::io;
 use std::io::Write;
-
-/// The bytes of a sector.
-const SECTOR: u64 = 512;
 
 /// Room for the line of any item.
 const LINE: usize = 64;
@@ -33,7 +31,7 @@ impl<S: Storage + Drop, W: Write + Drop, A: Allocator + Copy + Drop> FileRig<S, 
     ghost use Rattle.std.specs.Prelude.{◌≡◌, ◌+◌, ◌*◌, ◌/◌, ◌%◌, ◌^◌, ◌<◌, ◌≤◌, IfOk, IfSome, OnOk, OnErr, is_ok, length};
     ghost use Rattle.ng_rig.specs.Calls.{FailureCountSpec};
     ghost use Rattle.std.specs.Io.KnownBytes.{Appends};
-    ghost use Rattle.ng_file.specs.Bytes.{Put, PutInPart};
+    ghost use Rattle.ng_file.specs.Bytes.{AppendsBeginning, Put, PutInPart};
     ghost use Rattle.ng_file.specs.FileRig.{failure_count, outlet, sector_count, storage};
     ghost use Rattle.ng_file.specs.Lines.{item_line};
 
@@ -46,7 +44,7 @@ impl<S: Storage + Drop, W: Write + Drop, A: Allocator + Copy + Drop> FileRig<S, 
         ensures failures { IfOk result (λ rig. failure_count rig ≡ 0) }
     {
         let line = Vec::with_capacity(alloc, LINE)?;
-        let sectors = (file.length()? / SECTOR) as usize;
+        let sectors = (file.length()? / SECTOR as u64) as usize;
         Ok(FileRig {
             file,
             out,
@@ -78,8 +76,8 @@ impl<S: Storage + Drop, W: Write + Drop, A: Allocator + Copy + Drop> FileRig<S, 
         ensures part { OnErr result (PutInPart (512 * sector) (S.content (storage self.old)) (S.content (storage self.new))) }
         ensures others { (outlet self.new ≡ outlet self.old) × (sector_count self.new ≡ sector_count self.old) × (failure_count self.new ≡ failure_count self.old) }
     {
-        let place = sector as u64 * SECTOR;
-        if self.file.length()? < place + SECTOR {
+        let place = sector as u64 * SECTOR as u64;
+        if self.file.length()? < place + SECTOR as u64 {
             return Err(io::Error::from(io::ErrorKind::UnexpectedEof));
         }
         self.file.write_at(place, bytes)
@@ -88,11 +86,12 @@ impl<S: Storage + Drop, W: Write + Drop, A: Allocator + Copy + Drop> FileRig<S, 
     /// Appends the line of an item to what was handed out.
     fn put_line(&mut self, item: Item) -> io::Result<()>
         ensures line { OnOk result (Appends (W.contents (outlet self.old)) (W.contents (outlet self.new)) (item_line item)) }
+        ensures part { OnErr result (AppendsBeginning (W.contents (outlet self.old)) (W.contents (outlet self.new)) (item_line item)) }
         ensures others { (storage self.new ≡ storage self.old) × (sector_count self.new ≡ sector_count self.old) × (failure_count self.new ≡ failure_count self.old) }
     {
         self.line.clear();
         push_item(&mut self.line, item)?;
-        self.out.write_all(&self.line)?;
+        write_out(&mut self.out, &self.line)?;
         self.out.flush()
     }
 
@@ -117,7 +116,7 @@ impl<S: Storage + Drop, W: Write + Drop, A: Allocator + Copy + Drop> Rig for Fil
     ghost use Rattle.std.specs.Io.KnownBytes.{Appends};
     ghost use Rattle.ng_rig.specs.Calls.{FailureCountSpec};
     ghost use Rattle.ng_rig.specs.Trace.{Began};
-    ghost use Rattle.ng_file.specs.Bytes.{Put, PutInPart, sector_of};
+    ghost use Rattle.ng_file.specs.Bytes.{AppendsBeginning, Put, PutInPart, sector_of};
     ghost use Rattle.ng_file.specs.FileRig.{failure_count, outlet, sector_count, storage};
     ghost use Rattle.ng_file.specs.Lines.{item_line};
 
@@ -145,7 +144,7 @@ impl<S: Storage + Drop, W: Write + Drop, A: Allocator + Copy + Drop> Rig for Fil
         ensures size { sector_count self.new ≡ sector_count self.old }
         ensures failures { FailureCountSpec result (failure_count self.old) (failure_count self.new) }
     {
-        let read = self.file.read_at(sector as u64 * SECTOR, into);
+        let read = self.file.read_at(sector as u64 * SECTOR as u64, into);
         self.counted(read)
     }
 
@@ -174,9 +173,10 @@ impl<S: Storage + Drop, W: Write + Drop, A: Allocator + Copy + Drop> Rig for Fil
         self.counted(synced)
     }
 
-    /// Appends the item's line and flushes the writer. Takes no memory. After a failure a part of the line may stand there.
+    /// Appends the item's line and flushes the writer. Takes no memory. After a failure a beginning of the line may stand there.
     fn hand_out(&mut self, item: Item) -> Result<(), Failed>
         ensures line { OnOk result (Appends (W.contents (outlet self.old)) (W.contents (outlet self.new)) (item_line item)) }
+        ensures part { OnErr result (AppendsBeginning (W.contents (outlet self.old)) (W.contents (outlet self.new)) (item_line item)) }
         ensures stays { storage self.new ≡ storage self.old }
         ensures size { sector_count self.new ≡ sector_count self.old }
         ensures failures { FailureCountSpec result (failure_count self.old) (failure_count self.new) }

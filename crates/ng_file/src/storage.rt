@@ -4,6 +4,9 @@ ghost use Rattle.ng_file.specs.Bytes.{Put, PutInPart};
 
 use std::io;
 
+/// The bytes of a sector.
+pub(crate) const SECTOR: usize = 512;
+
 /// The bytes of a file, of which 512 are read or written at a time (own).
 pub trait Storage {
     /// The bytes that it holds, where that is known.

@@ -1,5 +1,5 @@
 use crate::images::{sector_of, store};
-use crate::journal::fill;
+use crate::journal::formatting::fill;
 use linked_list_allocator::LocalHeap;
 use ng_canon::{AxisStep, Item, Outputs, Pulse};
 use ng_rig::{FailRig, FuseRig, MemoryRig, Rig};

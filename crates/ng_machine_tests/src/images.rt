@@ -1,6 +1,7 @@
-use crate::journal::header;
+use crate::journal::header_of;
 use ng_journal::recover;
 use ng_num::Fault;
+use ng_offsets::Tools;
 use ng_rig::{MemoryRig, Rig};
 use std::alloc::{AllocError, Allocator};
 use std::test::Fail;
@@ -8,18 +9,22 @@ use std::test::Fail;
 mod records;
 mod sizes;
 
-/// A device of format 1 before one of its numbers is changed. Its program has 131,072 bytes, and all that isn't named
+/// A device before one of its numbers is changed, of format 2 where it isn't said. Its program has 131,072 bytes, and all that isn't named
 /// is as in a fresh state.
 #[derive(Clone, Copy, Debug, PartialEq, Eq)]
 enum Base {
     /// Epoch 1: the header in sector 1, its snapshot in sectors 88 to 173.
     Odd,
-    /// Epoch 2: the header in sector 0, its snapshot in sectors 2 to 87.
+    /// Epoch 2: the header in sector 0, its snapshot in sectors 2 to 87; 64 slots, whose lengths stand in sector 1706.
     Even,
     /// Epoch 1, with all words of a cycle kept and a half-done block of 256 bytes; it is known where the machine stands.
     Full,
     /// Epoch 1, with a half-done block of 3 bytes; it isn't known where the machine stands.
     Lost,
+    /// Format 1, epoch 1.
+    OldOdd,
+    /// Format 1, epoch 2.
+    OldEven,
 }
 
 /// What power on answers to an image with a number changed, and what it writes in that number's place.
@@ -31,6 +36,8 @@ enum Answer {
     Alone,
     /// It stands, and the next number is written.
     Next,
+    /// It stands, and the number after the next is written.
+    Second,
     /// It stands; the number isn't looked at or doesn't last, and 0 is written.
     Zero,
     Refused(Fault),
@@ -41,6 +48,8 @@ const SAME: Answer = Answer::Same;
 const ALONE: Answer = Answer::Alone;
 
 const NEXT: Answer = Answer::Next;
+
+const SECOND: Answer = Answer::Second;
 
 const ZERO: Answer = Answer::Zero;
 
@@ -56,6 +65,8 @@ pub const MARK: i64 = 0x4347_4e34_3732_5352;
 const COUNT: i64 = 1_000_000_000_000;
 /// The longest program.
 const LONGEST: i64 = 131_072;
+/// The greatest length of a tool, 1 m.
+pub const METRE: i64 = 1_000_000_000;
 /// The greatest length in nanometres and number in millionths.
 const MOST: i64 = 9_999_999_999_999;
 /// Both ends of their range, and what lies one past it or as far as can be.
@@ -66,6 +77,10 @@ const PAST: &[i64] = &[-MOST - 1, MOST + 1, i64::MIN, i64::MAX];
 const FROM_0: &[i64] = &[0, MOST];
 
 const PAST_0: &[i64] = &[MOST + 1, -1];
+/// The same of the length of a tool.
+const TOOLS: &[i64] = &[0, METRE];
+
+const PAST_TOOLS: &[i64] = &[METRE + 1, -1, i64::MIN, i64::MAX];
 /// Every number of the bits of the kept words.
 const BITS: &[i64] = &[0, 1, 2, 3, 4, 5, 6, 7, 8, 9, 10, 11, 12, 13, 14, 15];
 
@@ -97,8 +112,17 @@ const CASES: &[Case] = &[
         &[0, MARK + 1, MARK + 0x20, MARK - (1 << 56)],
         J2,
     ),
-    ("format", Base::Odd, 1, 8, 4, &[1], SAME),
-    ("format", Base::Odd, 1, 8, 4, &[0, 2, 257, 0x100_0001], J2),
+    ("format", Base::Odd, 1, 8, 4, &[2], SAME),
+    ("format", Base::OldOdd, 1, 8, 4, &[1], NEXT),
+    (
+        "format",
+        Base::Odd,
+        1,
+        8,
+        4,
+        &[0, 3, 257, 258, 0x100_0001, 0x100_0002],
+        J2,
+    ),
     ("unnamed, 12", Base::Odd, 1, 12, 4, &[1, -1], ZERO),
     ("epoch", Base::Odd, 1, 16, 8, &[1, 3, COUNT - 1], NEXT),
     (
@@ -113,8 +137,17 @@ const CASES: &[Case] = &[
     ("epoch", Base::Even, 0, 16, 8, &[2, 4, COUNT - 2], NEXT),
     ("epoch", Base::Even, 0, 16, 8, &[COUNT], J4),
     ("epoch", Base::Even, 0, 16, 8, &[0, 1, COUNT + 2, -2], J2),
+    // of format 1 two epochs have to be left
+    ("epoch", Base::OldOdd, 1, 16, 8, &[1, COUNT - 3], SECOND),
+    ("epoch", Base::OldOdd, 1, 16, 8, &[COUNT - 1], J4),
+    ("epoch", Base::OldOdd, 1, 16, 8, &[0, 2, COUNT + 1, -1], J2),
+    ("epoch", Base::OldEven, 0, 16, 8, &[2, COUNT - 2], SECOND),
+    ("epoch", Base::OldEven, 0, 16, 8, &[COUNT], J4),
+    ("epoch", Base::OldEven, 0, 16, 8, &[0, 1, COUNT + 2, -2], J2),
     ("program area", Base::Odd, 1, 24, 8, &[0, 1], SAME),
     ("program area", Base::Odd, 1, 24, 8, &[2, 256, -1], J2),
+    ("program area", Base::OldOdd, 1, 24, 8, &[0, 1], SAME),
+    ("program area", Base::OldOdd, 1, 24, 8, &[2], J2),
     ("program length", Base::Odd, 1, 32, 8, &[0, LONGEST], SAME),
     (
         "program length",
@@ -194,6 +227,9 @@ const CASES: &[Case] = &[
         SAME,
     ),
     ("system", Base::Odd, 88, 150, 1, &[0, 10, 54, 255], J3),
+    ("system", Base::OldOdd, 88, 150, 1, &[1, 9], SAME),
+    ("system", Base::OldOdd, 88, 150, 1, &[0, 10], J3),
+    ("system", Base::OldEven, 2, 150, 1, &[0, 10], J3),
     ("path", Base::Odd, 88, 151, 1, &[0, 1, 2], SAME),
     ("path", Base::Odd, 88, 151, 1, &[3, 61, 255], J3),
     ("spindle", Base::Odd, 88, 152, 1, &[0, 1, 2], SAME),
@@ -210,6 +246,8 @@ const CASES: &[Case] = &[
     ("kept", Base::Odd, 88, 157, 1, &[16, 32, 128, 255], J3),
     ("selected slot", Base::Odd, 88, 158, 2, &[0, 64], SAME),
     ("selected slot", Base::Odd, 88, 158, 2, &[65, 256, -1], J3),
+    ("selected slot", Base::OldOdd, 88, 158, 2, &[0, 64], SAME),
+    ("selected slot", Base::OldOdd, 88, 158, 2, &[65], J3),
     ("spindle slot", Base::Odd, 88, 160, 2, &[0, 64], SAME),
     ("spindle slot", Base::Odd, 88, 160, 2, &[65, 256, -1], J3),
     ("half-done", Base::Odd, 88, 162, 1, &[0, 1, 2], SAME),
@@ -255,8 +293,23 @@ const CASES: &[Case] = &[
     ("text, 455", Base::Odd, 88, 455, 1, &[255], ZERO),
     ("text, 202", Base::Lost, 88, 202, 1, &[0, 10, 255], SAME),
     ("text, 203", Base::Lost, 88, 203, 1, &[10, 255], ZERO),
-    ("unnamed, 456", Base::Odd, 88, 456, 8, &[-1], ZERO),
+    ("slots", Base::Odd, 88, 456, 2, &[0, 1, 64], SAME),
+    ("slots", Base::Odd, 88, 456, 2, &[65, 256, 257, -1], J3),
+    ("slots", Base::Even, 2, 456, 2, &[0, 1, 64], SAME),
+    ("slots", Base::Even, 2, 456, 2, &[65, -1], J3),
+    // format 1 has none, and the settings that are given have none
+    ("slots", Base::OldOdd, 88, 456, 2, &[1, 64, 65, -1], ZERO),
+    ("slots", Base::OldEven, 2, 456, 2, &[1, 64, 65, -1], ZERO),
+    ("unnamed, 458", Base::Odd, 88, 458, 8, &[-1], ZERO),
     ("unnamed, 504", Base::Full, 88, 504, 8, &[-1], ZERO),
+    ("slot 1", Base::Even, 1_706, 0, 8, TOOLS, SAME),
+    ("slot 1", Base::Even, 1_706, 0, 8, PAST_TOOLS, J3),
+    ("slot 64", Base::Even, 1_706, 504, 8, TOOLS, SAME),
+    ("slot 64", Base::Even, 1_706, 504, 8, PAST_TOOLS, J3),
+    ("past all slots", Base::Even, 1_707, 0, 8, &[-1], ZERO),
+    ("another's slot", Base::Even, 1_708, 0, 8, &[-1], ZERO),
+    ("past the slots", Base::Odd, 1_708, 0, 8, &[-1], ZERO),
+    ("past the slots", Base::OldOdd, 1_708, 0, 8, &[-1], ZERO),
     ("#1", Base::Odd, 89, 0, 8, ENDS, SAME),
     ("#1", Base::Odd, 89, 0, 8, PAST, J3),
     ("#64", Base::Odd, 89, 504, 8, ENDS, SAME),
@@ -267,6 +320,8 @@ const CASES: &[Case] = &[
     ("#5399", Base::Odd, 173, 176, 8, PAST, J3),
     ("#1", Base::Even, 3, 0, 8, ENDS, SAME),
     ("#1", Base::Even, 3, 0, 8, PAST, J3),
+    ("#1", Base::OldOdd, 89, 0, 8, ENDS, SAME),
+    ("#1", Base::OldOdd, 89, 0, 8, PAST, J3),
     ("unnamed, 184", Base::Odd, 173, 184, 8, PAST, ZERO),
     ("unnamed, 504", Base::Odd, 173, 504, 8, PAST, ZERO),
     // no record: it would have no parts
@@ -337,11 +392,15 @@ const HALF: [(usize, usize, i64); 8] = [
 /// An Mdi block that is half-done before its first segment, with the text `G0X`.
 const LOST_HALF: [(usize, usize, i64); 3] = [(162, 1, 2), (166, 2, 3), (200, 3, 0x58_3047)];
 
-/// The state of a device of this kind, at the bytes that it has in a snapshot's first sector.
+/// A tool table of 64 slots.
+const SLOTS: [(usize, usize, i64); 1] = [(456, 2, 64)];
+
+/// The first sector of the snapshot of a device of this kind.
 fn state_of(base: Base) -> [u8; 512] {
     let mut state = sector_with(&FRESH);
     let more = match base {
-        Base::Odd | Base::Even => [].as_slice(),
+        Base::Odd | Base::OldOdd | Base::OldEven => [].as_slice(),
+        Base::Even => SLOTS.as_slice(),
         Base::Full => HALF.as_slice(),
         Base::Lost => LOST_HALF.as_slice(),
     };
@@ -351,44 +410,72 @@ fn state_of(base: Base) -> [u8; 512] {
     state
 }
 
+/// The header of a device of this kind, and where the snapshot begins.
+fn header_and_area(base: Base) -> ([u8; 512], usize) {
+    match base {
+        Base::Odd | Base::Full | Base::Lost => (header_of(2, 1, 0, LONGEST), 88),
+        Base::Even => (header_of(2, 2, 0, LONGEST), 2),
+        Base::OldOdd => (header_of(1, 1, 0, LONGEST), 88),
+        Base::OldEven => (header_of(1, 2, 0, LONGEST), 2),
+    }
+}
+
 /// Makes the device of a row, with this number in the row's place.
 fn lay<R: Rig>(rig: &mut R, case: &Case, number: i64) -> bool {
-    let (epoch, sector, area) = match case.1 {
-        Base::Even => (2, 0, 2),
-        Base::Odd | Base::Full | Base::Lost => (1, 1, 88),
-    };
-    let is_laid = store(rig, sector, &header(epoch, 0, LONGEST))
-        && store(rig, area, &state_of(case.1));
+    let (header, area) = header_and_area(case.1);
+    let sector = if area == 2 { 0 } else { 1 };
+    let is_laid = store(rig, sector, &header) && store(rig, area, &state_of(case.1));
     let mut changed = sector_of(rig, case.2);
     put(&mut changed, case.3, case.4, number);
     is_laid && store(rig, case.2, &changed) && rig.sync().is_ok()
 }
 
-/// Where the next epoch writes what stands in this sector: headers and snapshot areas change places.
+/// Where the next epoch writes what stands in this sector: headers, snapshot areas and tool areas change places.
 fn twin(sector: usize) -> usize {
     match sector {
         0 => 1,
         1 => 0,
         2..=87 => sector + 86,
         88..=173 => sector - 86,
+        1_706 | 1_707 => sector + 2,
+        1_708 | 1_709 => sector - 2,
         _ => sector,
     }
 }
 
-/// Powers on; why not, if so, and the device.
+/// Where power on writes what stands in this sector of a device: in format 1 that of the epoch after the next.
+fn written(base: Base, sector: usize) -> usize {
+    match base {
+        Base::OldOdd | Base::OldEven => sector,
+        Base::Odd | Base::Even | Base::Full | Base::Lost => twin(sector),
+    }
+}
+
+/// Powers on with no tools in the settings; why not, if so, and the device.
 pub fn powered<A: Allocator + Copy + Drop, R: Rig>(alloc: A, rig: R) -> (Option<Fault>, R) {
-    match recover(alloc, rig) {
+    match recover(alloc, rig, &Tools::new()) {
         Ok((journal, _)) => (None, journal.into_rig()),
         Err((fault, rig)) => (Some(fault), rig),
     }
 }
 
+/// How many calls power on makes: 89 writes (86 of a snapshot, 2 of a tool area, a header) and 3 syncs; over format 1 before them
+/// another 87 writes and 2 syncs, without a tool area.
+fn calls(base: Base) -> usize {
+    match base {
+        Base::Odd | Base::Even | Base::Full | Base::Lost => 92,
+        Base::OldOdd | Base::OldEven => 181,
+    }
+}
+
 /// What power on answers, what it writes in place of this number, and how many calls it makes.
-fn wanted(answer: Answer, number: i64) -> (Option<Fault>, i64, usize) {
-    match answer {
-        Answer::Same | Answer::Alone => (None, number, 90),
-        Answer::Next => (None, number.saturating_add(1), 90),
-        Answer::Zero => (None, 0, 90),
+fn wanted(case: &Case, number: i64) -> (Option<Fault>, i64, usize) {
+    let calls = calls(case.1);
+    match case.6 {
+        Answer::Same | Answer::Alone => (None, number, calls),
+        Answer::Next => (None, number.saturating_add(1), calls),
+        Answer::Second => (None, number.saturating_add(2), calls),
+        Answer::Zero => (None, 0, calls),
         // the sync before the first read, and no write
         Answer::Refused(fault) => (Some(fault), number, 1),
     }
@@ -405,9 +492,9 @@ fn answers<A: Allocator + Copy + Drop>(
     let is_laid = lay(&mut rig, case, number);
     let before = rig.calls();
     let (fault, mut rig) = powered(alloc, rig);
-    let (refusal, again, calls) = wanted(case.6, number);
+    let (refusal, again, calls) = wanted(case, number);
     let place = if fault.is_none() {
-        twin(case.2)
+        written(case.1, case.2)
     } else {
         case.2
     };

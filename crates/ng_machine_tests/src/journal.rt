@@ -1,34 +1,42 @@
-ghost use Rattle.std.specs.Prelude.{◌≡◌, false, length, IsSome};
+ghost use Rattle.std.specs.Prelude.{◌≡◌, ◌≤◌, ◌+◌, false, length, IsSome, IfSome};
 ghost use Rattle.ng_layout.specs.Storable.{IsStorableHalf, IsStorable};
+ghost use Rattle.ng_offsets.specs.Tools.{AreTools, IsOneSlotFrom, IsToolLength};
 
 use crate::images::{FRESH, MARK, powered, put, sector_of, sector_with, store};
 use crate::parts::part_with;
 use linked_list_allocator::LocalHeap;
 use ng_canon::Item;
 use ng_journal::{Journal, format, recover};
-use ng_layout::{Half, Header, Opened, Source, Stored, text_from};
-use ng_num::{Fault, Num, Point};
+use ng_layout::{Format, Half, Header, Opened, Source, Stored, text_from};
+use ng_num::{Fault, Len, Num, Point};
+use ng_offsets::{SLOTS, SlotChange, Tools};
 use ng_params::Index;
 use ng_rig::{FailRig, MemoryRig, Rig};
 use std::alloc::{AllocError, Allocator, Global};
 use std::test::Fail;
 
 pub mod counting;
+pub mod formatting;
 
 use counting::Counting;
 
-/// The sector of a header of this epoch, with this program area and length.
+/// The sector of a header of format 2 and this epoch, with this program area and length.
 pub fn header(epoch: i64, area: i64, length: i64) -> [u8; 512] {
+    header_of(2, epoch, area, length)
+}
+
+/// The same of this format.
+pub fn header_of(format: i64, epoch: i64, area: i64, length: i64) -> [u8; 512] {
     sector_with(&[
         (0, 8, MARK),
-        (8, 4, 1),
+        (8, 4, format),
         (16, 8, epoch),
         (24, 8, area),
         (32, 8, length),
     ])
 }
 
-/// Makes what a device holds once it is formatted: the fresh state as epoch 1, in area 1, and no program.
+/// Makes what a device holds once it is formatted: the fresh state as epoch 1, in area 1, no program and no slots.
 fn lay_formatted<R: Rig>(rig: &mut R) -> bool {
     let one = sector_with(&[(280, 8, 1_000_000)]);
     store(rig, 88, &sector_with(&FRESH))
@@ -48,9 +56,9 @@ const DEVICES: &[(usize, bool, usize, Option<Fault>, usize)] = &[
     (1_710, false, 100_000, Some(Fault::NotFormatted), 1),
     (1_710, true, 1_000, Some(Fault::OutOfMemory), 0),
     (1_710, true, 50_000, Some(Fault::OutOfMemory), 0),
-    (1_710, true, 100_000, None, 90),
+    (1_710, true, 100_000, None, 92),
     (5_000, false, 100_000, Some(Fault::NotFormatted), 1),
-    (5_000, true, 100_000, None, 90),
+    (5_000, true, 100_000, None, 92),
 ];
 
 /// A device of so many sectors, formatted or not.
@@ -106,17 +114,19 @@ pub fn lay_state<R: Rig>(rig: &mut R, first: usize, entries: i64) -> bool {
     store(rig, first, &state)
 }
 
-/// A device whose headers have these epochs, with none where it is 0, and whose state has 7 entries in area 0 and 8 in
-/// area 1.
+/// The format and the epoch of a header; there is none where the epoch is 0.
+type Head = (i64, i64);
+
+/// A device with these headers, whose state has 7 entries in area 0 and 8 in area 1.
 fn two_headers<A: Allocator + Copy + Drop>(
     alloc: A,
-    even: i64,
-    odd: i64,
+    even: Head,
+    odd: Head,
 ) -> Result<MemoryRig<A>, Fail> {
     let mut rig = MemoryRig::new(alloc, 1_710)?;
     let are_states = lay_state(&mut rig, 2, 7) && lay_state(&mut rig, 88, 8);
-    let is_even = even == 0 || store(&mut rig, 0, &header(even, 0, 0));
-    let is_odd = odd == 0 || store(&mut rig, 1, &header(odd, 0, 0));
+    let is_even = even.1 == 0 || store(&mut rig, 0, &header_of(even.0, even.1, 0, 0));
+    let is_odd = odd.1 == 0 || store(&mut rig, 1, &header_of(odd.0, odd.1, 0, 0));
     if are_states && is_even && is_odd {
         Ok(rig)
     } else {
@@ -135,7 +145,7 @@ pub fn entries_found<A: Allocator + Copy + Drop, R: Rig + Drop>(
     rig: R,
     next: i64,
 ) -> Result<(u64, bool), Fault> {
-    match recover(alloc, rig) {
+    match recover(alloc, rig, &Tools::new()) {
         Ok((journal, stored)) => {
             let mut rig = journal.into_rig();
             let written = sector_of(&mut rig, header_sector(next));
@@ -145,23 +155,42 @@ pub fn entries_found<A: Allocator + Copy + Drop, R: Rig + Drop>(
     }
 }
 
-/// Epochs of the two headers, none where it is 0: the entries of the area in force (7 in area 0, 8 in area 1), or why
-/// there is none, and the epoch that is written next.
-const HEADERS: &[(i64, i64, Result<u64, Fault>, i64)] = &[
-    (0, 0, Err(Fault::NotFormatted), 0),
-    (2, 0, Ok(7), 3),
-    (0, 1, Ok(8), 2),
-    (2, 1, Ok(7), 3),
-    (2, 3, Ok(8), 4),
-    (256, 255, Ok(7), 257),
-    (256, 257, Ok(8), 258),
-    (1_000_000_000_000, 1, Err(Fault::CountersUsed), 0),
-    (999_999_999_998, 999_999_999_999, Ok(8), 1_000_000_000_000),
+/// The two headers: the entries of the area in force (7 in area 0, 8 in area 1), or why there is none, and the epoch that power on ends
+/// in: the next one, or after format 1 the one after that.
+const HEADERS: &[(Head, Head, Result<u64, Fault>, i64)] = &[
+    ((2, 0), (2, 0), Err(Fault::NotFormatted), 0),
+    ((2, 2), (2, 0), Ok(7), 3),
+    ((2, 0), (2, 1), Ok(8), 2),
+    ((2, 2), (2, 1), Ok(7), 3),
+    ((2, 2), (2, 3), Ok(8), 4),
+    ((2, 256), (2, 255), Ok(7), 257),
+    ((2, 256), (2, 257), Ok(8), 258),
+    ((2, LAST), (2, 1), Err(Fault::CountersUsed), 0),
+    ((2, LAST - 2), (2, LAST - 1), Ok(8), LAST),
     // headers in each other's sector
-    (1, 2, Err(Fault::NotFormatted), 0),
+    ((2, 1), (2, 2), Err(Fault::NotFormatted), 0),
     // past the limit, so the other one counts
-    (1_000_000_000_002, 3, Ok(8), 4),
+    ((2, LAST + 2), (2, 3), Ok(8), 4),
+    ((1, 2), (1, 0), Ok(7), 4),
+    ((1, 0), (1, 1), Ok(8), 3),
+    ((1, 2), (1, 3), Ok(8), 5),
+    // one of each format
+    ((1, 2), (2, 1), Ok(7), 4),
+    ((1, 2), (2, 3), Ok(8), 4),
+    ((2, 2), (1, 1), Ok(7), 3),
+    ((2, 2), (1, 3), Ok(8), 5),
+    ((1, LAST - 2), (2, 1), Ok(7), LAST),
+    ((1, LAST), (2, 1), Err(Fault::CountersUsed), 0),
+    ((2, LAST - 2), (1, LAST - 1), Err(Fault::CountersUsed), 0),
+    ((1, LAST - 2), (2, LAST - 1), Ok(8), LAST),
+    // of no format, so the other one counts
+    ((3, 4), (2, 3), Ok(8), 4),
+    ((3, 4), (1, 3), Ok(8), 5),
+    ((0, 4), (3, 3), Err(Fault::NotFormatted), 0),
 ];
+
+/// The greatest epoch.
+const LAST: i64 = 1_000_000_000_000;
 
 #[test]
 fn the_header_of_the_greater_epoch_is_in_force(rt: HostRuntime) -> Result<(), Fail> {
@@ -171,7 +200,7 @@ fn the_header_of_the_greater_epoch_is_in_force(rt: HostRuntime) -> Result<(), Fa
         assert_eq!(rt;
             found,
             wanted.map(|entries| (entries, true)),
-            "{even} {odd}"
+            "{even:?} {odd:?}"
         );
     }
     Ok(())
@@ -183,6 +212,8 @@ enum Deed {
     Nothing,
     /// An entry by which parameter 1 becomes 5.
     Commit,
+    /// An entry by which slot 1 is 5,000 nm long.
+    Tool,
     /// The first segment of an Mdi block, `G0X5`, is open.
     Open,
     HandOut,
@@ -206,6 +237,53 @@ pub fn open_half() -> Half
     }
 }
 
+/// A tool's length; none where it isn't within its limits.
+fn tool_length(nm: i64) -> Option<Len>
+    ensures { IfSome result IsToolLength }
+{
+    if 0 <= nm && nm <= 1_000_000_000 {
+        Len::of_nm(i128::from(nm)).ok()
+    } else {
+        None
+    }
+}
+
+/// The change of a table of so many slots by which this one, or the one after its last, is so long; none where there is no such slot or
+/// length.
+fn slot_change(slots: usize, slot: u8, nm: i64) -> Option<SlotChange>
+    requires { slots ≤ SLOTS }
+    ensures slot { IfSome result (λ change. (1 ≤ change.slot) × (change.slot ≤ slots + 1) × (change.slot ≤ SLOTS)) }
+    ensures tool { IfSome result (λ change. IsToolLength change.length) }
+{
+    let length = tool_length(nm)?;
+    if 1 <= slot && slot as usize <= slots + 1 && slot as usize <= SLOTS {
+        Some(SlotChange { slot, length })
+    } else {
+        None
+    }
+}
+
+/// Makes such a change, where there is one.
+#[tactic(auto, using(crate::proofs::Slots::one_slot))]
+fn change_slot(tools: &mut Tools, slot: u8, nm: i64)
+    ensures one { IsOneSlotFrom tools.old tools.new }
+{
+    match slot_change(tools.slots(), slot, nm) {
+        Some(change) => tools.set(change),
+        None => {}
+    }
+}
+
+/// A slot of a table becomes this long, or the one after its last is added; nothing changes where there is no such slot or length.
+pub fn set_slot(tools: &mut Tools, slot: u8, nm: i64)
+    ensures one { IsOneSlotFrom tools.old tools.new }
+    ensures are { AreTools tools.new }
+{
+    change_slot(tools, slot, nm);
+    // called for its contract: a table's lengths are within their limits
+    let _ = tools.slots();
+}
+
 /// Does it; an entry is then the one of this number.
 fn make<A: Allocator + Copy + Drop, R: Rig>(
     journal: &mut Journal<R, A>,
@@ -215,7 +293,7 @@ fn make<A: Allocator + Copy + Drop, R: Rig>(
 ) -> Result<(), Fault>
     requires whole { journal.old.broken ≡ false }
     requires storable { IsStorable stored.old }
-    requires program { stored.old.length ≡ journal.old.saved.length }
+    requires same { stored.old ≡ journal.old.saved }
 {
     stored.entries = entries;
     match deed {
@@ -223,6 +301,10 @@ fn make<A: Allocator + Copy + Drop, R: Rig>(
         Deed::Commit => {
             let five = Num::of(5_000_000).unwrap_or_default();
             stored.state.params.set(Index::known(1), five);
+            journal.commit(stored)
+        }
+        Deed::Tool => {
+            set_slot(&mut stored.tools, 1, 5_000);
             journal.commit(stored)
         }
         Deed::Open => journal.open_segment(&open_half()),
@@ -242,7 +324,7 @@ fn after<A: Allocator + Copy + Drop, R: Rig>(
     deed: Deed,
     entries: u64,
 ) -> (Result<(), Fault>, bool, R) {
-    match recover(alloc, rig) {
+    match recover(alloc, rig, &Tools::new()) {
         Ok((mut journal, mut stored)) => {
             let done = make(&mut journal, &mut stored, deed, entries);
             (done, journal.broken(), journal.into_rig())
@@ -251,17 +333,26 @@ fn after<A: Allocator + Copy + Drop, R: Rig>(
     }
 }
 
-/// The entries of a device, parameter 1, the bytes of its program, and of a half-done block whether something is open, and
-/// whether it is known where the machine stands; or why power on refuses it.
-type Standing = Result<(u64, i64, u64, Option<(bool, bool)>), Fault>;
+/// The entries of a device, parameter 1, the bytes of its program, of a half-done block whether something is open, and
+/// whether it is known where the machine stands, and the length of slot 1; or why power on refuses it.
+type Standing = Result<(u64, i64, u64, Option<(bool, bool)>, Option<i64>), Fault>;
 
-const NOTHING_DONE: Standing = Ok((0, 0, 0, None));
+const NOTHING_DONE: Standing = Ok((0, 0, 0, None, None));
 
-const COMMITTED: Standing = Ok((1, 5_000_000, 0, None));
+const COMMITTED: Standing = Ok((1, 5_000_000, 0, None, None));
+
+/// The length of slot 1; none where a table has no slots.
+fn first_tool(tools: &Tools) -> Option<i64> {
+    if tools.slots() == 0 {
+        None
+    } else {
+        Some(tools.length(1).nm())
+    }
+}
 
 /// What a device stands for at power on.
 fn standing<A: Allocator + Copy + Drop, R: Rig + Drop>(alloc: A, rig: R) -> Standing {
-    match recover(alloc, rig) {
+    match recover(alloc, rig, &Tools::new()) {
         Ok((journal, stored)) => {
             drop(journal.into_rig());
             let half = stored.half.as_ref();
@@ -270,76 +361,11 @@ fn standing<A: Allocator + Copy + Drop, R: Rig + Drop>(alloc: A, rig: R) -> Stan
                 stored.state.params.get(Index::known(1)).count(),
                 stored.length,
                 half.map(|half| (half.opened.is_some(), half.at.is_some())),
+                first_tool(&stored.tools),
             ))
         }
         Err((fault, _)) => Err(fault),
     }
-}
-
-/// Writes these bytes to all sectors.
-pub fn fill<R: Rig>(rig: &mut R, byte: u8) -> bool {
-    let mut is_filled = true;
-    for sector in 0..rig.size() {
-        is_filled = is_filled && store(rig, sector, &[byte; 512]);
-    }
-    is_filled
-}
-
-/// What format answers for a device of so many sectors, and how many calls it makes.
-fn format_of<A: Allocator + Copy + Drop>(
-    alloc: A,
-    sectors: usize,
-) -> Result<(Result<(), Fault>, usize), AllocError> {
-    let mut rig = MemoryRig::new(alloc, sectors)?;
-    let done = format(&mut rig);
-    Ok((done, rig.calls()))
-}
-
-/// Whether format writes this sector: the headers, the snapshot in area 1 and the log.
-fn is_formatted(sector: usize) -> bool {
-    sector < 2 || (88..174).contains(&sector) || (686..1_710).contains(&sector)
-}
-
-/// The first of 1,711 sectors that isn't as wanted where format writes, or isn't as old elsewhere.
-fn first_unlike<R: Rig>(rig: &mut R, wanted: &mut R, old: u8) -> Option<usize> {
-    for sector in 0..1_711 {
-        let want = if is_formatted(sector) {
-            sector_of(wanted, sector)
-        } else {
-            [old; 512]
-        };
-        if sector_of(rig, sector) != want {
-            return Some(sector);
-        }
-    }
-    None
-}
-
-/// What format answers for a device whose bytes are all this one but for its first header, its writes and syncs, and the
-/// first sector that is then unlike one made by hand.
-fn format_old<A: Allocator + Copy + Drop>(
-    alloc: A,
-    old: u8,
-) -> Result<(Result<(), Fault>, u64, u64, Option<usize>), Fail> {
-    let mut wanted = device(alloc, 1_711, true)?;
-    let mut rig = MemoryRig::new(alloc, 1_711)?;
-    if !(fill(&mut rig, old) && store(&mut rig, 0, &header(8, 1, 3))) {
-        return Err(Fail::from("a device isn't filled"));
-    }
-    let mut counting = Counting::new(rig);
-    let done = format(&mut counting);
-    let ([_, writes, syncs], mut rig) = counting.counted();
-    let unlike = first_unlike(&mut rig, &mut wanted, old);
-    Ok((done, writes, syncs, unlike))
-}
-
-/// A device of old bytes that is formatted: its writes and syncs, and each sector, as it is made by hand.
-#[test]
-fn format_leaves_a_fresh_controller(rt: HostRuntime) -> Result<(), Fail> {
-    let short = [format_of(rt.alloc(), 0)?, format_of(rt.alloc(), 1_709)?];
-    assert_eq!(rt; short, [(Err(Fault::NotFormatted), 0); 2]);
-    assert_eq!(rt; format_old(rt.alloc(), 85)?, (Ok(()), 1_113, 4, None));
-    Ok(())
 }
 
 /// What a sector holds after a deed.
@@ -349,6 +375,8 @@ enum Holds {
     Fresh,
     /// The second of two parts of the first record of epoch 2, which has one change: parameter 1 is 5.
     Five,
+    /// The one part of the first record of epoch 2, by which slot 1 is 5,000 nm long.
+    Tool,
     /// The one part of the first record of epoch 2: a fresh state with the block `G0X5` open.
     Open,
     Text,
@@ -358,6 +386,13 @@ fn content(holds: Holds) -> [u8; 512] {
     match holds {
         Holds::Fresh => sector_with(&FRESH),
         Holds::Five => part_with((2, 0, 1, 2, 1), &[(0, 2, 1), (2, 3, 0x4c_4b40)]),
+        Holds::Tool => {
+            let mut sector = part_with((2, 0, 0, 1, 0), &FRESH);
+            put(&mut sector, 32, 8, 1);
+            put(&mut sector, 488, 2, 1);
+            put(&mut sector, 496, 8, 5_000);
+            sector
+        }
         Holds::Open => {
             let mut sector = part_with((2, 0, 0, 1, 0), &FRESH);
             put(&mut sector, 194, 1, 2);
@@ -378,11 +413,12 @@ fn content(holds: Holds) -> [u8; 512] {
 type Row = (Deed, u64, u64, (i64, i64, i64), usize, Holds);
 
 const DEEDS: &[Row] = &[
-    (Deed::Nothing, 87, 3, (2, 0, 0), 2, Holds::Fresh),
-    (Deed::Commit, 89, 4, (2, 0, 0), 687, Holds::Five),
-    (Deed::Open, 88, 4, (2, 0, 0), 686, Holds::Open),
-    (Deed::HandOut, 87, 3, (2, 0, 0), 2, Holds::Fresh),
-    (Deed::Load, 175, 6, (3, 1, 13), 430, Holds::Text),
+    (Deed::Nothing, 89, 3, (2, 0, 0), 2, Holds::Fresh),
+    (Deed::Commit, 91, 4, (2, 0, 0), 687, Holds::Five),
+    (Deed::Tool, 90, 4, (2, 0, 0), 686, Holds::Tool),
+    (Deed::Open, 90, 4, (2, 0, 0), 686, Holds::Open),
+    (Deed::HandOut, 89, 3, (2, 0, 0), 2, Holds::Fresh),
+    (Deed::Load, 179, 6, (3, 1, 13), 430, Holds::Text),
 ];
 
 /// What a deed on a formatted device answers, whether the journal is broken then, how many writes and syncs there are
@@ -420,21 +456,32 @@ fn writes_and_syncs_of_each_deed(rt: HostRuntime) -> Result<(), Fail> {
     Ok(())
 }
 
-#[test]
-fn a_header_is_written_and_read(rt: HostRuntime) {
-    let worked = Header {
+/// The header of epoch 2, program area 1, length 13.
+fn worked_header(format: Format, byte: u8) -> (Header, [u8; 512]) {
+    let header = Header {
+        format,
         epoch: 2,
         area: 1,
         length: 13,
+    };
+    let mut sector = [0; 512];
+    sector[..8].copy_from_slice(b"RS274NGC");
+    sector[8] = byte;
+    sector[16] = 2;
+    sector[24] = 1;
+    sector[32] = 13;
+    (header, sector)
+}
+
+#[test]
+fn a_header_is_written_and_read(rt: HostRuntime) {
+    for (format, byte) in [(Format::One, 1), (Format::Two, 2)] {
+        let (worked, wanted) = worked_header(format, byte);
+        let sector = worked.write();
+        assert!(rt; sector == wanted, "{byte}");
+        assert_eq!(rt; Header::read(0, &sector), Some(worked), "{byte}");
+        assert_eq!(rt; Header::read(1, &sector), None, "{byte}");
     }
-    .write();
-    let mut wanted = [0; 512];
-    wanted[..9].copy_from_slice(b"RS274NGC\x01");
-    wanted[16] = 2;
-    wanted[24] = 1;
-    wanted[32] = 13;
-    assert!(rt; worked == wanted && worked == header(2, 1, 13));
-    assert!(rt; Header::read(0, &worked).is_some() && Header::read(1, &worked).is_none());
 }
 
 /// What a deed answers, whether the journal is broken then, and the failures.
@@ -465,13 +512,17 @@ fn failing<A: Allocator + Copy + Drop>(
 /// new state in place.
 const FAILED: &[(Deed, u64, Standing)] = &[
     (Deed::Commit, 3, COMMITTED),
-    (Deed::Open, 2, Ok((0, 0, 0, Some((false, false))))),
+    (Deed::Tool, 2, Ok((1, 0, 0, None, Some(5_000)))),
+    (Deed::Open, 2, Ok((0, 0, 0, Some((false, false)), None))),
     (Deed::HandOut, 1, NOTHING_DONE),
-    (Deed::Load, 91, Ok((1, 0, 13, None))),
+    (Deed::Load, 93, Ok((1, 0, 13, None, None))),
 ];
 
-/// The calls of power on (179) that fail, by how many there are before.
-const CALLS_OF_POWER_ON: &[u64] = &[0, 1, 3, 4, 89, 90, 176, 177, 178];
+/// The calls of power on (183) that fail, by how many there are before: the first sync, two headers, 86 sectors of a snapshot, two of a tool
+/// area and one of the log are read, then 88 are written; a sync, a header and a sync.
+const CALLS_OF_POWER_ON: &[u64] = &[
+    0, 1, 2, 3, 4, 88, 89, 90, 91, 92, 177, 178, 179, 180, 181, 182,
+];
 
 #[test]
 fn each_call_of_power_on_fails_once(rt: HostRuntime) -> Result<(), Fail> {
@@ -485,7 +536,7 @@ fn each_call_of_power_on_fails_once(rt: HostRuntime) -> Result<(), Fail> {
 }
 
 /// The calls of a deed that fail, by how many of its own there are before.
-const CALLS_OF_DEEDS: &[u64] = &[0, 1, 2, 43, 86, 87, 88, 89, 90];
+const CALLS_OF_DEEDS: &[u64] = &[0, 1, 2, 43, 87, 88, 89, 90, 91, 92];
 
 /// The first of those calls of a deed, which makes so many and leaves what stands after them, whose failure isn't answered
 /// and counted once, doesn't break the journal or leaves something else; and what is found there.
@@ -496,7 +547,7 @@ fn first_unlike_failure<A: Allocator + Copy + Drop>(
     for k in CALLS_OF_DEEDS {
         if *k < calls {
             let stands = if *k + 1 == calls { new } else { NOTHING_DONE };
-            let (done, found) = failing(alloc, deed, 179 + *k)?;
+            let (done, found) = failing(alloc, deed, 183 + *k)?;
             if done != (Err(Fault::DeviceFailed), true, 1) || found != stands {
                 return Ok(Some((*k, done, found)));
             }
@@ -516,7 +567,7 @@ fn each_call_of_a_deed_fails_once(rt: HostRuntime) -> Result<(), Fail> {
 #[test]
 fn a_deed_makes_so_many_calls(rt: HostRuntime) -> Result<(), Fail> {
     for (deed, calls, new) in FAILED {
-        let (done, rig) = done_failing(rt.alloc(), *deed, 179u64.saturating_add(*calls))?;
+        let (done, rig) = done_failing(rt.alloc(), *deed, 183u64.saturating_add(*calls))?;
         let stands = standing(rt.alloc(), rig.into_inner());
         assert_eq!(rt; (done, stands), ((Ok(()), false, 0), *new), "{deed:?}");
     }
@@ -538,7 +589,7 @@ fn cut<A: Allocator + Copy + Drop>(
 #[test]
 fn a_cut_leaves_the_old_or_the_new(rt: HostRuntime) -> Result<(), Fail> {
     let (_, rig) = powered(rt.alloc(), formatted(rt.alloc())?);
-    let before = rig.calls().saturating_add(90);
+    let before = rig.calls().saturating_add(92);
     let (done, _, rig) = after(rt.alloc(), rig, Deed::Commit, 1);
     assert_eq!(rt; (done, rig.calls()), (Ok(()), before.saturating_add(3)));
     for n in 0..=3 {
@@ -560,11 +611,13 @@ const USED_UP: Result<(), Fault> = Err(Fault::CountersUsed);
 const LIMITS: &[(i64, Deed, u64, Result<(), Fault>, usize)] = &[
     (999_999_999_997, Deed::Commit, 1_000_000_000_000, Ok(()), 3),
     (999_999_999_997, Deed::Commit, 1_000_000_000_001, USED_UP, 0),
-    (999_999_999_997, Deed::Load, 1_000_000_000_000, Ok(()), 91),
+    (999_999_999_997, Deed::Load, 1_000_000_000_000, Ok(()), 93),
     (999_999_999_997, Deed::Load, 1_000_000_000_001, USED_UP, 0),
     (999_999_999_997, Deed::Open, 0, Ok(()), 2),
     (999_999_999_999, Deed::Commit, 1, Ok(()), 3),
     (999_999_999_999, Deed::Commit, 1_000_000_000_001, USED_UP, 0),
+    (999_999_999_999, Deed::Tool, 1_000_000_000_000, Ok(()), 2),
+    (999_999_999_999, Deed::Tool, 1_000_000_000_001, USED_UP, 0),
     (999_999_999_999, Deed::Load, 1, USED_UP, 0),
     (999_999_999_999, Deed::Open, 1, Ok(()), 2),
     (999_999_999_999, Deed::HandOut, 1, Ok(()), 1),
@@ -582,7 +635,7 @@ fn limited<A: Allocator + Copy + Drop>(
     if !store(&mut rig, 1, &header(epoch, 0, 0)) {
         return Err(Fail::from("a header isn't laid"));
     }
-    let before = rig.calls().saturating_add(90);
+    let before = rig.calls().saturating_add(92);
     let (done, is_broken, rig) = after(alloc, rig, deed, entries);
     Ok((done, is_broken, rig.calls().wrapping_sub(before)))
 }
@@ -633,7 +686,7 @@ fn line_of<A: Allocator + Copy + Drop, R: Rig + Drop>(
     text: &[u8],
     place: u64,
 ) -> Read {
-    match recover(alloc, rig) {
+    match recover(alloc, rig, &Tools::new()) {
         Ok((mut journal, mut stored)) => {
             stored.entries = 1;
             stored.place = 0;

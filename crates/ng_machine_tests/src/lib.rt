@@ -14,6 +14,8 @@ mod journal;
 #[cfg(test)]
 mod log;
 #[cfg(test)]
+mod migration;
+#[cfg(test)]
 mod parts;
 #[cfg(test)]
 mod stepping;

@@ -5,13 +5,16 @@ ghost use Rattle.ng_layout.specs.Storable.{IsStorable};
 
 mod full;
 mod labels;
-mod reading;
+pub mod reading;
+mod slots;
 mod twin;
 mod writing;
 
+use crate::journal::set_slot;
 use ng_journal::{Journal, recover};
 use ng_layout::Stored;
 use ng_num::{Fault, Num};
+use ng_offsets::Tools;
 use ng_params::{Index, Params};
 use ng_rig::Rig;
 use std::alloc::Global;
@@ -23,12 +26,13 @@ pub struct Mill<R: Rig> {
     ghost whole: { journal.broken ≡ false },
     ghost storable: { IsStorable stored } by { Prim.hlevel props },
     ghost program: { stored.length ≡ journal.saved.length },
+    ghost tools: { stored.tools ≡ journal.saved.tools },
 }
 
 impl<R: Rig + Drop> Mill<R> {
-    /// Powers on.
+    /// Powers on, with no tools in the settings.
     pub fn on(alloc: Global, rig: R) -> Result<Mill<R>, Fault> {
-        match recover(alloc, rig) {
+        match recover(alloc, rig, &Tools::new()) {
             Ok((journal, stored)) => Ok(Mill { journal, stored }),
             Err((fault, rig)) => {
                 drop(rig);
@@ -54,6 +58,23 @@ impl<R: Rig + Drop> Mill<R> {
         let mut mill = self;
         mill.stored.entries = mill.stored.entries.saturating_add(1);
         mill.store()
+    }
+
+    /// Stores one entry more, by which a slot is so long.
+    pub fn set_tool(self, slot: u8, nm: i64) -> Result<Mill<R>, Fault> {
+        let Mill {
+            mut journal,
+            mut stored,
+        } = self;
+        stored.entries = stored.entries.saturating_add(1);
+        set_slot(&mut stored.tools, slot, nm);
+        match journal.commit(&stored) {
+            Ok(()) => Ok(Mill { journal, stored }),
+            Err(fault) => {
+                drop(journal.into_rig());
+                Err(fault)
+            }
+        }
     }
 
     /// Stores an entry, which is what is to be stored next.

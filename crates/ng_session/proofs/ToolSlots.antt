@@ -1,6 +1,6 @@
 -- A tool's length in a slot of the table.
-use Rattle.std.proofs.Common.{◌≡◌, ◌≤◌, ◌+◌, ℕ, ℤ, pos, nat_le, ◌&&◌, true, List, length, Option, Some, None, refl, arith}
-use Rattle.std.specs.Prelude.{negsuc, int_le}
+use Rattle.std.proofs.Common.{◌≡◌, ◌≤◌, ◌+◌, ℕ, ℤ, pos, true, List, length, Some, arith}
+use Rattle.std.specs.Prelude.{negsuc}
 use Rattle.std.proofs.lemmas.Bool.Decides.{nat_tests}
 use Rattle.ng_offsets.specs.Tools.{with_slot, is_tool_length, IsToolLength, IsSlotChange, IsOneSlotFrom}
 use Rattle.ng_offsets.specs.declared.tools.SlotChange.{SlotChange}
@@ -24,6 +24,3 @@ slot_lawful lengths change is = record { from = slot_from lengths change.slot is
 
 pub one_slot : (old new : List ℤ) (change : SlotChange) → takes_slot old change.slot ≡ true → new ≡ with_slot change old → IsOneSlotFrom old new
 one_slot old new change takes is = record { change = Some change; lawful = slot_lawful old change takes; is = is }
-
-pub no_slot : (old new : List ℤ) → new ≡ old → IsOneSlotFrom old new
-no_slot old new same = record { change = None; lawful = tt; is = same }

@@ -20,9 +20,9 @@ number_after first [] = first
 number_after first (segment ∷ segments) = number_after (min (first + 1) greatest_index) segments
 
 -- What may stand and have been handed out after the entries, from what stands then, of an operator who gave these lines, where these come
--- next: nothing more; or, where an approach comes next, a beginning of that of the half-done block; or, where a block comes next that may be
--- worked, the whole segments of it before one, from the first that is still to do, and a beginning of that one. What was begun is stored as
--- open.
+-- next: nothing more; or, where an approach comes next, a beginning of that of the half-done block; or, where a block comes next that may
+-- be worked, the whole segments of it before one, from the first that is still to do, and a beginning of that one. What was begun is
+-- stored as open.
 pub data UncommittedTail (equipment : Equipment) (lines : List (List ℕ)) (x : DurableState) (next : List Entry) : StoredModel → List Item → Type 0 where
   Nothing_open : UncommittedTail equipment lines x next x.saved []
   Approach_open : (half : HalfModel) (approach : Approach) (begun left : List Item) (later : List Entry)

@@ -278,7 +278,7 @@ resume equipment program s = if not (is_at_rest s) then refuses program fault.Bu
 
 -- ---- the tool table
 
--- why a tool's length isn't taken: the session isn't at rest or a block is half-done, there is no such slot, or it is no tool's length
+-- why a tool's length isn't taken: the session isn't at rest or a block is half-done, there is no such slot, or the length isn't a tool's
 abbrev pub tool_refusal : SessionModel → ℕ → ℤ → Option Fault
 tool_refusal s slot nm =
     if not (accepts_load s) then Some fault.Busy

@@ -6,7 +6,7 @@ ghost use Rattle.ng_block.specs.Program.{executed_after};
 ghost use Rattle.ng_layout.specs.declared.half.Source.TheVariants as source;
 ghost use Rattle.ng_text.specs.Programs.{lines_before};
 ghost use Rattle.ng_layout.specs.Storable.{IsStorableMachine};
-ghost use Rattle.ng_session.specs.Entries.{done_of};
+ghost use Rattle.ng_session.specs.Entries.{done_of, terms_of};
 
 use crate::activity::Activity;
 use crate::current_block::CurrentBlock;
@@ -29,7 +29,9 @@ fn execute_alone<'p, A: Allocator + Copy + Drop>(
     block_delete: bool,
     geometry: &Geometry,
 ) -> Result<&'p Effect, Fault>
-    ensures done { (program : List ℕ) → MatchResult result (λ e. done_of (record { geometry = geometry.now }) program stored.now source.Mdi text.now block_delete ≡ Ok (in_state stored.now.setup e.now)) (λ fault. done_of (record { geometry = geometry.now }) program stored.now source.Mdi text.now block_delete ≡ Err fault) }
+    ensures done { (program : List ℕ) → MatchResult result
+        (λ e. done_of (record { geometry = geometry.now }) program stored.now source.Mdi text.now block_delete ≡ Ok (in_state stored.now.setup e.now))
+        (λ fault. done_of (record { geometry = geometry.now }) program stored.now source.Mdi text.now block_delete ≡ Err fault) }
     ensures short { OnOk result (length text.now ≤ 256) }
     ensures stands { IfOk result (λ e. IsStorableMachine stored.now.setup.machine → IsStorableMachine e.now.machine) }
 {
@@ -57,8 +59,12 @@ pub(crate) fn execute_after_lines<'p, A: Allocator + Copy + Drop>(
     block_delete: bool,
     geometry: &Geometry,
 ) -> Result<&'p Effect, Fault>
-    ensures does { MatchResult result (λ e. executed_after (record { block_delete = block_delete; tools = stored.now.tools; geometry = geometry.now }) first stored.now.setup text.now ≡ Ok (in_state stored.now.setup e.now)) (λ fault. executed_after (record { block_delete = block_delete; tools = stored.now.tools; geometry = geometry.now }) first stored.now.setup text.now ≡ Err fault) }
-    ensures done { (program : List ℕ) → first ≡ first_kind (lines_before program stored.now.place) → MatchResult result (λ e. done_of (record { geometry = geometry.now }) program stored.now source.Program text.now block_delete ≡ Ok (in_state stored.now.setup e.now)) (λ fault. done_of (record { geometry = geometry.now }) program stored.now source.Program text.now block_delete ≡ Err fault) }
+    ensures does { MatchResult result
+        (λ e. executed_after (terms_of (record { geometry = geometry.now }) stored.now.tools block_delete) first stored.now.setup text.now ≡ Ok (in_state stored.now.setup e.now))
+        (λ fault. executed_after (terms_of (record { geometry = geometry.now }) stored.now.tools block_delete) first stored.now.setup text.now ≡ Err fault) }
+    ensures done { (program : List ℕ) → first ≡ first_kind (lines_before program stored.now.place) → MatchResult result
+        (λ e. done_of (record { geometry = geometry.now }) program stored.now source.Program text.now block_delete ≡ Ok (in_state stored.now.setup e.now))
+        (λ fault. done_of (record { geometry = geometry.now }) program stored.now source.Program text.now block_delete ≡ Err fault) }
     ensures short { OnOk result (length text.now ≤ 256) }
     ensures stands { IfOk result (λ e. IsStorableMachine stored.now.setup.machine → IsStorableMachine e.now.machine) }
 {
@@ -133,8 +139,10 @@ impl<A: Allocator + Copy + Drop> Session<A> {
     ) -> Result<Reply, AllocError>
         requires { next ≤ self.old.stored.length }
         ensures stored { OnOk result (self.new.stored ≡ self.old.stored) }
-        ensures reply { IfOk result (λ reply. (program : List ℕ) → first ≡ first_kind (lines_before program self.old.stored.place) → reply ≡ (begin (record { geometry = geometry.now }) program self.old (Some (record { text = text.now; next = next }))).reply) }
-        ensures next { OnOk result ((program : List ℕ) → first ≡ first_kind (lines_before program self.old.stored.place) → self.new ≡ (begin (record { geometry = geometry.now }) program self.old (Some (record { text = text.now; next = next }))).next) }
+        ensures reply { IfOk result (λ reply. (program : List ℕ) → first ≡ first_kind (lines_before program self.old.stored.place)
+            → reply ≡ (begin (record { geometry = geometry.now }) program self.old (Some (record { text = text.now; next = next }))).reply) }
+        ensures next { OnOk result ((program : List ℕ) → first ≡ first_kind (lines_before program self.old.stored.place)
+            → self.new ≡ (begin (record { geometry = geometry.now }) program self.old (Some (record { text = text.now; next = next }))).next) }
         ensures err { OnErr result (self.new ≡ self.old) }
     {
         let block_delete = self.block_delete;

@@ -21,7 +21,7 @@ use ng_step::Stepper;
 use std::alloc::{AllocError, Allocator};
 use std::marker::Model;
 
-/// The block that is worked, as it was begun, and what is left of it (own). Contracts see a `Prepared`, whose block is an `Underway`.
+/// The block that is worked, as it was begun, and what is left of it (own). Contracts see a `Prepared`, whose block is a `CurrentBlockModel`.
 #[derive(Drop)]
 pub struct CurrentBlock<A: Allocator> {
     pub source: Source,

@@ -24,7 +24,9 @@ fn execute_again<'p, A: Allocator + Copy + Drop>(
     half: &Half,
     geometry: &Geometry,
 ) -> Result<&'p Effect, Fault>
-    ensures done { MatchResult result (λ e. done_again (record { geometry = geometry.now }) stored.now half.now.text ≡ Ok (in_state stored.now.setup e.now)) (λ fault. done_again (record { geometry = geometry.now }) stored.now half.now.text ≡ Err fault) }
+    ensures done { MatchResult result
+        (λ e. done_again (record { geometry = geometry.now }) stored.now half.now.text ≡ Ok (in_state stored.now.setup e.now))
+        (λ fault. done_again (record { geometry = geometry.now }) stored.now half.now.text ≡ Err fault) }
     ensures stands { IfOk result (λ e. IsStorableMachine stored.now.setup.machine → IsStorableMachine e.now.machine) }
 {
     // called for its contract: a table has at most 64 slots, and no more are stored
@@ -239,8 +241,10 @@ impl<A: Allocator + Copy + Drop> Session<A> {
     pub fn resume(&mut self, next: u64, geometry: &Geometry) -> Result<Reply, AllocError>
         requires { next ≤ self.old.stored.length }
         ensures stored { OnOk result (self.new.stored ≡ self.old.stored) }
-        ensures reply { IfOk result (λ reply. (program : List ℕ) → IfSome self.old.stored.half (λ half. next ≡ next_place_after program self.old.stored.place half.source) → reply ≡ (resume (record { geometry = geometry.now }) program self.old).reply) }
-        ensures next { OnOk result ((program : List ℕ) → IfSome self.old.stored.half (λ half. next ≡ next_place_after program self.old.stored.place half.source) → self.new ≡ (resume (record { geometry = geometry.now }) program self.old).next) }
+        ensures reply { IfOk result (λ reply. (program : List ℕ) → IfSome self.old.stored.half (λ half. next ≡ next_place_after program self.old.stored.place half.source)
+            → reply ≡ (resume (record { geometry = geometry.now }) program self.old).reply) }
+        ensures next { OnOk result ((program : List ℕ) → IfSome self.old.stored.half (λ half. next ≡ next_place_after program self.old.stored.place half.source)
+            → self.new ≡ (resume (record { geometry = geometry.now }) program self.old).next) }
         ensures err { OnErr result (self.new ≡ self.old) }
         ensures memory { OnErr result (resume_refusal (record { geometry = geometry.now }) self.old ≡ None) }
     {

@@ -1,7 +1,6 @@
 //! How a tool's length is put into a slot of the table (own).
 ghost use Rattle.std.specs.Prelude.{◌≡◌, ◌≤◌};
 ghost use Rattle.ng_layout.specs.Limits.{greatest_count};
-ghost use Rattle.ng_layout.specs.Storable.{IsStorable};
 ghost use Rattle.ng_offsets.specs.Tools.{is_tool_length};
 
 use crate::session::Session;
@@ -23,9 +22,8 @@ fn is_tool_length(tool_length: Len) -> bool
 
 impl<A: Allocator + Copy + Drop> Session<A> {
     ghost use Rattle.std.specs.Prelude.{None, IfNone, true};
-    ghost use Rattle.ng_offsets.specs.Tools.{is_tool_length, with_slot, IsOneSlotFrom};
+    ghost use Rattle.ng_offsets.specs.Tools.{with_slot, IsOneSlotFrom};
     ghost use Rattle.ng_layout.specs.Tools.{takes_slot};
-    ghost use Rattle.ng_layout.specs.Stored.{StoredModel};
     ghost use Rattle.ng_session.specs.Session.{accepts_load, tool_refusal};
 
     /// Why a tool's length isn't taken for a slot now: K1 where the session isn't at rest or a block is half-done, B14 where the table has
@@ -69,8 +67,8 @@ impl<A: Allocator + Copy + Drop> Session<A> {
         tools
     }
 
-    /// Puts a table and a number of entries in the place of what is stored of them, and gives the table that stood: put in its place
-    /// again, that takes the other back. It takes no memory.
+    /// Replaces the stored tool table and number of entries, and gives the table that stood: with that one and the old number it is
+    /// undone. It takes no memory.
     #[tactic(auto, using(crate::proofs::Keeping::kept_tools))]
     pub fn exchange_tools(&mut self, tools: Tools, entries: u64) -> Tools
         requires free { self.old.current ≡ None }

@@ -13,11 +13,11 @@ use Rattle.ng_words.proofs.Numbers.{number_again, number_sound}
 
 -- ---- the bytes of numbers: digits, signs and points
 
-abbrev AreBytes : List ℕ → Type 0
+abbrev pub AreBytes : List ℕ → Type 0
 AreBytes [] = Unit {0}
 AreBytes (b ∷ bytes) = (43 ≤ b) × (b ≤ 57) × AreBytes bytes
 
-digits_bytes : (digits : List ℕ) → AreDigits digits → AreBytes digits
+pub digits_bytes : (digits : List ℕ) → AreDigits digits → AreBytes digits
 digits_bytes [] are = tt
 digits_bytes (b ∷ digits) are = (grind (arith, nat_tests, are.0), grind (arith, nat_tests, are.0), digits_bytes digits are.1)
 
@@ -31,7 +31,7 @@ unsigned_bytes bytes n u = elim u.spelled [
   | inr e ↦ subst AreBytes (sym e) (bytes_both u.whole (46 ∷ u.fraction) (digits_bytes u.whole u.whole_digits) (omega arith, omega arith, digits_bytes u.fraction u.fraction_digits))
 ]
 
-number_bytes : (bytes : List ℕ) (z : ℤ) → IsNumber bytes z → AreBytes bytes
+pub number_bytes : (bytes : List ℕ) (z : ℤ) → IsNumber bytes z → AreBytes bytes
 number_bytes bytes z is =
     let bytes : AreBytes is.1 = unsigned_bytes is.1 is.0 is.2 in
     elim is.3 [

@@ -1,6 +1,6 @@
 //! A device fails one of its calls, each in turn.
 use crate::devices::{Device, cut, formatted, found_on, give, powered, rig_of, shown};
-use crate::old::of_format_1;
+use crate::old::{FILLING, of_format_1};
 use crate::rows::{EACH_KIND, Row, entries_after, event_of, reply_to};
 use crate::scripts::{
     AFTER_A_CUT, AFTER_A_CUT_OF_A_PROGRAM, AFTER_A_MIGRATION, BEFORE_A_CUT,
@@ -346,9 +346,9 @@ fn each_call_after_a_cut(rt: HostRuntime) -> Result<(), Fail> {
     Ok(())
 }
 
-/// What comes of one over a device of format 1 whose half-done line goes on.
+/// What comes of one over a device of format 1 whose log is full and whose half-done line goes on.
 fn swept_in_migration(alloc: Global) -> Result<Swept, Fault> {
-    let (rig, before) = of_format_1(alloc, 0)?;
+    let (rig, before) = of_format_1(alloc, FILLING)?;
     let mut choice = Choice::at_migration(AFTER_A_MIGRATION, before)?;
     swept(alloc, &rig, &mut choice, each_from(0))
 }

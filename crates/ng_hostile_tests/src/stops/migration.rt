@@ -2,7 +2,7 @@
 //!
 //! The settings of the power on after a stop have no tools. So a stop leaves the device without tools until the header of format 2 is
 //! stored, and from then on with those of the settings under which it was written.
-use crate::old::{FILLING, of_format_1};
+use crate::old::of_format_1;
 use crate::scripts::AFTER_A_MIGRATION;
 use crate::stops::cuts::{Astray, Cuts, first_astray_in_migration};
 use crate::stops::devices::{Kept, played, stopped};
@@ -25,38 +25,35 @@ fn calls_of_a_migration_and_of_the_next_power_on(rt: HostRuntime) -> Result<(), 
     Ok(())
 }
 
-/// The first of these stops, in a migration or as a half-done line goes on after it, that leaves something else: with the power on after
-/// it stopped too, and over a log that is full.
+/// The first of these stops, in a migration or as a half-done line goes on after it, that leaves something else.
 fn first_astray_of(alloc: Global, first: usize, last: usize) -> Result<Astray, Fault> {
-    for (blanks, is_deep) in [(0, true), (FILLING, false)] {
-        let (rig, wanted) = of_format_1(alloc, blanks)?;
-        let cuts = Cuts {
-            first,
-            last,
-            is_deep,
-        };
-        let astray = first_astray_in_migration(alloc, rig, wanted, AFTER_A_MIGRATION, cuts)?;
-        if astray.is_some() {
-            return Ok(astray);
-        }
-    }
-    Ok(None)
+    let (rig, wanted) = of_format_1(alloc, 0)?;
+    let cuts = Cuts::deep(first, last);
+    first_astray_in_migration(alloc, rig, wanted, AFTER_A_MIGRATION, cuts)
 }
 
 #[test]
-fn a_stop_in_the_first_third_of_a_migration(rt: HostRuntime) -> Result<(), Fail> {
-    assert_eq!(rt; first_astray_of(rt.alloc(), 0, 66), Ok(None));
+fn a_stop_in_the_first_half_of_the_checkpoint_of_format_1(rt: HostRuntime) -> Result<(), Fail> {
+    assert_eq!(rt; first_astray_of(rt.alloc(), 0, 45), Ok(None));
     Ok(())
 }
 
 #[test]
-fn a_stop_in_the_second_third_of_a_migration(rt: HostRuntime) -> Result<(), Fail> {
-    assert_eq!(rt; first_astray_of(rt.alloc(), 67, 140), Ok(None));
+fn a_stop_in_the_second_half_of_the_checkpoint_of_format_1(rt: HostRuntime) -> Result<(), Fail> {
+    assert_eq!(rt; first_astray_of(rt.alloc(), 46, 90), Ok(None));
     Ok(())
 }
 
 #[test]
-fn a_stop_in_the_last_third_of_a_migration_and_after_it(rt: HostRuntime) -> Result<(), Fail> {
-    assert_eq!(rt; first_astray_of(rt.alloc(), 141, usize::MAX), Ok(None));
+fn a_stop_in_the_first_half_of_the_checkpoint_of_format_2(rt: HostRuntime) -> Result<(), Fail> {
+    assert_eq!(rt; first_astray_of(rt.alloc(), 91, 136), Ok(None));
+    Ok(())
+}
+
+#[test]
+fn a_stop_in_the_second_half_of_the_checkpoint_of_format_2_and_after_it(
+    rt: HostRuntime,
+) -> Result<(), Fail> {
+    assert_eq!(rt; first_astray_of(rt.alloc(), 137, usize::MAX), Ok(None));
     Ok(())
 }

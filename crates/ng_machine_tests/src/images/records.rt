@@ -1,19 +1,19 @@
 //! The state field of a record: each number of it at its limits and past them, as in a snapshot.
 use crate::images::{
-    Answer, CASES, Case, FRESH, LONGEST, powered, put, sector_of, sector_with, state_of, store,
-    wanted,
+    Answer, Base, CASES, Case, FRESH, header_and_area, powered, put, sector_of, sector_with,
+    state_of, store, wanted, written,
 };
-use crate::journal::header;
 use crate::parts::part_with;
 use ng_rig::{MemoryRig, Rig};
 use std::alloc::{AllocError, Allocator};
 use std::test::Fail;
 
-/// Makes a device of epoch 1 with a program of 131,072 bytes, a fresh state in the snapshot, and one record of one part with this state.
-fn lay<R: Rig>(rig: &mut R, state: &[u8; 512]) -> bool {
+/// Makes a device of epoch 1 of this kind with a fresh state in the snapshot, and one record of one part with this state.
+fn lay<R: Rig>(rig: &mut R, base: Base, state: &[u8; 512]) -> bool {
     let mut part = part_with((1, 0, 0, 1, 0), &[]);
     part[32..488].copy_from_slice(&state[..456]);
-    store(rig, 1, &header(1, 0, LONGEST))
+    let (header, _) = header_and_area(base);
+    store(rig, 1, &header)
         && store(rig, 88, &sector_with(&FRESH))
         && store(rig, 686, &part)
         && rig.sync().is_ok()
@@ -29,11 +29,11 @@ fn answers<A: Allocator + Copy + Drop>(
     let mut state = state_of(case.1);
     put(&mut state, case.3, case.4, number);
     let mut rig = MemoryRig::new(alloc, 1_710)?;
-    let is_laid = lay(&mut rig, &state);
+    let is_laid = lay(&mut rig, case.1, &state);
     let before = rig.calls();
     let (fault, mut rig) = powered(alloc, rig);
-    let (refusal, again, calls) = wanted(case.6, number);
-    let found = sector_of(&mut rig, 2);
+    let (refusal, again, calls) = wanted(case, number);
+    let found = sector_of(&mut rig, written(case.1, 88));
     let mut want = if case.6 == Answer::Alone {
         found
     } else {

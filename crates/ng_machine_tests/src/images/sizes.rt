@@ -3,6 +3,7 @@ use crate::images::{FRESH, put, sector_with, store};
 use crate::journal::header;
 use ng_journal::recover;
 use ng_num::Fault;
+use ng_offsets::Tools;
 use ng_rig::{MemoryRig, Rig};
 use std::alloc::Global;
 use std::test::Fail;
@@ -34,7 +35,7 @@ type Found = (Result<u64, Fault>, usize, usize);
 
 fn found(alloc: Global, rig: MemoryRig<Global>) -> Found {
     let before = rig.calls();
-    let (answer, rig) = match recover(alloc, rig) {
+    let (answer, rig) = match recover(alloc, rig, &Tools::new()) {
         Ok((journal, stored)) => (Ok(stored.entries), journal.into_rig()),
         Err((fault, rig)) => (Err(fault), rig),
     };
@@ -47,7 +48,7 @@ type Row = (Option<(i64, i64)>, Result<u64, Fault>, usize);
 
 const ROWS: &[Row] = &[
     (None, Err(Fault::NotFormatted), 1),
-    (Some((2, 1)), Ok(7), 90),
+    (Some((2, 1)), Ok(7), 92),
     (Some((2, 10)), Err(Fault::Damaged), 1),
     (Some((1_000_000_000_000, 1)), Err(Fault::CountersUsed), 1),
 ];

@@ -1,7 +1,7 @@
 //! Where the log has no room for a record: what stands is written first, under the next epoch.
 use crate::images::{sector_of, store};
 use crate::journal::counting::Counting;
-use crate::journal::{formatted, header, open_half};
+use crate::journal::{formatted, header, open_half, set_slot};
 use crate::log::{Mill, set_all};
 use ng_canon::Item;
 use ng_num::Fault;
@@ -15,12 +15,14 @@ enum Last {
     Nothing,
     /// An entry that changes so many parameters.
     Entry(i64),
+    /// An entry that adds a slot to the tool table.
+    Tool,
     /// A segment is open.
     Open,
     HandOut,
 }
 
-/// A journal in whose log eight entries stand that change each parameter, 114 sectors each, so that 112 are left; and perhaps a ninth that
+/// A journal in whose log eight entries stand that change each parameter, 114 sectors each, so that 108 are left; and perhaps a ninth that
 /// changes so many. Before power on this odd epoch was in force.
 fn filled(
     alloc: Global,
@@ -56,6 +58,11 @@ fn end<R: Rig + Drop>(mill: Mill<R>, last: Last) -> (Result<(), Fault>, bool, R)
             set_all(&mut stored.state.params, 1, changes, 11);
             journal.commit(&stored)
         }
+        Last::Tool => {
+            stored.entries = stored.entries.saturating_add(1);
+            set_slot(&mut stored.tools, 1, 5_000);
+            journal.commit(&stored)
+        }
         Last::Open => journal.open_segment(&open_half()),
         Last::HandOut => journal.hand_out(Item::Dwell { us: 7 }),
     };
@@ -77,28 +84,31 @@ const USED_UP: Result<(), Fault> = Err(Fault::CountersUsed);
 /// The odd epoch before power on, the changes of a ninth entry, and what comes last: what that answers, how many writes and syncs it
 /// makes, and the odd epoch in sector 1 afterwards.
 ///
-/// 112 sectors are left for the ninth, which a record of 5,328 changes takes, and one of 5,280 but for one. A checkpoint makes 87 writes
+/// 108 sectors are left for the ninth, which a record of 5,136 changes takes, and one of 5,088 but for one. A checkpoint makes 89 writes
 /// and 2 syncs, and takes an epoch: the last one goes up to 1,000,000,000,000.
 type Row = (i64, Option<i64>, Last, Result<(), Fault>, u64, u64, i64);
 
 const ROWS: &[Row] = &[
-    (1, None, Last::Entry(5_328), Ok(()), 112, 1, 1),
-    (1, None, Last::Entry(5_329), Ok(()), 200, 3, 3),
-    (1, None, Last::Entry(5_399), Ok(()), 201, 3, 3),
-    (1, Some(5_328), Last::Entry(0), Ok(()), 88, 3, 3),
-    (1, Some(5_328), Last::Open, Ok(()), 88, 3, 3),
-    (1, Some(5_328), Last::HandOut, Ok(()), 0, 0, 1),
-    (1, Some(5_280), Last::Entry(0), Ok(()), 1, 1, 1),
-    (1, Some(5_280), Last::Open, Ok(()), 1, 1, 1),
-    (1, Some(5_280), Last::Entry(1), Ok(()), 89, 3, 3),
-    (LAST, None, Last::Entry(5_328), Ok(()), 112, 1, LAST),
-    (LAST, None, Last::Entry(5_329), USED_UP, 0, 0, LAST),
-    (LAST, Some(5_328), Last::Entry(0), USED_UP, 0, 0, LAST),
-    (LAST, Some(5_328), Last::Open, USED_UP, 0, 0, LAST),
-    (LAST, Some(5_328), Last::HandOut, Ok(()), 0, 0, LAST),
-    (LAST, Some(5_280), Last::Entry(0), Ok(()), 1, 1, LAST),
-    (LAST, Some(5_280), Last::Open, Ok(()), 1, 1, LAST),
-    (LAST, Some(5_280), Last::Entry(1), USED_UP, 0, 0, LAST),
+    (1, None, Last::Entry(5_136), Ok(()), 108, 1, 1),
+    (1, None, Last::Entry(5_137), Ok(()), 198, 3, 3),
+    (1, None, Last::Entry(5_399), Ok(()), 203, 3, 3),
+    (1, Some(5_136), Last::Entry(0), Ok(()), 90, 3, 3),
+    (1, Some(5_136), Last::Tool, Ok(()), 90, 3, 3),
+    (1, Some(5_136), Last::Open, Ok(()), 90, 3, 3),
+    (1, Some(5_136), Last::HandOut, Ok(()), 0, 0, 1),
+    (1, Some(5_088), Last::Entry(0), Ok(()), 1, 1, 1),
+    (1, Some(5_088), Last::Tool, Ok(()), 1, 1, 1),
+    (1, Some(5_088), Last::Open, Ok(()), 1, 1, 1),
+    (1, Some(5_088), Last::Entry(1), Ok(()), 91, 3, 3),
+    (LAST, None, Last::Entry(5_136), Ok(()), 108, 1, LAST),
+    (LAST, None, Last::Entry(5_137), USED_UP, 0, 0, LAST),
+    (LAST, Some(5_136), Last::Entry(0), USED_UP, 0, 0, LAST),
+    (LAST, Some(5_136), Last::Tool, USED_UP, 0, 0, LAST),
+    (LAST, Some(5_136), Last::Open, USED_UP, 0, 0, LAST),
+    (LAST, Some(5_136), Last::HandOut, Ok(()), 0, 0, LAST),
+    (LAST, Some(5_088), Last::Entry(0), Ok(()), 1, 1, LAST),
+    (LAST, Some(5_088), Last::Open, Ok(()), 1, 1, LAST),
+    (LAST, Some(5_088), Last::Entry(1), USED_UP, 0, 0, LAST),
 ];
 
 /// The odd epoch before the last of all.

@@ -1,10 +1,11 @@
 //! The labels of a record's parts at their limits: epochs, and how many changes a record may have.
 use crate::images::{put, store};
-use crate::journal::{entries_found, header, lay_state};
+use crate::journal::{entries_found, header_of, lay_state};
 use crate::log::reading::state_part;
 use crate::parts::{Label, part_with};
 use ng_journal::recover;
 use ng_num::Fault;
+use ng_offsets::Tools;
 use ng_params::{Index, Params};
 use ng_rig::{MemoryRig, Rig};
 use std::alloc::Global;
@@ -39,11 +40,17 @@ fn changes_part(part: i64, changes: i64) -> [u8; 512] {
     sector
 }
 
-/// A device under this odd epoch with 3 entries in its snapshot, and in its log this first part. There are two sectors after the log.
-fn laid(alloc: Global, epoch: i64, first: &[u8; 512]) -> Result<MemoryRig<Global>, Fail> {
+/// A device of this format under this odd epoch with 3 entries in its snapshot, and in its log this first part. It has two sectors more than
+/// it takes.
+fn laid(
+    alloc: Global,
+    format: i64,
+    epoch: i64,
+    first: &[u8; 512],
+) -> Result<MemoryRig<Global>, Fail> {
     let mut rig = MemoryRig::new(alloc, 1_712)?;
     if lay_state(&mut rig, 88, 3)
-        && store(&mut rig, 1, &header(epoch, 0, 0))
+        && store(&mut rig, 1, &header_of(format, epoch, 0, 0))
         && store(&mut rig, 686, first)
         && rig.sync().is_ok()
     {
@@ -53,10 +60,10 @@ fn laid(alloc: Global, epoch: i64, first: &[u8; 512]) -> Result<MemoryRig<Global
     }
 }
 
-/// A device under epoch 1 with one record of so many changes and 7 entries, as much of it as its counts can say. It may go on in the two
-/// sectors after the log.
-fn with_changes(alloc: Global, changes: i64) -> Result<MemoryRig<Global>, Fail> {
-    let mut rig = laid(alloc, 1, &state_part(label(0, changes), 7))?;
+/// A device of this format under epoch 1 with one record of so many changes and 7 entries, as much of it as its counts can say. It may go on
+/// in the sectors after the log.
+fn with_changes(alloc: Global, format: i64, changes: i64) -> Result<MemoryRig<Global>, Fail> {
+    let mut rig = laid(alloc, format, 1, &state_part(label(0, changes), 7))?;
     let mut is_laid = true;
     for (sector, part) in (687..1_712).zip(1..parts_of(changes).saturating_add(1)) {
         is_laid = is_laid && store(&mut rig, sector, &changes_part(part, changes));
@@ -91,7 +98,7 @@ fn first_unlike(params: &Params<Global>, changes: i64) -> Option<i64> {
 
 /// The entries that power on finds on a device, or why it is refused, and the first parameter that isn't what so many changes make it.
 fn found(alloc: Global, rig: MemoryRig<Global>, changes: i64) -> (Result<u64, Fault>, Option<i64>) {
-    match recover(alloc, rig) {
+    match recover(alloc, rig, &Tools::new()) {
         Ok((journal, stored)) => {
             drop(journal.into_rig());
             let unlike = first_unlike(&stored.state.params, changes);
@@ -101,28 +108,34 @@ fn found(alloc: Global, rig: MemoryRig<Global>, changes: i64) -> (Result<u64, Fa
     }
 }
 
-/// How many changes a record has; the entries that power on finds, and how many changes stand. A log of 1,024 sectors has room for 49,104 in
-/// the parts after the first.
-const CHANGES: &[(i64, u64, i64)] = &[
-    (0, 7, 0),
-    (1, 7, 1),
-    (48, 7, 48),
-    (49, 7, 49),
-    (5_399, 7, 5_399),
-    (5_400, 7, 5_400),
-    (49_056, 7, 49_056),
-    (49_103, 7, 49_103),
-    (49_104, 7, 49_104),
-    (49_105, 3, 0),
-    (65_535, 3, 0),
+/// The format, and how many changes a record has; the entries that power on finds, and how many changes stand. A log of 1,020 sectors has room
+/// for 48,912 in the parts after the first, and one of 1,024, in format 1, for 49,104.
+const CHANGES: &[(i64, i64, u64, i64)] = &[
+    (2, 0, 7, 0),
+    (2, 1, 7, 1),
+    (2, 48, 7, 48),
+    (2, 49, 7, 49),
+    (2, 5_399, 7, 5_399),
+    (2, 5_400, 7, 5_400),
+    (2, 48_864, 7, 48_864),
+    (2, 48_911, 7, 48_911),
+    (2, 48_912, 7, 48_912),
+    (2, 48_913, 3, 0),
+    (2, 49_104, 3, 0),
+    (2, 65_535, 3, 0),
+    (1, 49, 7, 49),
+    (1, 48_913, 7, 48_913),
+    (1, 49_104, 7, 49_104),
+    (1, 49_105, 3, 0),
+    (1, 65_535, 3, 0),
 ];
 
 #[test]
 fn a_record_has_as_many_changes_as_the_log_has_room_for(rt: HostRuntime) -> Result<(), Fail> {
-    for (changes, entries, stand) in CHANGES {
-        let rig = with_changes(rt.alloc(), *changes)?;
+    for (format, changes, entries, stand) in CHANGES {
+        let rig = with_changes(rt.alloc(), *format, *changes)?;
         let found = found(rt.alloc(), rig, *stand);
-        assert_eq!(rt; found, (Ok(*entries), None), "{changes}");
+        assert_eq!(rt; found, (Ok(*entries), None), "{format} {changes}");
     }
     Ok(())
 }
@@ -145,7 +158,12 @@ const EPOCHS: &[(i64, i64, u64)] = &[
 #[test]
 fn a_record_counts_under_its_own_epoch(rt: HostRuntime) -> Result<(), Fail> {
     for (epoch, of_record, entries) in EPOCHS {
-        let rig = laid(rt.alloc(), *epoch, &state_part((*of_record, 0, 0, 1, 0), 7))?;
+        let rig = laid(
+            rt.alloc(),
+            2,
+            *epoch,
+            &state_part((*of_record, 0, 0, 1, 0), 7),
+        )?;
         let found = entries_found(rt.alloc(), rig, epoch.saturating_add(1));
         assert_eq!(rt; found, Ok((*entries, true)), "{epoch} {of_record}");
     }

@@ -1,9 +1,10 @@
 //! What power on makes of a log that another program wrote.
 use crate::images::{FRESH, put, sector_of, store};
-use crate::journal::{device, formatted};
+use crate::journal::{formatted, header_of, lay_state};
 use crate::parts::{Label, part_with};
 use ng_journal::recover;
 use ng_num::Fault;
+use ng_offsets::Tools;
 use ng_params::Index;
 use ng_rig::{MemoryRig, Rig};
 use std::alloc::Global;
@@ -41,7 +42,7 @@ type Found = (Result<(u64, i64), Fault>, usize);
 
 fn found(alloc: Global, rig: MemoryRig<Global>) -> Found {
     let before = rig.calls();
-    match recover(alloc, rig) {
+    match recover(alloc, rig, &Tools::new()) {
         Ok((journal, stored)) => {
             let calls = journal.into_rig().calls().wrapping_sub(before);
             let last = stored.state.params.get(Index::known(49)).count();
@@ -70,11 +71,11 @@ fn changed(alloc: Global, changes: &[Change]) -> Result<Found, Fail> {
 }
 
 /// Both records stand; the first alone; none.
-const BOTH: Found = (Ok((8, 1_000_000)), 90);
+const BOTH: Found = (Ok((8, 1_000_000)), 92);
 
-const FIRST: Found = (Ok((7, 0)), 90);
+const FIRST: Found = (Ok((7, 0)), 92);
 
-const NONE: Found = (Ok((0, 0)), 90);
+const NONE: Found = (Ok((0, 0)), 92);
 
 /// The sync before the first read, and no write.
 const DAMAGED: Found = (Err(Fault::Damaged), 1);
@@ -130,18 +131,24 @@ const ROWS: &[(&[Change], Found)] = &[
     (&[(689, 32, 2, 5_400)], DAMAGED),
     (&[(689, 34, 8, i64::MIN)], DAMAGED),
     (&[(686, 182, 1, 10), (689, 0, 8, 0)], DAMAGED),
+    // a slot two past the last, a length below 0
+    (&[(686, 488, 2, 2)], DAMAGED),
+    (&[(687, 488, 2, 2)], DAMAGED),
+    (&[(687, 496, 8, -1)], DAMAGED),
     // the same where the record isn't complete
     (&[(687, 182, 1, 0), (689, 0, 8, 0)], FIRST),
     (&[(688, 32, 2, 0), (689, 0, 8, 0)], FIRST),
     (&[(688, 34, 8, i64::MAX), (687, 8, 8, 2)], FIRST),
+    (&[(687, 488, 2, 2), (689, 0, 8, 0)], FIRST),
+    (&[(686, 496, 8, -1), (686, 18, 2, 2)], NONE),
     (&[(686, 182, 1, 10), (686, 18, 2, 2)], NONE),
     // the ends of the ranges
     (&[(688, 32, 2, 5_399), (688, 34, 8, MOST)], BOTH),
     (&[(688, 34, 8, -MOST)], BOTH),
-    (&[(689, 34, 8, MOST)], (Ok((8, MOST)), 90)),
+    (&[(689, 34, 8, MOST)], (Ok((8, MOST)), 92)),
     (
         &[(687, 32, 8, 1_000_000_000_000)],
-        (Ok((1_000_000_000_000, 1_000_000)), 90),
+        (Ok((1_000_000_000_000, 1_000_000)), 92),
     ),
     // of two changes of a parameter the later one counts, also in the same part
     (&[(688, 502, 2, 49), (688, 504, 8, 3_000_000)], BOTH),
@@ -151,14 +158,14 @@ const ROWS: &[(&[Change], Found)] = &[
     ),
     (
         &[(688, 32, 2, 49), (688, 34, 8, 5), (689, 32, 2, 1)],
-        (Ok((8, 5)), 90),
+        (Ok((8, 5)), 92),
     ),
     // bytes that no field names
     (
         &[
             (686, 22, 8, -1),
             (686, 24, 8, -1),
-            (686, 488, 8, -1),
+            (686, 490, 6, -1),
             (686, 504, 8, -1),
         ],
         BOTH,
@@ -183,9 +190,8 @@ fn records_with_a_number_changed(rt: HostRuntime) -> Result<(), Fail> {
     Ok(())
 }
 
-/// Lays so many records of one part, each of which counts an entry more, and after them one of two parts, by which parameter 49 is 1; all
-/// into a device with two sectors after the log.
-fn lay_to_the_end<R: Rig>(rig: &mut R, records: usize) -> bool {
+/// Lays so many records of one part, each of which counts an entry more, and after them one of two parts, by which parameter 49 is 1.
+pub fn lay_to_the_end<R: Rig>(rig: &mut R, records: usize) -> bool {
     let mut is_laid = true;
     let mut number = 0;
     for sector in 686..records.saturating_add(686) {
@@ -202,31 +208,42 @@ fn lay_to_the_end<R: Rig>(rig: &mut R, records: usize) -> bool {
         )
 }
 
-/// What power on finds of them.
-fn found_to_the_end(alloc: Global, records: usize) -> Result<Found, Fail> {
-    let mut rig = device(alloc, 1_712, true)?;
-    if !lay_to_the_end(&mut rig, records) || rig.sync().is_err() {
-        return Err(Fail::from("a record isn't laid"));
+/// What power on finds of them, on a device of this format under epoch 1.
+fn found_to_the_end(alloc: Global, format: i64, records: usize) -> Result<Found, Fail> {
+    let mut rig = MemoryRig::new(alloc, 1_712)?;
+    if lay_state(&mut rig, 88, 0)
+        && store(&mut rig, 1, &header_of(format, 1, 0, 0))
+        && lay_to_the_end(&mut rig, records)
+        && rig.sync().is_ok()
+    {
+        Ok(found(alloc, rig))
+    } else {
+        Err(Fail::from("a record isn't laid"))
     }
-    Ok(found(alloc, rig))
 }
 
-/// How many records of one part there are, and what power on finds with one of two parts after them: that counts where it ends within
-/// sector 1709, the log's last.
-const ENDS: &[(usize, Found)] = &[
-    (1_021, (Ok((1_021, 1_000_000)), 90)),
-    (1_022, (Ok((1_022, 1_000_000)), 90)),
-    (1_023, (Ok((1_022, 0)), 90)),
-    (1_024, (Ok((1_023, 0)), 90)),
+/// The format, and how many records of one part there are, and what power on finds with one of two parts after them: that counts where it
+/// ends within the log's last sector, 1705, or 1709 in format 1.
+const ENDS: &[(i64, usize, Found)] = &[
+    (2, 1_017, (Ok((1_017, 1_000_000)), 92)),
+    (2, 1_018, (Ok((1_018, 1_000_000)), 92)),
+    (2, 1_019, (Ok((1_018, 0)), 92)),
+    (2, 1_020, (Ok((1_019, 0)), 92)),
+    (2, 1_021, (Ok((1_019, 0)), 92)),
+    (1, 1_018, (Ok((1_018, 1_000_000)), 181)),
+    (1, 1_021, (Ok((1_021, 1_000_000)), 181)),
+    (1, 1_022, (Ok((1_022, 1_000_000)), 181)),
+    (1, 1_023, (Ok((1_022, 0)), 181)),
+    (1, 1_024, (Ok((1_023, 0)), 181)),
 ];
 
 #[test]
 fn a_record_counts_within_the_log(rt: HostRuntime) -> Result<(), Fail> {
-    for (records, wanted) in ENDS {
+    for (format, records, wanted) in ENDS {
         assert_eq!(rt;
-            found_to_the_end(rt.alloc(), *records)?,
+            found_to_the_end(rt.alloc(), *format, *records)?,
             *wanted,
-            "{records}"
+            "{format} {records}"
         );
     }
     Ok(())

@@ -4,11 +4,12 @@ ghost use Rattle.std.proofs.Props.{props};
 ghost use Rattle.ng_layout.specs.Storable.{IsStorableHalf, IsStorable};
 
 use crate::images::store;
-use crate::journal::formatted;
+use crate::journal::{formatted, header_of, set_slot};
 use crate::log::{Mill, set_all};
 use ng_journal::{ProgramLine, recover};
-use ng_layout::{Half, Header, Opened, Source, Stored, text_from, text_sector};
+use ng_layout::{Format, Half, Header, Opened, Source, Stored, text_from, text_sector};
 use ng_num::{Fault, Len, Point};
+use ng_offsets::Tools;
 use ng_rig::{MemoryRig, Rig};
 use std::alloc::{AllocError, Global};
 use std::test::Fail;
@@ -19,6 +20,8 @@ enum Deed {
     /// An entry: so many parameters from this one on become this value, the machine stands at X, the next line begins at this byte, and no
     /// block is half-done.
     Entry(i64, i64, i64, i64, u64),
+    /// An entry: this slot is so many nanometres long.
+    Tool(u8, i64),
     /// The segment of this number is open.
     Segment(u64),
     /// The approach to it is open.
@@ -59,6 +62,7 @@ fn enter(stored: &mut Stored<Global>, entry: (i64, i64, i64, i64, u64), half: Op
     requires waits { IfSome half IsStorableHalf }
     ensures storable { IsStorable stored.new }
     ensures program { stored.new.length ≡ stored.old.length }
+    ensures tools { stored.new.tools ≡ stored.old.tools }
 {
     let (first, count, value, x, place) = entry;
     set_all(&mut stored.state.params, first, count, value);
@@ -77,19 +81,21 @@ struct Plain {
     ghost storable: { IsStorable stored } by { Prim.hlevel props },
 }
 
-/// Writes what is stored as a snapshot under this header, and then the header.
+/// Writes what is stored as a snapshot under this header, in format 2 with its tool area, and then the header.
 fn renew(rig: &mut MemoryRig<Global>, header: Header, stored: &Stored<Global>) -> bool
     requires { IsStorable stored.now }
 {
     if stored.entries > 1_000_000_000_000 {
         return false;
     }
-    let (sector, first) = if header.epoch % 2 == 0 {
-        (0, 2)
+    let (sector, first, tools) = if header.epoch % 2 == 0 {
+        (0, 2, 1_706)
     } else {
-        (1, 88)
+        (1, 88, 1_708)
     };
-    let mut is_written = true;
+    let mut is_written = header.format == Format::One
+        || store(rig, tools, &stored.tool_sector(0))
+            && store(rig, tools + 1, &stored.tool_sector(1));
     for part in 0..86 {
         is_written = is_written && store(rig, first + part, &stored.sector(part));
     }
@@ -97,11 +103,18 @@ fn renew(rig: &mut MemoryRig<Global>, header: Header, stored: &Stored<Global>) -
 }
 
 impl Plain {
-    /// Over a device that is formatted.
-    fn on(alloc: Global) -> Result<Plain, Fail> {
+    /// Over a device of this format that is fresh.
+    fn on(alloc: Global, format: Format) -> Result<Plain, Fail> {
+        let mut rig = formatted(alloc)?;
+        let is_laid = format == Format::Two
+            || store(&mut rig, 1, &header_of(1, 1, 0, 0)) && rig.sync().is_ok();
+        if !is_laid {
+            return Err(Fail::from("a header isn't laid"));
+        }
         Ok(Plain {
-            rig: formatted(alloc)?,
+            rig,
             header: Header {
+                format,
                 epoch: 1,
                 area: 0,
                 length: 0,
@@ -113,6 +126,7 @@ impl Plain {
     /// Writes what is stored under the next epoch.
     fn renew(&mut self, area: u64) -> bool {
         self.header = Header {
+            format: self.header.format,
             epoch: self.header.epoch.wrapping_add(1),
             area,
             length: self.stored.length,
@@ -138,6 +152,10 @@ impl Plain {
         match deed {
             Deed::Entry(first, count, value, x, place) => {
                 enter(&mut self.stored, (first, count, value, x, place), None);
+            }
+            Deed::Tool(slot, nm) => {
+                self.stored.entries = self.stored.entries.saturating_add(1);
+                set_slot(&mut self.stored.tools, slot, nm);
             }
             Deed::Segment(index) => {
                 self.stored.half = Some(half_of(index, None, Some(Opened::Segment)));
@@ -203,6 +221,7 @@ impl Mill<MemoryRig<Global>> {
                 enter(&mut mill.stored, (first, count, value, x, place), None);
                 mill.store()
             }
+            Deed::Tool(slot, nm) => mill.set_tool(slot, nm),
             Deed::Segment(index) => mill.open(half_of(index, None, Some(Opened::Segment))),
             Deed::Approach(index) => mill.open(half_of(index, None, Some(Opened::Approach))),
             Deed::HalfDone(index, x) => {
@@ -224,10 +243,13 @@ const MOVE: &[u8; 13] = b"G0 X0.002\nM2\n";
 const DEEDS: &[Deed] = &[
     Deed::Entry(1, 0, 0, 1_000, 0),
     Deed::Entry(1, 1, 5_000_000, 0, 0),
+    Deed::Tool(1, 50_000_000),
+    Deed::Tool(2, 0),
     Deed::Segment(0),
     Deed::Entry(1, 49, 1_000_000, -7, 0),
     Deed::Entry(1, 49, 1_000_000, -7, 0),
     Deed::Load(TURN),
+    Deed::Tool(2, 1_000_000_000),
     Deed::Segment(0),
     Deed::Entry(5_220, 1, 2_000_000, 8, 3),
     Deed::Segment(0),
@@ -247,6 +269,9 @@ const DEEDS: &[Deed] = &[
     Deed::Entry(1, 5_399, 9, 0, 10),
     Deed::Entry(1, 5_399, 10, 0, 10),
     Deed::Entry(1, 5_399, 11, 0, 10),
+    Deed::Tool(1, 7),
+    Deed::Tool(1, 7),
+    Deed::Tool(3, 9),
     Deed::Segment(7),
     Deed::Entry(1, 5_399, 12, 0, 10),
     Deed::Entry(1, 48, 13, 1, 0),
@@ -264,11 +289,16 @@ fn logged(alloc: Global, deeds: &[Deed]) -> Result<MemoryRig<Global>, Fail> {
     Ok(mill.off())
 }
 
-/// The device that the plain journal leaves, and what is stored on it, with nothing open.
-fn snapshotted(alloc: Global, deeds: &[Deed]) -> Result<(MemoryRig<Global>, Stored<Global>), Fail> {
-    let mut plain = Plain::on(alloc)?;
+/// The device of this format that the plain journal leaves, and what is stored on it, with nothing open. In format 1 no slot is stored.
+fn snapshotted(
+    alloc: Global,
+    format: Format,
+    deeds: &[Deed],
+) -> Result<(MemoryRig<Global>, Stored<Global>), Fail> {
+    let mut plain = Plain::on(alloc, format)?;
     for deed in deeds {
-        if !plain.make(*deed) {
+        let is_stored = format == Format::Two || !matches!(deed, Deed::Tool(_, _));
+        if is_stored && !plain.make(*deed) {
             return Err(Fail::from("a sector isn't written"));
         }
     }
@@ -284,9 +314,10 @@ fn snapshotted(alloc: Global, deeds: &[Deed]) -> Result<(MemoryRig<Global>, Stor
 /// What a device stands for that power left with nothing unsynced, and the program's line at its place and at the beginning.
 type Found = (Stored<Global>, [Option<ProgramLine>; 2]);
 
-fn found(alloc: Global, rig: &MemoryRig<Global>) -> Result<Found, Fault> {
-    let (stored, next) = line_at(alloc, rig, false)?;
-    let (_, first) = line_at(alloc, rig, true)?;
+/// What it stands for beside these tools in the settings.
+fn found(alloc: Global, rig: &MemoryRig<Global>, tools: &Tools) -> Result<Found, Fault> {
+    let (stored, next) = line_at(alloc, rig, tools, false)?;
+    let (_, first) = line_at(alloc, rig, tools, true)?;
     Ok((stored, [next, first]))
 }
 
@@ -294,9 +325,10 @@ fn found(alloc: Global, rig: &MemoryRig<Global>) -> Result<Found, Fault> {
 fn line_at(
     alloc: Global,
     rig: &MemoryRig<Global>,
+    tools: &Tools,
     is_first: bool,
 ) -> Result<(Stored<Global>, Option<ProgramLine>), Fault> {
-    match recover(alloc, rig.stopped(usize::MAX, &[])?) {
+    match recover(alloc, rig.stopped(usize::MAX, &[])?, tools) {
         Ok((mut journal, stored)) => {
             let place = if is_first { 0 } else { stored.place };
             let line = journal.program_line(place);
@@ -326,8 +358,11 @@ fn are_halves_alike(one: Option<&Half>, other: Option<&Half>) -> bool {
 
 fn are_alike(one: &Stored<Global>, other: &Stored<Global>) -> Result<bool, AllocError> {
     let changes = one.state.params.changes_from(&other.state.params)?;
+    let are_tools_alike = one.tools.slots() == other.tools.slots()
+        && one.tools.change_to(&other.tools).is_none();
     Ok(
         changes.is_empty()
+            && are_tools_alike
             && one.state.machine == other.state.machine
             && (one.entries, one.place, one.length) == (other.entries, other.place, other.length)
             && are_halves_alike(one.half.as_ref(), other.half.as_ref()),
@@ -346,9 +381,9 @@ fn are_lines_alike(one: &Option<ProgramLine>, other: &Option<ProgramLine>) -> bo
 
 /// Whether both journals stand for what is stored, and for the same lines of the program, after these deeds.
 fn stand_for_the_same(alloc: Global, deeds: &[Deed]) -> Result<bool, Fail> {
-    let (rig, stored) = snapshotted(alloc, deeds)?;
-    let (wanted, wanted_lines) = found(alloc, &rig)?;
-    let (other, lines) = found(alloc, &logged(alloc, deeds)?)?;
+    let (rig, stored) = snapshotted(alloc, Format::Two, deeds)?;
+    let (wanted, wanted_lines) = found(alloc, &rig, &Tools::new())?;
+    let (other, lines) = found(alloc, &logged(alloc, deeds)?, &Tools::new())?;
     Ok(
         are_alike(&wanted, &stored)?
             && are_alike(&other, &stored)?
@@ -362,6 +397,26 @@ fn a_journal_of_snapshots_stands_for_the_same(rt: HostRuntime) -> Result<(), Fai
     for n in 0..=DEEDS.len() {
         let deeds = DEEDS.get(..n).unwrap_or_default();
         assert!(rt; stand_for_the_same(rt.alloc(), deeds)?, "{n}");
+    }
+    Ok(())
+}
+
+/// Whether a plain journal of format 1 stands for what is stored, with the settings' tools in place of its own, after these deeds.
+fn stands_beside_tools(alloc: Global, deeds: &[Deed]) -> Result<bool, Fail> {
+    let mut tools = Tools::new();
+    set_slot(&mut tools, 1, 50_000_000);
+    set_slot(&mut tools, 2, 7);
+    let (rig, mut stored) = snapshotted(alloc, Format::One, deeds)?;
+    stored.take_tools(&tools);
+    let (found, _) = found(alloc, &rig, &tools)?;
+    Ok(are_alike(&found, &stored)?)
+}
+
+#[test]
+fn a_journal_of_format_1_stands_beside_the_settings_tools(rt: HostRuntime) -> Result<(), Fail> {
+    for n in 0..=DEEDS.len() {
+        let deeds = DEEDS.get(..n).unwrap_or_default();
+        assert!(rt; stands_beside_tools(rt.alloc(), deeds)?, "{n}");
     }
     Ok(())
 }

@@ -143,3 +143,43 @@ fn what_seven_records_change_stands(rt: HostRuntime) -> Result<(), Fail> {
     assert!(rt; are_right);
     Ok(())
 }
+
+/// The slots that entries set, with their lengths in nm; the slot and the length that the record of each names.
+const TOOLS: &[((u8, i64), (i64, i64))] = &[
+    ((1, 50_000_000), (1, 50_000_000)),
+    // the length that the slot has: no slot is changed
+    ((1, 50_000_000), (0, 0)),
+    ((2, 0), (2, 0)),
+    ((2, 0), (0, 0)),
+    ((3, 1_000_000_000), (3, 1_000_000_000)),
+    ((1, 0), (1, 0)),
+    ((3, 7), (3, 7)),
+];
+
+/// The device after those entries.
+fn tooled(alloc: Global) -> Result<MemoryRig<Global>, Fail> {
+    let mut mill = Mill::on(alloc, formatted(alloc)?)?;
+    for ((slot, nm), _) in TOOLS {
+        mill = mill.set_tool(*slot, *nm)?;
+    }
+    Ok(mill.off())
+}
+
+/// The one part of the record of this number, in which this slot and length stand.
+fn tool_part(number: i64, slot: i64, length: i64) -> [u8; 512] {
+    let mut sector = part_with((2, number, 0, 1, 0), &FRESH);
+    put(&mut sector, 32, 8, number.saturating_add(1));
+    put(&mut sector, 488, 2, slot);
+    put(&mut sector, 496, 8, length);
+    sector
+}
+
+#[test]
+fn a_record_names_the_slot_that_its_entry_changes(rt: HostRuntime) -> Result<(), Fail> {
+    let mut rig = tooled(rt.alloc())?;
+    for (sector, (_, (slot, length))) in (686..700).zip(TOOLS) {
+        let wanted = tool_part(sector as i64 - 686, *slot, *length);
+        assert!(rt; sector_of(&mut rig, sector) == wanted, "{sector}");
+    }
+    Ok(())
+}

@@ -1,5 +1,4 @@
-use Rattle.std.proofs.Common.{rules, ◌≡◌}
-use Rattle.ng_offsets.specs.Tools.{with_slot}
+use Rattle.std.proofs.Common.{rules}
 use Rattle.ng_session.proofs.ToolSlots.{one_slot}
 use Rattle.ng_session.proofs.session.Session.tools_with.Goals as goal
 

@@ -1,0 +1,23 @@
+-- Bytes that are appended piece by piece.
+use Rattle.std.proofs.Common.{◌≡◌, ℕ, ◌+◌, ◌*◌, List, ◌++◌, Option, None, Some, ap, ◌∙◌, append_assoc, replicate, take, drop, length, ◌-◌, arith, length-drop}
+use Rattle.std.proofs.lemmas.List.{replicate-append-replicate, take_all}
+use Rattle.std.specs.Io.KnownBytes.{Appends}
+
+pub Appends-trans : (a b c : Option (List ℕ)) (bs cs : List ℕ) → Appends a b bs → Appends b c cs → Appends a c (bs ++ cs)
+Appends-trans None b c bs cs p q = tt
+Appends-trans (Some x) None c bs cs p q = absurd p
+Appends-trans (Some x) (Some y) None bs cs p q = absurd q
+Appends-trans (Some x) (Some y) (Some z) bs cs p q = q ∙ ap (λ l. l ++ cs) p ∙ append_assoc x bs cs
+
+-- what is left of a slice after its first i elements
+pub rest_is : {A : Type 0} (i : ℕ) (xs : List A) → take (length xs - i) (drop i xs) ≡ drop i xs
+rest_is i xs = take_all (length xs - i) (drop i xs) (omega (arith, length-drop i xs))
+
+abbrev zeros : ℕ → List ℕ
+zeros n = replicate n 0
+
+-- the zeros of one sector more
+pub zeros_more : (k : ℕ) → zeros (512 * k) ++ zeros 512 ≡ zeros (512 * (k + 1))
+zeros_more k =
+    let sum : 512 * k + 512 ≡ 512 * (k + 1) = omega arith in
+    replicate-append-replicate (512 * k) 512 0 ∙ ap zeros sum

@@ -1,0 +1,132 @@
+//! The slot that a record changes, and its length: each at its limits and past them.
+use crate::images::{FRESH, METRE, powered, put, sector_of, sector_with, store};
+use crate::journal::header;
+use crate::parts::part_with;
+use ng_num::Fault;
+use ng_rig::{MemoryRig, Rig};
+use std::alloc::Global;
+use std::test::Fail;
+
+/// What a record says of a tool table: a slot, 0 for none, and a length.
+type Change = (i64, i64);
+
+/// The first sector of a snapshot with so many slots.
+fn snapshot_sector(slots: i64) -> [u8; 512] {
+    let mut sector = sector_with(&FRESH);
+    put(&mut sector, 456, 2, slots);
+    sector
+}
+
+/// The first sector of a tool area with so many slots, of which slot n is n nm long.
+fn lengths_sector(slots: i64) -> [u8; 512] {
+    let mut sector = [0; 512];
+    for (k, slot) in (1..slots.saturating_add(1)).enumerate() {
+        put(&mut sector, k.saturating_mul(8), 8, slot);
+    }
+    sector
+}
+
+/// The same where these slots have these lengths.
+fn changed_sector(slots: i64, changes: &[Change]) -> [u8; 512] {
+    let mut sector = lengths_sector(slots);
+    for (slot, length) in changes {
+        if 1 <= *slot && *slot <= 64 {
+            put(&mut sector, (*slot as usize - 1) * 8, 8, *length);
+        }
+    }
+    sector
+}
+
+/// A device of epoch 1 with so many slots, and a record of one part for each of these changes.
+fn laid(alloc: Global, slots: i64, changes: &[Change]) -> Result<MemoryRig<Global>, Fail> {
+    let mut rig = MemoryRig::new(alloc, 1_710)?;
+    let mut is_laid = store(&mut rig, 1, &header(1, 0, 0))
+        && store(&mut rig, 88, &snapshot_sector(slots))
+        && store(&mut rig, 1_708, &lengths_sector(slots));
+    for (sector, (slot, length)) in (686..1_706).zip(changes) {
+        let number = sector as i64 - 686;
+        let mut part = part_with((1, number, 0, 1, 0), &FRESH);
+        put(&mut part, 488, 2, *slot);
+        put(&mut part, 496, 8, *length);
+        is_laid = is_laid && store(&mut rig, sector, &part);
+    }
+    if is_laid && rig.sync().is_ok() {
+        Ok(rig)
+    } else {
+        Err(Fail::from("a record isn't laid"))
+    }
+}
+
+/// How many slots a device has, and what its records change; how many slots there are then, or none where power on says that it is damaged.
+type Row = (i64, &'static [Change], Option<i64>);
+
+const ROWS: &[Row] = &[
+    (0, &[(0, 0)], Some(0)),
+    (0, &[(1, 5)], Some(1)),
+    (0, &[(2, 5)], None),
+    (0, &[(3, 5)], None),
+    (3, &[(1, 5)], Some(3)),
+    (3, &[(3, 5)], Some(3)),
+    (3, &[(4, 5)], Some(4)),
+    (3, &[(5, 5)], None),
+    (3, &[(64, 5)], None),
+    (3, &[(65, 5)], None),
+    (63, &[(64, 5)], Some(64)),
+    (63, &[(65, 5)], None),
+    (64, &[(64, 5)], Some(64)),
+    (64, &[(65, 5)], None),
+    (64, &[(66, 5)], None),
+    (64, &[(256, 5)], None),
+    (64, &[(257, 5)], None),
+    (64, &[(-1, 5)], None),
+    (1, &[(1, 0)], Some(1)),
+    (1, &[(1, METRE)], Some(1)),
+    (1, &[(1, METRE + 1)], None),
+    (1, &[(1, -1)], None),
+    (1, &[(1, i64::MIN)], None),
+    (1, &[(1, i64::MAX)], None),
+    (1, &[(2, METRE)], Some(2)),
+    (1, &[(2, METRE + 1)], None),
+    (1, &[(2, -1)], None),
+    // the length beside slot 0
+    (1, &[(0, METRE)], Some(1)),
+    (1, &[(0, METRE + 1)], None),
+    (1, &[(0, -1)], None),
+    (1, &[(0, i64::MIN)], None),
+    (1, &[(0, i64::MAX)], None),
+    // each by the table that stands before it
+    (0, &[(1, 5), (2, 6), (0, 9), (3, 7)], Some(3)),
+    (0, &[(2, 6), (1, 5)], None),
+    (0, &[(1, 5), (3, 6)], None),
+    (62, &[(63, 5), (64, 6)], Some(64)),
+    (63, &[(64, 5), (65, 6)], None),
+    (1, &[(1, 5), (1, 6)], Some(1)),
+    (1, &[(1, METRE + 1), (1, 6)], None),
+    (1, &[(0, -1), (0, 0)], None),
+];
+
+/// Whether power on makes of a device what its row says: it writes the whole table, or refuses the device before any write.
+fn is_as_wanted(alloc: Global, row: &Row) -> Result<bool, Fail> {
+    let rig = laid(alloc, row.0, row.1)?;
+    let before = rig.calls();
+    let (fault, mut rig) = powered(alloc, rig);
+    let calls = rig.calls().wrapping_sub(before);
+    match row.2 {
+        None => Ok(fault == Some(Fault::Damaged) && calls == 1),
+        Some(slots) => Ok(
+            fault.is_none()
+                && calls == 92
+                && sector_of(&mut rig, 2) == snapshot_sector(slots)
+                && sector_of(&mut rig, 1_706) == changed_sector(row.0, row.1)
+                && sector_of(&mut rig, 1_707) == [0; 512],
+        ),
+    }
+}
+
+#[test]
+fn slots_and_lengths_at_their_limits_and_past_them(rt: HostRuntime) -> Result<(), Fail> {
+    for row in ROWS {
+        assert!(rt; is_as_wanted(rt.alloc(), row)?, "{} {:?}", row.0, row.1);
+    }
+    Ok(())
+}

@@ -1,0 +1,304 @@
+//! Power on over a device of format 1: it writes what stands once more in format 1, then in format 2 with the tools of the settings.
+use crate::images::{FRESH, put, sector_of, sector_with, store};
+use crate::journal::counting::Counting;
+use crate::journal::{header, header_of, lay_state, set_slot};
+use crate::log::reading::{lay_to_the_end, state_part};
+use crate::parts::part_with;
+use ng_journal::recover;
+use ng_num::Fault;
+use ng_offsets::Tools;
+use ng_params::Index;
+use ng_rig::{FailRig, MemoryRig, Rig};
+use std::alloc::Global;
+use std::test::Fail;
+
+/// A table of so many slots, of which slot n is n times as long as the first.
+fn table(slots: u8, first_nm: i64) -> Tools {
+    let mut tools = Tools::new();
+    let mut nm = first_nm;
+    for slot in 1..=slots {
+        set_slot(&mut tools, slot, nm);
+        nm = nm.saturating_add(first_nm);
+    }
+    tools
+}
+
+/// Writes these sectors.
+fn lay<R: Rig>(rig: &mut R, sectors: &[(usize, [u8; 512])]) -> bool {
+    let mut is_laid = true;
+    for (sector, bytes) in sectors {
+        is_laid = is_laid && store(rig, *sector, bytes);
+    }
+    is_laid
+}
+
+/// Parameter 1 is 5; parameter 5220 is 1.
+fn parameter_sectors() -> [[u8; 512]; 2] {
+    [
+        sector_with(&[(0, 8, 5_000_000)]),
+        sector_with(&[(280, 8, 1_000_000)]),
+    ]
+}
+
+/// The first sector of a snapshot with one entry and so many slots.
+fn one_entry(slots: i64) -> [u8; 512] {
+    let mut sector = sector_with(&FRESH);
+    put(&mut sector, 0, 8, 1);
+    put(&mut sector, 456, 2, slots);
+    sector
+}
+
+/// Makes a device of format 1 and epoch 2 with one entry in its log, by which parameter 1 became 5. Bytes of its snapshot and its record
+/// that format 1 doesn't name are these.
+fn lay_old<R: Rig>(rig: &mut R, unnamed: i64) -> bool {
+    let [_, first_system] = parameter_sectors();
+    let mut state = sector_with(&FRESH);
+    put(&mut state, 456, 2, unnamed);
+    let mut part = state_part((2, 0, 0, 2, 1), 1);
+    put(&mut part, 488, 2, unnamed);
+    put(&mut part, 496, 8, unnamed);
+    let change = part_with((2, 0, 1, 2, 1), &[(0, 2, 1), (2, 8, 5_000_000)]);
+    let sectors = [
+        (0, header_of(1, 2, 0, 0)),
+        (2, state),
+        (84, first_system),
+        (686, part),
+        (687, change),
+    ];
+    lay(rig, &sectors) && rig.sync().is_ok()
+}
+
+/// Writes over it what power on writes with a table of so many slots, of which slot n is n times as long as the first: epoch 3 in format 1, and
+/// epoch 4 in format 2.
+fn lay_migrated<R: Rig>(rig: &mut R, slots: i64, first_nm: i64) -> bool {
+    let [five, first_system] = parameter_sectors();
+    let mut lengths = [0; 512];
+    for (k, slot) in (1..slots.saturating_add(1)).enumerate() {
+        let nm = slot.saturating_mul(first_nm);
+        put(&mut lengths, k.saturating_mul(8), 8, nm);
+    }
+    let sectors = [
+        (1, header_of(1, 3, 0, 0)),
+        (88, one_entry(0)),
+        (89, five),
+        (170, first_system),
+        (0, header(4, 0, 0)),
+        (2, one_entry(slots)),
+        (3, five),
+        (84, first_system),
+        (1_706, lengths),
+    ];
+    lay(rig, &sectors)
+}
+
+/// Writes over that what the next power on writes, where the table has one slot of 50,000,000 nm: epoch 5.
+fn lay_next<R: Rig>(rig: &mut R) -> bool {
+    let [five, first_system] = parameter_sectors();
+    let sectors = [
+        (1, header(5, 0, 0)),
+        (88, one_entry(1)),
+        (89, five),
+        (170, first_system),
+        (1_708, sector_with(&[(0, 8, 50_000_000)])),
+    ];
+    lay(rig, &sectors)
+}
+
+/// The first sector of 1,710 that differs.
+fn first_unlike(rig: &mut MemoryRig<Global>, wanted: &mut MemoryRig<Global>) -> Option<usize> {
+    for sector in 0..1_710 {
+        if sector_of(rig, sector) != sector_of(wanted, sector) {
+            return Some(sector);
+        }
+    }
+    None
+}
+
+/// The entries that power on finds, a parameter, and the length of slot 1, none where there are no slots.
+type Standing = (u64, i64, Option<i64>);
+
+/// Powers on with these tools in the settings: what stands then, or why it is refused, and the device.
+fn stands<R: Rig + Drop>(
+    alloc: Global,
+    rig: R,
+    tools: &Tools,
+    number: u16,
+) -> (Result<Standing, Fault>, R) {
+    match recover(alloc, rig, tools) {
+        Ok((journal, stored)) => {
+            let index = Index::of(i64::from(number)).unwrap_or(Index::known(1));
+            let value = stored.state.params.get(index).count();
+            let tool = if stored.tools.slots() == 0 {
+                None
+            } else {
+                Some(stored.tools.length(1).nm())
+            };
+            (Ok((stored.entries, value, tool)), journal.into_rig())
+        }
+        Err((fault, rig)) => (Err(fault), rig),
+    }
+}
+
+/// A device of format 1 with one entry, with no calls.
+fn old(alloc: Global, unnamed: i64) -> Result<MemoryRig<Global>, Fail> {
+    let mut rig = MemoryRig::new(alloc, 1_710)?;
+    if lay_old(&mut rig, unnamed) {
+        Ok(rig.stopped(usize::MAX, &[])?)
+    } else {
+        Err(Fail::from("a device isn't laid"))
+    }
+}
+
+/// What stands after a power on, its writes and syncs, and the first sector that is then unlike one made by hand.
+type Powered = (Result<Standing, Fault>, [u64; 2], Option<usize>);
+
+/// Powers on with these tools.
+fn powered(
+    alloc: Global,
+    rig: MemoryRig<Global>,
+    tools: &Tools,
+    wanted: &mut MemoryRig<Global>,
+) -> Powered {
+    let (standing, counting) = stands(alloc, Counting::new(rig), tools, 1);
+    let ([_, writes, syncs], mut rig) = counting.counted();
+    let unlike = first_unlike(&mut rig, wanted);
+    (standing, [writes, syncs], unlike)
+}
+
+/// The settings' number of slots, the length of the first, what stands in bytes that format 1 doesn't name, and the length of slot 1 then.
+const MIGRATIONS: &[(u8, i64, i64, Option<i64>)] = &[
+    (1, 50_000_000, 0, Some(50_000_000)),
+    (1, 50_000_000, -1, Some(50_000_000)),
+    (0, 0, 0, None),
+    (0, 0, 65, None),
+    (64, 15_625_000, 0, Some(15_625_000)),
+];
+
+/// The migration of a device with one entry under these settings.
+fn migrated(alloc: Global, slots: u8, first_nm: i64, unnamed: i64) -> Result<Powered, Fail> {
+    let mut wanted = old(alloc, unnamed)?;
+    if !lay_migrated(&mut wanted, i64::from(slots), first_nm) {
+        return Err(Fail::from("a device isn't laid"));
+    }
+    let tools = table(slots, first_nm);
+    Ok(powered(alloc, old(alloc, unnamed)?, &tools, &mut wanted))
+}
+
+#[test]
+fn a_device_of_format_1_is_migrated(rt: HostRuntime) -> Result<(), Fail> {
+    for (slots, first_nm, unnamed, tool) in MIGRATIONS {
+        let found = migrated(rt.alloc(), *slots, *first_nm, *unnamed)?;
+        let wanted = (Ok((1, 5_000_000, *tool)), [176, 5], None);
+        assert_eq!(rt; found, wanted, "{slots} {unnamed}");
+    }
+    Ok(())
+}
+
+/// The power on after it, with so many tools in the settings.
+fn powered_again(alloc: Global, slots: u8) -> Result<Powered, Fail> {
+    let mut rig = old(alloc, 0)?;
+    let mut wanted = old(alloc, 0)?;
+    if lay_migrated(&mut rig, 1, 50_000_000)
+        && rig.sync().is_ok()
+        && lay_migrated(&mut wanted, 1, 50_000_000)
+        && lay_next(&mut wanted)
+    {
+        Ok(powered(alloc, rig, &table(slots, 9), &mut wanted))
+    } else {
+        Err(Fail::from("a device isn't laid"))
+    }
+}
+
+/// The settings' tools aren't looked at.
+#[test]
+fn a_migrated_device_keeps_its_tools(rt: HostRuntime) -> Result<(), Fail> {
+    for slots in [0, 1, 2] {
+        let wanted = (Ok((1, 5_000_000, Some(50_000_000))), [89, 3], None);
+        assert_eq!(rt; powered_again(rt.alloc(), slots)?, wanted, "{slots}");
+    }
+    Ok(())
+}
+
+/// A device of format 1 and epoch 1 whose log is full: 1,022 records of one part and one of two, which ends in sector 1709. It has no calls.
+fn full(alloc: Global) -> Result<MemoryRig<Global>, Fail> {
+    let mut rig = MemoryRig::new(alloc, 1_710)?;
+    if store(&mut rig, 1, &header_of(1, 1, 0, 0))
+        && lay_state(&mut rig, 88, 0)
+        && lay_to_the_end(&mut rig, 1_022)
+        && rig.sync().is_ok()
+    {
+        Ok(rig.stopped(usize::MAX, &[])?)
+    } else {
+        Err(Fail::from("a device isn't laid"))
+    }
+}
+
+/// That device after a migration with one tool, of 7 nm.
+fn full_migrated(alloc: Global) -> Result<MemoryRig<Global>, Fail> {
+    let (standing, rig) = stands(alloc, full(alloc)?, &table(1, 7), 49);
+    if standing == Ok((1_022, 1_000_000, Some(7))) && rig.calls() == 181 {
+        Ok(rig)
+    } else {
+        Err(Fail::from("a device isn't migrated"))
+    }
+}
+
+/// Which unsynced writes a stop keeps, by how many of each sector: none, or all; and how many calls a stop is after at least where the header
+/// of format 2 is there. It is written by the call before the last.
+const KEPT: &[(&[usize], usize)] = &[(&[], 181), (&[1; 1_710], 180)];
+
+/// The first stop of the migration that stands for anything else. A power on after a stop has a tool of 8 nm in the settings: that is the table's
+/// until the header of format 2 is there.
+fn first_bad_stop(alloc: Global, keep: &[usize], first: usize) -> Result<Option<usize>, Fail> {
+    let rig = full_migrated(alloc)?;
+    for calls in 0..182 {
+        let tool = if calls < first { 8 } else { 7 };
+        let (found, _) = stands(alloc, rig.stopped(calls, keep)?, &table(1, 8), 49);
+        if found != Ok((1_022, 1_000_000, Some(tool))) {
+            return Ok(Some(calls));
+        }
+    }
+    Ok(None)
+}
+
+/// Among these records are those in sectors 1706 to 1709, which are the tool areas of format 2.
+#[test]
+fn a_stopped_migration_keeps_all_records(rt: HostRuntime) -> Result<(), Fail> {
+    for (keep, first) in KEPT {
+        let found = first_bad_stop(rt.alloc(), keep, *first)?;
+        assert_eq!(rt; found, None, "{}", keep.len());
+    }
+    Ok(())
+}
+
+/// How many calls a migration makes of a device with one entry.
+fn calls_of_migration(alloc: Global) -> Result<u64, Fail> {
+    let (_, counting) = stands(alloc, Counting::new(old(alloc, 0)?), &table(1, 7), 1);
+    let ([reads, writes, syncs], _) = counting.counted();
+    Ok(reads.saturating_add(writes).saturating_add(syncs))
+}
+
+/// What a migration answers of which one call after so many fails, how many failures there are, and what stands at the next power on, which has
+/// a tool of 8 nm in the settings in place of one of 7.
+fn failing(
+    alloc: Global,
+    calls: u64,
+) -> Result<(Result<Standing, Fault>, u64, Result<Standing, Fault>), Fail> {
+    let rig = FailRig::new(old(alloc, 0)?, calls);
+    let (answer, rig) = stands(alloc, rig, &table(1, 7), 1);
+    let failures = rig.failures();
+    let (again, _) = stands(alloc, rig.into_inner(), &table(1, 8), 1);
+    Ok((answer, failures, again))
+}
+
+/// Only where the last sync fails is the header of format 2 there.
+#[test]
+fn each_call_of_a_migration_fails_once(rt: HostRuntime) -> Result<(), Fail> {
+    let calls = calls_of_migration(rt.alloc())?;
+    for k in 0..calls {
+        let tool = if k.saturating_add(1) == calls { 7 } else { 8 };
+        let wanted = (Err(Fault::DeviceFailed), 1, Ok((1, 5_000_000, Some(tool))));
+        assert_eq!(rt; failing(rt.alloc(), k)?, wanted, "{k}");
+    }
+    Ok(())
+}
