@@ -1,5 +1,6 @@
 """The words of `ngc-check`, and what it says."""
 import argparse
+import os
 import sys
 import textwrap
 from collections import Counter
@@ -41,13 +42,15 @@ def parser() -> argparse.ArgumentParser:
     words.add_argument("--settings", metavar="FILE", help="the machine's settings; without it the default ones hold")
     words.add_argument("--settings-only", action="store_true", help="check the settings, and no program")
     words.add_argument("--block-delete", action="store_true", help="leave out the lines that begin with a slash")
-    words.add_argument("--most", metavar="N", type=int, default=0, help="stop after N refusals; without it none is left")
+    words.add_argument("--most", metavar="N", type=int, default=0, help="stop after N refusals; else all are found")
     words.add_argument("--ngc", metavar="PATH", help="the program ngc; without it the one beside this tool, or on PATH")
     return words
 
 
 def main() -> int:
     """Checks, and returns the exit status."""
+    for stream in (sys.stdout, sys.stderr):
+        stream.reconfigure(errors="backslashreplace")
     words = parser()
     given = words.parse_args()
     if given.settings_only and (given.program or not given.settings):
@@ -59,7 +62,11 @@ def main() -> int:
         if given.settings and (refused := _settings_refused(ngc, given.settings)):
             print("\n".join(settings_report.explained(ngc, given.settings, refused)), file=sys.stderr)
             return 2
-        return say_settings(given.settings) if given.settings_only else check(ngc, given)
+        status = say_settings(given.settings) if given.settings_only else check(ngc, given)
+        sys.stdout.flush()
+        return status
+    except BrokenPipeError:
+        os.dup2(os.open(os.devnull, os.O_WRONLY), sys.stdout.fileno())  # nobody reads any more
     except OSError as why:
         print(f"{why.filename}: {why.strerror}" if why.filename else str(why), file=sys.stderr)
     except (BadSettings, CannotRun) as why:
@@ -97,7 +104,7 @@ def check(ngc: str, given: argparse.Namespace) -> int:
     for finding in find_all(lines, ask, given.most):
         report.refused(finding)
     more = given.most and report.count == given.most and ask(b"".join(lines.all))
-    found = dangers(lines, run) if not more else []
+    found = [danger for danger in dangers(lines, run) if danger.line not in report.lines] if not more else []
     kinds: Counter[str] = Counter()
     for danger in found:
         kinds[danger.kind] += 1
@@ -121,12 +128,14 @@ class Report:
     def __init__(self, path: str) -> None:
         self.path = path
         self.count = 0
+        self.lines: set[int] = set()  # those that are refused
         self._said: set[str] = set()  # sentences and advice that stand further up already
 
     def refused(self, finding: Finding) -> None:
         """Prints a refusal: its fault and cause, the line, the carets, what to write, how it goes on."""
         self.count += 1
         fault = finding.refusal
+        self.lines.add(fault.line)
         print(f"{self.path}:{fault.line}: {fault.code} {fault.name}")
         if finding.text.strip():
             print(f"    {shown(finding.text)}".rstrip())

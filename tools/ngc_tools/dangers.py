@@ -10,11 +10,11 @@ from ngc_tools.canonical import MOTIONS, Command
 from ngc_tools.figures import duration, millimetres
 from ngc_tools.moves import PLANES, Point, arc_of
 from ngc_tools.refused import Lines
+from ngc_tools.run import MOST_BYTES
 
 Run = Callable[[bytes], bytes]
 """Gives a text to `ngc dry`, and returns what it prints."""
 
-MOST_BYTES = 131_072  # of a program of `ngc run`
 LONG_DWELL_US = 30_000_000
 NEARLY_NM = 10_000  # an arc whose ends are as near as that is taken as rounded
 
@@ -180,9 +180,15 @@ def _modes(lines: Lines, printed: Printed, run: Run) -> list[Danger]:
         # machine 0 has other coordinates then, so that 0 absolute isn't 0 incremental
         shift = b"G92 X0.001 Y0.001 Z0.001\n" if other == b"G91" else b""
         base = by_line(lines, run, shift) if shift else printed
+        if len(base) < len(printed):  # the shift alone is refused, at the edge of the travel
+            shift, base = b"", printed
         changed = by_line(lines, run, shift + other + b"\n")
         first = next((number for number in sorted(base) if number and base[number] != changed.get(number)), None)
-        if first is not None:
-            found.append(Danger(first, "mode", f"relies on {name}: the dry run begins with {fresh}, ngc run goes on"
-                                f" with what the last block left; write {write} before it"))
+        if first is None:
+            continue
+        text = (f"relies on {name}: the dry run begins with {fresh}, ngc run goes on with what the last block left;"
+                f" write {write} before it")
+        if any(command.name == "USE_LENGTH_UNITS" for command in base[first]):
+            text += ", on a line of its own: F is read in the unit before that of its line"
+        found.append(Danger(first, "mode", text))
     return found

@@ -1,40 +1,302 @@
-"""STAND-IN, to be dropped for the module of tools-3: the program and the slots on a device."""
+"""What a device stands for, by docs/DEVICE.md: formats 1 and 2. It is read here, never written."""
+import fcntl
+import os
 import struct
+from dataclasses import dataclass
 from pathlib import Path
 
-SIZE = 512 * 1710
+SECTOR = 512
+SIZE = SECTOR * 1710  # bytes of the sectors that a device needs
+LOG_FIRST = 686
+LOG_END = {1: 1710, 2: 1706}  # the sector after the log, by the format
+SLOTS = 64
+MOST_PROGRAM = 131_072  # bytes
+
+_TOOLS_FIRST = 1706
+_LENGTHS = range(10**9 + 1)
+_COUNTS = range(9_999_999_999_999 + 1)
+_SIGNED = range(-9_999_999_999_999, 9_999_999_999_999 + 1)
+_COUNTERS = range(10**12 + 1)
+
+Limits = range | tuple[int, ...]
+_STATE: dict[str, tuple[int, str, Limits]] = {  # byte, type by `struct`, limits
+    "entries": (0, "Q", _COUNTERS),
+    "place": (8, "Q", range(MOST_PROGRAM + 1)),
+    "point_nm": (16, "3q", _SIGNED),
+    "feed_nm_per_min": (40, "Q", _COUNTS),
+    "speed": (48, "Q", _COUNTS),
+    "g92_nm": (56, "3q", _SIGNED),
+    "origin_nm": (80, "3q", _SIGNED),
+    "tool_length_nm": (104, "q", _SIGNED),
+    "kept_rzpq": (112, "4q", _SIGNED),
+    "motion": (144, "B", (0, 1, 2, 3, 80, 81, 82, 83, 85, 86, 89)),
+    "plane": (145, "B", (17, 18, 19)),
+    "distance": (146, "B", (90, 91)),
+    "feed_mode": (147, "B", (93, 94)),
+    "unit": (148, "B", (20, 21)),
+    "retract": (149, "B", (98, 99)),
+    "system": (150, "B", range(1, 10)),
+    "path_mode": (151, "B", (0, 1, 2)),
+    "spindle": (152, "B", (0, 1, 2)),
+    "mist": (153, "B", (0, 1)),
+    "flood": (154, "B", (0, 1)),
+    "overrides": (155, "B", (0, 1)),
+    "point_known": (156, "B", (0, 1)),
+    "kept": (157, "B", range(16)),
+    "selected": (158, "H", range(SLOTS + 1)),
+    "slot": (160, "H", range(SLOTS + 1)),
+    "half": (162, "B", (0, 1, 2)),
+    "opened": (163, "B", (0, 1, 2)),
+    "half_known": (164, "B", (0, 1)),
+    "half_bytes": (166, "H", range(257)),
+    "segment": (168, "Q", range(2**64)),
+    "half_point_nm": (176, "3q", _SIGNED),
+}
+FIELDS = tuple(_STATE)
+"""The names of the fields of a state, in the order of the page."""
 
 
 class NoDevice(ValueError):
-    """Bytes that are no device."""
+    """Bytes that are no device (J2 of `ngc run`); the text says why."""
+
+
+class Held(OSError):
+    """A session holds the device."""
+
+
+@dataclass(frozen=True, slots=True, order=True)
+class Header:
+    """A valid header. `length` is that of the program, in bytes."""
+
+    epoch: int
+    area: int
+    length: int
+    format: int
+
+
+@dataclass(frozen=True, slots=True)
+class State:
+    """A state field. Lengths and points are in nm, the feed in nm a minute, `speed` in millionths; `kept_rzpq` R, Z and
+    Q in nm, P in millionths of a second. The modes are numbers of G codes; `system` is 1 to 9; `spindle` is 0 stopped,
+    1 clockwise, 2 counter-clockwise. `half` is 0 for no half-done block, 1 for one of the program, 2 for one of the
+    operator; the names after it speak of that block: `opened` is 0 nothing, 1 its segment, 2 its approach; its text is
+    `half_text`."""
+
+    entries: int
+    place: int
+    point_nm: tuple[int, int, int]
+    feed_nm_per_min: int
+    speed: int
+    g92_nm: tuple[int, int, int]
+    origin_nm: tuple[int, int, int]
+    tool_length_nm: int
+    kept_rzpq: tuple[int, int, int, int]
+    motion: int
+    plane: int
+    distance: int
+    feed_mode: int
+    unit: int
+    retract: int
+    system: int
+    path_mode: int
+    spindle: int
+    mist: int
+    flood: int
+    overrides: int
+    point_known: int
+    kept: int
+    selected: int
+    slot: int
+    half: int
+    opened: int
+    half_known: int
+    half_bytes: int
+    segment: int
+    half_point_nm: tuple[int, int, int]
+    half_text: bytes
+
+    @staticmethod
+    def read(image: bytes, byte: int) -> "State":
+        """The state field that begins at a byte of an image. Limits aren't looked at."""
+        values = {}
+        for name, (offset, kind, _) in _STATE.items():
+            found = struct.unpack_from("<" + kind, image, byte + offset)
+            values[name] = found if len(found) > 1 else found[0]
+        text = image[byte + 200:byte + 456][:values["half_bytes"]] if values["half"] else b""
+        return State(**values, half_text=text)
+
+    def damage(self, length: int) -> list[str]:
+        """What is out of its range, the program having `length` bytes."""
+        unread = () if self.half else FIELDS[FIELDS.index("half_bytes"):]
+        if not self.half_known:
+            unread += ("half_point_nm",)
+        found = []
+        for name, (_, _, limits) in _STATE.items():
+            value = getattr(self, name)
+            numbers = value if isinstance(value, tuple) else (value,)
+            if name not in unread and any(number not in limits for number in numbers):
+                found.append(f"{name} {' '.join(map(str, numbers))}")
+        if length < self.place <= MOST_PROGRAM:
+            found.append(f"place {self.place} of {length} bytes")
+        if (self.opened or self.half_known) and not self.half or self.opened and self.half_known:
+            found.append(f"half {self.half}, opened {self.opened}, half_known {self.half_known}")
+        return found
+
+
+@dataclass(frozen=True, slots=True)
+class Record:
+    """A complete record of the log: its first sector, how many parts it has, and the state that it gives."""
+
+    first: int
+    parts: int
+    state: State
 
 
 class Device:
-    """What a device stands for: its program, and the slots that are selected and in the spindle."""
+    """What an image stands for.
+
+    `header` is the one in force, `headers` those in sectors 0 and 1, None where none is valid; `snapshot` is the state
+    at its checkpoint, `records` the log's, which ends before sector `end`, and `state` what stands after them.
+    `parameters` are 1 to 5399 in millionths, `tools_nm` the lengths of slots 1, 2 .., `program` its text. `torn` are
+    sectors of a record that isn't complete. `damage` says what is out of its range (J3); where it isn't empty, the rest
+    is as found."""
 
     def __init__(self, image: bytes) -> None:
         """Raises NoDevice."""
+        if len(image) < SIZE:
+            raise NoDevice(f"{len(image):,} bytes, and a device has {SIZE:,} or more")
         self.image = image
-        headers = [header for header in map(self._header, (0, 1)) if header] if len(image) >= SIZE else []
-        if not headers:
-            raise NoDevice("not a device")
-        self.epoch, self.format, area, length = max(headers)
-        state, end, record = 512 * (2 + 86 * (self.epoch % 2)), 686, 0
-        while end < (1710 if self.format == 1 else 1706):
-            epoch, number, part, parts, _ = struct.unpack_from("<QQHHH", image, 512 * end)
-            if (epoch, number, part) != (self.epoch, record, 0) or end + parts > 1710:
-                break
-            state, end, record = 512 * end + 32, end + parts, record + 1
-        start = 512 * (174 + 256 * area)
-        self.program = image[start:start + length]
-        self.selected, self.slot = struct.unpack_from("<HH", image, state + 158)
-
-    def _header(self, sector: int) -> tuple[int, int, int, int] | None:
-        mark, form, epoch, area, length = struct.unpack_from("<8sI4xQQQ", self.image, 512 * sector)
-        return (epoch, form, area, length) if mark == b"RS274NGC" and form in (1, 2) and epoch % 2 == sector else None
+        self.headers = [_header(image, sector) for sector in (0, 1)]
+        valid = [header for header in self.headers if header]
+        if not valid:
+            raise NoDevice("it isn't formatted: neither sector 0 nor sector 1 holds a valid header")
+        self.header = max(valid)
+        self.epoch, self.format = self.header.epoch, self.header.format
+        start = SECTOR * (174 + 256 * self.header.area)
+        self.program = image[start:start + self.header.length]
+        self.damage: list[str] = []
+        self._take_snapshot(2 + 86 * (self.epoch % 2))
+        self.records: list[Record] = []
+        self.end = LOG_FIRST
+        while parts := self._complete(self.end):
+            self._take_record(parts)
+        self.state = self.records[-1].state if self.records else self.snapshot
+        self.torn = [sector for sector in range(self.end, LOG_END[self.format])
+                     if struct.unpack_from("<Q", image, SECTOR * sector)[0] == self.epoch]
 
     @staticmethod
     def read(path: str | Path) -> "Device":
-        """Reads the file. Raises NoDevice or OSError."""
+        """Reads the file, whether a session holds it or not. Raises NoDevice or OSError."""
         with open(path, "rb") as file:
             return Device(file.read(SIZE))
+
+    @property
+    def selected(self) -> int:
+        """The slot that is selected, 0 for none."""
+        return self.state.selected
+
+    @property
+    def slot(self) -> int:
+        """The slot in the spindle, 0 for none."""
+        return self.state.slot
+
+    def before(self, record: int) -> bytes:
+        """The image that stood before record `record` of the log, from 0: the records from it on are taken away."""
+        first = self.records[record].first if record < len(self.records) else self.end
+        if first == LOG_END[self.format]:
+            return self.image
+        return self.image[:SECTOR * first] + bytes(SECTOR) + self.image[SECTOR * (first + 1):]
+
+    def without_header(self) -> bytes | None:
+        """The image without the header in force, or None where the other sector has no valid one: what stood before
+        the last checkpoint, as long as nothing was recorded after it."""
+        sector = self.epoch % 2
+        if self.headers[1 - sector] is None:
+            return None
+        return self.image[:SECTOR * sector] + bytes(SECTOR) + self.image[SECTOR * (sector + 1):]
+
+    def _take_snapshot(self, first: int) -> None:
+        """Reads the snapshot that begins at a sector, and the tool area beside it."""
+        image = self.image
+        self.snapshot = State.read(image, SECTOR * first)
+        self._note(f"sector {first}", self.snapshot.damage(self.header.length))
+        values = struct.unpack_from("<5399q", image, SECTOR * (first + 1))
+        self.parameters = dict(enumerate(values, 1))
+        for index, value in self.parameters.items():
+            if value not in _SIGNED:
+                self.damage.append(f"sector {first + 1 + (index - 1) // 64}: #{index} {value}")
+        self.tools_nm: list[int] = []
+        if self.format == 1:
+            return
+        area, slots = _TOOLS_FIRST + 2 * (self.epoch % 2), struct.unpack_from("<H", image, SECTOR * first + 456)[0]
+        if slots > SLOTS:
+            self.damage.append(f"sector {first}: number of slots {slots}")
+            return
+        self.tools_nm = list(struct.unpack_from(f"<{slots}q", image, SECTOR * area))
+        self._note(f"sector {area}", [f"slot {slot} {nm}" for slot, nm in enumerate(self.tools_nm, 1)
+                                      if nm not in _LENGTHS])
+
+    def _complete(self, first: int) -> int:
+        """How many parts the complete record has that begins at a sector, 0 where there is none."""
+        end = LOG_END[self.format]
+        if first == end:
+            return 0
+        parts, changes = struct.unpack_from("<HH", self.image, SECTOR * first + 18)
+        if parts != 1 + (changes + 47) // 48 or first + parts > end:
+            return 0
+        labels = (struct.unpack_from("<QQHHH", self.image, SECTOR * (first + part)) for part in range(parts))
+        wanted = ((self.epoch, len(self.records), part, parts, changes) for part in range(parts))
+        return parts if all(label == right for label, right in zip(labels, wanted, strict=True)) else 0
+
+    def _take_record(self, parts: int) -> None:
+        """Takes over the record at the log's end."""
+        first, number = self.end, len(self.records)
+        where = f"sector {first}, record {number}"
+        state = State.read(self.image, SECTOR * first + 32)
+        self._note(where, state.damage(self.header.length))
+        if self.format == 2:
+            self._take_slot(first, where)
+        for change in range(struct.unpack_from("<H", self.image, SECTOR * first + 20)[0]):
+            sector = first + 1 + change // 48
+            index, value = struct.unpack_from("<Hq", self.image, SECTOR * sector + 32 + 10 * (change % 48))
+            if index in self.parameters and value in _SIGNED:
+                self.parameters[index] = value
+            else:
+                self.damage.append(f"sector {sector}, record {number}: change {change}, #{index} {value}")
+        self.records.append(Record(first, parts, state))
+        self.end += parts
+
+    def _take_slot(self, first: int, where: str) -> None:
+        """Takes over what a record changes of the tool table: a slot, or one more after the last."""
+        slot, nm = struct.unpack_from("<H6xq", self.image, SECTOR * first + 488)
+        if slot > min(len(self.tools_nm) + 1, SLOTS) or nm not in _LENGTHS:
+            self.damage.append(f"{where}: slot {slot} {nm}")
+        elif slot:
+            self.tools_nm[slot - 1:slot] = [nm]
+
+    def _note(self, where: str, found: list[str]) -> None:
+        self.damage += [f"{where}: {what}" for what in found]
+
+
+def _header(image: bytes, sector: int) -> Header | None:
+    """The header in a sector, where it is valid."""
+    mark, form, epoch, area, length = struct.unpack_from("<8sI4xQQQ", image, SECTOR * sector)
+    right = (mark == b"RS274NGC" and form in LOG_END and 1 <= epoch <= 10**12 and epoch % 2 == sector
+             and area <= 1 and length <= MOST_PROGRAM)
+    return Header(epoch, area, length, form) if right else None
+
+
+def copied(path: str | Path) -> bytes:
+    """The first 1,710 sectors of a device that no session holds. It is opened to read, and held (by a shared lock) for
+    as long as that takes.
+
+    Raises Held where a session has it, or OSError."""
+    file = os.open(path, os.O_RDONLY | os.O_CLOEXEC)
+    try:
+        fcntl.flock(file, fcntl.LOCK_SH | fcntl.LOCK_NB)
+        with os.fdopen(os.dup(file), "rb") as reader:
+            return reader.read(SIZE)
+    except BlockingIOError as why:
+        raise Held(why.errno, "a session holds the device: end it by quit", str(path)) from None
+    finally:
+        os.close(file)

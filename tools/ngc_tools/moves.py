@@ -6,6 +6,7 @@ from math import isqrt
 
 from ngc_tools.canonical import Command
 from ngc_tools.out import Dwell, Pulse, Switch, parse
+from ngc_tools.position import rounded
 from ngc_tools.settings import Settings
 
 Point = tuple[int, int, int]
@@ -18,10 +19,6 @@ PLANES = {"XY": (0, 1, 2), "XZ": (2, 0, 1), "YZ": (1, 2, 0)}
 """Of each plane its two axes, the first and the second, and the third axis."""
 
 _HALVINGS = 4  # an arc is drawn by up to 2**4 chords a quarter
-
-
-class Unplottable(ValueError):
-    """A text that can't be drawn; it says why."""
 
 
 @dataclass(frozen=True, slots=True)
@@ -158,7 +155,7 @@ def of_out(text: bytes, settings: Settings, at: Point = (0, 0, 0)) -> list[Step]
     A move is all pulses between two other lines. Its points are a thousandth of the picture apart. Raises BadLine."""
     lines = text.split(b"\n")[:-1]
     read = {line: parse(line, lines.index(line) + 1, settings.period_us) for line in dict.fromkeys(lines)}
-    steps = [_rounded(nm, step) for nm, step in zip(at, settings.step_nm, strict=True)]
+    steps = [rounded(nm, step) for nm, step in zip(at, settings.step_nm, strict=True)]
     low, high = _extremes(lines, read, steps)
     grain = [max(1, max((h - l) * s for l, h, s in zip(low, high, settings.step_nm)) // (1000 * size))
              for size in settings.step_nm]
@@ -223,8 +220,3 @@ def _extremes(lines: list[bytes], read: dict, at: list[int]) -> tuple[list[int],
                     now[axis] += step
                     low[axis], high[axis] = min(low[axis], now[axis]), max(high[axis], now[axis])
     return low, high
-
-
-def _rounded(nm: int, step_nm: int) -> int:
-    steps = (2 * abs(nm) + step_nm) // (2 * step_nm)
-    return -steps if nm < 0 else steps

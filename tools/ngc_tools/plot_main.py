@@ -1,5 +1,6 @@
 """The words of `ngc-plot`, and what it draws."""
 import argparse
+import os
 import subprocess
 import sys
 from pathlib import Path
@@ -29,6 +30,10 @@ exit status:
   2  the words are wrong, a file can't be used, or ngc didn't hand out the moves"""
 
 
+class Unplottable(ValueError):
+    """A text that can't be drawn; it says why."""
+
+
 def parser() -> argparse.ArgumentParser:
     """The words of the command line."""
     words = argparse.ArgumentParser("ngc-plot", description=ABOUT, epilog=EXAMPLE,
@@ -46,12 +51,17 @@ def parser() -> argparse.ArgumentParser:
 
 def main() -> int:
     """Draws, and returns the exit status."""
+    sys.stderr.reconfigure(errors="backslashreplace")
     given = parser().parse_args()
     try:
-        return draw(given)
+        status = draw(given)
+        sys.stdout.flush()
+        return status
+    except BrokenPipeError:
+        os.dup2(os.open(os.devnull, os.O_WRONLY), sys.stdout.fileno())  # nobody reads any more
     except UnicodeEncodeError:
-        print("ngc-plot: a name or a title isn't text", file=sys.stderr)
-    except (moves.Unplottable, canonical.BadText, out.BadLine) as why:
+        print("the title isn't text: give another by --title", file=sys.stderr)
+    except (Unplottable, canonical.BadText, out.BadLine) as why:
         print(f"{given.input or 'standard input'}: {why}", file=sys.stderr)
     except subprocess.CalledProcessError as why:
         print(f"{why.cmd[0]} {why.cmd[1]}: status {why.returncode}", file=sys.stderr)
@@ -71,7 +81,7 @@ def draw(given: argparse.Namespace) -> int:
     refused = False
     if is_out(text):
         if settings is None:
-            raise moves.Unplottable("an OUT counts steps; name their settings by --settings FILE")
+            raise Unplottable("an OUT counts steps; name their settings by --settings FILE")
         steps, exact = moves.of_out(text, settings, start or (0, 0, 0)), True
         if not text.endswith(b"\n"):
             print(f"{name or 'standard input'}: the part of a line at its end isn't drawn", file=sys.stderr)

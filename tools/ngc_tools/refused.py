@@ -5,7 +5,9 @@ import re
 from collections.abc import Callable, Iterator
 from concurrent.futures import ThreadPoolExecutor
 from dataclasses import dataclass
+from itertools import combinations
 
+from ngc_tools.faults import FAULTS
 from ngc_tools.run import Refusal
 
 Ask = Callable[[bytes], Refusal | None]
@@ -17,6 +19,11 @@ _PIECE = re.compile(
     rb"\((?:[^()]|\([^()]*\))*\)|\([^()]*$|;.*|[\x80-\xff]+"
     rb"|#[ \t]*(?:[0-9.]+|\[[^;()=]*\])[ \t]*=[ \t]*(?:[-+]?[0-9. \t]*[0-9.]|\[[^;()=]*\]|#[ \t]*[0-9.]+)"
     rb"|[A-Za-z][ \t]*(?:\[[^;()]*?\](?![^\[;()]*\])|[-+]?[0-9. \t]*[0-9.]|#[ \t]*[0-9.]+)?|.", re.DOTALL)
+
+
+# A line is refused by the first fault that holds in this order; E2 is looked at before E1.
+_RANKS = {fault.code: rank for rank, fault in enumerate(FAULTS, 1)} | {"E2": 0}
+_MOST_PAIRED = 12  # pieces of a line that are tried two at a time
 
 
 @dataclass(frozen=True, slots=True)
@@ -98,12 +105,12 @@ def find_all(lines: Lines, ask: Ask, most: int = 0) -> Iterator[Finding]:
     """Each refusal of a program in turn, `most` of them at most, 0 for all. `lines` are at last what it went on with.
 
     After X1 it goes on with an F on the line; else with the line without a marked piece, or without all of them, if it
-    is taken so; where one piece alone is marked without it in any case, so that the line's next fault is told too; else
-    with a blank line in its place."""
+    is taken so; where one piece alone is marked without it, so that the line's next fault is told too; else with a blank
+    line in its place."""
     refusal = ask(b"".join(lines.all))
     count = 0
     while refusal is not None and (count < most or not most):
-        if refusal.line > len(lines.all):
+        if refusal.code in ("X3", "X4") or refusal.line > len(lines.all):  # the text's end, no line
             yield Finding(refusal, b"")
             return
         finding, body = _looked_at(lines, refusal, ask)
@@ -126,27 +133,38 @@ def _looked_at(lines: Lines, refusal: Refusal, ask: Ask) -> tuple[Finding, bytes
     all_pieces = pieces(body)
     with ThreadPoolExecutor(os.cpu_count()) as pool:
         each = dict(zip(all_pieces, pool.map(lambda piece: asked((piece,)), all_pieces), strict=True))
-    marks = tuple(piece for piece, found in each.items() if found != code)
-    taken = [piece for piece in marks if each[piece] is None]
+    marks = tuple(piece for piece, found in each.items() if goes(code, found))
     if not marks:
-        marks = _together(tuple(each), code, asked)
+        together = _together(all_pieces, lambda left_out: goes(code, asked(left_out)))
+        hidden = tuple(piece for piece, found in each.items() if found != code)
+        marks = hidden if hidden and len(together) == len(all_pieces) else together or hidden
+    taken = [piece for piece in marks if each[piece] is None]
     if code == "X1" and asked((), b" F100") is None:
         return Finding(refusal, body, marks, added=b" F100"), body + b" F100"
     for left_out in ((taken[0],) if taken else (), marks):
         other = without(body, left_out, code)
-        alone = len(left_out) == 1  # then what is refused of the rest is told next
+        # what is refused of the rest is told next, unless the word's absence alone brings it
+        alone = len(left_out) == 1 and goes(code, each[left_out[0]])
         if left_out and other.strip() and (alone or asked(left_out) is None):
             return Finding(refusal, body, marks, left_out), other
     return Finding(refusal, body, marks), b""
 
 
-def _together(all_pieces: tuple[Piece, ...], code: str, asked: Callable[..., str | None]) -> tuple[Piece, ...]:
-    """Pieces without all of which the fault goes away, and with any of which it stays; none, if it never goes away."""
-    left_out = all_pieces
-    if asked(left_out) == code:
+def goes(code: str, found: str | None) -> bool:
+    """Whether a fault has gone where another one is found, or none: the first that holds is found, so one that stands
+    before it in docs/LANGUAGE.md's order may only hide it."""
+    return found is None or _RANKS.get(found, 0) > _RANKS.get(code, 0)
+
+
+def _together(all_pieces: list[Piece], gone: Callable[[tuple[Piece, ...]], bool]) -> tuple[Piece, ...]:
+    """Pieces without all of which the fault goes away, as few as are found by putting back one or two in turn; none,
+    where it stays without all of the line."""
+    left_out = tuple(all_pieces)
+    if not gone(left_out):
         return ()
-    for piece in all_pieces:
-        fewer = tuple(other for other in left_out if other != piece)
-        if asked(fewer) != code:
-            left_out = fewer
+    for size in (1, 2, 1) if len(all_pieces) <= _MOST_PAIRED else (1, 1):
+        for back in combinations(left_out, size):
+            fewer = tuple(piece for piece in left_out if piece not in back)
+            if set(back) <= set(left_out) and gone(fewer):
+                left_out = fewer
     return left_out

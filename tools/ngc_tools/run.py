@@ -8,13 +8,15 @@ import tempfile
 from dataclasses import dataclass
 from pathlib import Path
 
+MOST_BYTES = 131_072  # of a program of `ngc run`: more is J5
+
 _REFUSED = re.compile(r"REFUSED line ([0-9]+): ([A-Z][0-9]+) ([A-Za-z0-9]+)")
 _SETTINGS_REFUSED = re.compile(r"refused ([A-Z][0-9]+) ([A-Za-z0-9]+)")
 
 
 @dataclass(frozen=True, slots=True)
 class Refusal:
-    """A fault that `ngc dry` names: the line from 1, 0 for the settings; the code as `B12`, its name as `UnusedWord`."""
+    """A fault that `ngc dry` names: the line from 1, 0 for the settings; the code as `B12` and its name."""
 
     line: int
     code: str

@@ -9,9 +9,9 @@ from ngc_tools.console import Console, Ended
 from ngc_tools.moves import PLANES, TRAVERSE, Move, Step
 from ngc_tools.out import Pulse, parse
 from ngc_tools.position import millimetres
+from ngc_tools.run import MOST_BYTES
 from ngc_tools.settings import Settings
 
-MOST_BYTES = 131_072  # of a program of `ngc run`
 MOST_PULSES = 3_000_000  # about, of one part: so OUT stays short
 _HEAD = "G17 G21 G40 G49 G54 G80 G90 G94\n"
 _MARK = "G4 P0\n"  # a line `D 0` of OUT: a move ends here

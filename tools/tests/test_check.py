@@ -1,0 +1,314 @@
+"""`ngc-check`: refused lines with carets, what to write, how it goes on; warnings; status."""
+import random
+import sys
+from pathlib import Path
+
+sys.path.insert(0, str(Path(__file__).resolve().parent))
+
+from session_support import FIRST, TOOLS, InFolder, ngc  # noqa: E402
+
+from ngc_tools.canonical import parse  # noqa: E402
+from ngc_tools.dangers import by_line  # noqa: E402
+from ngc_tools.refused import Lines, find_all  # noqa: E402
+from ngc_tools.run import Refusal, dry, refusal  # noqa: E402
+
+HEAD = "G17 G21 G90 G98\nF600\n"
+UNUSED = """    a word that nothing takes: H but with G43; I, J, K but as offsets of an arc in the plane after
+    the line; L but with G10 or a cycle; P but with G4, G10, G82, G86 or G89; Q but with G83; R but
+    with a cycle or an arc
+"""
+AFTER = """What was left out would have moved or set something, so later lines may be refused, or taken, for that alone.
+Mend these, and check again.
+"""
+
+
+class Check(InFolder):
+    """Programs, each with all that is said of it."""
+
+    def check(self, program: str | bytes, *words: str) -> tuple[int, str]:
+        """Status and standard output for a program, p.ngc."""
+        Path("p.ngc").write_bytes(program.encode() if isinstance(program, str) else program)
+        done = self.tool("ngc-check", "p.ngc", "--ngc", ngc(), *words)
+        self.assertEqual(done.stderr, "")
+        return done.returncode, done.stdout
+
+    def test_nothing(self) -> None:
+        """A program of which nothing is to be said."""
+        self.assertEqual(self.check(HEAD + "G1 X1\nM2\n"), (0, "p.ngc: no refusals, no warnings\n"))
+
+    def test_every_line(self) -> None:
+        """Lines that CAM systems write; the cause stands once, and so does what to write."""
+        program = HEAD + "N10 G91.1\n; text\nG2 X10 I5 J0 K0.000\nG2\tX20 I5 K0\nG64 P0.01 (fine)\nG1 X2\nM30\n"
+        self.assertEqual(self.check(program), (1, """p.ngc:3: B2 UnknownCode
+    N10 G91.1
+        ^^^^^
+    a G or M value isn't a code of the tables above
+    mend: leave it out: I, J and K count from the start of the arc, always
+    goes on without G91.1
+p.ngc:4: E1 Unreadable
+    ; text
+    ^^^^^^
+    the line isn't in the grammar
+    mend: write the comment in ( ), with no ( or ) in it
+    goes on without this line
+p.ngc:5: B12 UnusedWord
+    G2 X10 I5 J0 K0.000
+                 ^^^^^^
+""" + UNUSED + """    mend: leave it out, 0 too: it isn't an offset in the plane of an arc of this line
+    goes on without K0.000
+p.ngc:6: B12 UnusedWord
+    G2 X20 I5 K0
+              ^^
+    goes on without K0
+p.ngc:7: B12 UnusedWord
+    G64 P0.01 (fine)
+        ^^^^^
+    mend: leave it out: G4, G10, G82, G86 and G89 alone take P; G64 has no tolerance
+    goes on without P0.01
+p.ngc: 5 refusals, no warnings
+""" + AFTER))
+
+    def test_two_words(self) -> None:
+        """Either of two words is to blame; or both are, and leaving out one alone doesn't help."""
+        program = HEAD + "G0G80X0\nG71G91.1\nG1 X1 Q1 H1\nM2\n"
+        self.assertEqual(self.check(program), (1, """p.ngc:3: B4 GroupTwice
+    G0G80X0
+    ^^^^^
+    two words of one G group or of one M group, those left out among them
+    mend: leave one of the two out (G0 beside G80 does nothing), or put it on a line of its own
+    goes on without G80
+p.ngc:4: B2 UnknownCode
+    G71G91.1
+    ^^^^^^^^
+    a G or M value isn't a code of the tables above
+    mend: G71: write G21; G91.1: leave it out: I, J and K count from the start of the arc, always
+    goes on without this line
+p.ngc:5: B12 UnusedWord
+    G1 X1 Q1 H1
+          ^^ ^^
+""" + UNUSED + """    mend: write G43 beside it, or leave it out
+    goes on without Q1 H1
+p.ngc: 3 refusals, no warnings
+""" + AFTER))
+
+    def test_radius_arc(self) -> None:
+        """Without both words the end of the move stays, so what follows isn't refused for another place."""
+        program = HEAD + "G1 X1\nG2 X11 R5\nG2 X21 I5\nM2\n"
+        self.assertEqual(self.check(program), (1, """p.ngc:4: B11 RadiusArc
+    G2 X11 R5
+    ^^     ^^
+    R where the line's motion is G2 or G3
+    mend: write the arc by its centre, I and J in G17 from the start of the arc, in place of R
+    goes on without G2 R5
+p.ngc: 1 refusal, no warnings
+""" + AFTER))
+
+    def test_feed(self) -> None:
+        """A feed that is missing is refused once: it goes on as with one."""
+        self.assertEqual(self.check("G17 G21 G90\nG1 X1\nX2\nX3\nM2\n"), (1, """p.ngc:2: X1 NoFeed
+    G1 X1
+    ^^ ^^
+    a feed move, an arc or a cycle under G94 with feed 0, or under G93 with no F or F0
+    mend: write F on this line or before it; under G93 on each line that feeds
+    goes on as with F100
+p.ngc: 1 refusal, no warnings
+""" + AFTER))
+
+    def test_a_line_that_is_left_out(self) -> None:
+        """A setting is all of its line; what would have set it is missing then."""
+        self.assertEqual(self.check(HEAD + "#1=[1/0]\nG1 X1\nM2\n"), (1, """p.ngc:3: E5 BadArithmetic
+    #1=[1/0]
+    ^^^^^^^^
+    a divisor 0 in / or MOD, SQRT of a negative number, an exponent that isn't whole from 0 to 32
+    mend: look at the divisor, at what SQRT takes and at the exponent
+    goes on without this line
+p.ngc: 1 refusal, no warnings
+""" + AFTER))
+
+    def test_ends(self) -> None:
+        """No end; a carriage return at the very end; a byte order mark; no line at all."""
+        self.assertEqual(self.check(HEAD), (1, """p.ngc:3: X3 NoProgramEnd
+    the text ended before M2 or M30; the line named is the one after the last
+    mend: end the program with M2 or M30, and a newline after it
+p.ngc: 1 refusal, no warnings
+""" + AFTER))
+        self.assertEqual(self.check("F1\r\nM2\r")[1].splitlines()[:6], [
+            "p.ngc:2: E1 Unreadable", "    M2\ufffd", "      ^", "    the line isn't in the grammar",
+            "    mend: end the last line with a newline", "    goes on without \ufffd"])
+        self.assertEqual(self.check(b"\xef\xbb\xbfF1\r\nM2\r\n")[1].splitlines()[:5], [
+            "p.ngc:1: E1 Unreadable", "    \ufffdF1", "    ^", "    the line isn't in the grammar",
+            "    mend: save the file without a byte order mark"])
+        self.assertEqual(self.check(b"")[1].splitlines()[0], "p.ngc:1: X3 NoProgramEnd")
+
+    def test_columns(self) -> None:
+        """A tab and letters of two bytes take one column each; no control code reaches the terminal."""
+        self.assertEqual(self.check(HEAD + "\tG1 (\u00e4\u00f6) X1\x1b Y1\nM2\n")[1].splitlines()[1:3], [
+            "     G1 (\u00e4\u00f6) X1\ufffd Y1",
+            "               ^"])
+
+    def test_long_line(self) -> None:
+        """Of a line that is too long each comment that would do is marked."""
+        said = self.check(HEAD + "G1 X1 (" + "a" * 150 + ") (" + "b" * 150 + ")\nM2\n")[1].splitlines()
+        self.assertEqual(said[0], "p.ngc:3: E2 LineTooLong")
+        self.assertEqual(said[2], " " * 10 + "^" * 152 + " " + "^" * 152)
+
+    def test_most(self) -> None:
+        """So many refusals and no more."""
+        said = self.check(HEAD + "Q1\nQ1\nQ1\nM2\n", "--most", "2")[1].splitlines()
+        self.assertEqual([line for line in said if line.startswith("p.ngc")],
+                         ["p.ngc:3: B12 UnusedWord", "p.ngc:4: B12 UnusedWord", "p.ngc: 2 refusals, and more"])
+
+    def test_settings_and_block_delete(self) -> None:
+        """The tools of the settings; a line that is left out."""
+        self.assertEqual(self.check(HEAD + "T2\nM2\n", "--settings", "first.toml")[0], 1)
+        Path("two.toml").write_text(FIRST.replace("[50000000]", "[1, 2]"))
+        self.assertEqual(self.check(HEAD + "T2\nM2\n", "--settings", "two.toml")[0], 0)
+        self.assertEqual(self.check(HEAD + "/Q1\nM2\n")[0], 1)
+        self.assertEqual(self.check(HEAD + "/Q1\nM2\n", "--block-delete")[0], 0)
+
+
+class Warnings(InFolder):
+    """What is valid and dangerous."""
+
+    def warnings(self, program: str) -> list[str]:
+        """The warnings of a program that isn't refused, each without its path and without the line's text."""
+        Path("p.ngc").write_text(program)
+        done = self.tool("ngc-check", "p.ngc", "--ngc", ngc())
+        self.assertEqual((done.stderr, done.returncode), ("", 0))
+        return [line.removeprefix("p.ngc:") for line in done.stdout.splitlines()[:-1] if not line.startswith(" ")]
+
+    def test_homes(self) -> None:
+        """G28 and G30, not in a comment, not G28 of 280, not where block delete leaves the line's words out."""
+        self.assertEqual(self.warnings(HEAD + "#5163=2\n(G28) G0 X2.28\ng 9 1 g 0 28.0 z0\nG90 G30\nM2\n"), [
+            "5: warning: G28 moves all three axes, in one straight traverse to X 0.000 Y 0.000 Z 2.000; to lift Z alone"
+            " write G53 G0 Z with the height",
+            "6: warning: G30 moves all three axes, in one straight traverse to X 0.000 Y 0.000 Z 0.000; to lift Z alone"
+            " write G53 G0 Z with the height"])
+
+    def test_dwell(self) -> None:
+        """Above 30 seconds, in a cycle too."""
+        self.assertEqual(self.warnings(HEAD + "G4 P30\nG4 P500\nG82 X1 Z-1 R1 P30.001\nM2\n"), [
+            "4: warning: a dwell of 8 min 20.000 s: P is in seconds",
+            "5: warning: a dwell of 30.001 s: P is in seconds"])
+
+    def test_turns(self) -> None:
+        """A full turn, in another plane too; half a turn is none."""
+        asked = "Is it meant? A short arc whose end was rounded goes round so too"
+        self.assertEqual(self.warnings(HEAD + "G2 X0 I5\nG18 G3 X0 K-5\nG17 X10 I5 J0\nM2\n"), [
+            f"3: warning: a full turn of radius 5.000, as the arc ends where it starts. {asked}",
+            f"4: warning: a full turn of radius 5.000, as the arc ends where it starts. {asked}"])
+
+    def test_nearly_a_turn(self) -> None:
+        """An end that was rounded to behind its start goes nearly round; one ahead of it doesn't."""
+        self.assertEqual(self.warnings(HEAD + "G2 Y-0.001 I5\nM2\n"), [
+            "3: warning: nearly a full turn of radius 5.000, to 0.001 beside the arc's start. Is it meant? A short arc"
+            " whose end was rounded goes round so too"])
+        self.assertEqual(self.warnings(HEAD + "G2 Y0.001 I5\nM2\n"), [])
+
+    def test_deep(self) -> None:
+        """A traverse below the last cut; not one that stays above it, nor one that rises from below."""
+        self.assertEqual(self.warnings(HEAD + "G1 Z-1\nG0 Z5\nG0 Z-1\nG0 X1 Z-1.5\nZ-1.2\nM2\n"), [
+            "6: warning: a traverse down to Z -1.500, below the last cut, whose lowest point is Z -1.000"])
+
+    def test_modes(self) -> None:
+        """Modes that a program relies on and doesn't set, each at the first line that another one changes."""
+        said = "the dry run begins with {}, ngc run goes on with what the last block left; write {} before it"
+        unit, distance = said.format("G21", "G20 or G21"), said.format("G90", "G90 or G91")
+        plane, cycles = said.format("G17", "G17, G18 or G19"), said.format("G98", "G98 or G99")
+        self.assertEqual(self.warnings("F600\nG0 X0\nG2 X10 I5\nG81 Z-1 R1\nM2\n"), [
+            f"1: warning: relies on the unit: {unit}",
+            f"2: warning: relies on the distance mode: {distance}",
+            f"3: warning: relies on the plane: {plane}"])
+        self.assertEqual(self.warnings("G21 G90 G17\nF600\nG0 Z5\nG81 X0 Z-1 R1\nM2\n"), [
+            f"4: warning: relies on the way that cycles end: {cycles}"])
+        self.assertEqual(self.warnings("%\nG21 F600 G90 G17\nG1 X1\nM2\n%\n"), [
+            f"2: warning: relies on the unit: {unit}, on a line of its own: F is read in the unit before that of its"
+            " line"])
+
+    def test_bytes(self) -> None:
+        """131,072 bytes are taken, one more isn't."""
+        program = HEAD + ("(" + "x" * 125 + ")\n") * 1023
+        program += "(" + "x" * (131_072 - len(program) - 6) + ")\nM2\n"
+        self.assertEqual(self.warnings(program), [])
+        self.assertEqual(self.warnings(program + "\n"),
+                         [" warning: 131,073 bytes: ngc run takes at most 131,072 of a program (J5)"])
+
+    def test_like_ones(self) -> None:
+        """Ten of a kind are shown, the others counted."""
+        said = self.warnings(HEAD + "G4 P31\n" * 12 + "M2\n")
+        self.assertEqual(said[9:], ["12: warning: a dwell of 31.000 s: P is in seconds",
+                                    " 2 more warnings as those of line 3"])
+
+
+class ByChance(InFolder):
+    """Texts of words by chance, valid and not."""
+
+    WORDS = ("G0 G1 G2 G3 G4 G17 G18 G20 G28 G41 G43 G53 G54 G80 G81 G86 G90 G91 G92 G93 G91.1 G64 M0 M3 M6 M8 M2 T1 T2"
+             " H1 F100 S500 X1 X2 Y3 Z-1 R1 R-2 Q1 P40 L0 I1 J-1 K0 X[1/0] Y#6000 #1=2 #[1]=[2+ (a) (b c) ;d % / N1 O1"
+             " A1 U \u00e9 . [ ] X2000 \r").split(" ")
+
+    def test_texts(self) -> None:
+        """The first refusal is that of the program; what it went on with is taken; each command has its line."""
+        chance = random.Random(52)
+        for _ in range(20):
+            words = [chance.choices(self.WORDS, k=chance.randint(0, 6)) for _ in range(chance.randint(1, 7))]
+            text = "\n".join(map(" ".join, [*words, [chance.choice(("M2", "%", ""))]])).encode()
+            lines = Lines(text)
+            first = self.ask(text)
+            found = [finding.refusal for finding in find_all(lines, self.ask, 200)]
+            self.assertEqual(found[:1], [first] if first else [], text)
+            self.assertLess(len(found), 200, text)
+            mended = b"".join(lines.all)
+            left = self.ask(mended)
+            self.assertTrue(left is None or left.code in ("X3", "X4"), text)
+            printed = [command for _, each in sorted(by_line(lines, self.dry).items()) for command in each]
+            whole = [command for command in parse(self.dry(mended)) if command.name not in
+                     ("COMMENT", "MESSAGE", "REFUSED")]
+            self.assertEqual(printed, whole, text)
+
+    @staticmethod
+    def ask(text: bytes) -> Refusal | None:
+        """What `ngc dry` refuses."""
+        return refusal(*dry(ngc(), text))
+
+    @staticmethod
+    def dry(text: bytes) -> bytes:
+        """What `ngc dry` prints."""
+        return dry(ngc(), text)[1]
+
+
+class Words(InFolder):
+    """What ends with status 2, and says why."""
+
+    def failed(self, *words: str) -> str:
+        """The last line of standard error."""
+        done = self.tool("ngc-check", *words)
+        self.assertEqual((done.returncode, done.stdout), (2, ""))
+        return done.stderr.splitlines()[-1]
+
+    def test_words(self) -> None:
+        """Words that don't go together."""
+        self.assertEqual(self.failed("--ngc", ngc()), "ngc-check: error: name the file of a program")
+        self.assertEqual(self.failed("--settings-only", "--ngc", ngc()),
+                         "ngc-check: error: --settings-only takes --settings FILE and no program")
+
+    def test_files(self) -> None:
+        """No `ngc`, no program, a folder, settings that are refused."""
+        Path("p.ngc").write_text("M2\n")
+        Path("bad.toml").write_text("")
+        self.assertEqual(self.failed("p.ngc", "--ngc", "none"), "none: not a program that can be run")
+        self.assertEqual(self.failed("none.ngc", "--ngc", ngc()), "none.ngc: No such file or directory")
+        self.assertEqual(self.failed(".", "--ngc", ngc()), ".: Is a directory")
+        self.assertEqual(self.failed("p.ngc", "--ngc", ngc(), "--settings", "none.toml"),
+                         "none.toml: No such file or directory")
+        self.assertEqual(self.failed("p.ngc", "--ngc", ngc(), "--settings", "bad.toml"), "    tools_nm is missing: an"
+                         " array of at most 64 whole numbers of nanometres, 0 to 1,000,000,000")
+        self.assertEqual(self.failed("p.ngc", "--ngc", sys.executable),
+                         "ngc dry ended with status 2, and says nothing")
+
+    def test_help(self) -> None:
+        """Help with an example, and status 0."""
+        done = self.tool("ngc-check", "--help")
+        self.assertEqual((done.returncode, done.stderr), (0, ""))
+        self.assertIn("ngc-check part.ngc --settings mill.toml", done.stdout)
+        self.assertTrue((TOOLS / "ngc-check").stat().st_mode & 0o111)

@@ -1,0 +1,143 @@
+"""The device, by the images of examples/ and of docs/DEVICE.md: what is expected is what stands on that page."""
+import fcntl
+import re
+import struct
+import sys
+import unittest
+from pathlib import Path
+
+sys.path.insert(0, str(Path(__file__).resolve().parent))
+
+from session_support import TOOLS, InFolder  # noqa: E402
+
+from ngc_tools.device import LOG_END, SECTOR, SIZE, Device, Held, NoDevice, copied  # noqa: E402
+
+ROOT = TOOLS.parent
+DATA = ROOT / "crates" / "ngc_cases" / "data"
+
+
+def image_of(rows: str) -> bytes:
+    """A device of rows of a sector, a place in it, and the bytes there."""
+    image = bytearray(SIZE)
+    for line in rows.splitlines():
+        sector, place, digits = line.split(None, 2)
+        content = bytes.fromhex(digits)
+        start = SECTOR * int(sector) + int(place)
+        image[start:start + len(content)] = content
+    return bytes(image)
+
+
+def stored(name: str) -> bytes:
+    """A device of the gate's data."""
+    return image_of((DATA / name).read_text())
+
+
+def worked(title: str) -> bytes:
+    """A device that docs/DEVICE.md works out."""
+    page = (ROOT / "docs" / "DEVICE.md").read_text().partition(f"## {title}\n")[2].partition("\n#")[0]
+    rows = re.findall(r"^ {3,}([0-9]+ +[0-9]+)   ((?:[0-9a-f]{2} )*[0-9a-f]{2})   ", page, re.MULTILINE)
+    return image_of("\n".join(" ".join(row) for row in rows))
+
+
+class Devices(unittest.TestCase):
+    """What images stand for."""
+
+    def test_each_field(self) -> None:
+        """A device each of whose fields differs from a fresh one's, in both formats."""
+        for form, tools in ((1, []), (2, [5000, 0, 10**9])):
+            device = Device(stored("examples/device.hex" if form == 1 else "examples/device2.hex"))
+            state = device.state
+            self.assertEqual((device.format, device.epoch, device.header.area), (form, 3, 1))
+            self.assertEqual((device.program, device.tools_nm, device.damage), (b"G0 X0.002\nM2\n", tools, []))
+            self.assertEqual((state.entries, state.place), (1, 10))
+            self.assertEqual(state.point_nm, (1_000_000, -2_000_000, 9_999_999_999_999))
+            self.assertEqual((state.feed_nm_per_min, state.speed), (250_000_000, 1_000_500_000))
+            self.assertEqual((state.g92_nm, state.origin_nm), ((-2, 3, 5), (10_000_000, 0, -1)))
+            self.assertEqual((state.tool_length_nm, state.kept_rzpq), (50_000_000, (7, 0, 500_000, 0)))
+            self.assertEqual((state.motion, state.plane, state.distance, state.feed_mode), (1, 18, 91, 93))
+            self.assertEqual((state.unit, state.retract, state.system, state.path_mode), (20, 99, 2, 0))
+            self.assertEqual((state.spindle, state.mist, state.flood, state.overrides), (1, 1, 1, 0))
+            self.assertEqual((state.point_known, state.kept, device.selected, device.slot), (0, 5, 3, 64))
+            self.assertEqual((state.half, state.opened, state.half_known, state.segment), (1, 0, 1, 2))
+            self.assertEqual((state.half_point_nm, state.half_text), ((4, 5, -6), b"G81 X1 R2 L3"))
+            changed = {index: value for index, value in device.parameters.items() if value}
+            self.assertEqual(changed, {1: 5_000_000, 5220: 2_000_000, 5399: -1})
+            self.assertEqual((len(device.records), device.end), (0, 686))
+
+    def test_worked_log(self) -> None:
+        """A record of two parts, and one of an open segment; without each of their sectors."""
+        image = worked("A worked log")
+        device = Device(image)
+        self.assertEqual((device.format, device.epoch, len(device.records), device.end), (1, 2, 2, 689))
+        self.assertEqual((device.state.entries, device.parameters[1]), (1, 5_000_000))
+        self.assertEqual((device.state.half, device.state.opened, device.state.half_text), (2, 1, b"G0 X0.002"))
+        for lost, records, torn in ((688, 1, []), (687, 0, [686, 688]), (686, 0, [687, 688])):
+            left = Device(image[:SECTOR * lost] + bytes(SECTOR) + image[SECTOR * (lost + 1):])
+            self.assertEqual((len(left.records), left.torn), (records, torn))
+        self.assertEqual([len(Device(device.before(record)).records) for record in (0, 1, 2)], [0, 1, 2])
+
+    def test_worked_format_2(self) -> None:
+        """Slots of a snapshot and of a record."""
+        image = worked("A worked device of format 2")
+        device = Device(image)
+        self.assertEqual((device.format, device.epoch, len(device.records)), (2, 3, 2))
+        self.assertEqual((device.state.entries, device.state.tool_length_nm), (3, 5000))
+        self.assertEqual(device.tools_nm, [50_000_000, 5000])
+        where = SECTOR * 686 + 488
+        self.assertEqual(Device(image[:where] + b"\1\0" + image[where + 2:]).tools_nm, [5000])
+        damaged = Device(image[:where] + b"\3\0" + image[where + 2:])
+        self.assertEqual(damaged.damage, ["sector 686, record 0: slot 3 5000"])
+
+    def test_damage(self) -> None:
+        """Fields out of their range."""
+        image = stored("examples/device2.hex")
+        for sector, place, content, said in (
+                (88, 152, b"\3", "sector 88: spindle 3"),
+                (88, 456, b"\x41\0", "sector 88: number of slots 65"),
+                (88, 8, b"\x0e", "sector 88: place 14 of 13 bytes"),
+                (88, 163, b"\1", "sector 88: half 1, opened 1, half_known 1"),
+                (1708, 16, struct.pack("<q", 10**9 + 1), "sector 1708: slot 3 1000000001"),
+                (89, 0, struct.pack("<q", 10**13), "sector 89: #1 10000000000000")):
+            start = SECTOR * sector + place
+            device = Device(image[:start] + content + image[start + len(content):])
+            self.assertEqual(device.damage, [said])
+
+    def test_no_device(self) -> None:
+        """Too short, or without a header; without the header in force the other one counts."""
+        image = stored("examples/device2.hex")
+        with self.assertRaisesRegex(NoDevice, "875,519 bytes"):
+            Device(image[:-1])
+        with self.assertRaisesRegex(NoDevice, "isn't formatted"):
+            Device(bytes(SIZE))
+        older = Device(image).without_header()
+        self.assertEqual(Device(older or b"").epoch, 2)
+        self.assertIsNone(Device(older or b"").without_header())
+
+    def test_full_log(self) -> None:
+        """A log of format 1 ends after sector 1709, under format 2 before the tool areas."""
+        image = stored("format1/full_log.hex")
+        device = Device(image)
+        self.assertEqual((len(device.records), device.end, device.state.entries), (1023, LOG_END[1], 1024))
+        self.assertEqual(device.before(1023), image)
+        header = SECTOR + 8
+        other = Device(image[:header] + b"\2" + image[header + 1:])
+        self.assertEqual((len(other.records), other.end, other.state.entries), (1020, 1706, 1021))
+
+
+class Copies(InFolder):
+    """A copy is made of a device that nobody holds."""
+
+    def test_held(self) -> None:
+        """A session's lock is heeded."""
+        self.device()
+        self.assertEqual(Device(copied("mill.dev")).epoch, 1)
+        with open("mill.dev", "rb") as file:
+            fcntl.flock(file, fcntl.LOCK_EX | fcntl.LOCK_NB)
+            with self.assertRaises(Held):
+                copied("mill.dev")
+        with self.assertRaises(FileNotFoundError):
+            copied("none.dev")
+
+
+if __name__ == "__main__":
+    unittest.main()

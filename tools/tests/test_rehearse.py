@@ -1,0 +1,249 @@
+"""ngc-rehearse: what it says, by hand; where the motors were, compared with OUT itself; what it refuses."""
+import fcntl
+import sys
+import unittest
+from pathlib import Path
+
+sys.path.insert(0, str(Path(__file__).resolve().parent))
+
+from session_support import FIRST, InFolder, ngc  # noqa: E402
+
+from ngc_tools.console import Console  # noqa: E402
+from ngc_tools.out import parse  # noqa: E402
+from ngc_tools.position import Position  # noqa: E402
+
+HOLE = """G21 G90 G17 G94
+T1 M6
+S1200 M3 M8
+G0 X1 Y1 Z5
+F60
+G81 X2 Y2 Z-1 R1
+G1 X3 M0
+M30
+"""
+# Lines of OUT before each segment of the cycle's line: five switches and G0's 5,000 pulses, then 1,000 to X2 Y2, 4,000
+# to R, 2,000 to the bottom, and 6,000 back to Z5.
+OVER, DOWN, FEED, OUT = 5005, 6005, 10005, 12005
+
+RESUMED = """\
+half-done: line 6 of 8: G81 X2 Y2 Z-1 R1
+segment 3 of 4, counted from 0: begins at X 2.000000 Y 2.000000 Z -1.000000
+first comes on: spindle clockwise at 1200; flood; tool 1 in the spindle
+the approach: from X 2.000000 Y -6.000000 Z 5.000000
+    to X 2.000000 Y 2.000000 Z -1.000000
+    one straight line at the traverse rate, 10.000 mm in 0.400 s, lowest Z -1.000
+    it goes DOWN 6.000 mm
+from there to the end: 1.300 s; X 2.000 to 3.000   Y 2.000 to 2.000   Z -1.000 to 5.000 mm
+    tool 1: 1.300 s
+    it stops before line 8, for continue
+"""
+CARRIED = """\
+11505 lines carried out, counted from 2 entries on
+the motors were in line 6 of 8: G81 X2 Y2 Z-1 R1
+segment 2, line 1500 of its 2000; reference 2.000000 2.000000 -0.500000
+NEVER CUT: 500 lines from there up to line 6, segment 3, where resume begins
+
+half-done: line 6 of 8: G81 X2 Y2 Z-1 R1
+segment 3 of 4, counted from 0: begins at X 2.000000 Y 2.000000 Z -1.000000
+first comes on: spindle clockwise at 1200; flood; tool 1 in the spindle
+the approach: from X 2.000000 Y 2.000000 Z -0.500000
+    to X 2.000000 Y 2.000000 Z -1.000000
+    one straight line at the traverse rate, 0.500 mm in 0.025 s, lowest Z -1.000
+    it goes DOWN 0.500 mm
+"""
+TYPED = """\
+half-done: the operator's line: G0 X1 Z2
+segment 0 of 1, counted from 0: begins at X 0.000000 Y 0.000000 Z 0.000000
+first comes on: spindle stands; no coolant; no tool in the spindle
+the approach: from X 0.000000 Y 0.000000 Z 1.000000
+    to X 0.000000 Y 0.000000 Z 0.000000
+    one straight line at the traverse rate, 1.000 mm in 0.050 s, lowest Z 0.000
+    it goes DOWN 1.000 mm
+from there to the end: 0.100 s; X 0.000 to 1.000   Y 0.000 to 0.000   Z 0.000 to 2.000 mm
+    no tool: 0.100 s
+"""
+STARTED = """\
+no block is half-done: resume has nothing to do
+start goes on with line 2 of 3: G0 X0.5
+it switches nothing by itself; kept is: spindle counter-clockwise at 50.5; no coolant; no tool in the spindle
+it begins at X 0.000000 Y 0.000000 Z 0.000000
+from there to the end: 0.025 s; X 0.000 to 0.500   Y 0.000 to 0.000   Z 0.000 to 0.000 mm
+    no tool: 0.025 s
+"""
+
+
+class Rehearsals(InFolder):
+    """Sessions that are cut, and what is said of their devices."""
+
+    def setUp(self) -> None:
+        """A fresh device."""
+        super().setUp()
+        self.device()
+
+    def session(self, text: str = "", *commands: str, lines: int = 0, cut: bool = True) -> None:
+        """Loads a program, gives commands, and hands out so many lines of OUT in all; then it is cut, or quits."""
+        console = Console(ngc(), "mill.dev", "first.toml", "out")
+        self.addCleanup(console.kill)
+        if text:
+            self.assertRegex(console.load(text.encode()), "done")
+        for command in commands:
+            self.assertNotIn("refused", console.ask(command)[0])
+        handed = Path("out").read_bytes().count(b"\n")
+        while handed < lines:
+            self.assertNotIn("idle", console.ask(f"tick {lines - handed}"))
+            handed = Path("out").read_bytes().count(b"\n")
+        if cut:
+            console.kill()
+        else:
+            self.assertEqual(console.quit(), 0)
+
+    def rehearse(self, *words: str) -> str:
+        """What is said at status 0; the device stays as it is."""
+        before = Path("mill.dev").read_bytes()
+        done = self.tool("ngc-rehearse", "mill.dev", "first.toml", *words, "--ngc", ngc())
+        self.assertEqual((done.stderr, done.returncode), ("", 0))
+        self.assertEqual(Path("mill.dev").read_bytes(), before)
+        return done.stdout
+
+    def refused(self, status: int, *words: str) -> str:
+        """What is said where it can't be done."""
+        done = self.tool("ngc-rehearse", "mill.dev", "first.toml", *words, "--ngc", ngc())
+        self.assertEqual(done.returncode, status, done.stderr)
+        return done.stderr
+
+    def hole(self, lines: int) -> None:
+        """A drilling cycle that is cut after so many lines."""
+        self.session("", "tool 1 0", cut=False)
+        self.session(HOLE, "start", lines=lines)
+
+    def test_resume(self) -> None:
+        """From a hole's bottom, with the machine beside it."""
+        self.hole(OUT + 100)
+        self.assertEqual(self.rehearse("2", "-6", "5"), RESUMED)
+
+    def test_without_a_point(self) -> None:
+        """Where the segment begins is said also where nobody says where the machine stands."""
+        self.hole(OUT + 100)
+        said = RESUMED.splitlines()
+        said[3:7] = ["the approach: it isn't known where the machine stands; name it: X Y Z"]
+        self.assertEqual(self.rehearse().splitlines(), said)
+        self.session("", "reference 2 2 -1")
+        said[3:4] = ["the approach: the machine stands there already; nothing moves"]
+        self.assertEqual(self.rehearse().splitlines(), said)
+
+    def test_carried_out(self) -> None:
+        """The player's count names the segment, and what is never cut."""
+        self.hole(OUT + 100)
+        Path("cut.dev").write_bytes(Path("mill.dev").read_bytes())
+        self.assertTrue(self.rehearse("--carried-out", "11505").startswith(CARRIED))
+        self.session("", "status", cut=False)  # powered on since, and nothing done
+        self.assertTrue(self.rehearse("--carried-out", "11505").startswith(CARRIED))
+        for lines, where in ((1, "segment 0, line 1 of its 1;"), (OVER, "segment 0, line 5000 of its 5000;"),
+                             (OVER + 1, "segment 0, line 1 of its 1000;"), (DOWN + 7, "segment 1, line 7 of its 4000;"),
+                             (OUT + 100, "segment 3, line 100 of its 6000;")):
+            said = self.rehearse("--carried-out", str(lines))
+            self.assertIn(where, said)
+            self.assertEqual("NEVER CUT" in said, lines < OUT)
+        self.assertIn("handed out fewer", self.refused(1, "--carried-out", str(OUT + 6001)))
+        self.session("", "reference 0 0 0")  # the log is overwritten
+        self.assertIn("name a copy", self.refused(1, "--carried-out", "11505"))
+
+    def test_long_session(self) -> None:
+        """Lines of the operator, a hold, a resumed block: the point is that of OUT, each time."""
+        self.session("", "mdi G0 X2", lines=700)
+        Path("out").unlink()
+        self.session("", "reference 0.7 0 0", "resume", "tick 3000", "mdi S500 M3", "tick 20", "mdi G91", "tick 5",
+                     "mdi G0 X1 Y-1", "tick 2000", "mdi G90 G0 X2", "tick 400", "hold", "status", "continue",
+                     lines=700 + 1 + 2000 + 2 + 1000 + 900)
+        whole = [parse(line, 1) for line in Path("out").read_bytes().splitlines()]
+        for lines in (1, 701, 702, 2702, 3704, 4603):
+            position = Position((1000, 1000, 1000), (700_000, 0, 0)).take_all(whole[:lines])
+            self.assertIn(f"; {position.reference()}\n", self.rehearse("--carried-out", str(lines)))
+
+    def test_held_program(self) -> None:
+        """A line typed between two blocks of a program that is held."""
+        self.session("G0 X1\nG0 Y1\nG0 X0\nM2\n", "start", "tick 1003", "hold", "mdi G0 Z1", "tick 1100", "continue",
+                     lines=3500)
+        whole = [parse(line, 1) for line in Path("out").read_bytes().splitlines()]
+        for lines in (1001, 2000, 2001, 3500):
+            position = Position((1000, 1000, 1000)).take_all(whole[:lines])
+            self.assertIn(f"; {position.reference()}\n", self.rehearse("--carried-out", str(lines)))
+
+    def test_full_log(self) -> None:
+        """A program whose blocks don't fit in the log: by a copy made before."""
+        self.session("G91\n" + "G0 X0.002\n" * 700 + "M2\n", cut=False)
+        Path("before.dev").write_bytes(Path("mill.dev").read_bytes())
+        self.session("", "start", lines=1301)
+        self.assertRegex(self.refused(1, "--carried-out", "1290"), "name a copy|fewer lines")
+        said = self.rehearse("--carried-out", "1290", "--before", "before.dev")
+        self.assertIn("the motors were in line 646 of 702: G0 X0.002\nsegment 0, line 2 of its 2; reference 1.290000",
+                      said)
+        self.assertIn("NEVER CUT: 10 lines from there up to line 652, segment 0, where resume begins\n", said)
+
+    def test_block_delete(self) -> None:
+        """Whether lines with a slash were left out isn't on the device; the log tells it."""
+        self.session("G0 X0.5\n/G0 Y9\nG0 X1\nM2\n", "delete on", "start", lines=900)
+        self.assertIn("line 3 of 4: G0 X1\nsegment 0, line 300 of its 500; reference 0.800000 0.000000 0.000000\n",
+                      self.rehearse("--carried-out", "800"))
+
+    def test_other_moves(self) -> None:
+        """A copy of before that isn't what the session began with."""
+        self.session("G0 X0.5\nG0 X1\nM2\n", cut=False)
+        Path("before.dev").write_bytes(Path("mill.dev").read_bytes())
+        self.session("", "mdi G0 Y1", "tick 1100", "start", lines=1700)
+        self.assertIn("other moves", self.refused(1, "--carried-out", "1600", "--before", "before.dev"))
+        self.session("", "reference 0 0 0", "abandon", cut=False)
+        self.session("M2\n", cut=False)
+        self.assertIn("another program", self.refused(1, "--carried-out", "5", "--before", "before.dev"))
+
+    def test_typed(self) -> None:
+        """A half-done line of the operator."""
+        self.session("", "mdi G0 X1 Z2", lines=5)
+        self.assertEqual(self.rehearse("0", "0", "1"), TYPED)
+
+    def test_started(self) -> None:
+        """Nothing is half-done."""
+        self.assertEqual(self.rehearse(), "no block is half-done: resume has nothing to do\nthere is no program\n")
+        self.session("M4 S50.5\nG0 X0.5\nM2\n", "start", "tick 6", cut=False)
+        self.assertEqual(self.rehearse(), STARTED)
+
+    def test_refused(self) -> None:
+        """Each refusal, by `ngc` and of the files."""
+        self.hole(OUT + 100)
+        self.assertEqual(self.refused(1, "0", "0", "2000"), "mill.dev: reference 0 0 2000: refused X2 OutsideTravel\n")
+        self.assertIn("N is at least 1", self.refused(1, "--carried-out", "0"))
+        self.assertIn("three numbers, or none", self.refused(2, "1", "2"))
+        self.assertIn("goes with --carried-out", self.refused(2, "--before", "mill.dev"))
+        self.assertEqual(self.refused(2, "--carried-out", "5", "--before", "none.dev"),
+                         "none.dev: No such file or directory\n")
+        Path("first.toml").write_text(FIRST.replace("high_nm = [1000000000", "high_nm = [1500000"))
+        self.assertEqual(self.refused(1, "1", "2", "5"), "mill.dev: resume: refused X2 OutsideTravel\n")
+        Path("first.toml").write_text(FIRST.replace("period_us = 50", "period_us = 0"))
+        self.assertEqual(self.refused(2), "first.toml: S5 OutOfLimits\n")
+        Path("first.toml").write_text(FIRST)
+        with open("mill.dev", "rb") as file:
+            fcntl.flock(file, fcntl.LOCK_EX)
+            self.assertEqual(self.refused(2), "mill.dev: a session holds the device: end it by quit\n")
+        Path("mill.dev").write_bytes(bytes(1710 * 512))
+        self.assertIn("mill.dev: not a device: it isn't formatted", self.refused(2))
+        Path("mill.dev").unlink()
+        self.assertEqual(self.refused(2), "mill.dev: No such file or directory\n")
+
+    def test_damaged(self) -> None:
+        """`ngc` refuses a damaged device; what is out of its range is named."""
+        image = bytearray(Path("mill.dev").read_bytes())
+        image[512 * 88 + 152] = 9
+        Path("mill.dev").write_bytes(image)
+        self.assertEqual(self.refused(2), "mill.dev: damaged: sector 88: spindle 9\n"
+                                          "mill.dev: ngc ended with status 2: refused J3 Damaged\n")
+
+    def test_line_refused(self) -> None:
+        """A line that is refused later in the job is told, with status 1."""
+        self.session("G0 X1\nG1 X2\nM2\n", "start", lines=5)
+        done = self.tool("ngc-rehearse", "mill.dev", "first.toml", "0", "0", "0", "--ngc", ngc())
+        self.assertEqual((done.returncode, done.stderr), (1, ""))
+        self.assertEqual(done.stdout.splitlines()[-1], "refused X1 NoFeed: line 2: G1 X2")
+
+
+if __name__ == "__main__":
+    unittest.main()
