@@ -1,8 +1,10 @@
 """ngc-rehearse: what it says, by hand; where the motors were, compared with OUT itself; what it refuses."""
 import fcntl
 import sys
+import tempfile
 import unittest
 from pathlib import Path
+from unittest.mock import patch
 
 sys.path.insert(0, str(Path(__file__).resolve().parent))
 
@@ -76,7 +78,8 @@ class Rehearsals(InFolder):
     """Sessions that are cut, and what is said of their devices."""
 
     def setUp(self) -> None:
-        """A fresh device."""
+        """A fresh device, in memory, where a sync costs nothing."""
+        self.enterContext(patch.object(tempfile, "tempdir", "/dev/shm" if Path("/dev/shm").is_dir() else None))
         super().setUp()
         self.device()
 
