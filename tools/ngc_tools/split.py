@@ -46,7 +46,7 @@ class LineRefused(Exception):
 class Outputs:
     """What canonical text says is in force: the plane, the unit, the feed in millionths of a millimetre a minute,
     `inverse` in millionths, 0 for none, the spindle's command, its speed in millionths, mist, flood, the tool that is
-    selected and the one in the spindle, 0 for none."""
+    selected and the one in the spindle, 0 for none, and the tool length in force in nm."""
 
     plane: str = "XY"
     unit: str = "MM"
@@ -58,6 +58,7 @@ class Outputs:
     flood: bool = False
     selected: int = 0
     tool: int = 0
+    length: int = 0
 
     def after(self, command: Command) -> "Outputs":
         """What is in force after a command."""
@@ -76,6 +77,8 @@ class Outputs:
                 return replace(self, selected=int(command.args[0]))
             case "CHANGE_TOOL":
                 return replace(self, tool=int(command.args[0]), spindle="STOP_SPINDLE_TURNING")
+            case "USE_TOOL_LENGTH_OFFSET":
+                return replace(self, length=int(command.args[0]))
             case "MIST_ON" | "MIST_OFF":
                 return replace(self, mist=command.name == "MIST_ON")
             case "FLOOD_ON" | "FLOOD_OFF":
@@ -141,15 +144,17 @@ class Program:
     def places(self, ask: Ask, above: int | None) -> tuple[list[Place], list[Command]]:
         """Where it may be parted, and its canonical text. Raises LineRefused, CannotPart.
 
-        `above` is the least machine Z of a place in nm; without it the greatest at which a cut begins or ends."""
+        `above` is the least machine Z of a place in nm; without it the tool's tip is no lower than the highest point at
+        which a cut begins or ends."""
         commands = _dry(ask, b"".join(self.lines))
-        least = _highest_cut(commands) if above is None else above
+        highest = _highest_cut(commands)
         marked = [line.rstrip(b"\r\n") + f" ({_MARK}{number})\n".encode() if begins else line
                   for number, (line, begins) in enumerate(zip(self.lines, self.can_begin, strict=True))]
         found, at, outputs, last = [], (0, 0, 0), Outputs(), ""
         for command in _dry(ask, b"".join(marked)):
             match = _MARKED.fullmatch(str(command.args[0])) if command.name == "COMMENT" else None
-            if match and at[2] >= least and last == "STRAIGHT_TRAVERSE":
+            free = at[2] >= above if above is not None else at[2] - outputs.length >= highest
+            if match and free and last == "STRAIGHT_TRAVERSE":
                 found.append(Place(int(match[1]), at, outputs))
             outputs = outputs.after(command)
             if command.name in MOTIONS:
@@ -254,14 +259,17 @@ def _dry(ask: Ask, text: bytes) -> list[Command]:
 
 
 def _highest_cut(commands: list[Command]) -> int:
-    """The greatest Z in nm at which a cut begins or ends."""
-    at, highest = 0, None
+    """The greatest Z in nm of the tool's tip, machine Z less the tool length in force, at which a cut begins or ends;
+    0 where there is none."""
+    at, length, found = 0, 0, []
     for command in commands:
-        if command.name in MOTIONS:
+        if command.name == "USE_TOOL_LENGTH_OFFSET":
+            length = int(command.args[0])
+        elif command.name in MOTIONS:
             if command.name != "STRAIGHT_TRAVERSE":
-                highest = max(at, command.point[2]) if highest is None else max(highest, at, command.point[2])
+                found += [max(at, command.point[2]) - length]
             at = command.point[2]
-    return highest if highest is not None else 0
+    return max(found, default=0)
 
 
 def _after_traverse(before: bool, line: bytes) -> tuple[bool, bool]:

@@ -10,8 +10,8 @@ from ngc_tools.settings import BadSettings
 from ngc_tools.split import MOST_BYTES, CannotPart, LineRefused, Part, Program, compare, parted
 
 ABOUT = """Part a program that is longer than a device takes (131,072 bytes) into programs that are run one after the
-other. It is parted after traverses (G0) that end above the work: where the machine stands no lower than any point at which a
-cut begins or ends. Each part but the first begins with the modes in force, and goes to that place, Z first;
+other. It is parted after traverses (G0) that end above the work: where the machine stands no lower than any point at
+which a cut begins or ends. Each part but the first begins with the modes in force, and goes to that place, Z first;
 each but the last ends with M2.
 
 `ngc dry` does the whole and the parts, and what they do is compared, before anything is written: each motion with its
@@ -33,16 +33,16 @@ def parser() -> argparse.ArgumentParser:
     words.add_argument("program", metavar="PROGRAM", help="the program, as ngc accepts it (ngc-adapt)")
     words.add_argument("--settings", metavar="FILE", help="the machine's settings, for the dry runs")
     words.add_argument("--output", "-o", metavar="PREFIX", help="the parts' names are PREFIX-1.ngc and so on")
-    words.add_argument("--above", metavar="Z", help="part it at this machine Z or above, in millimetres, whatever the cuts are")
+    words.add_argument("--above", metavar="Z", help="part it at this machine Z or above, in millimetres")
     words.add_argument("--limit", metavar="BYTES", type=int, default=MOST_BYTES, help="bytes of a part at most")
     words.add_argument("--force", action="store_true", help="write over files that are there")
     words.add_argument("--ngc", metavar="PATH", help="the program ngc; without it the one beside this tool, or on PATH")
     return words
 
 
-def main() -> int:
-    """Parts a program, and returns the exit status."""
-    given = parser().parse_args()
+def main(arguments: list[str] | None = None) -> int:
+    """Parts a program, and returns the exit status; without arguments those of the command line count."""
+    given = parser().parse_args(arguments)
     try:
         return split(given)
     except CannotPart as why:
@@ -59,7 +59,8 @@ def main() -> int:
 
 
 def split(given: argparse.Namespace) -> int:
-    """Reads, parts, compares and writes. Raises OSError, CannotPart, LineRefused, BadSettings, CannotRun, ValueError."""
+    """Reads, parts, compares and writes. Raises OSError, CannotPart, LineRefused, BadSettings, CannotRun, ValueError.
+    """
     ngc = find_ngc(given.ngc)
     if given.settings and (refused := settings_refusal(ngc, given.settings)):
         raise BadSettings(f"{given.settings}: {refused.code} {refused.name}")

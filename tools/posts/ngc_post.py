@@ -1,5 +1,5 @@
-"""A post-processor of FreeCAD's CAM workbench for `ngc`: copy this file into FreeCAD's folder of macros, and choose `ngc`
-in the job.
+"""A post-processor of FreeCAD's CAM workbench for `ngc`: copy this file into FreeCAD's folder of macros, and choose
+`ngc` in the job.
 
 It writes what FreeCAD's operations have, word by word, but for: K of arcs in G17, comments within comments, and a G0 or
 G1 without an axis. It needs nothing of FreeCAD but the objects that it is given."""

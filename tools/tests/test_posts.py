@@ -25,7 +25,8 @@ class Command:
 
 
 JOB = [Command("(TC: 6mm (long))"), Command("M6", {"T": 1.0}), Command("M3", {"S": 8000.0}), Command("G54"),
-       Command("G0", {"Z": 5.0, "F": 25.0}), Command("G0", {"F": 5.0}), Command("G1", {"X": -3.0, "Y": 0.00001, "F": 10.0}),
+       Command("G0", {"Z": 5.0, "F": 25.0}), Command("G0", {"F": 5.0}),
+       Command("G1", {"X": -3.0, "Y": 0.00001, "F": 10.0}),
        Command("G2", {"X": 0.0, "Y": 3.0, "Z": -1.0, "I": 3.0, "J": 0.0, "K": 0.0, "F": 10.0}),
        Command("G18"), Command("G3", {"X": 2.0, "Z": -1.0, "I": 1.0, "J": 0.0, "K": 0.0}), Command("G17"),
        Command("G99"), Command("G81", {"X": 1.0, "Y": 2.5, "Z": -1.0, "R": 1.0, "F": 1.5}), Command("G80")]

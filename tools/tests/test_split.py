@@ -3,6 +3,8 @@ import subprocess
 import sys
 import tempfile
 import unittest
+from contextlib import redirect_stderr, redirect_stdout
+from io import StringIO
 from pathlib import Path
 from unittest.mock import patch
 
@@ -11,6 +13,7 @@ sys.path.insert(0, str(Path(__file__).resolve().parent))
 from session_support import TOOLS, InFolder, ngc  # noqa: E402
 
 from ngc_tools.console import Console  # noqa: E402
+from ngc_tools.split_main import main  # noqa: E402
 
 EXAMPLES = TOOLS.parent / "examples"
 
@@ -79,9 +82,11 @@ class Splits(InFolder):
     def split(self, text: str, *words: str, limit: int, status: int = 0) -> str:
         """What is said of a program, part.ngc."""
         Path("part.ngc").write_text(text)
-        done = self.tool("ngc-split", "part.ngc", "--limit", str(limit), "--force", "--ngc", ngc(), *words)
-        self.assertEqual(done.returncode, status, done.stderr)
-        return done.stderr if status else done.stdout
+        out, error = StringIO(), StringIO()
+        with redirect_stdout(out), redirect_stderr(error):
+            found = main(["part.ngc", "--limit", str(limit), "--force", "--ngc", ngc(), *words])
+        self.assertEqual(found, status, error.getvalue())
+        return error.getvalue() if status else out.getvalue()
 
     @staticmethod
     def parts() -> list[str]:
@@ -133,6 +138,13 @@ class Splits(InFolder):
         self.assertLessEqual(max(sizes), 131_072)
         self.assertEqual(sum(part.count("X27.3750 Z") for part in self.parts()), 100)
 
+    def test_tool_lengths(self) -> None:
+        """Above the work counts from the tool's tip: a cut with a long tool doesn't make all places too low."""
+        comment = f"({'x' * 200})\n"
+        drills = "".join(f"G43 H{slot} G0 X{slot} Z2\nG1 Z-1 F60\nX5\nG0 Z2\nG49\n" for slot in (1, 0))
+        self.split(f"{comment}{drills}{comment}M2\n", limit=470)
+        self.assertEqual([part.count("G53 G0 Z2.000000\n") for part in self.parts()], [0, 1])
+
     def test_above(self) -> None:
         """Never parted below where a cut begins, but where it is told to."""
         pocket = (EXAMPLES / "pocket.ngc").read_text()
@@ -155,7 +167,8 @@ class Splits(InFolder):
         self.assertEqual(self.split("M2\n", limit=10), "part.ngc: 3 bytes: ngc run takes it as it is\n")
         self.split(PART, limit=LIMIT)
         done = self.tool("ngc-split", "part.ngc", "--limit", str(LIMIT), "--ngc", ngc())
-        self.assertEqual((done.returncode, done.stderr), (2, "part-1.ngc: it is there already; --force writes over it\n"))
+        self.assertEqual((done.returncode, done.stderr),
+                         (2, "part-1.ngc: it is there already; --force writes over it\n"))
         done = self.tool("ngc-split", "part.ngc", "--limit", str(LIMIT), "--ngc", ngc(), "-o", "none/a")
         self.assertEqual((done.returncode, done.stderr), (2, "none/a-1.ngc: No such file or directory\n"))
         self.assertEqual(self.tool("ngc-split", "none.ngc", "--ngc", ngc()).stderr,
