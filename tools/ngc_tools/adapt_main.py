@@ -44,9 +44,9 @@ def parser() -> argparse.ArgumentParser:
     return words
 
 
-def main() -> int:
-    """Adapts a program, and returns the exit status."""
-    given = parser().parse_args()
+def main(arguments: list[str] | None = None) -> int:
+    """Adapts a program, and returns the exit status; without arguments those of the command line count."""
+    given = parser().parse_args(arguments)
     try:
         return adapt(given)
     except Missing as why:
@@ -87,7 +87,8 @@ def adapt(given: argparse.Namespace) -> int:
     if refused is None:
         return 0
     text = lines[refused.line - 1].text if refused.line <= len(lines) else "(the end)"
-    print(f"{given.program}:{refused.line}: {refused.code} {refused.name}: {text.strip()}\n  {faults.cure(refused.code, [])}", file=sys.stderr)
+    print(f"{given.program}:{refused.line}: {refused.code} {refused.name}: {text.strip()}", file=sys.stderr)
+    print(f"  {faults.cure(refused.code, [])}", file=sys.stderr)
     return 1
 
 

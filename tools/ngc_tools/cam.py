@@ -9,7 +9,8 @@ from decimal import Decimal, InvalidOperation
 
 _PIECE = re.compile(
     r"(?P<comment>\((?:[^()]|\([^()]*\))*\))|(?P<rest>;.*)"
-    r"|(?P<letter>[A-Za-z])[ \t]*(?P<value>[-+]?[0-9. \t]*[0-9.]|\[[^;()]*?\](?![^\[;()]*\])|#[ \t]*[0-9.]+)|(?P<other>.)",
+    r"|(?P<letter>[A-Za-z])[ \t]*(?P<value>[-+]?[0-9. \t]*[0-9.]|\[[^;()]*?\](?![^\[;()]*\])|#[ \t]*[0-9.]+)"
+    r"|(?P<other>.)",
     re.DOTALL)
 _BLANKS = re.compile(r"[ \t]*")
 MOTIONS = (0, 1, 2, 3, 38.2, 73, 76, 80, 81, 82, 83, 84, 85, 86, 87, 88, 89)

@@ -3,6 +3,7 @@ from collections.abc import Callable, Iterator
 from dataclasses import dataclass, replace
 from pathlib import Path
 
+from ngc_tools.console import Status
 from ngc_tools.copies import Copy, Refused, first
 from ngc_tools.device import Device, State
 from ngc_tools.position import Position
@@ -123,9 +124,9 @@ class Replay:
     def _lines(self, run: Run) -> int:
         """The lines of a run, in the last one those before the segment that `resume` begins with."""
         key = _of_state(self.device.state) if run.ends is None else (run.ends, 0)
-        with first(lambda counted: self._make(run, False), lambda copy: _key(copy) >= key) as copy:
+        with first(lambda counted: self._make(run, False), lambda status: _key(status) >= key) as copy:
             self._compare(run, copy.device())
-            if _key(copy) < key:
+            if _key(copy.console.status()) < key:
                 raise OtherMoves()
             return copy.lines
 
@@ -133,16 +134,16 @@ class Replay:
         """The same within a run, of which `many` lines come before its end or before the segment left open."""
         with self._make(run, True) as copy:
             copy.hand_out(lines)
-            position, device, key = copy.tally.position, copy.device(), _key(copy)
+            position, device, key = copy.tally.position, copy.device(), _key(copy.console.status())
         state, last = device.state, self.device.state
         beyond = run.ends is not None or (state.entries, state.segment) > (last.entries, last.segment)
         if copy.lines < lines or lines > many and beyond:
             raise CannotTell(f"the session handed out fewer lines")
-        began = self._first(run, lambda copy: _key(copy) >= key)
-        ended = self._first(run, lambda copy: _key(copy) > key)
+        began = self._first(run, lambda status: _key(status) >= key)
+        ended = self._first(run, lambda status: _key(status) > key)
         return Found(state, lines - began, ended - began, position, 0)
 
-    def _first(self, run: Run, holds: Callable[[Copy], bool]) -> int:
+    def _first(self, run: Run, holds: Callable[[Status], bool]) -> int:
         """The lines before something holds."""
         with first(lambda counted: self._make(run, False), holds) as copy:
             return copy.lines
@@ -163,9 +164,8 @@ def _recovered(state: State) -> State:
     return replace(state, opened=0, half_known=0, half_point_nm=(0, 0, 0), point_known=0)
 
 
-def _key(copy: Copy) -> Key:
+def _key(status: Status) -> Key:
     """What names the segment that is open."""
-    status = copy.console.status()
     return status.entries, 0 if status.half == "none" else status.segment + 1
 
 

@@ -15,6 +15,7 @@ Point = tuple[int, int, int]
 
 _AT_ONCE = 200_000  # ticks of a command
 _SEARCHED = 1000  # ticks that are gone through one by one
+_COMMANDS = 100  # that are given at once: so few that the replies' pipe isn't waited for
 
 
 class Refused(Exception):
@@ -73,12 +74,22 @@ class Tally:
         return low, high
 
 
+class _Console(Console):
+    """A console that is given commands at once."""
+
+    def tick_often(self, ticks: int, times: int) -> list[tuple[list[str], Status]]:
+        """Gives `tick` so many times, and asks for the status after each."""
+        self._send(b"tick %d\nstatus\n" % ticks * times)
+        return [(self._replies(True), Status.read(self._replies(False)[0])) for _ in range(times)]
+
+
 class Copy:
     """A session of `ngc run` over a copy of a device. `ticks` are made, and `lines` of OUT handed out; `stops` are the
     places after the lines at which the program waited for `continue`, which is given; `idle` says that nothing is left
     to do. `tally` counts the lines, where `counted` is set."""
 
-    def __init__(self, ngc: str, settings: str | Path, image: bytes, commands: list[str], counted: bool = False) -> None:
+    def __init__(self, ngc: str, settings: str | Path, image: bytes, commands: list[str],
+                 counted: bool = False) -> None:
         """Begins it and gives the commands. Raises Refused, Ended of the console, OSError, BadSettings."""
         shared = "/dev/shm" if Path("/dev/shm").is_dir() else None  # a sync costs nothing there
         self._folder = tempfile.TemporaryDirectory(prefix="ngc-rehearse-", dir=shared)
@@ -89,7 +100,7 @@ class Copy:
         self.ticks = self.lines = 0
         self.stops: list[int] = []
         self.idle = False
-        self.console = Console(ngc, self._device, settings, self._out)
+        self.console = _Console(ngc, self._device, settings, self._out)
         try:
             for command in commands:
                 reply = self.console.ask(command.encode("latin-1"))[0]
@@ -106,7 +117,8 @@ class Copy:
         """Ends with the block."""
         return self
 
-    def __exit__(self, kind: type[BaseException] | None, why: BaseException | None, where: TracebackType | None) -> None:
+    def __exit__(self, kind: type[BaseException] | None, why: BaseException | None,
+                 where: TracebackType | None) -> None:
         """Ends it and removes its files."""
         self.console.kill()
         self._folder.cleanup()
@@ -116,16 +128,42 @@ class Copy:
         left = ticks
         while left and not self.idle:
             replies = self.console.ask(f"tick {min(left, _AT_ONCE)}")
-            made = int(replies[-1].removeprefix("ticks "))
-            left, self.ticks = left - made, self.ticks + made
-            self._read()
-            refused = [reply for reply in replies if reply.startswith("refused")]
-            if refused:
-                raise Refused("tick", refused[0], self.console.status())
-            if "stopped" in replies:
-                self.stops.append(self.console.status().place)
-                self.console.ask("continue")
-            self.idle = "idle" in replies
+            left -= self._made(replies)
+            self._after(replies)
+
+    def reached(self, ticks: int, holds: Callable[[Status], bool]) -> tuple[int, int]:
+        """Goes on by so many ticks at once until something holds, or nothing is left to do, and perhaps some further:
+        how many were made before it held, and when it did. Raises Refused where a line of the program is before that.
+        """
+        before = self.ticks
+        if holds(self.console.status()):
+            return before, before
+        while not self.idle:
+            said = []
+            for replies, status in self.console.tick_often(ticks, _COMMANDS):
+                self._made(replies)
+                if holds(status):
+                    return before, self.ticks
+                before, said = self.ticks, said + replies
+            self._after(said)
+        return before, before
+
+    def _made(self, replies: list[str]) -> int:
+        """Counts the ticks of a command."""
+        made = int(replies[-1].removeprefix("ticks "))
+        self.ticks += made
+        return made
+
+    def _after(self, replies: list[str]) -> None:
+        """Takes the lines of OUT, and goes on where the program waits."""
+        self._read()
+        refused = [reply for reply in replies if reply.startswith("refused")]
+        if refused:
+            raise Refused("tick", refused[0], self.console.status())
+        self.idle = "idle" in replies
+        if "stopped" in replies:
+            self.stops.append(self.console.status().place)
+            self.console.ask("continue")
 
     def hand_out(self, lines: int) -> None:
         """Goes on until so many lines are handed out in all, or nothing is left to do."""
@@ -146,20 +184,19 @@ class Copy:
             file.truncate()
 
 
-def first(make: Callable[[bool], Copy], holds: Callable[[Copy], bool]) -> Copy:
-    """A copy right after the first tick after which something holds, which from then on has to hold; or where nothing is
+def first(make: Callable[[bool], Copy], holds: Callable[[Status], bool]) -> Copy:
+    """A copy right after the first tick after which something holds, which from then on has to; or where nothing is
     left to do. `make` begins a copy; it is told whether lines are to be counted."""
-    before = 0
     with make(False) as scout:
-        while not holds(scout) and not scout.idle:
-            before = scout.ticks
-            scout.go(_SEARCHED)
+        before, _ = scout.reached(_SEARCHED, holds)
+    with make(False) as scout:
+        scout.go(before)
+        _, ticks = scout.reached(1, holds)
     copy = make(True)
     try:
-        copy.go(before)
-        while not holds(copy) and not copy.idle:
-            copy.go(1)
+        copy.go(ticks)
     except BaseException:
         copy.__exit__(None, None, None)
         raise
     return copy
+

@@ -1,5 +1,5 @@
-"""Arcs by radius, written by their centre. Where an arc begins and ends is asked of `ngc dry`: a line to the same end is
-put in its place, and what that prints is looked at."""
+"""Arcs by radius, written by their centre. Where an arc begins and ends is asked of `ngc dry`: a line to the same end
+is put in its place, and what that prints is looked at."""
 import re
 from collections.abc import Callable
 from dataclasses import dataclass

@@ -53,7 +53,13 @@ class Rehearsal:
         state, program = self._device.state, Program(self._device.program)
         what = f"line {program.number(state.place)} of {program.count}" if state.half == 1 else "the operator's line"
         said = [f"half-done: {what}: {shown(state.half_text)}"]
-        with first(self._resume, lambda copy: copy.console.status().entries > copy.start.entries) as copy:
+        commands = self._commands()
+        entries = state.entries + len(commands) - 1  # a reference is one
+
+        def make(counted: bool) -> Copy:
+            return Copy(self.ngc, self.settings, self.image, commands, counted)
+
+        with first(make, lambda status: status.entries > entries) as copy:
             end = copy.console.status()
             begins = f"begins at {point(end.at)}"
             tally, approach = copy.tally, copy.start.at
@@ -67,12 +73,10 @@ class Rehearsal:
         said += self._approach(approach, end.at, us)
         return [*said, *rest]
 
-    def _resume(self, counted: bool) -> Copy:
-        at = self.at
-        if at is None and not self._known():
-            at = self._before()
-        commands = [f"reference {' '.join(at)}"] if at else []
-        return Copy(self.ngc, self.settings, self.image, [*commands, "resume"], counted)
+    def _commands(self) -> list[str]:
+        """What takes the block up; where nobody knows where the machine stands, from the point before it."""
+        at = self.at or (None if self._known() else self._before())
+        return [f"reference {' '.join(at)}", "resume"] if at else ["resume"]
 
     def _known(self) -> bool:
         """Whether it is known where the machine stands, once power is on."""

@@ -46,10 +46,10 @@ def parser() -> argparse.ArgumentParser:
     return words
 
 
-def main() -> int:
-    """Rehearses, and returns the exit status."""
+def main(arguments: list[str] | None = None) -> int:
+    """Rehearses, and returns the exit status; without arguments those of the command line count."""
     words = parser()
-    given = words.parse_args()
+    given = words.parse_args(arguments)
     if len(given.at) not in (0, 3):
         words.error("X Y Z are three numbers, or none")
     if given.before and given.carried_out is None:

@@ -229,7 +229,8 @@ class Words(InFolder):
 
     def test_files(self) -> None:
         """What can't be used is named."""
-        self.assertEqual(self.tool("ngc-adapt", "none.nc", "--ngc", ngc()).stderr, "none.nc: No such file or directory\n")
+        done = self.tool("ngc-adapt", "none.nc", "--ngc", ngc())
+        self.assertEqual((done.returncode, done.stderr), (2, "none.nc: No such file or directory\n"))
         Path("part.nc").write_text("M2\n")
         done = self.tool("ngc-adapt", "part.nc", "--ngc", ngc(), "-o", "none/out.ngc")
         self.assertEqual((done.returncode, done.stderr), (2, "none/out.ngc: No such file or directory\n"))

@@ -1,8 +1,12 @@
 """ngc-rehearse: what it says, by hand; where the motors were, compared with OUT itself; what it refuses."""
 import fcntl
 import sys
+import tempfile
 import unittest
+from contextlib import redirect_stderr, redirect_stdout
+from io import StringIO
 from pathlib import Path
+from unittest.mock import patch
 
 sys.path.insert(0, str(Path(__file__).resolve().parent))
 
@@ -11,6 +15,7 @@ from session_support import FIRST, InFolder, ngc  # noqa: E402
 from ngc_tools.console import Console  # noqa: E402
 from ngc_tools.out import parse  # noqa: E402
 from ngc_tools.position import Position  # noqa: E402
+from ngc_tools.rehearse_main import main  # noqa: E402
 
 HOLE = """G21 G90 G17 G94
 T1 M6
@@ -76,7 +81,8 @@ class Rehearsals(InFolder):
     """Sessions that are cut, and what is said of their devices."""
 
     def setUp(self) -> None:
-        """A fresh device."""
+        """A fresh device, in memory, where a sync costs nothing."""
+        self.enterContext(patch.object(tempfile, "tempdir", "/dev/shm" if Path("/dev/shm").is_dir() else None))
         super().setUp()
         self.device()
 
@@ -97,19 +103,29 @@ class Rehearsals(InFolder):
         else:
             self.assertEqual(console.quit(), 0)
 
+    def told(self, *words: str) -> tuple[int, str, str]:
+        """The status, standard output and standard error of `ngc-rehearse`, in this process."""
+        out, error = StringIO(), StringIO()
+        with redirect_stdout(out), redirect_stderr(error):
+            try:
+                status = main(["mill.dev", "first.toml", *words, "--ngc", ngc()])
+            except SystemExit as why:
+                status = int(why.code or 0)
+        return status, out.getvalue(), error.getvalue()
+
     def rehearse(self, *words: str) -> str:
         """What is said at status 0; the device stays as it is."""
         before = Path("mill.dev").read_bytes()
-        done = self.tool("ngc-rehearse", "mill.dev", "first.toml", *words, "--ngc", ngc())
-        self.assertEqual((done.stderr, done.returncode), ("", 0))
+        status, said, error = self.told(*words)
+        self.assertEqual((error, status), ("", 0))
         self.assertEqual(Path("mill.dev").read_bytes(), before)
-        return done.stdout
+        return said
 
     def refused(self, status: int, *words: str) -> str:
         """What is said where it can't be done."""
-        done = self.tool("ngc-rehearse", "mill.dev", "first.toml", *words, "--ngc", ngc())
-        self.assertEqual(done.returncode, status, done.stderr)
-        return done.stderr
+        found, _, error = self.told(*words)
+        self.assertEqual(found, status, error)
+        return error
 
     def hole(self, lines: int) -> None:
         """A drilling cycle that is cut after so many lines."""
@@ -240,9 +256,17 @@ class Rehearsals(InFolder):
     def test_line_refused(self) -> None:
         """A line that is refused later in the job is told, with status 1."""
         self.session("G0 X1\nG1 X2\nM2\n", "start", lines=5)
-        done = self.tool("ngc-rehearse", "mill.dev", "first.toml", "0", "0", "0", "--ngc", ngc())
-        self.assertEqual((done.returncode, done.stderr), (1, ""))
-        self.assertEqual(done.stdout.splitlines()[-1], "refused X1 NoFeed: line 2: G1 X2")
+        status, said, error = self.told("0", "0", "0")
+        self.assertEqual((status, error), (1, ""))
+        self.assertEqual(said.splitlines()[-1], "refused X1 NoFeed: line 2: G1 X2")
+
+    def test_tool(self) -> None:
+        """The program itself."""
+        self.session("", "mdi G0 X1 Z2", lines=5)
+        done = self.tool("ngc-rehearse", "mill.dev", "first.toml", "0", "0", "1", "--ngc", ngc())
+        self.assertEqual((done.returncode, done.stderr, done.stdout), (0, "", TYPED))
+        done = self.tool("ngc-rehearse", "--help")
+        self.assertIn("example:\n  ngc-rehearse mill.dev", done.stdout)
 
 
 if __name__ == "__main__":

@@ -1,0 +1,182 @@
+"""ngc-split: the parts, by hand; what they do, by `ngc run` too; what can't be parted."""
+import subprocess
+import sys
+import tempfile
+import unittest
+from contextlib import redirect_stderr, redirect_stdout
+from io import StringIO
+from pathlib import Path
+from unittest.mock import patch
+
+sys.path.insert(0, str(Path(__file__).resolve().parent))
+
+from session_support import TOOLS, InFolder, ngc  # noqa: E402
+
+from ngc_tools.console import Console  # noqa: E402
+from ngc_tools.split_main import main  # noqa: E402
+
+EXAMPLES = TOOLS.parent / "examples"
+
+PART = """\
+(a comment, so that the whole is longer than each of its parts, whose heads are some 200 bytes long)
+(a comment, so that the whole is longer than each of its parts, whose heads are some 200 bytes long)
+G21 G90 G17 G94 G55 G99
+T1 M6
+S1000 M4
+G43 H1 G0 Z5 M8
+M49
+G18 F120
+G0 X1 Y1
+G1 Z-1
+X2
+G0 Z5
+G20 X0.1
+G1 Z-0.05 F5
+G0 Z0.2
+X0
+M30
+"""
+# G43 takes the 50 mm of slot 1, so Z5 is machine Z55. Line 9 begins at Z55, where the highest cut begins, and so
+# does line 13. After line 15 the tool stands at Z55.08, 0.2 inches and 50 mm.
+PARTS = ["""\
+(a comment, so that the whole is longer than each of its parts, whose heads are some 200 bytes long)
+(a comment, so that the whole is longer than each of its parts, whose heads are some 200 bytes long)
+G21 G90 G17 G94 G55 G99
+T1 M6
+S1000 M4
+G43 H1 G0 Z5 M8
+M49
+G18 F120
+M2
+""", """\
+G17 G21 G40 G49 G54 G80 G90 G94 G98
+T1 M6
+G53 G0 Z55.000000
+G53 G0 X0.000000 Y0.000000
+S1000.000000 M4
+M8
+F120.000000
+G18 G21 G90 G94 G99 G55 G43 H1 M49
+(part 2 of part.ngc, from line 9 on)
+G0 X1 Y1
+G1 Z-1
+X2
+G0 Z5
+G20 X0.1
+G1 Z-0.05 F5
+G0 Z0.2
+X0
+M30
+"""]
+LIMIT = max(map(len, PARTS))
+
+
+class Splits(InFolder):
+    """Programs in parts."""
+
+    def setUp(self) -> None:
+        """In memory, where a sync costs nothing."""
+        self.enterContext(patch.object(tempfile, "tempdir", "/dev/shm" if Path("/dev/shm").is_dir() else None))
+        super().setUp()
+
+    def split(self, text: str, *words: str, limit: int, status: int = 0) -> str:
+        """What is said of a program, part.ngc."""
+        Path("part.ngc").write_text(text)
+        out, error = StringIO(), StringIO()
+        with redirect_stdout(out), redirect_stderr(error):
+            found = main(["part.ngc", "--limit", str(limit), "--force", "--ngc", ngc(), *words])
+        self.assertEqual(found, status, error.getvalue())
+        return error.getvalue() if status else out.getvalue()
+
+    @staticmethod
+    def parts() -> list[str]:
+        """The parts that are there."""
+        return [path.read_text() for path in sorted(Path().glob("part-*.ngc"), key=lambda path: (len(path.name), path))]
+
+    def test_parts(self) -> None:
+        """To the byte: with each mode that there is."""
+        said = self.split(PART, limit=LIMIT)
+        self.assertEqual(self.parts(), PARTS)
+        self.assertEqual(said, f"part-1.ngc: lines 1 to 8, {len(PARTS[0])} bytes, from where the machine stands\n"
+                               f"part-2.ngc: lines 9 to 17, {len(PARTS[1])} bytes, from X 0.000000 Y 0.000000"
+                               " Z 55.000000\n2 parts do what the whole does, by ngc dry\n")
+        self.assertIn("no traverse ends above the work", self.split(PART, limit=LIMIT - 1, status=1))
+
+    def pulses(self, programs: list[str]) -> list[bytes]:
+        """The pulses and waits that `ngc run` hands out for programs, one after the other."""
+        subprocess.run([ngc(), "format", "mill.dev"], check=True)
+        Path("out").unlink(missing_ok=True)
+        console = Console(ngc(), "mill.dev", "first.toml", "out")
+        self.addCleanup(console.kill)
+        console.ask("tool 1 50")
+        for program in programs:
+            self.assertIn("done", console.load(program.encode()))
+            self.assertEqual(console.ask("start"), ["going"])
+            while "idle" not in (replies := console.ask("tick 1000000")):
+                self.assertFalse([reply for reply in replies if reply.startswith(("refused", "stopped"))])
+        self.assertEqual(console.quit(), 0)
+        return [line for line in Path("out").read_bytes().splitlines() if not line.startswith(b"S")]
+
+    def test_run(self) -> None:
+        """`ngc run` hands out the same pulses for the parts as for the whole: cycles, a percent program, G91."""
+        bolts = (EXAMPLES / "bolts.ngc").read_text().replace("F120", "F6000").replace("F80", "F6000")
+        said = self.split(bolts, limit=400)
+        self.assertIn("3 parts do what the whole does", said)
+        self.assertTrue(all(part.startswith("%\n") and len(part) <= 400 for part in self.parts()))
+        self.assertEqual(self.pulses(self.parts()), self.pulses([bolts]))
+
+    def test_long(self) -> None:
+        """A finishing pass of 400,000 bytes, under the device's limit, with arcs and a feed by inverse time."""
+        lines = ["G21 G90 G17 G94 G54", "S8000 M3", "F900", "G0 Z5"]
+        for row in range(100):
+            lines += [f"G0 X0 Y{row / 10}", "G1 Z-0.5"]
+            lines += [f"X{step / 8:.4f} Z{-0.5 - (step * row % 17) / 100:.4f}" for step in range(220)]
+            lines += [f"G93 G2 X27.375 Y{row / 10 + 0.05} I0 J0.025 F60", "G94 F900", "G0 Z5"]
+        self.split("\n".join([*lines, "M30"]) + "\n", limit=131_072)
+        sizes = [len(part) for part in self.parts()]
+        self.assertEqual(len(sizes), -(-sum(sizes) // 131_072))
+        self.assertLessEqual(max(sizes), 131_072)
+        self.assertEqual(sum(part.count("X27.3750 Z") for part in self.parts()), 100)
+
+    def test_tool_lengths(self) -> None:
+        """Above the work counts from the tool's tip: a cut with a long tool doesn't make all places too low."""
+        comment = f"({'x' * 200})\n"
+        drills = "".join(f"G43 H{slot} G0 X{slot} Z2\nG1 Z-1 F60\nX5\nG0 Z2\nG49\n" for slot in (1, 0))
+        self.split(f"{comment}{drills}{comment}M2\n", limit=470)
+        self.assertEqual([part.count("G53 G0 Z2.000000\n") for part in self.parts()], [0, 1])
+
+    def test_above(self) -> None:
+        """Never parted below where a cut begins, but where it is told to."""
+        pocket = (EXAMPLES / "pocket.ngc").read_text()
+        self.assertIn("lines 6 to 68 have", self.split(pocket, limit=400, status=1))
+        self.assertIn("2 parts", self.split(pocket, "--above", "-1", limit=400))
+        self.assertIn("G53 G0 Z-1.000000\n", "".join(self.parts()))
+
+    def test_cannot(self) -> None:
+        """What M2 between the parts takes away: G92, parameters, an origin by G10."""
+        comments = "(so that it is longer than one part may be)\n" * 6
+        for head, word in (("G92 X5", "X2"), ("#1=3", "X#1"), ("G10 L2 P1 X7\nG54", "X2")):
+            text = f"{head}\nG0 X1 Z5\nG1 Z-1 F60\nG0 Z5\n{comments}G1 {word} Z-1\nG0 Z5\nM2\n"
+            said = self.split(text, limit=len(text) - 1, status=1)
+            self.assertIn("the parts don't do what the whole does", said)
+        self.assertEqual(self.parts(), [])
+
+    def test_refused(self) -> None:
+        """A line that `ngc` refuses is told; a short program needs no parts; files aren't written over."""
+        self.assertTrue(self.split("G21\nG41 D1\nM2\n", limit=10, status=1).startswith("part.ngc:2: B3 LeftOutCode\n"))
+        self.assertEqual(self.split("M2\n", limit=10), "part.ngc: 3 bytes: ngc run takes it as it is\n")
+        self.split(PART, limit=LIMIT)
+        done = self.tool("ngc-split", "part.ngc", "--limit", str(LIMIT), "--ngc", ngc())
+        self.assertEqual((done.returncode, done.stderr),
+                         (2, "part-1.ngc: it is there already; --force writes over it\n"))
+        done = self.tool("ngc-split", "part.ngc", "--limit", str(LIMIT), "--ngc", ngc(), "-o", "none/a")
+        self.assertEqual((done.returncode, done.stderr), (2, "none/a-1.ngc: No such file or directory\n"))
+        self.assertEqual(self.tool("ngc-split", "none.ngc", "--ngc", ngc()).stderr,
+                         "none.ngc: No such file or directory\n")
+        Path("first.toml").write_text("period_us = 1\n")
+        done = self.tool("ngc-split", "part.ngc", "--settings", "first.toml", "--ngc", ngc())
+        self.assertEqual((done.returncode, done.stderr), (2, "first.toml: S2 MissingKey\n"))
+
+
+if __name__ == "__main__":
+    unittest.main()
