@@ -298,5 +298,7 @@ def copied(path: str | Path) -> bytes:
             return reader.read(SIZE)
     except BlockingIOError as why:
         raise Held(why.errno, "a session holds the device: end it by quit", str(path)) from None
+    except OSError as why:
+        raise OSError(why.errno, why.strerror, str(path)) from None
     finally:
         os.close(file)

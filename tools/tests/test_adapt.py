@@ -239,6 +239,8 @@ class Words(InFolder):
         Path("first.toml").write_text("period_us = 1\n")
         done = self.tool("ngc-adapt", "part.nc", "--ngc", ngc(), "--settings", "first.toml")
         self.assertEqual((done.returncode, done.stderr), (2, "first.toml: S2 MissingKey\n"))
+        done = self.tool("ngc-adapt", "part.nc", "--settings", "none.toml", "--ngc", ngc())
+        self.assertEqual((done.returncode, done.stderr), (2, "none.toml: No such file or directory\n"))
 
 
 if __name__ == "__main__":

@@ -244,6 +244,10 @@ class Rehearsals(InFolder):
         self.assertIn("mill.dev: not a device: it isn't formatted", self.refused(2))
         Path("mill.dev").unlink()
         self.assertEqual(self.refused(2), "mill.dev: No such file or directory\n")
+        Path("mill.dev").mkdir()
+        self.assertEqual(self.refused(2), "mill.dev: Is a directory\n")
+        Path("first.toml").unlink()
+        self.assertEqual(self.refused(2), "first.toml: No such file or directory\n")
 
     def test_damaged(self) -> None:
         """`ngc` refuses a damaged device; what is out of its range is named."""

@@ -176,6 +176,8 @@ class Splits(InFolder):
         Path("first.toml").write_text("period_us = 1\n")
         done = self.tool("ngc-split", "part.ngc", "--settings", "first.toml", "--ngc", ngc())
         self.assertEqual((done.returncode, done.stderr), (2, "first.toml: S2 MissingKey\n"))
+        done = self.tool("ngc-split", "part.ngc", "--settings", "none.toml", "--ngc", ngc())
+        self.assertEqual((done.returncode, done.stderr), (2, "none.toml: No such file or directory\n"))
 
 
 if __name__ == "__main__":
