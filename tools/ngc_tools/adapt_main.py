@@ -8,8 +8,9 @@ from ngc_tools import faults
 from ngc_tools.cam import Line, Missing, Places, rewritten
 from ngc_tools.position import nanometres
 from ngc_tools.radius_arcs import centred
-from ngc_tools.run import CannotRun, dry, find_ngc, refusal, settings_refusal
+from ngc_tools.run import CannotRun, dry, find_ngc, refusal
 from ngc_tools.settings import BadSettings
+from ngc_tools.usable import look_at_settings
 
 ABOUT = """Write a CAM system's text as `ngc` accepts it, and list each line that is changed.
 
@@ -62,8 +63,8 @@ def main(arguments: list[str] | None = None) -> int:
 def adapt(given: argparse.Namespace) -> int:
     """Reads, rewrites, writes and asks `ngc`. Raises OSError, Missing, ValueError, BadSettings, CannotRun."""
     ngc = find_ngc(given.ngc)
-    if given.settings and (refused := settings_refusal(ngc, given.settings)):
-        raise BadSettings(f"{given.settings}: {refused.code} {refused.name}")
+    if given.settings:
+        look_at_settings(ngc, given.settings)
     for number in [given.lift, *(given.park or ())]:
         if number is not None:
             nanometres(number)

@@ -13,13 +13,13 @@ SLOTS = 64
 MOST_PROGRAM = 131_072  # bytes
 
 _TOOLS_FIRST = 1706
-_LENGTHS = range(10**9 + 1)
+LENGTHS = range(10**9 + 1)
 _COUNTS = range(9_999_999_999_999 + 1)
 _SIGNED = range(-9_999_999_999_999, 9_999_999_999_999 + 1)
 _COUNTERS = range(10**12 + 1)
 
 Limits = range | tuple[int, ...]
-_STATE: dict[str, tuple[int, str, Limits]] = {  # byte, type by `struct`, limits
+STATE: dict[str, tuple[int, str, Limits]] = {
     "entries": (0, "Q", _COUNTERS),
     "place": (8, "Q", range(MOST_PROGRAM + 1)),
     "point_nm": (16, "3q", _SIGNED),
@@ -52,8 +52,7 @@ _STATE: dict[str, tuple[int, str, Limits]] = {  # byte, type by `struct`, limits
     "segment": (168, "Q", range(2**64)),
     "half_point_nm": (176, "3q", _SIGNED),
 }
-FIELDS = tuple(_STATE)
-"""The names of the fields of a state, in the order of the page."""
+"""The fields of a state in the order of the page, each with its first byte, its type by `struct`, and its limits."""
 
 
 class NoDevice(ValueError):
@@ -119,7 +118,7 @@ class State:
     def read(image: bytes, byte: int) -> "State":
         """The state field that begins at a byte of an image. Limits aren't looked at."""
         values = {}
-        for name, (offset, kind, _) in _STATE.items():
+        for name, (offset, kind, _) in STATE.items():
             found = struct.unpack_from("<" + kind, image, byte + offset)
             values[name] = found if len(found) > 1 else found[0]
         text = image[byte + 200:byte + 456][:values["half_bytes"]] if values["half"] else b""
@@ -127,11 +126,12 @@ class State:
 
     def damage(self, length: int) -> list[str]:
         """What is out of its range, the program having `length` bytes."""
-        unread = () if self.half else FIELDS[FIELDS.index("half_bytes"):]
+        names = tuple(STATE)
+        unread = () if self.half else names[names.index("half_bytes"):]
         if not self.half_known:
             unread += ("half_point_nm",)
         found = []
-        for name, (_, _, limits) in _STATE.items():
+        for name, (_, _, limits) in STATE.items():
             value = getattr(self, name)
             numbers = value if isinstance(value, tuple) else (value,)
             if name not in unread and any(number not in limits for number in numbers):
@@ -234,7 +234,7 @@ class Device:
             return
         self.tools_nm = list(struct.unpack_from(f"<{slots}q", image, SECTOR * area))
         self._note(f"sector {area}", [f"slot {slot} {nm}" for slot, nm in enumerate(self.tools_nm, 1)
-                                      if nm not in _LENGTHS])
+                                      if nm not in LENGTHS])
 
     def _complete(self, first: int) -> int:
         """How many parts the complete record has that begins at a sector, 0 where there is none."""
@@ -269,7 +269,7 @@ class Device:
     def _take_slot(self, first: int, where: str) -> None:
         """Takes over what a record changes of the tool table: a slot, or one more after the last."""
         slot, nm = struct.unpack_from("<H6xq", self.image, SECTOR * first + 488)
-        if slot > min(len(self.tools_nm) + 1, SLOTS) or nm not in _LENGTHS:
+        if slot > min(len(self.tools_nm) + 1, SLOTS) or nm not in LENGTHS:
             self.damage.append(f"{where}: slot {slot} {nm}")
         elif slot:
             self.tools_nm[slot - 1:slot] = [nm]
@@ -298,5 +298,7 @@ def copied(path: str | Path) -> bytes:
             return reader.read(SIZE)
     except BlockingIOError as why:
         raise Held(why.errno, "a session holds the device: end it by quit", str(path)) from None
+    except OSError as why:
+        raise OSError(why.errno, why.strerror, str(path)) from None
     finally:
         os.close(file)

@@ -2,7 +2,7 @@
 from dataclasses import dataclass, field
 from pathlib import Path
 
-from ngc_tools.copies import Copy, Point, Refused, Tally, first
+from ngc_tools.copies import Copy, Refused, Tally, first
 from ngc_tools.device import Device
 from ngc_tools.figures import duration
 from ngc_tools.figures import millimetres as rounded

@@ -9,8 +9,9 @@ from ngc_tools.device import Device, NoDevice, copied
 from ngc_tools.lines import Program, shown
 from ngc_tools.out import BadLine
 from ngc_tools.rehearsal import Rehearsal
-from ngc_tools.run import CannotRun, find_ngc, settings_refusal
+from ngc_tools.run import CannotRun, find_ngc
 from ngc_tools.settings import BadSettings
+from ngc_tools.usable import look_at_settings
 
 ABOUT = """What `resume` would do, before anything moves: `ngc run` does it over a copy of the device. It says which
 block is half-done, where its segment begins, what comes on, how the approach goes and whether it goes down, and then
@@ -71,9 +72,7 @@ def main(arguments: list[str] | None = None) -> int:
 def rehearse(given: argparse.Namespace) -> int:
     """Does what the words ask for. Raises the errors of the parts."""
     ngc = find_ngc(given.ngc)
-    refused = settings_refusal(ngc, given.settings)
-    if refused:
-        raise BadSettings(f"{given.settings}: {refused.code} {refused.name}")
+    look_at_settings(ngc, given.settings)
     image = copied(given.device)
     for damage in Device(image).damage:
         print(f"{given.device}: damaged: {damage}", file=sys.stderr)

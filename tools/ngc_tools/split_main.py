@@ -5,9 +5,10 @@ from pathlib import Path
 
 from ngc_tools import faults
 from ngc_tools.position import millimetres, nanometres
-from ngc_tools.run import CannotRun, dry, find_ngc, settings_refusal
+from ngc_tools.run import CannotRun, dry, find_ngc
 from ngc_tools.settings import BadSettings
 from ngc_tools.split import MOST_BYTES, CannotPart, LineRefused, Part, Program, compare, parted
+from ngc_tools.usable import look_at_settings
 
 ABOUT = """Part a program that is longer than a device takes (131,072 bytes) into programs that are run one after the
 other. It is parted after traverses (G0) that end above the work: where the machine stands no lower than any point at
@@ -62,8 +63,8 @@ def split(given: argparse.Namespace) -> int:
     """Reads, parts, compares and writes. Raises OSError, CannotPart, LineRefused, BadSettings, CannotRun, ValueError.
     """
     ngc = find_ngc(given.ngc)
-    if given.settings and (refused := settings_refusal(ngc, given.settings)):
-        raise BadSettings(f"{given.settings}: {refused.code} {refused.name}")
+    if given.settings:
+        look_at_settings(ngc, given.settings)
     above = nanometres(given.above) if given.above is not None else None
     text = Path(given.program).read_bytes()
 

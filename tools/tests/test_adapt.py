@@ -1,13 +1,16 @@
 """ngc-adapt: ten headers of CAM systems, each rule, arcs by radius, what is asked, what stays; all texts by hand."""
 import sys
 import unittest
+from contextlib import redirect_stderr, redirect_stdout
 from decimal import Decimal
+from io import StringIO
 from pathlib import Path
 
 sys.path.insert(0, str(Path(__file__).resolve().parent))
 
 from session_support import TOOLS, InFolder, Terminal, ngc  # noqa: E402
 
+from ngc_tools.adapt_main import main  # noqa: E402
 from ngc_tools.cam import Line, Missing, Places, rewritten  # noqa: E402
 from ngc_tools.radius_arcs import Ends, centre  # noqa: E402
 
@@ -61,6 +64,14 @@ def adapted(*lines: str, lift: str | None = "5", park: tuple[str, str] | None = 
     return [line.text for line in rewritten(list(lines), Places(lift, park), lambda number, why: None)]
 
 
+def told(path: Path, *words: str) -> tuple[int, str, str]:
+    """The status, standard output and standard error of `ngc-adapt`, in this process; it writes out.ngc."""
+    out, error = StringIO(), StringIO()
+    with redirect_stdout(out), redirect_stderr(error):
+        status = main([str(path), "--ngc", ngc(), "--output", "out.ngc", *words])
+    return status, out.getvalue(), error.getvalue()
+
+
 class Headers(InFolder):
     """The ten headers."""
 
@@ -69,11 +80,10 @@ class Headers(InFolder):
         self.assertEqual(sorted(CHANGED), sorted(path.name for path in CAM.iterdir() if path.suffix != ".expected"))
         for name, numbers in CHANGED.items():
             with self.subTest(name):
-                done = self.tool("ngc-adapt", str(CAM / name), "--ngc", ngc(), "--lift", "-2", "--park", "-10", "20.5",
-                                 "--output", "out.ngc")
-                self.assertEqual((done.stderr, done.returncode), ("", 0))
+                status, said, error = told(CAM / name, "--lift", "-2", "--park", "-10", "20.5")
+                self.assertEqual((error, status), ("", 0))
                 self.assertEqual(Path("out.ngc").read_bytes(), (CAM / f"{name}.expected").read_bytes())
-                listed = [line for line in done.stdout.splitlines() if line.startswith("line ")]
+                listed = [line for line in said.splitlines() if line.startswith("line ")]
                 self.assertEqual(tuple(int(line.split()[1][:-1]) for line in listed), numbers)
 
     def test_list(self) -> None:
@@ -86,8 +96,7 @@ class Headers(InFolder):
     def test_once_more(self) -> None:
         """What was adapted stays as it is."""
         for name in CHANGED:
-            done = self.tool("ngc-adapt", str(CAM / f"{name}.expected"), "--ngc", ngc())
-            self.assertEqual((done.stderr, done.returncode), ("no line is changed\n", 0))
+            self.assertEqual(told(CAM / f"{name}.expected"), (0, "no line is changed\n", ""))
 
 
 class Rules(unittest.TestCase):
@@ -239,6 +248,8 @@ class Words(InFolder):
         Path("first.toml").write_text("period_us = 1\n")
         done = self.tool("ngc-adapt", "part.nc", "--ngc", ngc(), "--settings", "first.toml")
         self.assertEqual((done.returncode, done.stderr), (2, "first.toml: S2 MissingKey\n"))
+        done = self.tool("ngc-adapt", "part.nc", "--settings", "none.toml", "--ngc", ngc())
+        self.assertEqual((done.returncode, done.stderr), (2, "none.toml: No such file or directory\n"))
 
 
 if __name__ == "__main__":

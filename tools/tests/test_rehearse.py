@@ -11,6 +11,7 @@ from unittest.mock import patch
 sys.path.insert(0, str(Path(__file__).resolve().parent))
 
 from session_support import FIRST, InFolder, ngc  # noqa: E402
+from test_device import DATA, stored  # noqa: E402
 
 from ngc_tools.console import Console  # noqa: E402
 from ngc_tools.out import parse  # noqa: E402
@@ -244,6 +245,16 @@ class Rehearsals(InFolder):
         self.assertIn("mill.dev: not a device: it isn't formatted", self.refused(2))
         Path("mill.dev").unlink()
         self.assertEqual(self.refused(2), "mill.dev: No such file or directory\n")
+        Path("mill.dev").mkdir()
+        self.assertEqual(self.refused(2), "mill.dev: Is a directory\n")
+        Path("first.toml").unlink()
+        self.assertEqual(self.refused(2), "first.toml: No such file or directory\n")
+
+    def test_format_1(self) -> None:
+        """A device of an earlier version stays one; its tool lengths are those of the settings."""
+        Path("mill.dev").write_bytes(stored("format1/half_done.hex"))
+        Path("first.toml").write_bytes((DATA / "format1" / "mill.toml").read_bytes())
+        self.assertTrue(self.rehearse("0", "0", "0").startswith("half-done: line 11 of 13: X0.030\nsegment 1 of "))
 
     def test_damaged(self) -> None:
         """`ngc` refuses a damaged device; what is out of its range is named."""

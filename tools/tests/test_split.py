@@ -81,7 +81,7 @@ class Splits(InFolder):
 
     def split(self, text: str, *words: str, limit: int, status: int = 0) -> str:
         """What is said of a program, part.ngc."""
-        Path("part.ngc").write_text(text)
+        Path("part.ngc").write_bytes(text.encode())
         out, error = StringIO(), StringIO()
         with redirect_stdout(out), redirect_stderr(error):
             found = main(["part.ngc", "--limit", str(limit), "--force", "--ngc", ngc(), *words])
@@ -138,6 +138,14 @@ class Splits(InFolder):
         self.assertLessEqual(max(sizes), 131_072)
         self.assertEqual(sum(part.count("X27.3750 Z") for part in self.parts()), 100)
 
+    def test_closing_percent(self) -> None:
+        """A percent program that ends by its closing line alone, with carriage returns."""
+        drills = "".join(f"G0 X{x} Z5\r\n({'x' * 100})\r\nG1 Z-1\r\nG0 Z5\r\n" for x in range(4))
+        self.split(f"%\r\nG21 G90\r\nF60\r\n{drills}%\r\n", limit=450)
+        first, second = (Path(f"part-{number}.ngc").read_bytes() for number in (1, 2))
+        self.assertTrue(first.startswith(b"%\r\nG21 G90\r\n") and first.endswith(b"\r\nM2\n"))
+        self.assertTrue(second.startswith(b"%\nG17 ") and second.endswith(b"G0 Z5\r\n%\r\n"))
+
     def test_tool_lengths(self) -> None:
         """Above the work counts from the tool's tip: a cut with a long tool doesn't make all places too low."""
         comment = f"({'x' * 200})\n"
@@ -176,6 +184,8 @@ class Splits(InFolder):
         Path("first.toml").write_text("period_us = 1\n")
         done = self.tool("ngc-split", "part.ngc", "--settings", "first.toml", "--ngc", ngc())
         self.assertEqual((done.returncode, done.stderr), (2, "first.toml: S2 MissingKey\n"))
+        done = self.tool("ngc-split", "part.ngc", "--settings", "none.toml", "--ngc", ngc())
+        self.assertEqual((done.returncode, done.stderr), (2, "none.toml: No such file or directory\n"))
 
 
 if __name__ == "__main__":
