@@ -202,7 +202,7 @@ for form in (0, 1, 2, 3):
 value = lambda name: numbers(re.search(rf"\n{name}[^\n=]* = (.*)", areas)[1])[0]
 first, step = value("header_count"), value("snapshot_size")
 area, size = value("program_first"), value("program_size")
-log_first, logs, pair = value("log_first"), {1: value("log_size One"), 2: value("log_size Two")}, value("tools_size")
+log_first, logs, pair = value("log_first"), {1: value("longest_log"), 2: value("shortest_log")}, value("tools_size")
 tools_first = log_first + logs[2]
 same("sectors", ("docs", [numbers(re.sub(" and ", " to ", row[0])) for row in rows("What the journal keeps")]),
      ("definition", [[0, 1], [first, first + step - 1, first + step, first + 2 * step - 1],
