@@ -9,7 +9,7 @@ at a time: that gives the segments of each block with their lines of OUT, and th
 its process is ended: over a device of format 1 twice within power on; then within a `load`, then within power on, right before one of the writes or
 syncs of that; and then at a moment taken by chance, up to N times (4) over the job: right before its n-th write to the device, its n-th sync, or its
 n-th line of OUT, by strace, and now and then, or where strace isn't there, by the clock: then none is surely within a `load`. Each time the device is
-read by examples/read_device.py, and `ngc run` is started again with a new OUT, asked for its status, told where the machine stands (by the pulses of all
+read by tools/ngc_tools, and `ngc run` is started again with a new OUT, asked for its status, told where the machine stands (by the pulses of all
 OUTs; now and then the axes were moved by hand besides), and goes on: `resume` where a block is half done, then the rest of the job.
 
 For each cut there has to be one moment of the session at which all of these were so: the lines of OUT, to the byte; what the device stands for, with
@@ -19,13 +19,13 @@ in format 2, with an empty log. At the end the machine has to stand, and the dev
 wasn't cut. Status 0 where that holds for each job.
 
 It builds ngc by rt where that is needed and no PATH is given."""
-import argparse, collections, contextlib, functools, math, os, random, re, shutil, subprocess, sys, tempfile, threading, time
+import argparse, collections, contextlib, dataclasses, functools, math, os, random, re, shutil, subprocess, sys, tempfile, threading, time
 
 here = os.path.dirname(os.path.dirname(os.path.abspath(__file__)))
 sys.dont_write_bytecode = True
-sys.path.insert(0, os.path.join(here, "examples"))
+sys.path.insert(0, os.path.join(here, "tools"))
 import jobs
-import read_device
+from ngc_tools.device import SIZE, Device
 
 STATUS = re.compile(r"status entries (\d+) place (\d+) at (\S+ \S+ \S+) (known|unknown) half (none|\S+ \d+) (\w+)\n")
 OFF = "S 0 0.000000 0 0 0 0\n"
@@ -91,7 +91,7 @@ class Mill:
         if is_new:
             subprocess.run([ngc, "format", f"{folder}/mill.dev"], check=True)
             return
-        device = bytearray(read_device.SIZE)
+        device = bytearray(SIZE)
         with open(FORMAT_1) as rows:
             for sector, place, digits in map(str.split, rows):
                 start = 512 * int(sector) + int(place)
@@ -122,8 +122,7 @@ class Mill:
 
     def stands(self):
         """What the device stands for, as docs/DEVICE.md has it."""
-        with open(f"{self.folder}/mill.dev", "rb") as file:
-            device = read_device.Device(file.read())
+        device = Device.read(f"{self.folder}/mill.dev")
         if device.damage:
             raise Wrong(f"the device is damaged: {device.damage}")
         return device
@@ -131,22 +130,20 @@ class Mill:
 
 def stored(device):
     """All that a device stands for but the number of entries."""
-    fields = device.fields()
-    del fields["entry count"]
-    return fields, device.text(), device.params, device.tools, device.program
+    return dataclasses.replace(device.state, entries=0), device.parameters, device.tools_nm, device.program
 
 
 def shown(device):
     """What the status shows after power on over a device."""
-    fields = {name: numbers if len(numbers) > 1 else numbers[0] for name, numbers in device.fields().items()}
-    point, known, half = fields["machine point, nm"], fields["machine point known"], "none"
-    if source := fields["half-done block"]:
-        half = f"{('', 'program', 'mdi')[source]} {fields['its segment']}"
+    state = device.state
+    point, known, half = state.point_nm, state.point_known, "none"
+    if state.half:
+        half = f"{('', 'program', 'mdi')[state.half]} {state.segment}"
         # with a segment or an approach open it isn't known where the machine stands, and byte 164 is 0
-        known = fields["its point known"]
-        point = fields["its point, nm"] if known else point
+        known = state.half_known
+        point = state.half_point_nm if known else point
     place = " ".join(map(millimetres, point))
-    return f"status entries {fields['entry count']} place {fields['place']} at {place} {'known' if known else 'unknown'} half {half} idle\n"
+    return f"status entries {state.entries} place {state.place} at {place} {'known' if known else 'unknown'} half {half} idle\n"
 
 
 def asked(child, text):
@@ -342,12 +339,12 @@ class Cutting:
     def found(self, device, status):
         """The state of the one moment at which the last session can have ended."""
         fits = [state for state, lines in self.moments
-                if (lines, state.records) == (len(self.handed), device.records) and status_of(self.steps, state) == status]
+                if (lines, state.records) == (len(self.handed), len(device.records)) and status_of(self.steps, state) == status]
         if len(fits) != 1 or fits[0].entries - self.told not in (0, 1):
-            raise Wrong(f"{len(fits)} moments fit: {status!r}, {device.records} records, {len(self.handed)} lines of OUT, {self.told} told done")
+            raise Wrong(f"{len(fits)} moments fit: {status!r}, {len(device.records)} records, {len(self.handed)} lines of OUT, {self.told} told done")
         tools = [] if device.format == 1 else tools_of(self.steps, fits[0], self.tools)
-        if device.tools != tools:
-            raise Wrong(f"the device of format {device.format} has the tools {device.tools}, wanted was {tools}, at {fits[0]}")
+        if device.tools_nm != tools:
+            raise Wrong(f"the device of format {device.format} has the tools {device.tools_nm}, wanted was {tools}, at {fits[0]}")
         return fits[0]
 
     def counted(self, device, state):
@@ -435,24 +432,24 @@ class Cutting:
         if status != shown(before):
             raise Wrong(f"power on shows {status!r}, and the device stood for {shown(before)!r}")
         device = self.mill.stands()
-        if (device.epoch, device.format, device.records, device.torn) != (before.epoch + (2 if before.format == 1 else 1), 2, 0, []):
+        if (device.epoch, device.format, len(device.records), device.torn) != (before.epoch + (2 if before.format == 1 else 1), 2, 0, []):
             raise Wrong(f"over epoch {before.epoch} of format {before.format} power on left epoch {device.epoch} of format {device.format} with "
-                        f"{device.records} records, and parts in {device.torn}")
-        if device.tools != (jobs.TOOLS_NM if before.format == 1 else before.tools):
-            raise Wrong(f"over format {before.format} with the tools {before.tools} power on left the tools {device.tools}")
+                        f"{len(device.records)} records, and parts in {device.torn}")
+        if device.tools_nm != (jobs.TOOLS_NM if before.format == 1 else before.tools_nm):
+            raise Wrong(f"over format {before.format} with the tools {before.tools_nm} power on left the tools {device.tools_nm}")
 
     def cut_in_power_on(self, before):
         """It left what the session before left, or its recovered under the next epoch, or of format 1 under the one after that in format 2."""
         device, next_epoch = self.mill.stands(), before.epoch + 1
-        valid = [(before.epoch, before.format, before.records, before.tools), (next_epoch, before.format, 0, before.tools)]
+        valid = [(before.epoch, before.format, len(before.records), before.tools_nm), (next_epoch, before.format, 0, before.tools_nm)]
         if before.format == 1:
             valid.append((next_epoch + 1, 2, 0, jobs.TOOLS_NM))
-        left, stood = ((it.epoch, it.format, it.records, it.tools) for it in (device, before))
+        left, stood = ((it.epoch, it.format, len(it.records), it.tools_nm) for it in (device, before))
         if shown(device) != shown(before) or left not in valid:
             raise Wrong(f"power on that was cut left {left}, {shown(device)!r}, and {stood}, {shown(before)!r} stood")
         self.counts[MIGRATION] += before.format == 1
         # what it wrote anew as a whole has no record
-        self.moments = [(state._replace(records=device.records), lines) for state, lines in self.moments if state.records == before.records]
+        self.moments = [(state._replace(records=len(device.records)), lines) for state, lines in self.moments if state.records == len(before.records)]
         self.counts[POWER_ON] += 1
 
     def goes_on(self, child, state, session, begins):

@@ -1,6 +1,6 @@
 #!/usr/bin/env python3
 """Compares the tables of docs/DEVICE.md with the definitions, the reader and the writer of crates/ng_layout, and with
-examples/read_device.py: that all have the same numbers at the same bytes, in the same widths, with the same codes and ranges.
+tools/ngc_tools/device.py: that all have the same numbers at the same bytes, in the same widths, with the same codes and ranges.
 
     bench/device_table.py
 
@@ -12,8 +12,8 @@ from pathlib import Path
 
 root = Path(__file__).resolve().parent.parent
 sys.dont_write_bytecode = True
-sys.path.insert(0, str(root / "examples"))
-import read_device
+sys.path.insert(0, str(root / "tools"))
+from ngc_tools import device as tool
 
 layout = root / "crates/ng_layout"
 document = (root / "docs/DEVICE.md").read_text()
@@ -77,31 +77,29 @@ def coded(path, verb):
     return sorted(set(place for kind, byte in calls for place in wide(kind, int(byte))))
 
 
-def scripted():
-    """The places that the script for a stranger reads in a state field."""
-    text = (root / "examples/read_device.py").read_text()
-    found = [(200, 256, False)] if "self.state + 200:self.state + 456" in text else []
-    found += [(int(byte), 2, False) for byte in set(re.findall(r'number\("H", self.state \+ (\d+)\)', text))]
-    for _, byte, kind, _ in read_device.FIELDS + read_device.HALF:
-        size = struct.calcsize(kind[-1])
-        found += [(byte + size * k, size, kind[-1] == "q") for k in range(int(kind[:-1] or 1))]
-    return sorted(set(found))
+def tooled():
+    """The places that the tools read in a state field."""
+    found = [(200, 256, False)] if "image[byte + 200:byte + 456]" in (root / "tools/ngc_tools/device.py").read_text() else []
+    for field in tool.STATE.values():
+        size = struct.calcsize(field.kind[-1])
+        found += [(field.byte + size * k, size, field.kind[-1] == "q") for k in range(int(field.kind[:-1] or 1))]
+    return sorted(found)
 
 
 def is_valid(epoch, area, length, form=1):
-    """Whether the script takes the header for a valid one."""
-    device = bytearray(read_device.SIZE)
+    """Whether the tools take the header for a valid one."""
+    device = bytearray(tool.SIZE)
     struct.pack_into("<8sIxxxxQQQ", device, 512 * (epoch % 2), b"RS274NGC", form, epoch, area, length)
     try:
-        return read_device.Device(bytes(device)).epoch == epoch
-    except read_device.NoDevice:
+        return tool.Device(bytes(device)).epoch == epoch
+    except tool.NoDevice:
         return False
 
 
 def table_of(slots, nm, slot=0, length=0):
-    """The tool lengths that the script finds where a snapshot has so many slots, the last of this length, and a record gives another to a slot; none
-    where it finds them damaged."""
-    device = bytearray(read_device.SIZE)
+    """The tool lengths that the tools find where a snapshot has so many slots, the last of this length, and a record gives another to a slot; none
+    where they find them damaged."""
+    device = bytearray(tool.SIZE)
     struct.pack_into("<8sIxxxxQQQ", device, 0, b"RS274NGC", 2, 2, 0, 0)
     for state in (512 * 2, 512 * log_first + 32):
         device[state + 144:state + 157] = bytes((80, 17, 90, 94, 21, 98, 1, 2, 0, 0, 0, 1, 1))
@@ -110,13 +108,12 @@ def table_of(slots, nm, slot=0, length=0):
     struct.pack_into("<QQHHH", device, 512 * log_first, 2, 0, 0, 1, 0)
     struct.pack_into("<H", device, 512 * log_first + slot_at, slot)
     struct.pack_into("<q", device, 512 * log_first + length_at, length)
-    found = read_device.Device(bytes(device))
-    return None if found.damage else found.tools
+    found = tool.Device(bytes(device))
+    return None if found.damage else found.tools_nm
 
 
-def extremes(limits, program):
-    """The codes of a field of the script, or the least and the greatest of its range."""
-    limits = range(program + 1) if limits == "program" else limits
+def extremes(limits):
+    """The codes of a field of the tools, or the least and the greatest of its range."""
     return list(limits) if isinstance(limits, tuple) else [limits[0], limits[-1]]
 
 
@@ -125,11 +122,11 @@ fields = rows("State field")
 same("header", ("docs", places(header)), ("definition", defined("specs/Header.antt")),
      ("reader", coded("src/header.rt", "get")), ("writer", coded("src/header.rt", "put")))
 same("state field", ("docs", places(fields)), ("definition", defined("specs/StateField.antt")),
-     ("reader", coded("src/field.rt", "get")), ("writer", coded("src/field.rt", "put")), ("script", scripted()))
+     ("reader", coded("src/field.rt", "get")), ("writer", coded("src/field.rt", "put")), ("tools", tooled()))
 labels = [(byte, width, False) for byte, width, _ in places(rows("Log")) if byte < 32]
 same("part of a record", ("docs", labels), ("definition", [place for place in defined("specs/Log.antt") if place[0] < 32]),
      ("reader", coded("src/part.rt", "get")), ("writer", [place for place in coded("src/part.rt", "put") if place[0] < 32]),
-     ("script", [place for byte, kind in zip((0, 8, 16, 18, 20), "QQHHH") for place in [(byte, struct.calcsize(kind), False)]]))
+     ("tools", [place for byte, kind in zip((0, 8, 16, 18, 20), "QQHHH") for place in [(byte, struct.calcsize(kind), False)]]))
 
 # The tool table: the number of slots of a snapshot, the slot of a record and its length.
 slot_rows = [row for row in rows("Log") if numbers(row[0])[0] > 32]
@@ -141,7 +138,7 @@ same("slots of a snapshot and of a record", ("docs", sorted([(count_at, 2, False
      ("writer", sorted(coded("src/stored.rt", "put") + [place for place in coded("src/part.rt", "put") if place[0] > 32])))
 (slot_at, _, _), (length_at, _, _) = places_of_slot
 
-# What each number is called in the definitions, and the word that the document and the script have for it.
+# What each number is called in the definitions, and the word that the document and the tools have for it.
 NAMES = {
     0: ("entries", "entry count"), 8: ("place", "place"), 16: ("point", "machine point"), 40: ("feed", "feed, nm per minute"),
     48: ("speed", "spindle speed"), 56: ("g92", "G92 offset"), 80: ("origin", "origin in force"), 104: ("tool_length", "tool length in force"),
@@ -150,7 +147,7 @@ NAMES = {
     151: ("path", "path mode"), 152: ("spindle", "spindle"), 153: ("mist", "mist"), 154: ("flood", "flood"), 155: ("overrides", "overrides allowed"),
     156: ("point_known", "machine point"), 157: ("kept", "which of R, Z, P, Q are kept"), 158: ("selected_slot", "selected slot"),
     160: ("spindle_slot", "slot in the spindle"), 162: ("source", "half-done block"), 163: ("opened", "what of it is open"),
-    164: ("at_known", "point"), 166: ("length", "bytes of the text"), 168: ("index", "segment"), 176: ("at", "where the machine stands"),
+    164: ("at_known", "point"), 166: ("length", "bytes of"), 168: ("index", "segment"), 176: ("at", "where the machine stands"),
     200: ("text", "text")}
 defined_names = {}
 for name, first, second in re.findall(r"(\w+) = \w+_at (\d+) ?(\d*)", plain("specs/StateField.antt")):
@@ -160,11 +157,11 @@ same("names", ("this script", {byte: names[0] for byte, names in NAMES.items()})
 same("kept words", ("this script", ["z", "p", "q"]),
      ("definition", re.findall(r"(\w) = signed_at 1(?:20|28|36) ", plain("specs/StateField.antt"))))
 words = {numbers(row[0])[0]: row[2] for row in fields}
-script_words = {byte: word for word, byte, _, _ in read_device.FIELDS + read_device.HALF}
+tool_words = {field.byte: field.label for field in tool.STATE.values()}
 for byte, (_, word) in NAMES.items():
     same(f"word for byte {byte}", ("this script", True), ("docs", word in words[byte]))
-    if byte in script_words and byte != 176:
-        same(f"word for byte {byte}", ("this script", True), ("examples/read_device.py", word in script_words[byte]))
+    if byte in tool_words and byte != 176:
+        same(f"word for byte {byte}", ("this script", True), ("tools", word in tool_words[byte]))
 
 # The codes, in the order in which the document names them.
 codes = (layout / "specs/Codes.antt").read_text()
@@ -175,11 +172,11 @@ for byte, name in [(144, "motion"), (145, "plane"), (146, "distance"), (147, "fe
                    (162, "source"), (163, "opened"), (164, "truth")]:
     same(f"codes of byte {byte}", ("docs", numbers(ranges[byte])), ("definition", known[name]))
 
-# The ranges of the script.
-for name, byte, kind, limits in read_device.FIELDS + read_device.HALF:
-    text = ranges[byte]
+# The ranges of the tools.
+for field in tool.STATE.values():
+    text = ranges[field.byte]
     wanted = {"count": [-9_999_999_999_999, 9_999_999_999_999], "any": [0, 2**64 - 1]}.get(text) or numbers(text.replace("the program length", "131,072"))
-    same(f"range of byte {byte}", ("docs", wanted), ("script", extremes(limits, 131_072)))
+    same(f"range of byte {field.byte}", ("docs", wanted), ("tools", extremes(field.limits)))
 
 # Limits, and where the areas lie.
 limits = dict(re.findall(r"\n(greatest_\w+|longest_\w+) = ([\d_]+)", (layout / "specs/Limits.antt").read_text()))
@@ -195,10 +192,10 @@ for n, least in enumerate((1, 0, 0)):
     given = [2, 1, 0]
     for number, valid in ((least, True), (bounds[n], True), (bounds[n] + 1, False)) + (((0, False),) if least else ()):
         given[n] = number
-        same(f"header with {header[2 + n][2]} {number}", ("docs", valid), ("script", is_valid(*given)))
+        same(f"header with {header[2 + n][2]} {number}", ("docs", valid), ("tools", is_valid(*given)))
 for form in (0, 1, 2, 3):
     same(f"header of format {form}", ("docs", form in numbers(header[1][3])), ("definition", form in known["format"]),
-         ("script", is_valid(2, 0, 0, form)))
+         ("tools", is_valid(2, 0, 0, form)))
 value = lambda name: numbers(re.search(rf"\n{name}[^\n=]* = (.*)", areas)[1])[0]
 first, step = value("header_count"), value("snapshot_size")
 area, size = value("program_first"), value("program_size")
@@ -208,14 +205,14 @@ same("sectors", ("docs", [numbers(re.sub(" and ", " to ", row[0])) for row in ro
      ("definition", [[0, 1], [first, first + step - 1, first + step, first + 2 * step - 1],
                      [area, area + size - 1, area + size, area + 2 * size - 1], *[[log_first, log_first + count - 1] for count in logs.values()],
                      [tools_first, tools_first + pair - 1, tools_first + pair, tools_first + 2 * pair - 1]]))
-same("log's end", ("definition", {form: log_first + count for form, count in logs.items()}), ("script", read_device.LOG_END))
-same("least size", ("sectors", log_first + max(logs.values())), ("script", read_device.SIZE // 512))
-same("least size", ("sectors", tools_first + 2 * pair), ("script", read_device.SIZE // 512))
+same("log's end", ("definition", {form: log_first + count for form, count in logs.items()}), ("tools", tool.LOG_END))
+same("least size", ("sectors", log_first + max(logs.values())), ("tools", tool.SIZE // 512))
+same("least size", ("sectors", tools_first + 2 * pair), ("tools", tool.SIZE // 512))
 # The ranges of the tool table.
 most = numbers(limits["greatest_slot"])[0]
 longest = numbers(re.search(r"\nlongest_tool = pos ([\d_]+)", (root / "crates/ng_offsets/specs/Tools.antt").read_text())[1])[0]
-same("greatest slot", ("definition", most), ("docs", numbers(slot_rows[0][2])[-1]), ("script", read_device.SLOTS))
-same("longest tool", ("definition", longest), ("docs", max(numbers(slot_rows[1][2]))), ("script", read_device.LENGTH[-1]))
+same("greatest slot", ("definition", most), ("docs", numbers(slot_rows[0][2])[-1]), ("tools", tool.SLOTS))
+same("longest tool", ("definition", longest), ("docs", max(numbers(slot_rows[1][2]))), ("tools", tool.LENGTHS[-1]))
 for name, wanted, given in (
     ("the most slots", [0] * (most - 1) + [longest], (most, longest)), ("a slot more", None, (most + 1, 0)),
     ("a length beyond the longest", None, (1, longest + 1)), ("a length below 0", None, (1, -1)),
@@ -224,7 +221,7 @@ for name, wanted, given in (
     ("a record's length beyond the longest", None, (2, 7, 2, longest + 1)), ("one below 0", None, (2, 7, 2, -1)),
     ("a length beside no slot", [0, 7], (2, 7, 0, longest)), ("one beyond the longest", None, (2, 7, 0, longest + 1)),
 ):
-    same(name, ("docs", wanted), ("script", table_of(*given)))
+    same(name, ("docs", wanted), ("tools", table_of(*given)))
 # How many changes a part has room for, and where the first one stands.
 row = rows("Log")[-1]
 most, index, _, _, value_bits = numbers(row[2])

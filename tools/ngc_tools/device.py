@@ -19,40 +19,52 @@ _SIGNED = range(-9_999_999_999_999, 9_999_999_999_999 + 1)
 _COUNTERS = range(10**12 + 1)
 
 Limits = range | tuple[int, ...]
-STATE: dict[str, tuple[int, str, Limits]] = {
-    "entries": (0, "Q", _COUNTERS),
-    "place": (8, "Q", range(MOST_PROGRAM + 1)),
-    "point_nm": (16, "3q", _SIGNED),
-    "feed_nm_per_min": (40, "Q", _COUNTS),
-    "speed": (48, "Q", _COUNTS),
-    "g92_nm": (56, "3q", _SIGNED),
-    "origin_nm": (80, "3q", _SIGNED),
-    "tool_length_nm": (104, "q", _SIGNED),
-    "kept_rzpq": (112, "4q", _SIGNED),
-    "motion": (144, "B", (0, 1, 2, 3, 80, 81, 82, 83, 85, 86, 89)),
-    "plane": (145, "B", (17, 18, 19)),
-    "distance": (146, "B", (90, 91)),
-    "feed_mode": (147, "B", (93, 94)),
-    "unit": (148, "B", (20, 21)),
-    "retract": (149, "B", (98, 99)),
-    "system": (150, "B", range(1, 10)),
-    "path_mode": (151, "B", (0, 1, 2)),
-    "spindle": (152, "B", (0, 1, 2)),
-    "mist": (153, "B", (0, 1)),
-    "flood": (154, "B", (0, 1)),
-    "overrides": (155, "B", (0, 1)),
-    "point_known": (156, "B", (0, 1)),
-    "kept": (157, "B", range(16)),
-    "selected": (158, "H", range(SLOTS + 1)),
-    "slot": (160, "H", range(SLOTS + 1)),
-    "half": (162, "B", (0, 1, 2)),
-    "opened": (163, "B", (0, 1, 2)),
-    "half_known": (164, "B", (0, 1)),
-    "half_bytes": (166, "H", range(257)),
-    "segment": (168, "Q", range(2**64)),
-    "half_point_nm": (176, "3q", _SIGNED),
+
+
+@dataclass(frozen=True, slots=True)
+class Field:
+    """A field of a state: its first byte, its type by `struct`, the limits of its numbers, and what it is called."""
+
+    byte: int
+    kind: str
+    limits: Limits
+    label: str
+
+
+STATE = {
+    "entries": Field(0, "Q", _COUNTERS, "entry count"),
+    "place": Field(8, "Q", range(MOST_PROGRAM + 1), "place"),
+    "point_nm": Field(16, "3q", _SIGNED, "machine point, nm"),
+    "feed_nm_per_min": Field(40, "Q", _COUNTS, "feed, nm per minute"),
+    "speed": Field(48, "Q", _COUNTS, "spindle speed, millionths"),
+    "g92_nm": Field(56, "3q", _SIGNED, "G92 offset, nm"),
+    "origin_nm": Field(80, "3q", _SIGNED, "origin in force, nm"),
+    "tool_length_nm": Field(104, "q", _SIGNED, "tool length in force, nm"),
+    "kept_rzpq": Field(112, "4q", _SIGNED, "kept R, Z, P, Q"),
+    "motion": Field(144, "B", (0, 1, 2, 3, 80, 81, 82, 83, 85, 86, 89), "motion mode"),
+    "plane": Field(145, "B", (17, 18, 19), "plane"),
+    "distance": Field(146, "B", (90, 91), "distance mode"),
+    "feed_mode": Field(147, "B", (93, 94), "feed mode"),
+    "unit": Field(148, "B", (20, 21), "unit"),
+    "retract": Field(149, "B", (98, 99), "retract mode"),
+    "system": Field(150, "B", range(1, 10), "coordinate system"),
+    "path_mode": Field(151, "B", (0, 1, 2), "path mode"),
+    "spindle": Field(152, "B", (0, 1, 2), "spindle"),
+    "mist": Field(153, "B", (0, 1), "mist"),
+    "flood": Field(154, "B", (0, 1), "flood"),
+    "overrides": Field(155, "B", (0, 1), "overrides allowed"),
+    "point_known": Field(156, "B", (0, 1), "machine point known"),
+    "kept": Field(157, "B", range(16), "which of R, Z, P, Q are kept"),
+    "selected": Field(158, "H", range(SLOTS + 1), "selected slot"),
+    "slot": Field(160, "H", range(SLOTS + 1), "slot in the spindle"),
+    "half": Field(162, "B", (0, 1, 2), "half-done block"),
+    "opened": Field(163, "B", (0, 1, 2), "what of it is open"),
+    "half_known": Field(164, "B", (0, 1), "its point known"),
+    "half_bytes": Field(166, "H", range(257), "bytes of its text"),
+    "segment": Field(168, "Q", range(2**64), "its segment"),
+    "half_point_nm": Field(176, "3q", _SIGNED, "its point, nm"),
 }
-"""The fields of a state in the order of the page, each with its first byte, its type by `struct`, and its limits."""
+"""The fields of a state by their names in `State`, in the order of the page."""
 
 
 class NoDevice(ValueError):
@@ -118,11 +130,20 @@ class State:
     def read(image: bytes, byte: int) -> "State":
         """The state field that begins at a byte of an image. Limits aren't looked at."""
         values = {}
-        for name, (offset, kind, _) in STATE.items():
-            found = struct.unpack_from("<" + kind, image, byte + offset)
+        for name, field in STATE.items():
+            found = struct.unpack_from("<" + field.kind, image, byte + field.byte)
             values[name] = found if len(found) > 1 else found[0]
         text = image[byte + 200:byte + 456][:values["half_bytes"]] if values["half"] else b""
         return State(**values, half_text=text)
+
+    def numbers(self, name: str) -> tuple[int, ...]:
+        """The numbers of a field, one or more."""
+        value = getattr(self, name)
+        return value if isinstance(value, tuple) else (value,)
+
+    def said(self, *names: str) -> str:
+        """Fields with their numbers, for people."""
+        return ", ".join(f"{STATE[name].label} {' '.join(map(str, self.numbers(name)))}" for name in names)
 
     def damage(self, length: int) -> list[str]:
         """What is out of its range, the program having `length` bytes."""
@@ -130,16 +151,12 @@ class State:
         unread = () if self.half else names[names.index("half_bytes"):]
         if not self.half_known:
             unread += ("half_point_nm",)
-        found = []
-        for name, (_, _, limits) in STATE.items():
-            value = getattr(self, name)
-            numbers = value if isinstance(value, tuple) else (value,)
-            if name not in unread and any(number not in limits for number in numbers):
-                found.append(f"{name} {' '.join(map(str, numbers))}")
+        found = [self.said(name) for name, field in STATE.items()
+                 if name not in unread and any(number not in field.limits for number in self.numbers(name))]
         if length < self.place <= MOST_PROGRAM:
-            found.append(f"place {self.place} of {length} bytes")
+            found.append(f"{self.said('place')} of {length} bytes")
         if (self.opened or self.half_known) and not self.half or self.opened and self.half_known:
-            found.append(f"half {self.half}, opened {self.opened}, half_known {self.half_known}")
+            found.append(self.said("half", "opened", "half_known"))
         return found
 
 

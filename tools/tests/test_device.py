@@ -1,7 +1,9 @@
 """The device, by the images of examples/ and of docs/DEVICE.md: what is expected is what stands on that page."""
 import fcntl
 import re
+import shutil
 import struct
+import subprocess
 import sys
 import unittest
 from pathlib import Path
@@ -32,10 +34,14 @@ def stored(name: str) -> bytes:
     return image_of((DATA / name).read_text())
 
 
+def page(title: str) -> str:
+    """A chapter of docs/DEVICE.md."""
+    return (ROOT / "docs" / "DEVICE.md").read_text().partition(f"## {title}\n")[2].partition("\n## ")[0]
+
+
 def worked(title: str) -> bytes:
     """A device that docs/DEVICE.md works out."""
-    page = (ROOT / "docs" / "DEVICE.md").read_text().partition(f"## {title}\n")[2].partition("\n#")[0]
-    rows = re.findall(r"^ {3,}([0-9]+ +[0-9]+)   ((?:[0-9a-f]{2} )*[0-9a-f]{2})   ", page, re.MULTILINE)
+    rows = re.findall(r"^ {3,}([0-9]+ +[0-9]+)   ((?:[0-9a-f]{2} )*[0-9a-f]{2})   ", page(title), re.MULTILINE)
     return image_of("\n".join(" ".join(row) for row in rows))
 
 
@@ -95,7 +101,7 @@ class Devices(unittest.TestCase):
                 (88, 152, b"\3", "sector 88: spindle 3"),
                 (88, 456, b"\x41\0", "sector 88: number of slots 65"),
                 (88, 8, b"\x0e", "sector 88: place 14 of 13 bytes"),
-                (88, 163, b"\1", "sector 88: half 1, opened 1, half_known 1"),
+                (88, 163, b"\1", "sector 88: half-done block 1, what of it is open 1, its point known 1"),
                 (1708, 16, struct.pack("<q", 10**9 + 1), "sector 1708: slot 3 1000000001"),
                 (89, 0, struct.pack("<q", 10**13), "sector 89: #1 10000000000000")):
             start = SECTOR * sector + place
@@ -122,6 +128,47 @@ class Devices(unittest.TestCase):
         header = SECTOR + 8
         other = Device(image[:header] + b"\2" + image[header + 1:])
         self.assertEqual((len(other.records), other.end, other.state.entries), (1020, 1706, 1021))
+
+
+class Script(InFolder):
+    """`examples/read_device.py`, which prints what a device stands for."""
+
+    def read_device(self, *words: str, script: Path = ROOT / "examples" / "read_device.py") -> tuple[int, str, str]:
+        """Runs it: the exit status and what it writes."""
+        done = subprocess.run([sys.executable, script, *words], capture_output=True, text=True)
+        return done.returncode, done.stdout, done.stderr
+
+    def test_each_field(self) -> None:
+        """The devices of examples/, in both formats."""
+        for name in ("device", "device2"):
+            Path("mill.dev").write_bytes(stored(f"examples/{name}.hex"))
+            printed = (DATA / "examples" / f"{name}.txt").read_text()
+            self.assertEqual(self.read_device("mill.dev"), (0, printed, ""))
+
+    def test_worked(self) -> None:
+        """What docs/DEVICE.md prints of the devices that it works out."""
+        for title in ("A worked log", "A worked device of format 2"):
+            Path("mill.dev").write_bytes(worked(title))
+            status, printed, _ = self.read_device("mill.dev")
+            wanted = re.findall(r"^    ([a-z#][^:\n]*: .*)$", page(title), re.MULTILINE)
+            self.assertEqual((status, len(wanted) > 6, set(wanted) - set(printed.splitlines())), (0, True, set()))
+
+    def test_refused(self) -> None:
+        """No device, a damaged one, no file, other words, and the script without the package beside it."""
+        image = stored("examples/device2.hex")
+        Path("damaged.dev").write_bytes(image[:512 * 88 + 152] + b"\3" + image[512 * 88 + 153:])
+        status, printed, said = self.read_device("damaged.dev")
+        self.assertEqual((status, said), (1, "damaged (J3): sector 88: spindle 3\n"))
+        self.assertIn("spindle: 3\n", printed)
+        Path("short.dev").write_bytes(image[:-1])
+        self.assertEqual(self.read_device("short.dev"), (
+            1, "", "short.dev is no device (J2): 875,519 bytes, and a device has 875,520 or more\n"))
+        self.assertEqual(self.read_device("none.dev"), (2, "", "none.dev can't be read: No such file or directory\n"))
+        self.assertEqual(self.read_device()[0], 2)
+        alone = Path(shutil.copy(ROOT / "examples" / "read_device.py", self.folder))
+        self.assertEqual(self.read_device("short.dev", script=alone), (
+            2, "", f"{alone}: no folder above it has tools/ngc_tools/device.py, by which it reads: leave it in its"
+                   " checkout\n"))
 
 
 class Copies(InFolder):
