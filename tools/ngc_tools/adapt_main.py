@@ -6,6 +6,7 @@ from pathlib import Path
 
 from ngc_tools import faults
 from ngc_tools.cam import Line, Missing, Places, rewritten
+from ngc_tools.causes import cause
 from ngc_tools.position import nanometres
 from ngc_tools.radius_arcs import centred
 from ngc_tools.run import CannotRun, dry, find_ngc, refusal
@@ -54,7 +55,7 @@ def main(arguments: list[str] | None = None) -> int:
         option, what = _ASKS[why.what]
         print(f"{given.program}: {why}: name {what}: {option}", file=sys.stderr)
     except OSError as why:
-        print(f"{why.filename}: {why.strerror}" if why.filename else str(why), file=sys.stderr)
+        print(cause(why), file=sys.stderr)
     except (BadSettings, CannotRun, ValueError) as why:
         print(why, file=sys.stderr)
     return 2

@@ -7,6 +7,7 @@ from collections import Counter
 from pathlib import Path
 
 from ngc_tools import faults, settings_report
+from ngc_tools.causes import cause
 from ngc_tools.dangers import dangers
 from ngc_tools.refused import Finding, Lines, Piece, find_all
 from ngc_tools.run import CannotRun, Refusal, dry, find_ngc, refusal, settings_refusal
@@ -68,7 +69,7 @@ def main() -> int:
     except BrokenPipeError:
         os.dup2(os.open(os.devnull, os.O_WRONLY), sys.stdout.fileno())  # nobody reads any more
     except OSError as why:
-        print(f"{why.filename}: {why.strerror}" if why.filename else str(why), file=sys.stderr)
+        print(cause(why), file=sys.stderr)
     except (BadSettings, CannotRun) as why:
         print(why, file=sys.stderr)
     except KeyboardInterrupt:

@@ -124,7 +124,7 @@ def _open_out(path: str) -> int:
     try:
         return os.open(path, os.O_WRONLY | os.O_APPEND | os.O_NONBLOCK | os.O_NOCTTY | os.O_CLOEXEC)
     except OSError as why:
-        if why.errno == errno.ENXIO:
+        if why.errno == errno.ENXIO and stat.S_ISFIFO(os.stat(path).st_mode):
             raise Refused(f"{path}: nobody reads this pipe yet, and `ngc run` would wait for a reader: start the player"
                           " first") from None
         raise Refused(f"{path}: OUT can't be opened to be written: {why.strerror}") from None

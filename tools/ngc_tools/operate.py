@@ -15,6 +15,7 @@ from ngc_tools.meter import Meter
 from ngc_tools.position import Position, nanometres
 from ngc_tools.progress import NoAnswer, Report
 from ngc_tools.screen import Screen
+from ngc_tools.settings_report import SENTENCES
 
 HELP = """\
 load FILE          store a program                     run            start it, or go on with it
@@ -38,12 +39,6 @@ REFUSALS = {
     "K4": "no block is half-done",
     "K5": "the device or OUT failed in this session: quit, remove the cause, start again",
     "M1": "out of memory",
-    "S1": "the settings aren't TOML",
-    "S2": "a key of the settings is missing",
-    "S3": "the settings have a key that isn't one of the six",
-    "S4": "a value of the settings isn't of its type: whole numbers, of nanometres and microseconds",
-    "S5": "a number of the settings is beyond its limits",
-    "S6": "the settings have more than 64 tool lengths",
     "U1": "not a command, or a number of it isn't in range: help",
 }
 # what is said of a block that is taken up
@@ -67,7 +62,7 @@ def explained(refusal: str) -> str:
     """A refusal, as `refused K1 Busy`, the sentence that says what it means, and of a line what to write instead."""
     code = refusal.split()[1] if len(refusal.split()) > 1 else ""
     fault = faults.fault(code)
-    said = f"{fault.holds}\n  {fault.cure}" if fault else REFUSALS.get(code)
+    said = f"{fault.holds}\n  {fault.cure}" if fault else REFUSALS.get(code) or SENTENCES.get(code)
     return refusal + (f": {said}" if said else "")
 
 

@@ -10,6 +10,7 @@ try:
 except ImportError:
     pass
 
+from ngc_tools.causes import cause
 from ngc_tools.checks import Refused, look
 from ngc_tools.console import Console, Ended
 from ngc_tools.meter import LIMIT, Meter
@@ -59,8 +60,10 @@ def main(arguments: list[str] | None = None) -> int:
         meter = metered(given)
         pipe = look(given.device, given.settings, given.out)
         return session(ngc, given, meter, pipe)
-    except (Refused, NoAnswer, BadSettings, OSError, ValueError) as why:
+    except (Refused, NoAnswer, BadSettings, ValueError) as why:
         print(f"ngc-operate: {why}", file=sys.stderr)
+    except OSError as why:
+        print(f"ngc-operate: {cause(why)}", file=sys.stderr)
     except Ended as ended:
         print("ngc-operate: " + told(ended), file=sys.stderr)
     return 2

@@ -5,6 +5,7 @@ import sys
 import threading
 from contextlib import ExitStack
 
+from ngc_tools.causes import cause
 from ngc_tools.out import BadLine
 from ngc_tools.player import PIPE_BYTES, Pins, Player, Source, Stopped, begin, save_wakeups
 from ngc_tools.position import nanometres
@@ -69,7 +70,7 @@ def main(arguments: list[str] | None = None) -> int:
     except (BadSettings, BadRecord, ValueError) as why:
         print(f"ngc-player: {why}", file=sys.stderr)
     except OSError as why:
-        print(f"ngc-player: {why.filename or given.position}: {why.strerror}", file=sys.stderr)
+        print(f"ngc-player: {cause(why)}", file=sys.stderr)
     return 2
 
 

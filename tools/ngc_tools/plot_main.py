@@ -6,6 +6,7 @@ import sys
 from pathlib import Path
 
 from ngc_tools import canonical, figures, moves, out
+from ngc_tools.causes import cause
 from ngc_tools.picture import picture
 from ngc_tools.position import nanometres
 from ngc_tools.run import CannotRun, find_ngc, settings_refusal
@@ -66,7 +67,7 @@ def main() -> int:
     except subprocess.CalledProcessError as why:
         print(f"{why.cmd[0]} {why.cmd[1]}: status {why.returncode}", file=sys.stderr)
     except OSError as why:
-        print(f"{why.filename}: {why.strerror}" if why.filename else str(why), file=sys.stderr)
+        print(cause(why), file=sys.stderr)
     except (BadSettings, CannotRun, NotTimed, ValueError) as why:
         print(why, file=sys.stderr)
     return 2

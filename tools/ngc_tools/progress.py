@@ -3,12 +3,15 @@
 It answers `progress N carried C received R works reference X Y Z out PATH`: C of the R lines that stand in OUT then are
 carried out; `waits` in the place of `works` where a person has to put a tool in, whose answer is a datagram `go`. N is
 the asker's own number, so that a late answer is known as one."""
+import errno
 import os
 import re
 import socket
 import time
 from dataclasses import dataclass
 from pathlib import Path
+
+from ngc_tools.causes import naming
 
 _REPORT = re.compile(r"carried (\d+) received (\d+) (works|waits) reference (\S+ \S+ \S+) out (.*)", re.DOTALL)
 
@@ -58,7 +61,8 @@ class Listener:
         self.socket.setblocking(False)
         if os.path.exists(self.path):
             _remove_stale(self.path)
-        self.socket.bind(self.path)
+        with naming(self.path):
+            self.socket.bind(self.path)
 
     def next(self) -> tuple[bytes, str | bytes] | None:
         """A question and whom to answer, or None where nobody asks."""
@@ -92,7 +96,7 @@ def _remove_stale(path: str) -> None:
         except ConnectionRefusedError:
             os.unlink(path)
             return
-    raise OSError(98, "another player listens there", path)
+    raise OSError(errno.EADDRINUSE, "another player listens there", path)
 
 
 class Link:

@@ -6,6 +6,7 @@ import time
 from dataclasses import dataclass, replace
 from pathlib import Path
 
+from ngc_tools.causes import naming
 from ngc_tools.out import OFF, BadLine, Switch, parse
 from ngc_tools.position import millimetres, nanometres
 
@@ -80,6 +81,7 @@ class Keeper:
     def __init__(self, path: str | Path, first: Record, every_ms: int = 20) -> None:
         """Writes the first record, and syncs it and its folder; holds the file by the system's lock. Raises OSError,
         also where another player holds it, or BadRecord."""
+        self.path = path
         self.now = first
         self.worst_ms = 0.0
         self.failed: OSError | None = None
@@ -92,9 +94,10 @@ class Keeper:
         except BlockingIOError as why:
             raise OSError(why.errno, "another player keeps it", str(path)) from None
         self._keep()
-        os.ftruncate(self._file, SIZE)
-        os.fsync(self._file)
-        _sync_folder(Path(path).parent)
+        with naming(path):
+            os.ftruncate(self._file, SIZE)
+            os.fsync(self._file)
+            _sync_folder(Path(path).parent)
         self._thread = threading.Thread(target=self._work, daemon=True)
         self._thread.start()
 
@@ -125,10 +128,12 @@ class Keeper:
 
     def _keep(self) -> None:
         record = self.now
-        if record is not self._kept:
+        if record is self._kept:
+            return
+        with naming(self.path):
             os.pwrite(self._file, record.text(), 0)
             os.fdatasync(self._file)
-            self._kept = record
+        self._kept = record
 
 
 def _sync_folder(folder: Path) -> None:

@@ -84,10 +84,6 @@ class Lines:
         line = self.all[number - 1]
         return line[:-2] if line.endswith(b"\r\n") else line.removesuffix(b"\n")
 
-    def text(self, number: int, body: bytes) -> bytes:
-        """The program with another line `number`."""
-        return b"".join(self.all[:number - 1]) + self._line(number, body) + b"".join(self.all[number:])
-
     def beginning(self, number: int, body: bytes) -> bytes:
         """The lines before line `number`, another line in its place, and the program's end."""
         line = self._line(number, body)
@@ -105,8 +101,8 @@ def find_all(lines: Lines, ask: Ask, most: int = 0) -> Iterator[Finding]:
     """Each refusal of a program in turn, `most` of them at most, 0 for all. `lines` are at last what it went on with.
 
     After X1 it goes on with an F on the line; else with the line without a marked piece, or without all of them, if it
-    is taken so; where one piece alone is marked without it, so that the line's next fault is told too; else with a blank
-    line in its place."""
+    is taken so; where one piece alone is marked without it, so that the line's next fault is told too; else with a
+    blank line in its place."""
     refusal = ask(b"".join(lines.all))
     count = 0
     while refusal is not None and (count < most or not most):

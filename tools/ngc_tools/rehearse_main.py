@@ -3,6 +3,7 @@ import argparse
 import sys
 
 from ngc_tools.carried import CannotTell, Found, Replay, Run, runs
+from ngc_tools.causes import cause
 from ngc_tools.console import Ended
 from ngc_tools.copies import Refused
 from ngc_tools.device import Device, NoDevice, copied
@@ -63,7 +64,7 @@ def main(arguments: list[str] | None = None) -> int:
     except NoDevice as why:
         print(f"{given.device}: not a device: {why}", file=sys.stderr)
     except OSError as why:
-        print(f"{why.filename}: {why.strerror}" if why.filename else str(why), file=sys.stderr)
+        print(cause(why), file=sys.stderr)
     except (BadSettings, CannotRun, Ended, BadLine) as why:
         print(f"{given.device}: {why}" if isinstance(why, Ended) else why, file=sys.stderr)
     return 2

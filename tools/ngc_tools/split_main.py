@@ -1,9 +1,11 @@
 """The words of `ngc-split`, and what it writes."""
 import argparse
+import errno
 import sys
 from pathlib import Path
 
 from ngc_tools import faults
+from ngc_tools.causes import cause
 from ngc_tools.position import millimetres, nanometres
 from ngc_tools.run import CannotRun, dry, find_ngc
 from ngc_tools.settings import BadSettings
@@ -53,7 +55,7 @@ def main(arguments: list[str] | None = None) -> int:
         print(f"{given.program}:{why.refused.line}: {why}\n  {faults.cure(why.refused.code, [])}", file=sys.stderr)
         return 1
     except OSError as why:
-        print(f"{why.filename}: {why.strerror}" if why.filename else str(why), file=sys.stderr)
+        print(cause(why), file=sys.stderr)
     except (BadSettings, CannotRun, ValueError) as why:
         print(why, file=sys.stderr)
     return 2
@@ -96,7 +98,7 @@ def _write(given: argparse.Namespace, parts: list[Part]) -> None:
     paths = [Path(f"{prefix}-{number}.ngc") for number in range(1, len(parts) + 1)]
     for path in paths:
         if path.exists() and not given.force:
-            raise FileExistsError(17, "it is there already; --force writes over it", str(path))
+            raise FileExistsError(errno.EEXIST, "it is there already; --force writes over it", str(path))
     for path, part in zip(paths, parts, strict=True):
         path.write_bytes(part.text)
         where = "from where the machine stands"

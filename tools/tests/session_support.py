@@ -8,6 +8,8 @@ import tempfile
 import time
 import unittest
 from collections.abc import Callable
+from contextlib import redirect_stderr, redirect_stdout
+from io import StringIO
 from pathlib import Path
 
 TOOLS = Path(__file__).resolve().parents[1]
@@ -29,6 +31,17 @@ def ngc() -> str:
     if not os.access(path, os.X_OK):
         raise AssertionError("set the environment variable NGC to the path of the program ngc")
     return path
+
+
+def told(main: Callable[[list[str]], int], *words: str) -> tuple[int, str, str]:
+    """The status, standard output and standard error of a tool in this process, which is quicker."""
+    out, error = StringIO(), StringIO()
+    with redirect_stdout(out), redirect_stderr(error):
+        try:
+            status = main(list(words))
+        except SystemExit as why:
+            status = int(why.code or 0)
+    return status, out.getvalue(), error.getvalue()
 
 
 class InFolder(unittest.TestCase):

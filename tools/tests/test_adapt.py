@@ -1,14 +1,12 @@
 """ngc-adapt: ten headers of CAM systems, each rule, arcs by radius, what is asked, what stays; all texts by hand."""
 import sys
 import unittest
-from contextlib import redirect_stderr, redirect_stdout
 from decimal import Decimal
-from io import StringIO
 from pathlib import Path
 
 sys.path.insert(0, str(Path(__file__).resolve().parent))
 
-from session_support import TOOLS, InFolder, Terminal, ngc  # noqa: E402
+from session_support import TOOLS, InFolder, Terminal, ngc, told  # noqa: E402
 
 from ngc_tools.adapt_main import main  # noqa: E402
 from ngc_tools.cam import Line, Missing, Places, rewritten  # noqa: E402
@@ -64,12 +62,9 @@ def adapted(*lines: str, lift: str | None = "5", park: tuple[str, str] | None = 
     return [line.text for line in rewritten(list(lines), Places(lift, park), lambda number, why: None)]
 
 
-def told(path: Path, *words: str) -> tuple[int, str, str]:
-    """The status, standard output and standard error of `ngc-adapt`, in this process; it writes out.ngc."""
-    out, error = StringIO(), StringIO()
-    with redirect_stdout(out), redirect_stderr(error):
-        status = main([str(path), "--ngc", ngc(), "--output", "out.ngc", *words])
-    return status, out.getvalue(), error.getvalue()
+def written(path: Path, *words: str) -> tuple[int, str, str]:
+    """The status, standard output and standard error of `ngc-adapt`, which writes out.ngc."""
+    return told(main, str(path), "--ngc", ngc(), "--output", "out.ngc", *words)
 
 
 class Headers(InFolder):
@@ -80,7 +75,7 @@ class Headers(InFolder):
         self.assertEqual(sorted(CHANGED), sorted(path.name for path in CAM.iterdir() if path.suffix != ".expected"))
         for name, numbers in CHANGED.items():
             with self.subTest(name):
-                status, said, error = told(CAM / name, "--lift", "-2", "--park", "-10", "20.5")
+                status, said, error = written(CAM / name, "--lift", "-2", "--park", "-10", "20.5")
                 self.assertEqual((error, status), ("", 0))
                 self.assertEqual(Path("out.ngc").read_bytes(), (CAM / f"{name}.expected").read_bytes())
                 listed = [line for line in said.splitlines() if line.startswith("line ")]
@@ -96,7 +91,7 @@ class Headers(InFolder):
     def test_once_more(self) -> None:
         """What was adapted stays as it is."""
         for name in CHANGED:
-            self.assertEqual(told(CAM / f"{name}.expected"), (0, "no line is changed\n", ""))
+            self.assertEqual(written(CAM / f"{name}.expected"), (0, "no line is changed\n", ""))
 
 
 class Rules(unittest.TestCase):

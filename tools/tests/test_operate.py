@@ -5,13 +5,11 @@ import sys
 import threading
 import tty
 import unittest
-from contextlib import redirect_stderr
-from io import StringIO
 from pathlib import Path
 
 sys.path.insert(0, str(Path(__file__).resolve().parent))
 
-from session_support import TOOLS, InFolder, Terminal, ngc  # noqa: E402
+from session_support import TOOLS, InFolder, Terminal, ngc, told  # noqa: E402
 
 from ngc_tools import faults  # noqa: E402
 from ngc_tools.lines import Program  # noqa: E402
@@ -185,9 +183,7 @@ class Scripted(InFolder):
              " directory"),
         ]
         for words, wanted in cases:
-            with redirect_stderr(StringIO()) as said:
-                self.assertEqual(main(operate(*words)), 2, words)
-            self.assertEqual(said.getvalue(), f"ngc-operate: {wanted}\n", words)
+            self.assertEqual(told(main, *operate(*words)), (2, "", f"ngc-operate: {wanted}\n"), words)
         self.assertFalse(os.path.exists("out"))
         done = self.tool("ngc-operate", "--ngc", "none", "mill.dev", "first.toml", "out")
         self.assertEqual(done.returncode, 2)
@@ -207,8 +203,7 @@ class Scripted(InFolder):
         """What `ngc` refuses itself is said with its sentence."""
         Path("first.toml").write_text(Path("first.toml").read_text().replace("period_us = 50", "period_us = 0"))
         done = self.tool("ngc-operate", *operate("mill.dev", "first.toml", "out"))
-        wanted = ("ngc-operate: ngc ended with status 2: refused S5 OutOfLimits: a number of the settings is beyond its"
-                  " limits\n")
+        wanted = ("ngc-operate: ngc ended with status 2: refused S5 OutOfLimits: a number is beyond its limits\n")
         self.assertEqual((done.stderr, done.returncode), (wanted, 2))
 
     def test_help(self) -> None:

@@ -3,14 +3,12 @@ import fcntl
 import sys
 import tempfile
 import unittest
-from contextlib import redirect_stderr, redirect_stdout
-from io import StringIO
 from pathlib import Path
 from unittest.mock import patch
 
 sys.path.insert(0, str(Path(__file__).resolve().parent))
 
-from session_support import FIRST, InFolder, ngc  # noqa: E402
+from session_support import FIRST, InFolder, ngc, told  # noqa: E402
 from test_device import DATA, stored  # noqa: E402
 
 from ngc_tools.console import Console  # noqa: E402
@@ -105,14 +103,8 @@ class Rehearsals(InFolder):
             self.assertEqual(console.quit(), 0)
 
     def told(self, *words: str) -> tuple[int, str, str]:
-        """The status, standard output and standard error of `ngc-rehearse`, in this process."""
-        out, error = StringIO(), StringIO()
-        with redirect_stdout(out), redirect_stderr(error):
-            try:
-                status = main(["mill.dev", "first.toml", *words, "--ngc", ngc()])
-            except SystemExit as why:
-                status = int(why.code or 0)
-        return status, out.getvalue(), error.getvalue()
+        """The status, standard output and standard error of `ngc-rehearse`."""
+        return told(main, "mill.dev", "first.toml", *words, "--ngc", ngc())
 
     def rehearse(self, *words: str) -> str:
         """What is said at status 0; the device stays as it is."""

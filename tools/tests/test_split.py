@@ -3,14 +3,12 @@ import subprocess
 import sys
 import tempfile
 import unittest
-from contextlib import redirect_stderr, redirect_stdout
-from io import StringIO
 from pathlib import Path
 from unittest.mock import patch
 
 sys.path.insert(0, str(Path(__file__).resolve().parent))
 
-from session_support import TOOLS, InFolder, ngc  # noqa: E402
+from session_support import TOOLS, InFolder, ngc, told  # noqa: E402
 
 from ngc_tools.console import Console  # noqa: E402
 from ngc_tools.split_main import main  # noqa: E402
@@ -82,11 +80,9 @@ class Splits(InFolder):
     def split(self, text: str, *words: str, limit: int, status: int = 0) -> str:
         """What is said of a program, part.ngc."""
         Path("part.ngc").write_bytes(text.encode())
-        out, error = StringIO(), StringIO()
-        with redirect_stdout(out), redirect_stderr(error):
-            found = main(["part.ngc", "--limit", str(limit), "--force", "--ngc", ngc(), *words])
-        self.assertEqual(found, status, error.getvalue())
-        return error.getvalue() if status else out.getvalue()
+        found, out, error = told(main, "part.ngc", "--limit", str(limit), "--force", "--ngc", ngc(), *words)
+        self.assertEqual(found, status, error)
+        return error if status else out
 
     @staticmethod
     def parts() -> list[str]:
