@@ -1,0 +1,298 @@
+"""The commands of docs/, tried as they are written: what stands below one is what it has to print."""
+import os
+import re
+import shutil
+import subprocess
+import sys
+import textwrap
+import unittest
+import xml.etree.ElementTree as ElementTree
+from pathlib import Path
+
+sys.path.insert(0, str(Path(__file__).resolve().parent))
+
+from session_support import PATIENCE_S, TOOLS, InFolder, Terminal, ngc  # noqa: E402
+from test_rehearse import HOLE, OUT  # noqa: E402
+
+from ngc_tools.record import Record  # noqa: E402
+
+DOCS = TOOLS.parent / "docs"
+CAM = Path(__file__).resolve().parent / "cam"
+
+_COMMAND = re.compile(r"(?:\$ )?((?:ngc|ngc-\w+|mkfifo|cc|cp|grep|player|exec|echo|\{|tools/\S+) .*?)(?: {2,}[(#].*)?")
+_INLINE = re.compile(r"`((?:tools/|examples/)?(?:ngc-\w+|grep|\w+\.py) [^`]*)`")
+
+# The chapters with commands; each is tried by a test below.
+CHAPTERS = {
+    "TOOLS.md": ("ngc-player: carry out OUT", "ngc-operate: a console for people",
+                 "After a loss of power, with these two", "The plug is pulled",
+                 "ngc-check: each refused line, and what is dangerous", "ngc-plot: a picture, extents, times",
+                 "ngc-rehearse: what a resume would do", "ngc-adapt: CAM text as ngc accepts it",
+                 "ngc-split: a program above the device's limit"),
+    "RECOVERY.md": ("A half-done block",), "POST_PROCESSOR.md": ("",), "OUTPUT.md": (),
+    "SESSION.md": ("The device", "A first session"),
+}
+
+
+def chapters(page: str) -> dict[str, str]:
+    """The texts of a page's chapters by their titles; what stands before the first has none."""
+    head, *rest = (DOCS / page).read_text().split("\n## ")
+    return {"": head} | {title: text for title, _, text in (part.partition("\n") for part in rest)}
+
+
+def blocks(text: str) -> list[str]:
+    """The indented blocks of a chapter, without their indentation."""
+    found = re.findall(r"(?:^ {4,}\S.*\n)+", text, re.MULTILINE)
+    return [textwrap.dedent(block) for block in found]
+
+
+def commands(text: str) -> list[tuple[str, str]]:
+    """The commands of a chapter's blocks, each with what stands below it, up to the next one."""
+    found: list[tuple[str, str]] = []
+    for line in "\n".join(["", *blocks(text)]).split("\n"):
+        if match := _COMMAND.fullmatch(line):
+            found.append((match[1], ""))
+        elif found and line:
+            command, output = found.pop()
+            found.append((command, output + line + "\n"))
+    return found
+
+
+class Documents(InFolder):
+    """A folder in which `ngc`, the tools and the examples are found as the pages say."""
+
+    maxDiff = None
+
+    def setUp(self) -> None:
+        """Makes it."""
+        super().setUp()
+        os.mkdir("bin")
+        os.symlink(ngc(), "bin/ngc")
+        os.symlink(TOOLS, "tools")
+        shutil.copytree(TOOLS.parent / "examples", "examples")
+        shutil.copy("examples/mill.toml", "mill.toml")
+        path = f"{self.folder}/bin:{TOOLS}:{os.environ['PATH']}"
+        self.environment = {**os.environ, "PATH": path, "PYTHONDONTWRITEBYTECODE": "1"}
+
+    def chapter(self, page: str, begin: str) -> tuple[str, list[tuple[str, str]]]:
+        """The text of the chapter whose title begins so, and its commands."""
+        title = next(title for title in CHAPTERS[page] if title.startswith(begin))
+        text = chapters(page)[title]
+        return text, commands(text)
+
+    def shell(self, command: str, text: str = "", status: int = 0) -> str:
+        """What a command prints that ends with this status."""
+        done = subprocess.run(["bash", "-c", command], env=self.environment, input=text, capture_output=True, text=True,
+                              timeout=PATIENCE_S)
+        self.assertEqual((done.returncode, done.stderr), (status, ""), command)
+        return done.stdout
+
+    def begin(self, command: str) -> subprocess.Popen[str]:
+        """Starts a player, as in another terminal, and waits until it listens."""
+        child = subprocess.Popen(["bash", "-c", f"exec {command}"], env=self.environment, stdin=subprocess.DEVNULL,
+                                 stdout=subprocess.PIPE, stderr=subprocess.PIPE, text=True)
+        self.addCleanup(self._end, child)
+        self.wait_for("the player listens", lambda: os.path.exists("progress"))
+        return child
+
+    def operate(self, command: str) -> Terminal:
+        """Starts a console at a terminal."""
+        name, *words = command.split()
+        return Terminal(str(TOOLS / name), *words, "--ngc", ngc())
+
+    def same_options(self, tool: str, text: str, synopsis: str) -> None:
+        """The options of the help stand in the chapter, and those of the synopsis are of the help."""
+        known = set(re.findall(r"^  (--[a-z-]+)", self.shell(f"{tool} --help"), re.MULTILINE))
+        self.assertEqual(set(re.findall(r"--[a-z-]+", synopsis)) - known, set())
+        self.assertEqual({option for option in known - {"--ngc"} if option not in text}, set())
+
+
+class Pages(unittest.TestCase):
+    """Nothing is left out."""
+
+    def test_chapters(self) -> None:
+        """Each chapter with a command is tried."""
+        for page, tried in CHAPTERS.items():
+            self.assertEqual(tuple(title for title, text in chapters(page).items() if commands(text)), tried, page)
+
+
+class Tools(Documents):
+    """docs/TOOLS.md."""
+
+    def test_player(self) -> None:
+        """A pipe with a player; player.c is built, and its words are those of the page."""
+        text, ((synopsis, _), (fifo, _), (play, record), (build, _), (words, _)) = self.chapter("TOOLS.md", "ngc-player")
+        self.same_options("ngc-player", text, synopsis)
+        self.shell(fifo)
+        child = self.begin(play)
+        open("axis", "wb").close()
+        self.assertEqual(child.wait(PATIENCE_S), 0)
+        self.assertEqual([line.split()[0] for line in record.splitlines()],
+                         [line.split()[0] for line in Path("position").read_text().splitlines() if line.strip()])
+        self.shell(build)
+        done = subprocess.run("./player", capture_output=True, text=True)
+        self.assertEqual((done.returncode, done.stderr), (2, f"player: usage: {words}\n"))
+
+    def test_operate(self) -> None:
+        """The session, to the byte, and the record that the player keeps of it."""
+        text, ((synopsis, _), (make, _), (fifo, _), (play, _), (operate, rest)) = self.chapter("TOOLS.md", "ngc-operate")
+        self.same_options("ngc-operate", text, synopsis)
+        program, session = rest[:rest.index("metered")], rest[rest.index("metered"):]
+        Path("part.ngc").write_text(program)
+        for command in (make, fifo):
+            self.shell(command)
+        player = self.begin(play)
+        terminal = self.operate(operate)
+        shown = b""
+        for typed in re.findall(r"^ngc> (.*\n)", session, re.MULTILINE):
+            shown += terminal.read_to(b"ngc> ")
+            terminal.send(typed.encode())
+        shown += terminal.read_to(b"never")
+        self.assertEqual((terminal.status(), player.wait(PATIENCE_S)), (0, 0))
+        self.assertEqual(shown.decode().replace("\r\n", "\n"), session)
+        record = chapters("TOOLS.md")[CHAPTERS["TOOLS.md"][0]]
+        wanted = next(block for block in blocks(record) if block.startswith("out ")).split("\n", 1)[1]
+        self.assertEqual(Path("position").read_text().split("\n", 1)[1].rstrip(" \n") + "\n", wanted)
+
+    def test_after_a_loss_of_power(self) -> None:
+        """A move that was cut off behind the motors is taken up where these stand."""
+        _, ((look, _), (play, _), (operate, typed)) = self.chapter("TOOLS.md", "After a loss of power")
+        self.device()
+        self.run_ngc("load 10\nG0 X12\nM2\nstart\ntick 9000\n")
+        os.mkfifo("axis")
+        Path("position").write_bytes(Record(str(self.folder / "axis"), at_nm=(7_200_000, 0, 0)).text())
+        self.assertEqual(self.shell(look), "reference 7.200000 0.000000 0.000000\n")
+        player = self.begin(play)
+        terminal = self.operate(operate)
+        shown = b""
+        for line, end in zip(typed.splitlines(True), (b"ngc> ", b"ngc> "), strict=True):
+            shown += terminal.read_to(end)
+            terminal.send(line.removeprefix("ngc> ").encode())
+        shown += terminal.read_to(b"holds: ")
+        terminal.send(b"yes\n")
+        shown += terminal.read_to(b"ngc> ")
+        terminal.send(b"quit\n")
+        terminal.read_to(b"never")
+        self.assertEqual((terminal.status(), player.wait(PATIENCE_S)), (0, 0))
+        self.assertIn(b"segment 0 of line 1: G0 X12\r\n", shown)
+        self.assertIn(b"idle; X 12.000000 Y 0.000000 Z 0.000000; next line 1 of 2: G0 X12\r\n", shown)
+        self.assertEqual(player.stdout.read().splitlines()[-1], "reference 12.000000 0.000000 0.000000")
+
+    def test_plug(self) -> None:
+        """Its words, and two moments."""
+        _, ((synopsis, _),) = self.chapter("TOOLS.md", "The plug")
+        program = synopsis.split()[0]
+        known = set(re.findall(r"--[a-z-]+", self.shell(f"{program} --help --ngc x")))
+        self.assertEqual(set(re.findall(r"--[a-z-]+", synopsis)) - known, set())
+        self.assertIn("2 moments in ", self.shell(f"{program} --ngc {ngc()} --moments 2"))
+
+    def test_check(self) -> None:
+        """A refused line, settings, and settings that are refused."""
+        text, ((synopsis, _), (check, said), (only, _), (first, report)) = self.chapter("TOOLS.md", "ngc-check")
+        self.same_options("ngc-check", text, synopsis + only)
+        shutil.copy(CAM / "freecad_linuxcnc.ngc", "part.ngc")
+        self.assertEqual(self.shell(check, status=1), said)
+        report, wrong = report[:report.index("mill.toml")], report[report.index("mill.toml"):]
+        self.assertEqual(self.shell(first), report)
+        self.assertIn("6,000 mm/min", self.shell(only.replace("FILE", "first.toml")))
+        Path("mill.toml").write_text(Path("mill.toml").read_text().replace("period_us = 40", "period_us = 50.0"))
+        self.assertEqual(self.shell(only.replace("FILE", "mill.toml") + " 2>&1", status=2), wrong)
+
+    def test_plot(self) -> None:
+        """A pipe, and a picture beside an example with its figures."""
+        text, ((synopsis, _), (pipe, _), (ring, said)) = self.chapter("TOOLS.md", "ngc-plot")
+        self.same_options("ngc-plot", text, synopsis)
+        shutil.copy("examples/mill.ngc", "part.ngc")
+        self.assertEqual(self.shell(pipe), "")
+        ElementTree.parse("part.svg")
+        os.unlink("examples/ring.svg")
+        self.assertEqual(self.shell(ring), said)
+        self.assertEqual(Path("examples/ring.svg").read_text(), (TOOLS.parent / "examples" / "ring.svg").read_text())
+
+    def test_rehearse(self) -> None:
+        """A hole whose way out is cut off."""
+        text, ((synopsis, _), (resume, said), (carried, where)) = self.chapter("TOOLS.md", "ngc-rehearse")
+        self.same_options("ngc-rehearse", text, synopsis)
+        self.device()
+        self.run_ngc("tool 1 0\n")
+        self.run_ngc(f"load {len(HOLE)}\n{HOLE}start\n" + f"tick {OUT + 100}\n")
+        self.assertEqual(self.shell(resume), said)
+        self.assertTrue(self.shell(carried).startswith(where + "\n" + said[:said.index("the approach")]))
+
+    def test_adapt(self) -> None:
+        """The list of what is changed."""
+        text, ((synopsis, _), (adapt, said)) = self.chapter("TOOLS.md", "ngc-adapt")
+        self.same_options("ngc-adapt", text, synopsis)
+        shutil.copy(CAM / "fusion_mach3.tap", "fusion_mach3.tap")
+        self.assertEqual(self.shell(adapt), said)
+
+    def test_split(self) -> None:
+        """Its words."""
+        text, ((synopsis, _),) = self.chapter("TOOLS.md", "ngc-split")
+        self.same_options("ngc-split", text, synopsis)
+
+
+class Others(Documents):
+    """The pages beside it."""
+
+    def test_session(self) -> None:
+        """docs/SESSION.md: the first session, its answers and pulses, and a program that the shell sends."""
+        _, ((make, _),) = self.chapter("SESSION.md", "The device")
+        text, ((again, _), (run, rest), *piped) = self.chapter("SESSION.md", "A first session")
+        settings, _, talk, pulses, _ = blocks(text)
+        Path("first.toml").write_text(settings)
+        self.assertEqual((self.shell(make), self.shell(again)), ("", ""))
+        typed = [line[:15].strip() for line in talk.splitlines()]
+        answers = [re.split(" {2,}", line[15:])[0] for line in talk.splitlines()]
+        said = self.shell(run, text="\n".join(filter(None, typed)) + "\n")
+        self.assertEqual(said.splitlines(), list(filter(None, answers)))
+        self.assertEqual(Path("pulses").read_text(), pulses)
+        self.assertTrue(rest.startswith(talk))
+        shutil.copy("examples/first.ngc", "part.ngc")
+        script = "\n".join(command for command, _ in piped)
+        self.assertRegex(self.shell(script + "\nwait"), r"^done 4\nstatus entries 4 place 0 .* half none idle\n$")
+
+    def test_recovery(self) -> None:
+        """docs/RECOVERY.md: a rehearsal by the tool, and by hand over a copy: the OUT that the example's resume has."""
+        _, ((rehearse, _), (copy, _), (run, _)) = self.chapter("RECOVERY.md", "A half-done")
+        Path("mill.toml").write_text(Path("first.toml").read_text())
+        self.device()
+        self.run_ngc("load 22\nM3 S1000\nG0 X0.005\nM2\nstart\ntick 10\n")
+        before = Path("mill.dev").read_bytes()
+        said = self.shell(rehearse.replace("X Y Z", "0.001 0 0"))
+        self.assertTrue(said.startswith("half-done: line 2 of 3: G0 X0.005\nsegment 0 of 1, counted from 0: begins at"
+                                        " X 0.000000 Y 0.000000 Z 0.000000\nfirst comes on: spindle clockwise at 1000;"))
+        self.shell(copy)
+        self.shell(run, text="reference 0.001 0 0\nresume\ntick 100\n")
+        example = blocks(chapters("RECOVERY.md")["An example"])
+        wanted = next(block for block in example if block.startswith("S 1 "))
+        self.assertEqual(Path("try.out").read_text(), wanted)
+        self.assertEqual(Path("mill.dev").read_bytes(), before)
+
+    def test_post_processor(self) -> None:
+        """docs/POST_PROCESSOR.md: the first refused line, every one, what is written for it; a head and an end."""
+        text, ((dry, _),) = self.chapter("POST_PROCESSOR.md", "")
+        check, adapt, split = _INLINE.findall(text.replace("\n", " "))
+        shutil.copy(CAM / "vectric_mach3mm.txt", "part.ngc")
+        self.assertEqual(self.shell(dry, status=1).splitlines()[-1], "REFUSED line 11: B4 GroupTwice")
+        self.assertRegex(self.shell(check, status=1), r"(?s)^part.ngc:11: B4 .*\npart.ngc:12: B2 ")
+        shutil.copy(CAM / "fusion_mach3.tap", "part.nc")
+        self.assertIn("+ G53 G0 G91 Z0\n", self.shell(adapt.replace(" Z ", " 0 ")))
+        self.assertRegex(self.shell(split), r"^part.ngc: \d+ bytes: ngc run takes it as it is\n$")
+        head, end = (blocks(chapters("POST_PROCESSOR.md")[f"The {what} of a program"])[0] for what in ("head", "end"))
+        Path("part.ngc").write_text(head + "G1 X1\n" + end)
+        self.assertIn("STRAIGHT_FEED(1.000000, 0.000000, 0.000000)\n", self.shell(dry))
+
+    def test_read_device(self) -> None:
+        """docs/RECOVERY.md and docs/SESSION.md: what was on, and the slots."""
+        self.device()
+        self.run_ngc("tool 1 50\nmdi M4 S500\ntick 9\n")
+        for page in ("RECOVERY.md", "SESSION.md"):
+            command = next(command for command in _INLINE.findall((DOCS / page).read_text()) if ".py" in command)
+            said = self.shell(command.replace("examples/", str(TOOLS.parent / "examples") + "/"))
+            self.assertIn("\nspindle: 2\n", said)
+            self.assertIn("\ntool length of slot 1, nm: 50000000\n", said)
+
+
+if __name__ == "__main__":
+    unittest.main()

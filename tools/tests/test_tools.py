@@ -1,0 +1,81 @@
+"""What all tools have in common: help, wrong words, how they find `ngc`, an output that nobody reads."""
+import os
+import shutil
+import subprocess
+import sys
+import unittest
+from pathlib import Path
+
+sys.path.insert(0, str(Path(__file__).resolve().parent))
+
+from session_support import TOOLS, InFolder, ngc  # noqa: E402
+
+NAMES = sorted(path.name for path in TOOLS.glob("ngc-*"))
+NOT_FOUND = "ngc: neither beside this tool nor on PATH; name it with --ngc PATH\n"
+# What each that asks `ngc` is given; part.ngc and device are there.
+WORDS = {"ngc-adapt": ("part.ngc",), "ngc-check": ("part.ngc",), "ngc-split": ("part.ngc",),
+         "ngc-plot": ("part.txt", "--settings", "first.toml"), "ngc-rehearse": ("mill.dev", "first.toml"),
+         "ngc-operate": ("mill.dev", "first.toml", "out")}
+
+
+class Tools(InFolder):
+    """Each of the seven."""
+
+    def run_tool(self, name: str, *words: str, path: str = "", tools: Path = TOOLS) -> tuple[int, str, str]:
+        """Runs a tool with this PATH: the exit status and what it writes."""
+        done = subprocess.run([sys.executable, tools / name, *words], env={**os.environ, "PATH": path}, text=True,
+                              input="", capture_output=True)
+        return done.returncode, done.stdout, done.stderr
+
+    def test_help(self) -> None:
+        """An example and what each exit status means, on standard output."""
+        self.assertEqual(len(NAMES), 7)
+        for name in NAMES:
+            status, said, error = self.run_tool(name, "--help")
+            self.assertEqual((status, error), (0, ""), name)
+            example, _, statuses = said.partition("\nexample:\n")[2].partition("\nexit status:\n")
+            self.assertIn(f"  {name} ", example)
+            self.assertRegex(statuses, r"(?s)^  0  .*\n  2  ")
+            self.assertEqual("--ngc PATH" in said, name != "ngc-player")
+            self.assertTrue((TOOLS / name).stat().st_mode & 0o111, name)
+
+    def test_wrong_words(self) -> None:
+        """Status 2, on standard error, with the tool's name."""
+        for name in NAMES:
+            status, said, error = self.run_tool(name, "--nothing")
+            self.assertEqual((status, said), (2, ""), name)
+            self.assertTrue(error.splitlines()[-1].startswith(f"{name}: error: "), error)
+
+    def test_ngc_is_found(self) -> None:
+        """On PATH, beside the tool, or not at all: that is said."""
+        self.device()
+        Path("part.ngc").write_text("G21 G90\nM2\n")
+        Path("part.txt").write_text("PROGRAM_END()\n")
+        os.mkdir("bin")
+        os.symlink(ngc(), "bin/ngc")
+        shutil.copytree(TOOLS, "tools", ignore=shutil.ignore_patterns("tests", "__pycache__"))
+        os.symlink(ngc(), "tools/ngc")
+        for name, words in WORDS.items():
+            prefix = "ngc-operate: " if name == "ngc-operate" else ""
+            self.assertEqual(self.run_tool(name, *words), (2, "", prefix + NOT_FOUND), name)
+            on_path = self.run_tool(name, *words, path=str(self.folder / "bin"))
+            self.assertEqual(on_path[0], 0, on_path)
+            self.assertEqual(self.run_tool(name, *words, tools=self.folder / "tools"), on_path, name)
+            self.assertEqual(self.run_tool(name, *words, "--ngc", "first.toml"),
+                             (2, "", f"{prefix}first.toml: not a program that can be run\n"), name)
+
+    def test_nobody_reads(self) -> None:
+        """Status 2 and no word where the reader of its output has gone."""
+        Path("part.ngc").write_text("G4 P99\n" * 2000 + "M2\n")
+        Path("part.txt").write_text("STRAIGHT_TRAVERSE(1.000000, 0.000000, 0.000000)\n")
+        for name, word in (("ngc-check", "part.ngc"), ("ngc-plot", "part.txt")):
+            reader, writer = os.pipe()
+            os.close(reader)
+            done = subprocess.run([sys.executable, TOOLS / name, word, "--ngc", ngc()], stdout=writer,
+                                  stderr=subprocess.PIPE, text=True)
+            os.close(writer)
+            self.assertEqual((done.returncode, done.stderr), (2, ""), name)
+
+
+if __name__ == "__main__":
+    unittest.main()
