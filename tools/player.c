@@ -53,7 +53,7 @@ static void fail(const char *format, ...) {
  * and the spindle at its speed; 'O' turns spindle and coolant off. These drive nothing: they write what they would. */
 static void pins(const struct line *line, const char *text, size_t size) {
     (void)line;
-    if (pins_file >= 0 && write(pins_file, text, size) < 0) failed = errno;
+    if (pins_file >= 0 && write(pins_file, text, size) < 0) fail("the pins: %s", strerror(errno));
 }
 
 static int64_t now(void) { /* ns */
@@ -113,7 +113,7 @@ static void keep(void) { /* writes the record and syncs it */
 }
 
 static void *keep_on(void *none) {
-    for (const struct timespec pause = { 0, 20000000 }; !over; nanosleep(&pause, NULL)) keep();
+    for (const struct timespec pause = { 0, 20000000 }; !over; nanosleep(&pause, NULL)) keep(), stopping |= failed != 0;
     return none;
 }
 
@@ -229,7 +229,7 @@ static int play(void) {
     for (char *text; !why && (text = next(&size)); )
         if (strlen(text) != size - 1 || !parse(text, &line)) why = "not a line of OUT";
         else carry_out(&line, text, size);
-    if (!why && stopping) why = "asked to stop";
+    if (!why && stopping) why = failed ? "the record can't be written" : "asked to stop";
     if (!why && first < end) why = "OUT ends in a part of a line";
     if (!why) return 0;
     fprintf(stderr, "%s:%" PRIu64 ": %s; stopped, spindle and coolant off\n", out_path, state.lines + 1, why);

@@ -133,11 +133,14 @@ class Operator:
         self.screen.say("ticks are given by run, continue, resume and a line of G-code, in small counts")
 
     def _load(self, name: str) -> None:
+        if not name:
+            self.screen.say("load FILE: which file?")
+            return
         path = os.path.expanduser(name)
         try:
             text = Path(path).read_bytes()
         except OSError as why:
-            self.screen.say(f"{path or 'load FILE'}: {why.strerror}")
+            self.screen.say(f"{path}: {why.strerror}")
             return
         reply = self.console.load(text)
         if self._taken(reply):

@@ -11,6 +11,7 @@ from dataclasses import dataclass, replace
 from pathlib import Path
 from typing import TextIO
 
+from ngc_tools.causes import naming
 from ngc_tools.out import LONGEST_LINE, BadLine, Line, Pulse, Switch, parse
 from ngc_tools.position import Position
 from ngc_tools.progress import Listener, Report
@@ -21,7 +22,7 @@ HAND_BYTES = 64  # read at once
 
 
 class Stopped(Exception):
-    """A signal asked the player to stop."""
+    """A signal asked the player to stop, or its record can't be written."""
 
 
 class Source:
@@ -109,13 +110,15 @@ class Pins:
 
     def __init__(self, path: str | Path | None) -> None:
         """Raises OSError."""
+        self.path = path
         flags = os.O_WRONLY | os.O_CREAT | os.O_APPEND | os.O_CLOEXEC
         self.file = os.open(path, flags, 0o644) if path else None
 
     def set(self, text: bytes) -> None:
-        """Carries out a line, now."""
+        """Carries out a line, now. Raises OSError."""
         if self.file is not None:
-            os.write(self.file, text + b"\n")
+            with naming(self.path):
+                os.write(self.file, text + b"\n")
 
     def off(self) -> None:
         """Stops spindle and coolant, now."""
@@ -187,7 +190,7 @@ class Player:
 
     def run(self) -> None:
         """Carries out lines until OUT ends. Raises BadLine at the first line that isn't one, and where OUT ends in a
-        part of a line; Stopped after `stopping` was set. Then spindle and coolant are off."""
+        part of a line; Stopped after `stopping` was set or the record failed. Then spindle and coolant are off."""
         self._listen()
         try:
             while (text := self._next()) is not None:
@@ -226,7 +229,8 @@ class Player:
         return not over or self.source.read()
 
     def _heed(self) -> None:
-        if self.stopping:
+        """Raises Stopped where it is asked to stop, or can't keep its record any more."""
+        if self.stopping or self.keeper and self.keeper.failed:
             raise Stopped
 
     def _carry_out(self, text: bytes) -> None:

@@ -60,6 +60,8 @@ def main(arguments: list[str] | None = None) -> int:
         settings = Settings.read(given.settings)
         begun, position = begin(given.position, given.out, settings.step_nm, at_nm, given.anew)
         source = Source(given.out, begun, given.pipe, given.follow)
+        if source.pipe_bytes >= 2 * max(given.pipe, PIPE_BYTES):
+            print(f"{given.out}: the pipe stays at {source.pipe_bytes:,} bytes", file=sys.stderr)
         player = Player(source, position, begun, Pins(given.pins), settings.period_us)
         with ExitStack() as stack:
             if given.progress:

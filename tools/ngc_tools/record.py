@@ -45,7 +45,8 @@ class Record:
     @staticmethod
     def read(path: str | Path) -> "Record":
         """Reads a record. Raises BadRecord, or OSError."""
-        text = Path(path).read_bytes().decode("utf-8", "surrogateescape")
+        with open(path, "rb") as file:
+            text = file.read(SIZE + 1).decode("utf-8", "surrogateescape")
         try:
             out, lines, size, outputs, reference, *rest = text.split("\n")
             words = [_after(line, word) for line, word in

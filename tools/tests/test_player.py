@@ -13,7 +13,7 @@ from pathlib import Path
 
 sys.path.insert(0, str(Path(__file__).resolve().parent))
 
-from session_support import PATIENCE_S, TOOLS, InFolder  # noqa: E402
+from session_support import FIRST, PATIENCE_S, TOOLS, InFolder  # noqa: E402
 
 from ngc_tools.out import BadLine, parse  # noqa: E402
 from ngc_tools.progress import Link, NoAnswer, Report  # noqa: E402
@@ -30,6 +30,10 @@ S 0 1000.000000 0 0 2 2
 """
 RECORD = "lines 8\nbytes 137\noutputs S 0 1000.000000 0 0 2 2\nreference 0.002000 -0.001000 -0.001000\n"
 SHORT = {"--untimed": "-u", "--anew": "-n", "--pipe": "-b", "--progress": "-s", "--pins": "-p"}
+# A disk that is full from its third sync on.
+FULL = """#include <errno.h>
+int fdatasync(int file) { static int calls; (void)file; if (++calls < 3) return 0; errno = ENOSPC; return -1; }
+"""
 
 
 def record(path: str = "position") -> str:
@@ -61,6 +65,7 @@ class Both:
     """What the player in Python and the one in C have to do alike."""
 
     wrong = ["P 1 0 0", "P 1 0 0 49", "", "x" * 5000]
+    asked = ""  # what is said where it is asked to stop after three lines
 
     def words(self, *words: str) -> list[str]:
         """The command line, by the long names of ngc-player's options."""
@@ -151,8 +156,8 @@ class Both:
         Path("out").write_text("P 1 0 0 50\nP 1 0 0 50")
         done = self.play("--untimed")
         self.assertEqual((done.returncode, done.stdout.splitlines()[-1]), (1, "reference 0.001000 0.000000 0.000000"))
-        self.assertTrue(done.stderr.startswith("out:2: "), done.stderr)
-        self.assertIn("a part of a line", done.stderr)
+        self.assertRegex(done.stderr, "^out:2: OUT ends in a part of a line(: 'P 1 0 0 50')?; stopped, spindle and coolant"
+                                      " off\n$")
 
     def test_times(self) -> None:
         """No line comes before its time: 100 pulses of 2 ms, of which each may come a tenth sooner, and a wait."""
@@ -194,7 +199,7 @@ class Both:
             self.assertEqual(report.at, "0.002000 0.000000 0.000000")
             child.send_signal(signal.SIGTERM)
             said, wrong = child.communicate(timeout=PATIENCE_S)
-        self.assertEqual(child.returncode, 1)
+        self.assertEqual((child.returncode, wrong), (1, self.asked))
         self.assertEqual(said.splitlines()[-1], "reference 0.002000 0.000000 0.000000")
         with self.assertRaisesRegex(NoAnswer, "^progress: the player is gone"):
             link.ask()
@@ -222,20 +227,65 @@ class Both:
         self.assertEqual(done.returncode, 2)
         self.assertIn("player: position: another player keeps it", done.stderr)
 
+    def refused(self, *words: str) -> str:
+        """What is said, after the player's name, at status 2."""
+        done = subprocess.run(self.words("--untimed", *words), capture_output=True, text=True)
+        self.assertEqual((done.returncode, done.stdout), (2, ""), words)
+        self.assertRegex(done.stderr, "^(ngc-)?player: .*\n$")
+        return done.stderr.partition(": ")[2].removesuffix("\n")
+
     def test_cannot(self) -> None:
         """Files that can't be used are named, with status 2."""
         Path("out").write_text(LINES)
         Path("bad").write_text("nothing\n")
-        wrong = [("none", "first.toml", "position"), ("out", "none", "position"), ("out", "bad", "position"),
-                 ("out", "first.toml", "bad"), ("out", "first.toml", "none/position")]
-        for words in wrong:
-            done = subprocess.run(self.words("--untimed", *words), capture_output=True, text=True)
-            self.assertEqual((done.returncode, done.stdout), (2, ""), words)
-            self.assertRegex(done.stderr, "player: .*(none|bad)", words)
+        gone, no_record = "No such file or directory", "not a record of ngc-player"
+        for words, wanted in (
+                (("none", "first.toml", "position"), f"none: {gone}"),
+                (("out", "none", "position"), f"none: {gone}"),
+                (("out", "bad", "position"), "bad: (not TOML: .*|no line 'step_nm = ..')"),
+                (("out", "first.toml", "bad"), f"bad: {no_record}.*"),
+                (("out", "first.toml", "/dev/full"), f"/dev/full: {no_record}.*"),
+                (("out", "first.toml", "none/position"), f"none/position: {gone}"),
+                (("--pins", "none/pins", "out", "first.toml", "position"), f"none/pins: {gone}"),
+                (("--progress", "none/progress", "out", "first.toml", "position"), f"none/progress: {gone}"),
+                (("--progress", "p" * 200, "out", "first.toml", "position"), f"{'p' * 200}: .*too long.*")):
+            self.assertRegex(self.refused(*words), f"^{wanted}$", words)
+        deep = Path(*["d" * 100] * 5)
+        deep.mkdir(parents=True)
+        (deep / "out").write_text(LINES)
+        self.assertEqual(self.refused(str(deep / "out"), "first.toml", "position"),
+                         f"{self.folder / deep}/out: too long a path for a record of 512 bytes")
+
+    def test_two_players(self) -> None:
+        """A socket has one player; that of a dead one is taken over."""
+        os.mkfifo("out")
+        first = self.begin("--progress", "progress", "out", "first.toml", "position")
+        self.linked()
+        Path("other").write_text(LINES)
+        second = ("--progress", "progress", "other", "first.toml", "position2")
+        self.assertRegex(self.refused(*second), "^progress: (another player listens there|Address already in use)$")
+        first.kill()
+        first.wait()
+        command = self.words("--untimed", *second)
+        self.assertEqual(subprocess.run(command, capture_output=True).returncode, 0)
+
+    def test_record_fails(self) -> None:
+        """Where the record can't be written any more it stops, in the midst of a wait too."""
+        Path("full.c").write_text(FULL)
+        subprocess.run(["cc", "-shared", "-fPIC", "full.c", "-o", "full.so"], check=True)
+        Path("out").write_text("S 1 5.000000 0 0 0 0\n" + "P 1 0 0 60000\n" * 3 + "D 3600000000\n")
+        command = self.words("--pins", "pins", "out", "first.toml", "position")
+        done = subprocess.run(command, capture_output=True, text=True, timeout=PATIENCE_S,
+                              env={**os.environ, "LD_PRELOAD": f"{self.folder}/full.so"})
+        self.assertEqual(done.returncode, 2, done.stderr)
+        self.assertRegex(done.stderr, "player: position: No space left on device\n$")
+        self.assertEqual(Path("pins").read_text().splitlines()[-1], "off")
 
 
 class Python(Both, InFolder):
     """tools/ngc-player."""
+
+    asked = "out: stopped after line 3, spindle and coolant off\n"
 
     def words(self, *words: str) -> list[str]:
         """As they are."""
@@ -285,30 +335,42 @@ class Python(Both, InFolder):
         self.assertEqual((done.returncode, done.stderr),
                          (2, "ngc-player: not a number of millimetres with at most six decimals: ten\n"))
 
-    def test_two_players(self) -> None:
-        """A socket has one player; that of a dead one is taken over."""
-        os.mkfifo("out")
-        first = self.begin("--progress", "progress", "out", "first.toml", "position")
-        self.linked()
-        Path("other").write_text(LINES)
-        second = [*self.words("--untimed", "--progress", "progress"), "other", "first.toml", "position2"]
-        done = subprocess.run(second, capture_output=True, text=True)
-        self.assertEqual((done.returncode, done.stderr), (2, "ngc-player: progress: another player listens there\n"))
-        first.kill()
-        first.wait()
-        self.assertEqual(subprocess.run(second, capture_output=True).returncode, 0)
+    def test_follow(self) -> None:
+        """Told so, it waits for more at a file's end, until it is asked to stop."""
+        Path("out").write_text("P 1 0 0 50\n")
+        child = self.begin("--follow", "--progress", "progress", "out", "first.toml", "position")
+        link = self.linked()
+        self.wait_for("the first line is carried out", lambda: link.ask().carried == 1)
+        with open("out", "a") as file:
+            file.write("P 1 0 0 50\nD 0\n")
+        self.wait_for("the others are", lambda: link.ask().carried == 3)
+        child.send_signal(signal.SIGINT)
+        said, wrong = child.communicate(timeout=PATIENCE_S)
+        self.assertEqual((child.returncode, wrong), (1, self.asked))
+        self.assertEqual(said.splitlines()[-1], "reference 0.002000 0.000000 0.000000")
 
-    def test_help(self) -> None:
-        """The help has an example."""
-        done = self.tool("ngc-player", "--help")
-        self.assertEqual(done.returncode, 0)
-        self.assertIn("example:", done.stdout)
-        self.assertEqual(self.tool("ngc-player", "out").returncode, 2)
+    def test_full_pipe(self) -> None:
+        """A pipe in which more waits than it is to hold stays as it is, which is said."""
+        os.mkfifo("out")
+        pipe = os.open("out", os.O_RDWR)
+        self.addCleanup(os.close, pipe)
+        os.write(pipe, b"P 1 0 0 50\n" * 1000)
+        child = self.begin("--untimed", "out", "first.toml", "position")
+        self.assertEqual(child.stderr.readline(), "out: the pipe stays at 65,536 bytes\n")
+
+    def test_what_is_wrong(self) -> None:
+        """A line that isn't one is shown, its bytes escaped and its end left out where it is long."""
+        for line, shown in (("x\xff\0", "'x\\xff\\x00'"), ("y" * 100, f"'{'y' * 60}...'")):
+            Path("out").write_text(line + "\n", encoding="latin-1")
+            Path("position").unlink(missing_ok=True)
+            self.assertEqual(self.play("--untimed").stderr,
+                             f"out:1: not a line of OUT: {shown}; stopped, spindle and coolant off\n")
 
 
 class C(Both, InFolder):
     """tools/player.c, built by cc."""
 
+    asked = "out:4: asked to stop; stopped, spindle and coolant off\n"
     wrong = [*Both.wrong, "P 1 0 0 50P 1 0 0 50", "S 0 0 0 0 0 0", "D -1", "P 2 0 0 50", "P 1 0 0 50\r", "P 1 0 0 50\0",
              "D 18446744073709551616", "D 1 ", "S 0 0.000000 0 0 65 0", "P -0 0 0 50", "D 00", "S 3 0.000000 0 0 0 0"]
 
@@ -326,6 +388,21 @@ class C(Both, InFolder):
     def words(self, *words: str) -> list[str]:
         """By their short names."""
         return [self.program, *(SHORT.get(word, word) for word in words)]
+
+    def test_its_own_words(self) -> None:
+        """Of the settings it reads two keys; its own words."""
+        Path("out").write_text(LINES)
+        for old, new, said in (("[1000, 1000, 1000]", "[1000, 0, 1000]", "step_nm"), ("= 50\n", "= fast\n", "period_us"),
+                               ("= 50\n", "= 1000001\n", "period_us")):
+            Path("bad.toml").write_text(FIRST.replace(old, new))
+            self.assertEqual(self.refused("out", "bad.toml", "position"),
+                             f"bad.toml: {said}: not a whole number from 1 to 1000000")
+        for words in (("out", "first.toml"), ("out", "first.toml", "position", "more")):
+            self.assertEqual(self.refused(*words), "usage: player [-u] [-n] [-b BYTES] [-s SOCKET] [-p PINS] OUT SETTINGS"
+                                                   " POSITION")
+        self.assertRegex(self.refused("-p", "/dev/full", "out", "first.toml", "position"), "^the pins: No space left")
+        done = subprocess.run([self.program, "-x"], capture_output=True)
+        self.assertEqual(done.returncode, 2)
 
     def test_length(self) -> None:
         """It has less than 300 lines."""
