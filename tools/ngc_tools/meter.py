@@ -8,15 +8,20 @@ LIMIT = 100  # lines
 LIMITS = range(2, 5001)
 
 
+def check_limit(limit: int) -> None:
+    """Raises ValueError for a bound below 2, or above 5,000, which is what a player can have in hand."""
+    if limit not in LIMITS:
+        raise ValueError(f"{limit} lines: the bound is from {LIMITS[0]} to {LIMITS[-1]:,}")
+
+
 class Meter:
     """Asks the player before each tick command. Each tick hands out one line at most, so with as many ticks as there is
     room for, OUT is never more than `limit` lines ahead of the player."""
 
     def __init__(self, link: Link, limit: int = LIMIT, look_s: float = 0.0005) -> None:
         """`limit` is in lines; the player is asked each `look_s` seconds while it is too far behind. Raises ValueError
-        for a limit below 2 or above 5,000, which is what a player can have in hand."""
-        if limit not in LIMITS:
-            raise ValueError(f"{limit} lines: the bound is from {LIMITS[0]} to {LIMITS[-1]:,}")
+        as `check_limit`."""
+        check_limit(limit)
         self.link = link
         self.limit = limit
         self.look_s = look_s

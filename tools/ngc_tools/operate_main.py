@@ -13,7 +13,7 @@ except ImportError:
 from ngc_tools.causes import cause
 from ngc_tools.checks import Refused, look
 from ngc_tools.console import Console, Ended
-from ngc_tools.meter import LIMIT, Meter
+from ngc_tools.meter import LIMIT, Meter, check_limit
 from ngc_tools.operate import Operator, explained
 from ngc_tools.progress import Link, NoAnswer
 from ngc_tools.run import find_ngc
@@ -71,6 +71,7 @@ def main(arguments: list[str] | None = None) -> int:
 
 def metered(given: argparse.Namespace) -> Meter | None:
     """The meter, where a player is named. Raises Refused where that player reads another OUT, NoAnswer, ValueError."""
+    check_limit(given.ahead)
     if given.player is None:
         return None
     meter = Meter(Link(given.player), given.ahead)

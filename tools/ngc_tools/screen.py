@@ -1,6 +1,7 @@
 """The terminal of `ngc-operate`: lines, one live line, questions, and whether somebody wants to hold."""
 import os
 import select
+import shutil
 import signal
 import sys
 import time
@@ -33,7 +34,7 @@ class Screen:
     def live(self, text: str) -> None:
         """Shows what is under way, ten times a second at most, in the place of what was shown so before."""
         if self.can_clear and time.monotonic() > self._shown + 0.1:
-            width = max(20, os.get_terminal_size(sys.stdout.fileno()).columns - 1)
+            width = max(20, shutil.get_terminal_size().columns - 1)
             print("\r\033[K" + text[:width], end="", flush=True)
             self._live = True
             self._shown = time.monotonic()
@@ -54,6 +55,7 @@ class Screen:
         finally:
             self._prompts = False
             self.asked_to_hold = 0
+            self._shown = 0.0  # what comes next is shown at once
             self._said.clear()
 
     def ask(self, question: str) -> str:

@@ -94,13 +94,13 @@ class InFolder(unittest.TestCase):
 
 
 class Terminal:
-    """A program on a pseudo-terminal that can't clear lines."""
+    """A program on a pseudo-terminal."""
 
-    def __init__(self, *words: str) -> None:
-        """Starts it."""
+    def __init__(self, *words: str, kind: str = "dumb") -> None:
+        """Starts it; a terminal of the kind `dumb` can't clear lines."""
         self.pid, self.file = pty.fork()
         if self.pid == 0:
-            os.environ.update(TERM="dumb", PYTHONUNBUFFERED="1", INPUTRC="/dev/null")
+            os.environ.update(TERM=kind, PYTHONUNBUFFERED="1", INPUTRC="/dev/null")
             os.execv(sys.executable, [sys.executable, *words])
 
     def send(self, text: bytes) -> None:

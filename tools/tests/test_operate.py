@@ -1,11 +1,16 @@
 """ngc-operate: sessions by a script and at a terminal, to the byte, and why a session can't begin."""
+import errno
 import fcntl
 import os
+import re
+import signal
+import socket
 import sys
 import threading
 import tty
 import unittest
 from pathlib import Path
+from unittest.mock import patch
 
 sys.path.insert(0, str(Path(__file__).resolve().parent))
 
@@ -13,6 +18,7 @@ from session_support import TOOLS, InFolder, Terminal, ngc, told  # noqa: E402
 
 from ngc_tools import faults  # noqa: E402
 from ngc_tools.lines import Program  # noqa: E402
+from ngc_tools.operate import HELP, REFUSALS, explained  # noqa: E402
 from ngc_tools.operate_main import main  # noqa: E402
 from ngc_tools.progress import Listener, Report  # noqa: E402
 
@@ -161,6 +167,8 @@ class Scripted(InFolder):
         os.mkfifo("axis")
         os.mkdir("folder")
         os.symlink("mill.dev", "link.dev")
+        with socket.socket(socket.AF_UNIX) as other:
+            other.bind("socket")
         cases = [
             (("mill.dev", "first.toml", "mill.dev"), "DEVICE and OUT are one file: mill.dev"),
             (("mill.dev", "link.dev", "out"), "DEVICE and SETTINGS are one file: mill.dev and link.dev"),
@@ -169,6 +177,11 @@ class Scripted(InFolder):
             (("mill.dev", "folder", "out"), "folder: the settings can't be read: Is a directory"),
             (("none.dev", "first.toml", "out"), "none.dev: there is no such device; `ngc format none.dev` makes one"),
             (("folder", "first.toml", "out"), "folder: a folder, not a device"),
+            (("first.toml/x", "first.toml", "out"), "first.toml/x: the device can't be opened to be read and written: Not a"
+             " directory"),
+            (("mill.dev", "first.toml", "socket"), "socket: OUT can't be opened to be written: No such device or address"),
+            (("mill.dev", "first.toml", "out", "--player", "socket"), "socket: no player listens there: Connection refused"),
+            (("mill.dev", "first.toml", "out", "--ahead", "1"), "1 lines: the bound is from 2 to 5,000"),
             (("short.dev", "first.toml", "out"), "short.dev: not a device: it has 600 bytes of 875,520; remove it, then"
              " `ngc format short.dev`"),
             (("blank.dev", "first.toml", "out"), "blank.dev: not a device: it isn't formatted. `ngc format blank.dev`"
@@ -185,9 +198,17 @@ class Scripted(InFolder):
         for words, wanted in cases:
             self.assertEqual(told(main, *operate(*words)), (2, "", f"ngc-operate: {wanted}\n"), words)
         self.assertFalse(os.path.exists("out"))
-        done = self.tool("ngc-operate", "--ngc", "none", "mill.dev", "first.toml", "out")
-        self.assertEqual(done.returncode, 2)
-        self.assertIn("none", done.stderr)
+
+    def test_not_permitted(self) -> None:
+        """What the system doesn't permit, or a file system can't do."""
+        words = operate("mill.dev", "first.toml", "out")
+        with patch("ngc_tools.checks.os.access", return_value=False), patch("ngc_tools.operate_main.find_ngc"):
+            self.assertEqual(told(main, *words), (2, "", f"ngc-operate: out: OUT can't be made in {self.folder}: permission"
+                                                         " denied\n"))
+        no_locks = OSError(errno.ENOLCK, "No locks available")
+        with patch("ngc_tools.checks.fcntl.flock", side_effect=no_locks):
+            self.assertEqual(told(main, *words), (2, "", "ngc-operate: mill.dev: the device can't be locked: No locks"
+                                                         " available\n"))
 
     def test_in_use(self) -> None:
         """A device, and an OUT, that another process holds."""
@@ -206,11 +227,50 @@ class Scripted(InFolder):
         wanted = ("ngc-operate: ngc ended with status 2: refused S5 OutOfLimits: a number is beyond its limits\n")
         self.assertEqual((done.stderr, done.returncode), (wanted, 2))
 
-    def test_help(self) -> None:
-        """The help has an example."""
-        done = self.tool("ngc-operate", "--help")
-        self.assertEqual(done.returncode, 0)
-        self.assertIn("example:", done.stdout)
+    def test_words(self) -> None:
+        """What is answered without `ngc`, and M1 and a line with a slash where these are asked for."""
+        Path("part.ngc").write_text("/(MSG, left out)\nM1\n(MSG, kept)\nG0 X1\nM2\n")
+        typed = ("?\ntick 5\nREFERENCE\ngo\nload\nload part.ngc\ndelete on\noptional on\nstart\nwhere\ncontinue\n"
+                 "delete off\nexit\n")
+        done = self.tool("ngc-operate", *operate("mill.dev", "first.toml", "out"), text=typed)
+        self.assertEqual(done.stdout, f"""\
+not metered: out is a file, which takes any number of lines ahead of the motors
+idle; X 0.000000 Y 0.000000 Z 0.000000
+ngc> {HELP}
+ngc> ticks are given by run, continue, resume and a line of G-code, in small counts
+ngc> where does the machine stand? reference X Y Z
+ngc> no player is known: --player SOCKET
+ngc> load FILE: which file?
+ngc> done 1: part.ngc, 41 bytes, 5 lines
+ngc> taken
+ngc> taken
+ngc> stopped; the tool in the spindle is none. run goes on
+stopped; X 0.000000 Y 0.000000 Z 0.000000; next line 3 of 5: (MSG, kept)
+ngc> stopped; X 0.000000 Y 0.000000 Z 0.000000; next line 3 of 5: (MSG, kept)
+ngc> message, line 3: kept
+idle; X 1.000000 Y 0.000000 Z 0.000000; next line 1 of 5: /(MSG, left out)
+ngc> taken
+ngc> """)
+        self.assertEqual((done.stderr, done.returncode), ("", 0))
+
+    def test_refusals(self) -> None:
+        """Each fault of docs/SESSION.md and docs/SETTINGS.md that a session can meet has its sentence."""
+        codes = [code for page in ("SESSION.md", "SETTINGS.md")
+                 for code in re.findall(r"^\| ([A-Z]\d+) \w+ \|", (TOOLS.parent / "docs" / page).read_text(), re.MULTILINE)]
+        self.assertGreater(len(codes), 20)
+        self.assertLessEqual({"J1", "K1", "S1", "U1"}, set(codes))
+        for code in set(codes) - {"K6"}:  # of a program whose threads share one controller
+            self.assertIn(": ", explained(f"refused {code} Name"), code)
+        self.assertEqual(explained("refused X9 Name"), "refused X9 Name")
+
+    def test_failed(self) -> None:
+        """An OUT that can't be written: the refusals have their sentences, and the session ends with status 2."""
+        done = self.tool("ngc-operate", *operate("mill.dev", "first.toml", "/dev/full"), text="G0 X0.001\nstart\nquit\n")
+        self.assertIn("not metered: /dev/full is no pipe, which takes any number of lines", done.stdout)
+        self.assertIn(f"refused J1 DeviceFailed: {REFUSALS['J1']}\n", done.stdout)
+        self.assertIn(f"refused K5 Broken: {REFUSALS['K5']}\n", done.stdout)
+        self.assertEqual((done.stderr, done.returncode), (
+            "ngc-operate: ngc ended with status 2: the device or OUT failed in this session\n", 2))
 
 
 class FakePlayer:
@@ -221,7 +281,7 @@ class FakePlayer:
         os.mkfifo("axis")
         self.pipe = os.open("axis", os.O_RDONLY | os.O_NONBLOCK)
         self.got = b""
-        self.lazy = False
+        self.lazy = self.waits = False
         self.most_behind = self.asked = 0
         self.end = threading.Event()
         self.thread = threading.Thread(target=self._work)
@@ -231,6 +291,9 @@ class FakePlayer:
         carried = 0
         while not self.end.wait(0.0005):
             while asked := self.listener.next():
+                if asked[0] == b"go":
+                    self.waits = self.lazy = False
+                    continue
                 try:
                     self.got += os.read(self.pipe, 65536)
                 except BlockingIOError:
@@ -239,7 +302,7 @@ class FakePlayer:
                 self.most_behind = max(self.most_behind, received - carried)
                 self.asked += 1
                 carried = carried if self.lazy else received
-                report = Report(carried, received, False, "0.000000 0.000000 0.000000", os.path.abspath("axis"))
+                report = Report(carried, received, self.waits, "0.000000 0.000000 0.000000", os.path.abspath("axis"))
                 self.listener.answer(asked[0] + b" " + report.text(), asked[1])
 
     def close(self) -> None:
@@ -310,6 +373,85 @@ class AtTerminal(InFolder):
         terminal.send(b"\x04")
         terminal.read_to(b"never")
         self.assertEqual(terminal.status(), 0)
+
+    def test_tool_change(self) -> None:
+        """A player that waits for a tool is told of; a hold, and go."""
+        terminal = Terminal(str(TOOLS / "ngc-operate"), *operate("mill.dev", "first.toml", "axis", "--player", "progress"))
+        terminal.read_to(PROMPT)
+        self.player.lazy = self.player.waits = True
+        terminal.send(b"G1 F60 X3\n")
+        waits = b"the player waits for a tool: press Enter there once it is in; or hold here, and then: go\r\n"
+        self.assertEqual(terminal.read_to(b"then: go\r\n"), b"G1 F60 X3\r\n" + waits)
+        terminal.send(b"\n")
+        terminal.read_to(PROMPT)
+        for typed in (b"go\n", b"continue\n"):
+            terminal.send(typed)
+            shown = terminal.read_to(PROMPT)
+        self.assertEqual(shown.decode().split("\r\n")[:2],
+                         ["continue", "idle; X 3.000000 Y 0.000000 Z 0.000000"])
+        self.player.close()
+        terminal.send(b"go\n")
+        self.assertTrue(terminal.read_to(PROMPT).startswith(b"go\r\nprogress: the player is gone: "))
+
+    def test_motors_behind(self) -> None:
+        """A person doesn't wait for the motors at an end, and holds a resume after its switch."""
+        self.run_ngc("mdi G0 X1\ntick 5\n", "before")
+        terminal = Terminal(str(TOOLS / "ngc-operate"), *operate("mill.dev", "first.toml", "axis", "--player", "progress"))
+        terminal.read_to(PROMPT)
+        terminal.send(b"reference 0 0 0\n")
+        terminal.read_to(PROMPT)
+        self.player.lazy = True
+        for typed, begun in ((b"resume\n", b"first.\r\n"), (b"continue\n", b"continue\r\n")):
+            enough = self.player.asked + 5
+            terminal.send(typed)
+            terminal.read_to(begun)
+            self.wait_for("it waits for the motors", lambda: self.player.asked > enough)
+            terminal.send(b"\n")
+            shown = terminal.read_to(PROMPT).decode()
+        self.assertIn("held; up to 100 lines that are handed out are still carried out\r\n", shown)
+        self.player.lazy = False
+        terminal.send(b"continue\n")
+        self.assertIn("idle; X 1.000000 Y 0.000000 Z 0.000000\r\n", terminal.read_to(PROMPT).decode())
+        self.player.lazy = True
+        enough = self.player.asked + 5
+        terminal.send(b"G0 X1.002\n")
+        self.wait_for("it waits for the motors", lambda: self.player.asked > enough)
+        terminal.send(b"\n")
+        self.assertIn("the player isn't through with its lines yet\r\nidle; X 1.002000 Y 0.000000 Z 0.000000\r\n",
+                      terminal.read_to(PROMPT).decode())
+
+    def test_live_line(self) -> None:
+        """On a terminal that can clear lines, the line under way and where the motors are; it is taken away after."""
+        words = operate("mill.dev", "first.toml", "axis", "--player", "progress")
+        terminal = Terminal(str(TOOLS / "ngc-operate"), *words, kind="xterm")
+        terminal.read_to(PROMPT)
+        Path("part.ngc").write_text("G21 G90\nG1 X9 F60\nM2\n")
+        terminal.send(b"load part.ngc\n")
+        terminal.read_to(PROMPT)
+        self.player.lazy = True
+        for typed, line in ((b"run\n", b"line 2: G1 X9 F60"), (b"g1 y1\n", b"your line: g1 y1")):
+            terminal.send(typed)
+            terminal.read_to(b"\r\x1b[K" + line + b"  X 0.000000 Y 0.000000 Z 0.000000")
+            terminal.send(b"\n")
+            self.assertIn(b"\r\x1b[Kheld; up to 100 lines", terminal.read_to(PROMPT))
+            self.player.lazy = False
+            terminal.send(b"continue\n")
+            terminal.read_to(PROMPT)
+            self.player.lazy = True
+
+    def test_at_the_prompt(self) -> None:
+        """Ctrl-C at the prompt ends nothing; where `ngc` is killed that is said."""
+        terminal = Terminal(str(TOOLS / "ngc-operate"), *operate("mill.dev", "first.toml", "out"))
+        terminal.read_to(PROMPT)
+        terminal.send(b"\x03")
+        self.assertEqual(terminal.read_to(PROMPT), b"\r\nnothing runs; quit ends the session\r\n" + PROMPT)
+        children = Path(f"/proc/{terminal.pid}/task/{terminal.pid}/children").read_text().split()
+        self.assertEqual(len(children), 1)
+        os.kill(int(children[0]), signal.SIGKILL)
+        terminal.send(b"status\n")
+        self.assertEqual(terminal.read_to(b"never"), b"status\r\nngc-operate: ngc ended with status -9: it said no word;"
+                                                     b" memory or the terminal may have failed it\r\n")
+        self.assertEqual(terminal.status(), 2)
 
     def test_reader_stands_still(self) -> None:
         """Without a player, a pipe that nobody reads stops `ngc`: it says so, and the third Ctrl-C ends it."""
