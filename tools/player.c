@@ -155,8 +155,7 @@ static ssize_t read_out(size_t most) { /* without waiting */
 
 static void answer(void) {
     char text[PATH_MAX + 256], question[65] = "", at[128];
-    struct sockaddr_un from;
-    socklen_t size = sizeof from;
+    struct sockaddr_un from; socklen_t size = sizeof from;
     ssize_t got; /* bytes of a question */
     while (asked >= 0 && (got = recvfrom(asked, question, 64, MSG_DONTWAIT, (void *)&from, &size)) >= 0) {
         question[got] = 0;
@@ -169,11 +168,12 @@ static void answer(void) {
 }
 
 static void listen_there(void) {
-    struct sockaddr_un at = { .sun_family = AF_UNIX };
+    struct sockaddr_un at = { .sun_family = AF_UNIX }; struct stat what;
     if (strlen(socket_path) >= sizeof at.sun_path) fail("%s: too long a path for a socket", socket_path);
     strcpy(at.sun_path, socket_path);
     int probe = socket(AF_UNIX, SOCK_DGRAM | SOCK_CLOEXEC, 0), made = socket(AF_UNIX, SOCK_DGRAM | SOCK_CLOEXEC, 0);
-    if (connect(probe, (void *)&at, sizeof at) && errno == ECONNREFUSED) unlink(socket_path); /* a dead player's */
+    if (connect(probe, (void *)&at, sizeof at) && errno == ECONNREFUSED && !stat(socket_path, &what)
+        && S_ISSOCK(what.st_mode)) unlink(socket_path); /* a dead player's */
     close(probe);
     if (bind(made, (void *)&at, sizeof at)) fail("%s: %s", socket_path, strerror(errno));
     asked = made;

@@ -7,6 +7,7 @@ import errno
 import os
 import re
 import socket
+import stat
 import time
 from dataclasses import dataclass
 from pathlib import Path
@@ -57,12 +58,16 @@ class Listener:
     def __init__(self, path: str | Path) -> None:
         """Makes the socket. Raises OSError, also where another player listens there."""
         self.path = str(path)
-        self.socket = socket.socket(socket.AF_UNIX, socket.SOCK_DGRAM)
-        self.socket.setblocking(False)
         if os.path.exists(self.path):
             _remove_stale(self.path)
-        with naming(self.path):
-            self.socket.bind(self.path)
+        self.socket = socket.socket(socket.AF_UNIX, socket.SOCK_DGRAM)
+        self.socket.setblocking(False)
+        try:
+            with naming(self.path):
+                self.socket.bind(self.path)
+        except OSError:
+            self.socket.close()
+            raise
 
     def next(self) -> tuple[bytes, str | bytes] | None:
         """A question and whom to answer, or None where nobody asks."""
@@ -89,7 +94,9 @@ class Listener:
 
 
 def _remove_stale(path: str) -> None:
-    """Removes a socket to which nobody listens any more. Raises OSError where somebody does."""
+    """Removes a socket to which nobody listens any more. Raises OSError where somebody does, or it is no socket."""
+    if not stat.S_ISSOCK(os.stat(path).st_mode):
+        raise OSError(errno.EADDRINUSE, "it is there, and is no socket", path)
     with socket.socket(socket.AF_UNIX, socket.SOCK_DGRAM) as probe:
         try:
             probe.connect(path)

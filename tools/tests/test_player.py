@@ -266,6 +266,9 @@ class Both:
         self.assertRegex(self.refused(*second), "^progress: (another player listens there|Address already in use)$")
         first.kill()
         first.wait()
+        self.assertRegex(self.refused("--progress", "other", *second[2:]),
+                         "^other: (it is there, and is no socket|Address already in use)$")
+        self.assertEqual(Path("other").read_text(), LINES)
         command = self.words("--untimed", *second)
         self.assertEqual(subprocess.run(command, capture_output=True).returncode, 0)
 

@@ -1,0 +1,93 @@
+"""How a player is asked, and what is said where it doesn't answer."""
+import os
+import socket
+import sys
+import unittest
+from pathlib import Path
+
+sys.path.insert(0, str(Path(__file__).resolve().parent))
+
+from session_support import InFolder  # noqa: E402
+
+from ngc_tools.causes import cause  # noqa: E402
+from ngc_tools.progress import Link, Listener, NoAnswer, Report  # noqa: E402
+
+REPORT = Report(3, 203, True, "0.002000 0.000000 -1.000000", "/a b/axis")
+TEXT = b"carried 3 received 203 waits reference 0.002000 0.000000 -1.000000 out /a b/axis"
+
+
+class Reports(unittest.TestCase):
+    """What is answered."""
+
+    def test_report(self) -> None:
+        """As text and back; other text isn't a report."""
+        self.assertEqual((REPORT.text(), Report.read(TEXT), REPORT.behind), (TEXT, REPORT, 200))
+        for text in (b"", b"carried 3", TEXT.replace(b"waits", b"sleeps"), b"x" + TEXT):
+            with self.assertRaisesRegex(ValueError, "^not a report of a player: "):
+                Report.read(text)
+
+
+class Sockets(InFolder):
+    """Both ends in one process."""
+
+    def test_no_answer(self) -> None:
+        """Nobody there, a player that doesn't answer, one that is gone, one that answers another question."""
+        with self.assertRaisesRegex(NoAnswer, "^progress: no player listens there: No such file or directory$"):
+            Link("progress")
+        listener = Listener("progress")
+        link = Link("progress", patience_s=0.2)
+        self.addCleanup(link.close)
+        with self.assertRaisesRegex(NoAnswer, "^progress: the player doesn't answer$"):
+            link.ask()
+        question, sender = listener.next() or (b"", b"")
+        self.assertEqual((question, listener.next()), (b"progress 1", None))
+        listener.answer(b"progress 1 " + TEXT, sender)
+        with self.assertRaisesRegex(NoAnswer, "^progress: the player doesn't answer$"):
+            link.ask()  # the answer to question 1 isn't that to 2
+        listener.close()
+        for asked in (link.ask, link.go):
+            with self.assertRaisesRegex(NoAnswer, "^progress: the player is gone: "):
+                asked()
+
+    def test_asker_is_gone(self) -> None:
+        """Whoever doesn't read the answer goes without; a socket that was removed is no harm."""
+        listener = Listener("progress")
+        link = Link("progress", patience_s=0.01)
+        with self.assertRaises(NoAnswer):
+            link.ask()
+        link.close()
+        _, sender = listener.next() or (b"", b"")
+        listener.answer(TEXT, sender)
+        os.unlink("progress")
+        listener.close()
+
+    def test_one_player(self) -> None:
+        """A second one isn't let in; the socket of a dead one is taken over; a path that can't be is named."""
+        first = Listener("progress")
+        with self.assertRaises(OSError) as caught:
+            Listener("progress")
+        self.assertEqual(cause(caught.exception), "progress: another player listens there")
+        first.socket.close()
+        Listener("progress").close()
+        with self.assertRaises(OSError) as caught:
+            Listener("none/progress")
+        self.assertEqual(cause(caught.exception), "none/progress: No such file or directory")
+        Path("file").write_text("")
+        with self.assertRaises(OSError) as caught:
+            Listener("file")
+        self.assertEqual((cause(caught.exception), Path("file").exists()), ("file: it is there, and is no socket", True))
+
+    def test_not_a_datagram_socket(self) -> None:
+        """Another program's socket isn't taken for a player's, and isn't removed."""
+        with socket.socket(socket.AF_UNIX) as other:
+            other.bind("progress")
+            other.listen()
+            with self.assertRaisesRegex(NoAnswer, "^progress: no player listens there: "):
+                Link("progress")
+            with self.assertRaises(OSError):
+                Listener("progress")
+        self.assertTrue(os.path.exists("progress"))
+
+
+if __name__ == "__main__":
+    unittest.main()
