@@ -138,7 +138,7 @@ class Replay:
         state, last = device.state, self.device.state
         beyond = run.ends is not None or (state.entries, state.segment) > (last.entries, last.segment)
         if copy.lines < lines or lines > many and beyond:
-            raise CannotTell(f"the session handed out fewer lines")
+            raise CannotTell("the session handed out fewer lines")
         began = self._first(run, lambda status: _key(status) >= key)
         ended = self._first(run, lambda status: _key(status) > key)
         return Found(state, lines - began, ended - began, position, 0)

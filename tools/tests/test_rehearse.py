@@ -95,7 +95,8 @@ class Rehearsals(InFolder):
             self.assertNotIn("refused", console.ask(command)[0])
         handed = Path("out").read_bytes().count(b"\n")
         while handed < lines:
-            self.assertNotIn("idle", console.ask(f"tick {lines - handed}"))
+            replies = console.ask(f"tick {lines - handed}")
+            self.assertFalse("idle" in replies or replies[0].startswith("refused"), replies)
             handed = Path("out").read_bytes().count(b"\n")
         if cut:
             console.kill()
@@ -183,11 +184,42 @@ class Rehearsals(InFolder):
         self.session("G91\n" + "G0 X0.002\n" * 700 + "M2\n", cut=False)
         Path("before.dev").write_bytes(Path("mill.dev").read_bytes())
         self.session("", "start", lines=1301)
-        self.assertRegex(self.refused(1, "--carried-out", "1290"), "name a copy|fewer lines")
+        self.assertEqual(self.refused(1, "--carried-out", "1290"), "mill.dev: the session handed out fewer lines\n")
         said = self.rehearse("--carried-out", "1290", "--before", "before.dev")
         self.assertIn("the motors were in line 646 of 702: G0 X0.002\nsegment 0, line 2 of its 2; reference 1.290000",
                       said)
         self.assertIn("NEVER CUT: 10 lines from there up to line 652, segment 0, where resume begins\n", said)
+
+    def test_log_full_within_a_block(self) -> None:
+        """A cycle whose segments don't fit in the log: what comes after is told only by a copy made before."""
+        self.session("G91 G0 Z0.003 F60\nG81 X0.001 Z-0.001 R-0.001 L400\nM2\n", cut=False)
+        Path("before.dev").write_bytes(Path("mill.dev").read_bytes())
+        self.session("", "start", lines=1500)
+        self.assertEqual(self.refused(1, "--carried-out", "3"), "mill.dev: the log begins within a block: it was full; name"
+                                                                " a copy of before by --before COPY\n")
+        self.assertIn("the motors were in line 2 of 3: G81 X0.001 Z-0.001 R-0.001 L400\n",
+                      self.rehearse("--carried-out", "1499", "--before", "before.dev"))
+
+    def test_all_done(self) -> None:
+        """Nothing is half-done, and the motors weren't through with what was handed out."""
+        self.session("", "mdi G0 X1", "tick 2000", cut=False)
+        self.assertEqual(self.rehearse("--carried-out", "600"), """\
+600 lines carried out, counted from 0 entries on
+the motors were in a line of the operator's: G0 X1
+segment 0, line 600 of its 1000; reference 0.600000 0.000000 0.000000
+NEVER CUT: 400 lines from there up to the end of what was handed out
+
+no block is half-done: resume has nothing to do
+there is no program
+""")
+        self.assertEqual(self.refused(1, "--carried-out", "1001"), "mill.dev: the session handed out fewer lines\n")
+
+    def test_nothing_handed_out(self) -> None:
+        """A session that moved nothing."""
+        self.session("", "mdi G91", "tick 5", cut=False)
+        self.assertEqual(self.refused(1, "--carried-out", "1"),
+                         "mill.dev: the log tells of nothing that was handed out since the device was written anew; name a"
+                         " copy of before by --before COPY\n")
 
     def test_block_delete(self) -> None:
         """Whether lines with a slash were left out isn't on the device; the log tells it."""
@@ -215,6 +247,26 @@ class Rehearsals(InFolder):
         self.assertEqual(self.rehearse(), "no block is half-done: resume has nothing to do\nthere is no program\n")
         self.session("M4 S50.5\nG0 X0.5\nM2\n", "start", "tick 6", cut=False)
         self.assertEqual(self.rehearse(), STARTED)
+
+    def test_place_unknown(self) -> None:
+        """After a block was given up a start needs the place; waits count in the time, and a stop is told."""
+        self.session("G4 P1.5\nM0\nG0 X2\nG4 P2.5\nM2\n", "start", "tick 10", "continue", lines=100)
+        self.session("", "abandon", cut=False)
+        head = STARTED.splitlines()[0] + "\nstart goes on with line 3 of 5: G0 X2\n"
+        said = self.rehearse()
+        self.assertTrue(said.startswith(head), said)
+        self.assertTrue(said.endswith("\nit isn't known where the machine stands; name it: X Y Z\n"), said)
+        self.assertTrue(self.rehearse("1", "0", "0").endswith(
+            "it begins at X 1.000000 Y 0.000000 Z 0.000000\n"
+            "from there to the end: 2.550 s; X 1.000 to 2.000   Y 0.000 to 0.000   Z 0.000 to 0.000 mm\n"
+            "    no tool: 2.550 s\n"))
+
+    def test_typed_within_a_program(self) -> None:
+        """After a line of the operator's the program goes on by start; a wait of it counts too."""
+        self.session("G4 P1.5\nG0 X2\nM2\n", "start", "tick 4", "hold", "mdi G0 Y1", lines=100)
+        said = self.rehearse("0", "0", "0")
+        self.assertIn("half-done: the operator's line: G0 Y1\n", said)
+        self.assertTrue(said.endswith("then start goes on with line 2: G0 X2\n"), said)
 
     def test_refused(self) -> None:
         """Each refusal, by `ngc` and of the files."""
