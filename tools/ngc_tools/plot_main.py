@@ -60,8 +60,6 @@ def main() -> int:
         return status
     except BrokenPipeError:
         os.dup2(os.open(os.devnull, os.O_WRONLY), sys.stdout.fileno())  # nobody reads any more
-    except UnicodeEncodeError:
-        print("the title isn't text: give another by --title", file=sys.stderr)
     except (Unplottable, canonical.BadText, out.BadLine) as why:
         print(f"{given.input or 'standard input'}: {why}", file=sys.stderr)
     except subprocess.CalledProcessError as why:

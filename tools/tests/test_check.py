@@ -5,7 +5,7 @@ from pathlib import Path
 
 sys.path.insert(0, str(Path(__file__).resolve().parent))
 
-from session_support import FIRST, TOOLS, InFolder, ngc  # noqa: E402
+from session_support import FIRST, InFolder, ngc  # noqa: E402
 
 from ngc_tools.canonical import parse  # noqa: E402
 from ngc_tools.dangers import by_line  # noqa: E402
@@ -170,10 +170,10 @@ p.ngc: 1 refusal, no warnings
 class Warnings(InFolder):
     """What is valid and dangerous."""
 
-    def warnings(self, program: str) -> list[str]:
+    def warnings(self, program: str, *words: str) -> list[str]:
         """The warnings of a program that isn't refused, each without its path and without the line's text."""
         Path("p.ngc").write_text(program)
-        done = self.tool("ngc-check", "p.ngc", "--ngc", ngc())
+        done = self.tool("ngc-check", "p.ngc", "--ngc", ngc(), *words)
         self.assertEqual((done.stderr, done.returncode), ("", 0))
         return [line.removeprefix("p.ngc:") for line in done.stdout.splitlines()[:-1] if not line.startswith(" ")]
 
@@ -224,6 +224,17 @@ class Warnings(InFolder):
         self.assertEqual(self.warnings("%\nG21 F600 G90 G17\nG1 X1\nM2\n%\n"), [
             f"2: warning: relies on the unit: {unit}, on a line of its own: F is read in the unit before that of its"
             " line"])
+
+    def test_marks_of_its_own(self) -> None:
+        """A program with comments that look like those it puts between the lines."""
+        self.assertEqual(self.warnings(HEAD + "(line 9)\nG4 P31\n(line- 1)\n(line-- 2)\nM2\n"),
+                         ["4: warning: a dwell of 31.000 s: P is in seconds"])
+
+    def test_at_the_edge(self) -> None:
+        """At the end of the travel the distance mode is tried without a shift, which would lie outside."""
+        self.assertEqual(self.warnings("G21 G17\nG0 X-1000\nG0 X0\nM2\n", "--settings", "first.toml"), [
+            "3: warning: relies on the distance mode: the dry run begins with G90, ngc run goes on with what the last block"
+            " left; write G90 or G91 before it"])
 
     def test_bytes(self) -> None:
         """131,072 bytes are taken, one more isn't."""
@@ -305,10 +316,6 @@ class Words(InFolder):
                          " array of at most 64 whole numbers of nanometres, 0 to 1,000,000,000")
         self.assertEqual(self.failed("p.ngc", "--ngc", sys.executable),
                          "ngc dry ended with status 2, and says nothing")
+        self.assertEqual(self.failed("p.ngc", "--ngc", sys.executable, "--settings", "first.toml"),
+                         "ngc dry ended with status 2, and names no fault of first.toml")
 
-    def test_help(self) -> None:
-        """Help with an example, and status 0."""
-        done = self.tool("ngc-check", "--help")
-        self.assertEqual((done.returncode, done.stderr), (0, ""))
-        self.assertIn("ngc-check part.ngc --settings mill.toml", done.stdout)
-        self.assertTrue((TOOLS / "ngc-check").stat().st_mode & 0o111)

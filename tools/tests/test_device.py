@@ -102,11 +102,20 @@ class Devices(unittest.TestCase):
                 (88, 456, b"\x41\0", "sector 88: number of slots 65"),
                 (88, 8, b"\x0e", "sector 88: place 14 of 13 bytes"),
                 (88, 163, b"\1", "sector 88: half-done block 1, what of it is open 1, its point known 1"),
+                (88, 166, b"\1\1", "sector 88: bytes of its text 257"),
                 (1708, 16, struct.pack("<q", 10**9 + 1), "sector 1708: slot 3 1000000001"),
                 (89, 0, struct.pack("<q", 10**13), "sector 89: #1 10000000000000")):
             start = SECTOR * sector + place
             device = Device(image[:start] + content + image[start + len(content):])
             self.assertEqual(device.damage, [said])
+
+    def test_damaged_change(self) -> None:
+        """A record's change of a parameter that isn't there, or of a value beyond its range; the others count."""
+        image = worked("A worked log")
+        for place, content, said in ((32, b"\x18\x15", "#5400 5000000"), (34, struct.pack("<q", 10**13), f"#1 {10**13}")):
+            start = SECTOR * 687 + place
+            device = Device(image[:start] + content + image[start + len(content):])
+            self.assertEqual((device.damage, device.parameters[1]), ([f"sector 687, record 0: change 0, {said}"], 0))
 
     def test_no_device(self) -> None:
         """Too short, or without a header; without the header in force the other one counts."""

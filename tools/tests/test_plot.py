@@ -1,4 +1,5 @@
 """`ngc-plot`: the picture to the byte, its figures, exact times, the examples' pictures."""
+import re
 import subprocess
 import sys
 import unittest
@@ -132,12 +133,32 @@ tool 3    moves 2.000 s   waits 0.001 s   in all 2.001 s
         Path("t.txt").write_text(TEXT)
         far = "[-1000000000, -1000000000, -1000000000]"
         Path("near.toml").write_text(FIRST.replace(far, "[-5000000, 0, -3000000]"))
-        self.figures("t.txt", "--settings", "near.toml", "--at", "5", "2.5", "-1", "--title", "a < b")
+        self.figures("t.txt", "--settings", "near.toml", "--at", "5", "2.5", "-1", "--title", "a < b \udcff")
         text = Path("x.svg").read_text()
-        self.assertIn(">a &lt; b</text>", text)
+        self.assertIn(">a &lt; b \ufffd</text>", text)
         self.assertIn('<rect x="-5000" y="-1000000" width="1005000" height="1000000" fill="none"', text)
         self.assertEqual(text.count('stroke="#1b7837"'), 3)
         self.assertIn("M4459 -3041 5541 -1959M4459 -1959 5541 -3041", text)
+
+    def test_shades(self) -> None:
+        """The least depth has the lightest shade of eight, the greatest the darkest, and those between lie between."""
+        feeds = "".join(f"STRAIGHT_FEED({x}.000000, 0.000000, {z}.000000)\n" for x, z in ((1, 0), (2, 0), (3, -4), (4, -7)))
+        drawn = self.plot(text="SET_FEED_RATE(60.000000)\n" + feeds).stdout
+        above = drawn.partition("</svg>")[0]
+        shades = re.findall(r'stroke="(#[0-9a-f]+)" [^/]* d="([^"]*)"', above)
+        # of seven parts from 146, 197, 222 to 5, 48, 97 none, four, seven
+        self.assertEqual(shades, [("#92c5de", "M0 0 2000 0"), ("#416f96", "M2000 0 3000 0"),
+                                  ("#053061", "M3000 0 4000 0")])
+
+    def test_inverse_time(self) -> None:
+        """Without settings a move under G93 takes its part of a minute, and a traverse has a length alone."""
+        text = ("INVERSE_TIME(20.000000)\nSTRAIGHT_FEED(1.000000, 0.000000, 0.000000)\nSET_FEED_RATE(60.000000)\n"
+                "STRAIGHT_FEED(3.000000, 0.000000, 0.000000)\nSTRAIGHT_TRAVERSE(0.000000, 0.000000, 4.000000)\n"
+                "DWELL(0.250000)\n")
+        Path("t.txt").write_text(text)
+        self.assertEqual(self.figures("t.txt")[-2:], [
+            "no tool   cutting about 5.000 s   traverse 5.000 mm   waits 0.250 s",
+            "times by length and feed, without traverses; exact with --settings"])
 
     def test_refused(self) -> None:
         """A text that ends with a refused line is drawn up to there; status 1."""
@@ -175,11 +196,15 @@ tool 3    moves 2.000 s   waits 0.001 s   in all 2.001 s
             done = self.plot(*words)
             self.assertEqual((done.stdout, done.stderr, done.returncode), ("", said + "\n", 2))
 
-    def test_help(self) -> None:
-        """Help with an example."""
-        done = self.plot("--help")
-        self.assertEqual((done.returncode, done.stderr), (0, ""))
-        self.assertIn("ngc dry part.ngc --settings mill.toml | ngc-plot", done.stdout)
+    def test_other_programs(self) -> None:
+        """A program in the place of `ngc` that makes no device, or hands out nothing."""
+        Path("t.txt").write_text(TEXT)
+        for script, said in (('[ "$1" = dry ]', "other format: status 1"),
+                             ('[ "$1" != run ]', "ngc ended with status 1")):
+            Path("other").write_text(f"#!/bin/sh\n{script}\n")
+            Path("other").chmod(0o755)
+            done = self.tool("ngc-plot", "--ngc", "./other", "t.txt", "--settings", "first.toml")
+            self.assertEqual((done.stdout, done.stderr.removeprefix("./"), done.returncode), ("", said + "\n", 2))
 
 
 class Geometry(unittest.TestCase):

@@ -38,6 +38,9 @@ class Read(InFolder):
             with self.assertRaises(BadSettings) as caught:
                 Settings.read("bad.toml")
             self.assertEqual(str(caught.exception), said)
+        Path("bad.toml").write_bytes(b"# \xfc\n")
+        with self.assertRaisesRegex(BadSettings, "^bad.toml: not UTF-8: byte 2 can't stand there$"):
+            Settings.read("bad.toml")
         with self.assertRaises(OSError):
             Settings.read("none.toml")
 
@@ -117,6 +120,15 @@ first.toml: warning: a traverse of 6,000 mm/min is capped to 1,200 by period_us
 bad.toml: S4 WrongType: a value isn't of its type
     line 5: period_us = 50.0 (S4): it takes a whole number of microseconds, 1 to 1,000,000
     line 6: tools_nm = ["a"] (S4): it takes an array of at most 64 whole numbers of nanometres, 0 to 1,000,000,000
+""",
+            FIRST.replace("= 50\n", "= true\n").replace("= 6000000000\n", "= {a = '1'}\n"): """\
+bad.toml: S4 WrongType: a value isn't of its type
+    line 4: traverse_nm_per_min = {"a" = "1"} (S4): it takes a whole number of nanometres a minute, 1 to 100,000,000,000
+    line 5: period_us = true (S4): it takes a whole number of microseconds, 1 to 1,000,000
+""",
+            FIRST + '"\\u0066eed" = 2\n': """\
+bad.toml: S3 UnknownKey: there is another key
+    feed isn't one of the six keys
 """,
             FIRST.replace("[1000, 1000, 1000]", "[1000, 1000, 5]"): """\
 bad.toml: S5 OutOfLimits: a number is beyond its limits

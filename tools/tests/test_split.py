@@ -165,6 +165,16 @@ class Splits(InFolder):
             self.assertIn("the parts don't do what the whole does", said)
         self.assertEqual(self.parts(), [])
 
+    def test_parameters(self) -> None:
+        """A parameter that a part's head, or a line of a part, doesn't have."""
+        comments = "(so that it is longer than one part may be)\n" * 6
+        for before, after, wanted in (
+                ("G43 H#1", "X2", "a part's head doesn't bring about what is in force before line 10"),
+                ("G0 X0", "X[1/#1]", "ngc refuses line 9 of a part: E5 BadArithmetic")):
+            text = f"#1=1\n{before}\nG0 X1 Z5\n{comments}G1 Z-1 F60\nG0 {after} Z5\nM2\n"
+            said = self.split(text, "--above", "1", limit=len(text) - 1, status=1)
+            self.assertEqual(said, f"part.ngc: {wanted}\n")
+
     def test_refused(self) -> None:
         """A line that `ngc` refuses is told; a short program needs no parts; files aren't written over."""
         self.assertTrue(self.split("G21\nG41 D1\nM2\n", limit=10, status=1).startswith("part.ngc:2: B3 LeftOutCode\n"))
