@@ -6,7 +6,7 @@ import stat
 import termios
 from pathlib import Path
 
-DEVICE_BYTES = 875_520
+from ngc_tools.device import SIZE
 
 
 class Refused(Exception):
@@ -62,8 +62,8 @@ def _device(path: str) -> None:
         _free(file, path, "the device")
         size = os.lseek(file, 0, os.SEEK_END)
         marks = [os.pread(file, 8, byte) for byte in (0, 512)]
-        if size < DEVICE_BYTES:
-            raise Refused(f"{path}: not a device: it has {size:,} bytes of {DEVICE_BYTES:,}; remove it, then"
+        if size < SIZE:
+            raise Refused(f"{path}: not a device: it has {size:,} bytes of {SIZE:,}; remove it, then"
                           f" `ngc format {path}`")
         if b"RS274NGC" not in marks:
             raise Refused(f"{path}: not a device: it isn't formatted. `ngc format {path}` makes one of it, AND"

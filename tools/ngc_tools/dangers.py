@@ -7,10 +7,10 @@ from math import isqrt
 
 from ngc_tools import canonical
 from ngc_tools.canonical import MOTIONS, Command
+from ngc_tools.device import MOST_PROGRAM
 from ngc_tools.figures import duration, millimetres
 from ngc_tools.moves import PLANES, Point, arc_of
 from ngc_tools.refused import Lines
-from ngc_tools.run import MOST_BYTES
 
 Run = Callable[[bytes], bytes]
 """Gives a text to `ngc dry`, and returns what it prints."""
@@ -90,9 +90,9 @@ def _parted(commands: list[Command], mark: str) -> Printed:
 
 def _too_long(lines: Lines) -> list[Danger]:
     size = sum(map(len, lines.all))
-    if size <= MOST_BYTES:
+    if size <= MOST_PROGRAM:
         return []
-    return [Danger(0, "bytes", f"{size:,} bytes: ngc run takes at most {MOST_BYTES:,} of a program (J5)")]
+    return [Danger(0, "bytes", f"{size:,} bytes: ngc run takes at most {MOST_PROGRAM:,} of a program (J5)")]
 
 
 def _homes(lines: Lines, printed: Printed) -> list[Danger]:

@@ -10,7 +10,7 @@ SIZE = SECTOR * 1710  # bytes of the sectors that a device needs
 LOG_FIRST = 686
 LOG_END = {1: 1710, 2: 1706}  # the sector after the log, by the format
 SLOTS = 64
-MOST_PROGRAM = 131_072  # bytes
+MOST_PROGRAM = 131_072  # bytes; of more `ngc run` says J5
 
 _TOOLS_FIRST = 1706
 LENGTHS = range(10**9 + 1)

@@ -8,8 +8,6 @@ import tempfile
 from dataclasses import dataclass
 from pathlib import Path
 
-MOST_BYTES = 131_072  # of a program of `ngc run`: more is J5
-
 _REFUSED = re.compile(r"REFUSED line ([0-9]+): ([A-Z][0-9]+) ([A-Za-z0-9]+)")
 _SETTINGS_REFUSED = re.compile(r"refused ([A-Z][0-9]+) ([A-Za-z0-9]+)")
 

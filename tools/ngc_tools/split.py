@@ -12,7 +12,6 @@ from ngc_tools.moves import Point
 from ngc_tools.position import millimetres
 from ngc_tools.run import Refusal, refusal
 
-MOST_BYTES = 131_072  # of a program of `ngc run`
 LONGEST_LINE = 230  # bytes: a mark still fits in
 
 Ask = Callable[[bytes], tuple[int, bytes]]

@@ -6,10 +6,11 @@ from pathlib import Path
 
 from ngc_tools import faults
 from ngc_tools.causes import cause
+from ngc_tools.device import MOST_PROGRAM
 from ngc_tools.position import millimetres, nanometres
 from ngc_tools.run import CannotRun, dry, find_ngc
 from ngc_tools.settings import BadSettings
-from ngc_tools.split import MOST_BYTES, CannotPart, LineRefused, Part, Program, compare, parted
+from ngc_tools.split import CannotPart, LineRefused, Part, Program, compare, parted
 from ngc_tools.usable import look_at_settings
 
 ABOUT = """Part a program that is longer than a device takes (131,072 bytes) into programs that are run one after the
@@ -37,7 +38,7 @@ def parser() -> argparse.ArgumentParser:
     words.add_argument("--settings", metavar="FILE", help="the machine's settings, for the dry runs")
     words.add_argument("--output", "-o", metavar="PREFIX", help="the parts' names are PREFIX-1.ngc and so on")
     words.add_argument("--above", metavar="Z", help="part it at this machine Z or above, in millimetres")
-    words.add_argument("--limit", metavar="BYTES", type=int, default=MOST_BYTES, help="bytes of a part at most")
+    words.add_argument("--limit", metavar="BYTES", type=int, default=MOST_PROGRAM, help="bytes of a part at most")
     words.add_argument("--force", action="store_true", help="write over files that are there")
     words.add_argument("--ngc", metavar="PATH", help="the program ngc; without it the one beside this tool, or on PATH")
     return words

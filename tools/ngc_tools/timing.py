@@ -6,10 +6,10 @@ from dataclasses import replace
 from pathlib import Path
 
 from ngc_tools.console import Console, Ended
+from ngc_tools.device import MOST_PROGRAM
 from ngc_tools.moves import PLANES, TRAVERSE, Move, Step
 from ngc_tools.out import Pulse, parse
 from ngc_tools.position import millimetres
-from ngc_tools.run import MOST_BYTES
 from ngc_tools.settings import Settings
 
 MOST_PULSES = 3_000_000  # about, of one part: so OUT stays short
@@ -53,7 +53,7 @@ def _programs(moves: list[Move], settings: Settings) -> Iterator[str]:
         line = _line(move) + _MARK
         span = max(sum(abs(q[axis] - p[axis]) for p, q in zip(move.points, move.points[1:])) // settings.step_nm[axis]
                    for axis in range(3))
-        if len(lines) > 1 and (size + len(line) > MOST_BYTES - 10 or pulses + span > MOST_PULSES):
+        if len(lines) > 1 and (size + len(line) > MOST_PROGRAM - 10 or pulses + span > MOST_PULSES):
             yield "".join(lines) + "M2\n"
             lines, size, pulses = [_HEAD], len(_HEAD), 0
         lines.append(line)

@@ -21,7 +21,9 @@ import time
 from dataclasses import dataclass, field
 from pathlib import Path
 
-sys.path.insert(0, str(Path(__file__).resolve().parents[1]))
+sys.path.insert(0, str(Path(__file__).resolve().parent))
+
+from session_support import FIRST  # noqa: E402
 
 from ngc_tools.console import Console, Ended, Status  # noqa: E402
 from ngc_tools.meter import Meter  # noqa: E402
@@ -32,13 +34,6 @@ from ngc_tools.progress import Link, NoAnswer  # noqa: E402
 from ngc_tools.record import Record  # noqa: E402
 
 STEP_NM = (1000, 1000, 1000)
-SETTINGS = """step_nm = [1000, 1000, 1000]
-low_nm = [-1000000000, -1000000000, -1000000000]
-high_nm = [1000000000, 1000000000, 1000000000]
-traverse_nm_per_min = 6000000000
-period_us = 50
-tools_nm = [50000000]
-"""
 
 
 class Wrong(AssertionError):
@@ -371,7 +366,7 @@ def pull(options: Options, moments: int, seed: int, blocks: int = 80) -> Result:
     base = "/dev/shm" if os.access("/dev/shm", os.W_OK) else None
     with tempfile.TemporaryDirectory(prefix="ngc-plug-", dir=base) as name:
         folder = Path(name)
-        (folder / "settings.toml").write_text(SETTINGS)
+        (folder / "settings.toml").write_text(FIRST)
         uncut = run_uncut(options.ngc, folder, program(blocks))
         while len(result.lost) < moments:
             for path in ("job.dev", "record"):

@@ -111,7 +111,7 @@ class Plot(InFolder):
         """Moves that don't fit in one program, by bytes or by pulses, have the same times."""
         steps = list(of_canonical(parse((EXAMPLES / "pocket.txt").read_bytes())))
         whole = timed(ngc(), "first.toml", steps)
-        for name, most in (("MOST_BYTES", 300), ("MOST_PULSES", 30_000)):
+        for name, most in (("MOST_PROGRAM", 300), ("MOST_PULSES", 30_000)):
             with mock.patch.object(timing, name, most):
                 self.assertEqual(timed(ngc(), "first.toml", steps), whole)
         # the first level: down 3 mm at F200, 8 mm at F900, a diagonal of 4 mm and 4 mm, 16 mm
