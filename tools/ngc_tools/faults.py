@@ -19,12 +19,12 @@ FAULTS = (
           "the line isn't in the grammar",
           "write only words of one letter and a number, settings such as #1=2, and comments in ( )"),
     Fault("E2", "LineTooLong",
-          "the line has over 256 bytes",
+          "the line has more than 256 bytes",
           "shorten the line: at most 256 bytes, its blanks and comments counted"),
     Fault("E3", "OutOfRange",
-          "a value, a computed length or an offset is beyond the range: a feed, a named axis's current, new "
-          "program or machine coordinate, a new offset, a sum that SET_ORIGIN_OFFSETS prints, an arc's centre, "
-          "a cycle's R, Z, Q and the place of each of its repeats; of a sum the result alone is looked at",
+          "a value, a computed length or an offset is out of range. E3 looks at: a value; a feed; a named axis's "
+          "current, new program and machine coordinate; a new offset; a sum that SET_ORIGIN_OFFSETS prints; an arc's "
+          "centre; a cycle's R, Z, Q and the place of each of its repeats. Of a sum the result alone is looked at",
           "look for a digit too many, a wrong unit, or an offset that is far too large"),
     Fault("E4", "BadIndex",
           "a parameter's index isn't whole, or isn't 1 to 5399",
@@ -33,7 +33,7 @@ FAULTS = (
           "a divisor 0 in / or MOD, SQRT of a negative number, an exponent that isn't whole from 0 to 32",
           "look at the divisor, at what SQRT takes and at the exponent"),
     Fault("B1", "RepeatedLetter",
-          "a letter other than G and M stands twice",
+          "a letter other than G and M is there twice",
           "write the letter once; two lines where both are meant"),
     Fault("B2", "UnknownCode",
           "a G or M value isn't a code of the tables above",
@@ -66,9 +66,9 @@ FAULTS = (
           "R where the line's motion is G2 or G3",
           "write the arc by its centre, I and J in G17 from the start of the arc, in place of R"),
     Fault("B12", "UnusedWord",
-          "a word that nothing takes: H but with G43; I, J, K but as offsets of an arc in the plane after the "
-          "line; L but with G10 or a cycle; P but with G4, G10, G82, G86 or G89; Q but with G83; R but with a "
-          "cycle or an arc",
+          "a word H, I, J, K, L, P, Q or R that nothing takes. H is taken by G43 alone; I, J and K as offsets of an "
+          "arc in the plane after the line; L by G10 and cycles; P by G4, G10, G82, G86 and G89; Q by G83; R by "
+          "cycles and arcs (R with an arc is B11)",
           "leave the word out"),
     Fault("B13", "Negative",
           "F, S, or P of G4 below 0",
@@ -134,9 +134,9 @@ FAULTS = (
           "a feed move, an arc or a cycle under G94 with feed 0, or under G93 with no F or F0",
           "write F on this line or before it; under G93 on each line that feeds"),
     Fault("X2", "OutsideTravel",
-          "the end of a move lies outside the travel, for G28 and G30 the point between too; or an arc passes "
-          "a point of its circle that lies farthest along an axis of its plane, and that lies outside; the "
-          "limits lie inside",
+          "the end of a move lies outside the travel, or an extreme that an arc passes does. X2 looks at the end of "
+          "each move, for G28 and G30 at the point between too. Of an arc it also looks at each point of its circle "
+          "that lies farthest along an axis of its plane, where the arc passes that point. The limits lie inside",
           "look at the travel of the settings, at the work offset and at the unit"),
     Fault("X3", "NoProgramEnd",
           "the text ended before M2 or M30; the line named is the one after the last",

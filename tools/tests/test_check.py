@@ -13,9 +13,9 @@ from ngc_tools.refused import Lines, find_all  # noqa: E402
 from ngc_tools.run import Refusal, dry, refusal  # noqa: E402
 
 HEAD = "G17 G21 G90 G98\nF600\n"
-UNUSED = """    a word that nothing takes: H but with G43; I, J, K but as offsets of an arc in the plane after
-    the line; L but with G10 or a cycle; P but with G4, G10, G82, G86 or G89; Q but with G83; R but
-    with a cycle or an arc
+UNUSED = """    a word H, I, J, K, L, P, Q or R that nothing takes. H is taken by G43 alone; I, J and K as
+    offsets of an arc in the plane after the line; L by G10 and cycles; P by G4, G10, G82, G86 and
+    G89; Q by G83; R by cycles and arcs (R with an arc is B11)
 """
 AFTER = """What was left out would have moved or set something, so later lines may be refused, or taken, for that alone.
 Mend these, and check again.

@@ -15,11 +15,15 @@ class Faults(unittest.TestCase):
     """The table."""
 
     def test_sentences_are_those_of_the_page(self) -> None:
-        """Code, name and sentence of each row, in the page's order."""
-        rows = re.findall(r"^\| ([EBCYX][0-9]+) (\w+) \| (.*?) \|(?: .*)? \|$", PAGE.read_text(), re.MULTILINE)
-        self.assertEqual(len(rows), 40)
-        self.assertEqual([(fault.code, fault.name, fault.holds) for fault in faults.FAULTS],
-                         [(code, name, holds.replace("`", "")) for code, name, holds in rows])
+        """Code, name and sentence of each row, in the page's order, with what the page says of it below its table."""
+        page = PAGE.read_text().replace("`", "")
+        rows = re.findall(r"^\| ([EBCYX][0-9]+) (\w+) \| (.*?) \|(?: .*)? \|$", page, re.MULTILINE)
+        below = re.findall(r"^- \*\*([EBCYX][0-9]+)\*\*:?((?:.*\n)(?:  .*\n)*)", page, re.MULTILINE)
+        more = {code: re.sub(r"\s+", " ", text).strip().removesuffix(".") for code, text in below}
+        self.assertEqual((len(rows), sorted(more)), (40, ["B12", "E3", "X2"]))
+        for fault, (code, name, holds) in zip(faults.FAULTS, rows, strict=True):
+            wanted = holds.replace(" (below)", f". {more.get(code)}")
+            self.assertEqual((fault.code, fault.name, fault.holds.replace(f". {code} ", ". ")), (code, name, wanted))
 
     def test_each_has_a_cure(self) -> None:
         """No fault is left without a word of what to write."""
