@@ -440,9 +440,13 @@ class AtTerminal(InFolder):
             self.player.lazy = True
 
     def test_at_the_prompt(self) -> None:
-        """Ctrl-C at the prompt ends nothing; where `ngc` is killed that is said."""
+        """A history; Ctrl-C at the prompt ends nothing; where `ngc` is killed that is said."""
         terminal = Terminal(str(TOOLS / "ngc-operate"), *operate("mill.dev", "first.toml", "out"))
         terminal.read_to(PROMPT)
+        where = b"where\r\nidle; X 0.000000 Y 0.000000 Z 0.000000\r\n" + PROMPT
+        for typed in (b"where\n", b"\x10\n"):  # Ctrl-P takes the line before
+            terminal.send(typed)
+            self.assertEqual(terminal.read_to(PROMPT), where)
         terminal.send(b"\x03")
         self.assertEqual(terminal.read_to(PROMPT), b"\r\nnothing runs; quit ends the session\r\n" + PROMPT)
         children = Path(f"/proc/{terminal.pid}/task/{terminal.pid}/children").read_text().split()

@@ -61,6 +61,38 @@ def accepted(text: bytes) -> tuple[list[bytes], int]:
     return lines, len(lines) + 1 if part else 0
 
 
+# Ends a program that asks for memory from its first wait on until it waits for its other thread to end.
+NO_MEMORY = """#define _GNU_SOURCE
+#include <dlfcn.h>
+#include <pthread.h>
+#include <stdlib.h>
+#include <time.h>
+static volatile int plays;
+void *malloc(size_t size) {
+    void *(*real)(size_t) = dlsym(RTLD_NEXT, "malloc");
+    if (plays) abort();
+    return real(size);
+}
+int clock_nanosleep(clockid_t clock, int flags, const struct timespec *until, struct timespec *rest) {
+    int (*real)(clockid_t, int, const struct timespec *, struct timespec *) = dlsym(RTLD_NEXT, "clock_nanosleep");
+    plays = 1;
+    return real(clock, flags, until, rest);
+}
+int pthread_join(pthread_t thread, void **value) {
+    int (*real)(pthread_t, void **) = dlsym(RTLD_NEXT, "pthread_join");
+    plays = 0;
+    return real(thread, value);
+}
+"""
+
+
+def preloaded(name: str, text: str) -> dict[str, str]:
+    """The environment in which functions of the C library are those of this text, in the folder of the test."""
+    Path(f"{name}.c").write_text(text)
+    subprocess.run(["cc", "-shared", "-fPIC", f"{name}.c", "-o", f"{name}.so"], check=True)
+    return {**os.environ, "LD_PRELOAD": f"{os.getcwd()}/{name}.so"}
+
+
 class Both:
     """What the player in Python and the one in C have to do alike."""
 
@@ -274,12 +306,9 @@ class Both:
 
     def test_record_fails(self) -> None:
         """Where the record can't be written any more it stops, in the midst of a wait too."""
-        Path("full.c").write_text(FULL)
-        subprocess.run(["cc", "-shared", "-fPIC", "full.c", "-o", "full.so"], check=True)
         Path("out").write_text("S 1 5.000000 0 0 0 0\n" + "P 1 0 0 60000\n" * 3 + "D 3600000000\n")
         command = self.words("--pins", "pins", "out", "first.toml", "position")
-        done = subprocess.run(command, capture_output=True, text=True, timeout=PATIENCE_S,
-                              env={**os.environ, "LD_PRELOAD": f"{self.folder}/full.so"})
+        done = subprocess.run(command, capture_output=True, text=True, timeout=PATIENCE_S, env=preloaded("full", FULL))
         self.assertEqual(done.returncode, 2, done.stderr)
         self.assertRegex(done.stderr, "player: position: No space left on device\n$")
         self.assertEqual(Path("pins").read_text().splitlines()[-1], "off")
@@ -406,6 +435,19 @@ class C(Both, InFolder):
         self.assertRegex(self.refused("-p", "/dev/full", "out", "first.toml", "position"), "^the pins: No space left")
         done = subprocess.run([self.program, "-x"], capture_output=True)
         self.assertEqual(done.returncode, 2)
+
+    def test_allocates_nothing(self) -> None:
+        """From its first wait on it asks for no memory, also where it is asked how far it is."""
+        os.mkfifo("out")
+        child = subprocess.Popen([self.program, "-s", "progress", "-p", "pins", "out", "first.toml", "position"],
+                                 env=preloaded("memory", NO_MEMORY), stdout=subprocess.PIPE, text=True)
+        link = self.linked()
+        with open("out", "wb", buffering=0) as pipe:
+            pipe.write(LINES.encode() + b"D 20000\n" * 5)
+            self.wait_for("it is through", lambda: link.ask().carried == 13)
+        self.assertEqual(child.communicate(timeout=PATIENCE_S)[0].splitlines()[0],
+                         "out: 13 lines carried out, 3 pulses, 6 waits, 4 switches")
+        self.assertEqual(child.returncode, 0)
 
     def test_length(self) -> None:
         """It has less than 300 lines."""

@@ -1,4 +1,5 @@
 """What all tools have in common: help, wrong words, how they find `ngc`, an output that nobody reads."""
+import ast
 import os
 import shutil
 import subprocess
@@ -16,6 +17,14 @@ NOT_FOUND = "ngc: neither beside this tool nor on PATH; name it with --ngc PATH\
 WORDS = {"ngc-adapt": ("part.ngc",), "ngc-check": ("part.ngc",), "ngc-split": ("part.ngc",),
          "ngc-plot": ("part.txt", "--settings", "first.toml"), "ngc-rehearse": ("mill.dev", "first.toml"),
          "ngc-operate": ("mill.dev", "first.toml", "out")}
+
+
+def imported(path: Path) -> set[str]:
+    """The packages that a file imports from."""
+    nodes = list(ast.walk(ast.parse(path.read_text())))
+    names = [alias.name for node in nodes if isinstance(node, ast.Import) for alias in node.names]
+    names += [node.module or "" for node in nodes if isinstance(node, ast.ImportFrom)]
+    return {name.partition(".")[0] for name in names}
 
 
 class Tools(InFolder):
@@ -63,6 +72,14 @@ class Tools(InFolder):
             self.assertEqual(self.run_tool(name, *words, tools=self.folder / "tools"), on_path, name)
             self.assertEqual(self.run_tool(name, *words, "--ngc", "first.toml"),
                              (2, "", f"{prefix}first.toml: not a program that can be run\n"), name)
+
+    def test_imports(self) -> None:
+        """Python's standard library alone."""
+        paths = [*TOOLS.glob("ngc-*"), *TOOLS.glob("ngc_tools/*.py"), *TOOLS.glob("posts/*.py")]
+        self.assertGreater(len(paths), 40)
+        for path in paths:
+            others = imported(path) - {*sys.stdlib_module_names, "ngc_tools"}
+            self.assertEqual((others, path), (set(), path))
 
     def test_nobody_reads(self) -> None:
         """Status 2 and no word where the reader of its output has gone."""
