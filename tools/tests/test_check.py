@@ -233,8 +233,8 @@ class Warnings(InFolder):
     def test_at_the_edge(self) -> None:
         """At the end of the travel the distance mode is tried without a shift, which would lie outside."""
         self.assertEqual(self.warnings("G21 G17\nG0 X-1000\nG0 X0\nM2\n", "--settings", "first.toml"), [
-            "3: warning: relies on the distance mode: the dry run begins with G90, ngc run goes on with what the last block"
-            " left; write G90 or G91 before it"])
+            "3: warning: relies on the distance mode: the dry run begins with G90, ngc run goes on with what the last"
+            " block left; write G90 or G91 before it"])
 
     def test_bytes(self) -> None:
         """131,072 bytes are taken, one more isn't."""

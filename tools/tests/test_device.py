@@ -112,7 +112,8 @@ class Devices(unittest.TestCase):
     def test_damaged_change(self) -> None:
         """A record's change of a parameter that isn't there, or of a value beyond its range; the others count."""
         image = worked("A worked log")
-        for place, content, said in ((32, b"\x18\x15", "#5400 5000000"), (34, struct.pack("<q", 10**13), f"#1 {10**13}")):
+        great = struct.pack("<q", 10**13)
+        for place, content, said in ((32, b"\x18\x15", "#5400 5000000"), (34, great, "#1 10000000000000")):
             start = SECTOR * 687 + place
             device = Device(image[:start] + content + image[start + len(content):])
             self.assertEqual((device.damage, device.parameters[1]), ([f"sector 687, record 0: change 0, {said}"], 0))

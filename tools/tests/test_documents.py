@@ -121,7 +121,8 @@ class Tools(Documents):
 
     def test_player(self) -> None:
         """A pipe with a player; player.c is built, and its words are those of the page."""
-        text, ((synopsis, _), (fifo, _), (play, record), (build, _), (words, _)) = self.chapter("TOOLS.md", "ngc-player")
+        text, tried = self.chapter("TOOLS.md", "ngc-player")
+        (synopsis, _), (fifo, _), (play, record), (build, _), (words, _) = tried
         self.same_options("ngc-player", text, synopsis)
         self.shell(fifo)
         child = self.begin(play)
@@ -135,7 +136,8 @@ class Tools(Documents):
 
     def test_operate(self) -> None:
         """The session, to the byte, and the record that the player keeps of it."""
-        text, ((synopsis, _), (make, _), (fifo, _), (play, _), (operate, rest)) = self.chapter("TOOLS.md", "ngc-operate")
+        text, tried = self.chapter("TOOLS.md", "ngc-operate")
+        (synopsis, _), (make, _), (fifo, _), (play, _), (operate, rest) = tried
         self.same_options("ngc-operate", text, synopsis)
         program, session = rest[:rest.index("metered")], rest[rest.index("metered"):]
         Path("part.ngc").write_text(program)
@@ -253,15 +255,16 @@ class Others(Documents):
         self.assertRegex(self.shell(script + "\nwait"), r"^done 4\nstatus entries 4 place 0 .* half none idle\n$")
 
     def test_recovery(self) -> None:
-        """docs/RECOVERY.md: a rehearsal by the tool, and by hand over a copy: the OUT that the example's resume has."""
+        """docs/RECOVERY.md: a rehearsal by the tool, and by hand over a copy, with the OUT of the example's resume."""
         _, ((rehearse, _), (copy, _), (run, _)) = self.chapter("RECOVERY.md", "A half-done")
         Path("mill.toml").write_text(Path("first.toml").read_text())
         self.device()
         self.run_ngc("load 22\nM3 S1000\nG0 X0.005\nM2\nstart\ntick 10\n")
         before = Path("mill.dev").read_bytes()
         said = self.shell(rehearse.replace("X Y Z", "0.001 0 0"))
-        self.assertTrue(said.startswith("half-done: line 2 of 3: G0 X0.005\nsegment 0 of 1, counted from 0: begins at"
-                                        " X 0.000000 Y 0.000000 Z 0.000000\nfirst comes on: spindle clockwise at 1000;"))
+        self.assertTrue(said.startswith(
+            "half-done: line 2 of 3: G0 X0.005\nsegment 0 of 1, counted from 0: begins at X 0.000000 Y 0.000000 Z 0.000000\n"
+            "first comes on: spindle clockwise at 1000;"))
         self.shell(copy)
         self.shell(run, text="reference 0.001 0 0\nresume\ntick 100\n")
         example = blocks(chapters("RECOVERY.md")["An example"])

@@ -1,11 +1,17 @@
-"""`ngc-check` over the heads that ten CAM systems write: tests/cam."""
+"""Each tool over the heads that ten CAM systems write: tests/cam."""
 import re
 import sys
 from pathlib import Path
 
 sys.path.insert(0, str(Path(__file__).resolve().parent))
 
-from session_support import InFolder, ngc  # noqa: E402
+from session_support import InFolder, ngc, told  # noqa: E402
+from test_examples import COARSE, STEP_NM  # noqa: E402
+
+from ngc_tools.canonical import MOTIONS, parse  # noqa: E402
+from ngc_tools.position import Position  # noqa: E402
+from ngc_tools.run import dry  # noqa: E402
+from ngc_tools.split_main import main as split  # noqa: E402
 
 CAM = Path(__file__).resolve().parent / "cam"
 
@@ -50,3 +56,25 @@ class Headers(InFolder):
             self.assertEqual(len(warnings), len(warned), name)
             for (line, text), (where, begin) in zip(warnings, warned):
                 self.assertEqual((line, text[:len(begin)]), (where, begin), name)
+
+    def test_as_they_are_adapted(self) -> None:
+        """What `ngc-adapt` has to write of them is refused nowhere, drawn, run, and carried out to its end."""
+        Path("coarse.toml").write_text(COARSE)
+        for name in SAID:
+            path = str(CAM / f"{name}.expected")
+            said = told(split, path, "--ngc", ngc())
+            self.assertEqual((said[0], said[2]), (0, ""), name)
+            self.assertIn(" no refusals, ", self.tool("ngc-check", path, "--ngc", ngc()).stdout)
+            text = dry(ngc(), Path(path))[1].decode()
+            drawn = self.tool("ngc-plot", "--ngc", ngc(), "--settings", "coarse.toml", text=text)
+            self.assertEqual((drawn.returncode, drawn.stderr, drawn.stdout[:5]), (0, "", "<svg "), name)
+            self.device()
+            typed = f"tool 1 50\nload {path}\n" + "run\n" * 4 + "quit\n"
+            done = self.tool("ngc-operate", "--ngc", ngc(), "mill.dev", "coarse.toml", "out", text=typed)
+            self.assertEqual((done.returncode, done.stderr), (0, ""), name)
+            self.assertIn("\nngc> idle; ", done.stdout)
+            self.assertNotIn("refused", done.stdout)
+            end = [command.point for command in parse(text) if command.name in MOTIONS][-1]
+            played = self.tool("ngc-player", "--untimed", "--anew", "--at", "0", "0", "0", "out", "coarse.toml", "position")
+            self.assertEqual(played.stdout.splitlines()[-1], Position(STEP_NM, end).reference(), name)
+            Path("out").unlink()

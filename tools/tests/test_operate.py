@@ -177,10 +177,12 @@ class Scripted(InFolder):
             (("mill.dev", "folder", "out"), "folder: the settings can't be read: Is a directory"),
             (("none.dev", "first.toml", "out"), "none.dev: there is no such device; `ngc format none.dev` makes one"),
             (("folder", "first.toml", "out"), "folder: a folder, not a device"),
-            (("first.toml/x", "first.toml", "out"), "first.toml/x: the device can't be opened to be read and written: Not a"
-             " directory"),
-            (("mill.dev", "first.toml", "socket"), "socket: OUT can't be opened to be written: No such device or address"),
-            (("mill.dev", "first.toml", "out", "--player", "socket"), "socket: no player listens there: Connection refused"),
+            (("first.toml/x", "first.toml", "out"), "first.toml/x: the device can't be opened to be read and written:"
+             " Not a directory"),
+            (("mill.dev", "first.toml", "socket"), "socket: OUT can't be opened to be written: No such device or"
+             " address"),
+            (("mill.dev", "first.toml", "out", "--player", "socket"), "socket: no player listens there: Connection"
+             " refused"),
             (("mill.dev", "first.toml", "out", "--ahead", "1"), "1 lines: the bound is from 2 to 5,000"),
             (("short.dev", "first.toml", "out"), "short.dev: not a device: it has 600 bytes of 875,520; remove it, then"
              " `ngc format short.dev`"),
@@ -203,8 +205,8 @@ class Scripted(InFolder):
         """What the system doesn't permit, or a file system can't do."""
         words = operate("mill.dev", "first.toml", "out")
         with patch("ngc_tools.checks.os.access", return_value=False), patch("ngc_tools.operate_main.find_ngc"):
-            self.assertEqual(told(main, *words), (2, "", f"ngc-operate: out: OUT can't be made in {self.folder}: permission"
-                                                         " denied\n"))
+            wanted = f"ngc-operate: out: OUT can't be made in {self.folder}: permission denied\n"
+            self.assertEqual(told(main, *words), (2, "", wanted))
         no_locks = OSError(errno.ENOLCK, "No locks available")
         with patch("ngc_tools.checks.fcntl.flock", side_effect=no_locks):
             self.assertEqual(told(main, *words), (2, "", "ngc-operate: mill.dev: the device can't be locked: No locks"
@@ -255,8 +257,8 @@ ngc> """)
 
     def test_refusals(self) -> None:
         """Each fault of docs/SESSION.md and docs/SETTINGS.md that a session can meet has its sentence."""
-        codes = [code for page in ("SESSION.md", "SETTINGS.md")
-                 for code in re.findall(r"^\| ([A-Z]\d+) \w+ \|", (TOOLS.parent / "docs" / page).read_text(), re.MULTILINE)]
+        pages = "".join((TOOLS.parent / "docs" / page).read_text() for page in ("SESSION.md", "SETTINGS.md"))
+        codes = re.findall(r"^\| ([A-Z]\d+) \w+ \|", pages, re.MULTILINE)
         self.assertGreater(len(codes), 20)
         self.assertLessEqual({"J1", "K1", "S1", "U1"}, set(codes))
         for code in set(codes) - {"K6"}:  # of a program whose threads share one controller
@@ -265,7 +267,8 @@ ngc> """)
 
     def test_failed(self) -> None:
         """An OUT that can't be written: the refusals have their sentences, and the session ends with status 2."""
-        done = self.tool("ngc-operate", *operate("mill.dev", "first.toml", "/dev/full"), text="G0 X0.001\nstart\nquit\n")
+        words = operate("mill.dev", "first.toml", "/dev/full")
+        done = self.tool("ngc-operate", *words, text="G0 X0.001\nstart\nquit\n")
         self.assertIn("not metered: /dev/full is no pipe, which takes any number of lines", done.stdout)
         self.assertIn(f"refused J1 DeviceFailed: {REFUSALS['J1']}\n", done.stdout)
         self.assertIn(f"refused K5 Broken: {REFUSALS['K5']}\n", done.stdout)
@@ -376,7 +379,8 @@ class AtTerminal(InFolder):
 
     def test_tool_change(self) -> None:
         """A player that waits for a tool is told of; a hold, and go."""
-        terminal = Terminal(str(TOOLS / "ngc-operate"), *operate("mill.dev", "first.toml", "axis", "--player", "progress"))
+        words = operate("mill.dev", "first.toml", "axis", "--player", "progress")
+        terminal = Terminal(str(TOOLS / "ngc-operate"), *words)
         terminal.read_to(PROMPT)
         self.player.lazy = self.player.waits = True
         terminal.send(b"G1 F60 X3\n")
@@ -396,7 +400,8 @@ class AtTerminal(InFolder):
     def test_motors_behind(self) -> None:
         """A person doesn't wait for the motors at an end, and holds a resume after its switch."""
         self.run_ngc("mdi G0 X1\ntick 5\n", "before")
-        terminal = Terminal(str(TOOLS / "ngc-operate"), *operate("mill.dev", "first.toml", "axis", "--player", "progress"))
+        words = operate("mill.dev", "first.toml", "axis", "--player", "progress")
+        terminal = Terminal(str(TOOLS / "ngc-operate"), *words)
         terminal.read_to(PROMPT)
         terminal.send(b"reference 0 0 0\n")
         terminal.read_to(PROMPT)
@@ -453,8 +458,9 @@ class AtTerminal(InFolder):
         self.assertEqual(len(children), 1)
         os.kill(int(children[0]), signal.SIGKILL)
         terminal.send(b"status\n")
-        self.assertEqual(terminal.read_to(b"never"), b"status\r\nngc-operate: ngc ended with status -9: it said no word;"
-                                                     b" memory or the terminal may have failed it\r\n")
+        said = (b"status\r\nngc-operate: ngc ended with status -9: it said no word; memory or the terminal may have"
+                b" failed it\r\n")
+        self.assertEqual(terminal.read_to(b"never"), said)
         self.assertEqual(terminal.status(), 2)
 
     def test_reader_stands_still(self) -> None:

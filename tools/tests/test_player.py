@@ -188,8 +188,8 @@ class Both:
         Path("out").write_text("P 1 0 0 50\nP 1 0 0 50")
         done = self.play("--untimed")
         self.assertEqual((done.returncode, done.stdout.splitlines()[-1]), (1, "reference 0.001000 0.000000 0.000000"))
-        self.assertRegex(done.stderr, "^out:2: OUT ends in a part of a line(: 'P 1 0 0 50')?; stopped, spindle and coolant"
-                                      " off\n$")
+        self.assertRegex(done.stderr, "^out:2: OUT ends in a part of a line(: 'P 1 0 0 50')?; stopped, spindle and"
+                                      " coolant off\n$")
 
     def test_times(self) -> None:
         """No line comes before its time: 100 pulses of 2 ms, of which each may come a tenth sooner, and a wait."""
@@ -424,14 +424,14 @@ class C(Both, InFolder):
     def test_its_own_words(self) -> None:
         """Of the settings it reads two keys; its own words."""
         Path("out").write_text(LINES)
-        for old, new, said in (("[1000, 1000, 1000]", "[1000, 0, 1000]", "step_nm"), ("= 50\n", "= fast\n", "period_us"),
-                               ("= 50\n", "= 1000001\n", "period_us")):
+        for old, new, said in (("[1000, 1000, 1000]", "[1000, 0, 1000]", "step_nm"),
+                               ("= 50\n", "= fast\n", "period_us"), ("= 50\n", "= 1000001\n", "period_us")):
             Path("bad.toml").write_text(FIRST.replace(old, new))
             self.assertEqual(self.refused("out", "bad.toml", "position"),
                              f"bad.toml: {said}: not a whole number from 1 to 1000000")
         for words in (("out", "first.toml"), ("out", "first.toml", "position", "more")):
-            self.assertEqual(self.refused(*words), "usage: player [-u] [-n] [-b BYTES] [-s SOCKET] [-p PINS] OUT SETTINGS"
-                                                   " POSITION")
+            self.assertEqual(self.refused(*words), "usage: player [-u] [-n] [-b BYTES] [-s SOCKET] [-p PINS] OUT"
+                                                   " SETTINGS POSITION")
         self.assertRegex(self.refused("-p", "/dev/full", "out", "first.toml", "position"), "^the pins: No space left")
         done = subprocess.run([self.program, "-x"], capture_output=True)
         self.assertEqual(done.returncode, 2)

@@ -142,7 +142,8 @@ tool 3    moves 2.000 s   waits 0.001 s   in all 2.001 s
 
     def test_shades(self) -> None:
         """The least depth has the lightest shade of eight, the greatest the darkest, and those between lie between."""
-        feeds = "".join(f"STRAIGHT_FEED({x}.000000, 0.000000, {z}.000000)\n" for x, z in ((1, 0), (2, 0), (3, -4), (4, -7)))
+        ends = ((1, 0), (2, 0), (3, -4), (4, -7))
+        feeds = "".join(f"STRAIGHT_FEED({x}.000000, 0.000000, {z}.000000)\n" for x, z in ends)
         drawn = self.plot(text="SET_FEED_RATE(60.000000)\n" + feeds).stdout
         above = drawn.partition("</svg>")[0]
         shades = re.findall(r'stroke="(#[0-9a-f]+)" [^/]* d="([^"]*)"', above)

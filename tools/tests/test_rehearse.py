@@ -195,8 +195,8 @@ class Rehearsals(InFolder):
         self.session("G91 G0 Z0.003 F60\nG81 X0.001 Z-0.001 R-0.001 L400\nM2\n", cut=False)
         Path("before.dev").write_bytes(Path("mill.dev").read_bytes())
         self.session("", "start", lines=1500)
-        self.assertEqual(self.refused(1, "--carried-out", "3"), "mill.dev: the log begins within a block: it was full; name"
-                                                                " a copy of before by --before COPY\n")
+        self.assertEqual(self.refused(1, "--carried-out", "3"), "mill.dev: the log begins within a block: it was full;"
+                                                                " name a copy of before by --before COPY\n")
         self.assertIn("the motors were in line 2 of 3: G81 X0.001 Z-0.001 R-0.001 L400\n",
                       self.rehearse("--carried-out", "1499", "--before", "before.dev"))
 
@@ -218,8 +218,8 @@ there is no program
         """A session that moved nothing."""
         self.session("", "mdi G91", "tick 5", cut=False)
         self.assertEqual(self.refused(1, "--carried-out", "1"),
-                         "mill.dev: the log tells of nothing that was handed out since the device was written anew; name a"
-                         " copy of before by --before COPY\n")
+                         "mill.dev: the log tells of nothing that was handed out since the device was written anew;"
+                         " name a copy of before by --before COPY\n")
 
     def test_block_delete(self) -> None:
         """Whether lines with a slash were left out isn't on the device; the log tells it."""

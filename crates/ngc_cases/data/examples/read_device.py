@@ -1,10 +1,11 @@
 #!/usr/bin/env python3
-"""Prints what a device of format 1 or 2 stands for, and where its log ends. docs/DEVICE.md says where each number stands.
+"""Prints what a device of format 1 or 2 stands for, and where its log ends. docs/DEVICE.md says where each number is.
 
-    read_device.py DEVICE     DEVICE is the file that `ngc format` made, or a disk that is used as one; it is read, never written
+    read_device.py DEVICE     DEVICE is the file that `ngc format` made, or a disk that is used as one; it is only read
 
-Status 0 where it stands for something; 1 where it is no device (J2) or a damaged one (J3), of which all is printed that was found; 2 where
-it can't be read, or is called otherwise. It reads by tools/ngc_tools/device.py of the folder above it that has that."""
+Status 0 where it stands for something; 1 where it is no device (J2) or a damaged one (J3), of which all is printed that
+was found; 2 where it can't be read, or the words are wrong. It reads by tools/ngc_tools/device.py of the checkout that
+it lies in."""
 import signal
 import sys
 from pathlib import Path
@@ -12,7 +13,8 @@ from pathlib import Path
 HERE = Path(__file__).resolve()
 TOOLS = [folder / "tools" for folder in HERE.parents if (folder / "tools" / "ngc_tools" / "device.py").is_file()]
 if not TOOLS:
-    print(f"{HERE}: no folder above it has tools/ngc_tools/device.py, by which it reads: leave it in its checkout", file=sys.stderr)
+    print(f"{HERE}: no folder above it has tools/ngc_tools/device.py, by which it reads: leave it in its checkout",
+          file=sys.stderr)
     sys.exit(2)
 sys.path.insert(0, str(TOOLS[0]))
 
