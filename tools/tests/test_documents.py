@@ -263,7 +263,8 @@ class Others(Documents):
         before = Path("mill.dev").read_bytes()
         said = self.shell(rehearse.replace("X Y Z", "0.001 0 0"))
         self.assertTrue(said.startswith(
-            "half-done: line 2 of 3: G0 X0.005\nsegment 0 of 1, counted from 0: begins at X 0.000000 Y 0.000000 Z 0.000000\n"
+            "half-done: line 2 of 3: G0 X0.005\n"
+            "segment 0 of 1, counted from 0: begins at X 0.000000 Y 0.000000 Z 0.000000\n"
             "first comes on: spindle clockwise at 1000;"))
         self.shell(copy)
         self.shell(run, text="reference 0.001 0 0\nresume\ntick 100\n")

@@ -75,6 +75,7 @@ class Headers(InFolder):
             self.assertIn("\nngc> idle; ", done.stdout)
             self.assertNotIn("refused", done.stdout)
             end = [command.point for command in parse(text) if command.name in MOTIONS][-1]
-            played = self.tool("ngc-player", "--untimed", "--anew", "--at", "0", "0", "0", "out", "coarse.toml", "position")
+            words = ("--untimed", "--anew", "--at", "0", "0", "0", "out", "coarse.toml", "position")
+            played = self.tool("ngc-player", *words)
             self.assertEqual(played.stdout.splitlines()[-1], Position(STEP_NM, end).reference(), name)
             Path("out").unlink()
