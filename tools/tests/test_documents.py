@@ -287,12 +287,19 @@ class Others(Documents):
         Path("part.ngc").write_text(head + "G1 X1\n" + end)
         self.assertIn("STRAIGHT_FEED(1.000000, 0.000000, 0.000000)\n", self.shell(dry))
 
+    def test_settings(self) -> None:
+        """docs/SETTINGS.md: a look at the settings."""
+        text = (DOCS / "SETTINGS.md").read_text().replace("\n", " ")
+        command = next(command for command in _INLINE.findall(text) if "--settings-only" in command)
+        self.assertIn("    traverse  3,000 mm/min\n", self.shell(command))
+
     def test_read_device(self) -> None:
         """docs/RECOVERY.md and docs/SESSION.md: what was on, and the slots."""
         self.device()
         self.run_ngc("tool 1 50\nmdi M4 S500\ntick 9\n")
         for page in ("RECOVERY.md", "SESSION.md"):
-            command = next(command for command in _INLINE.findall((DOCS / page).read_text()) if ".py" in command)
+            text = (DOCS / page).read_text().replace("\n", " ")
+            command = next(command for command in _INLINE.findall(text) if ".py" in command)
             said = self.shell(command.replace("examples/", str(TOOLS.parent / "examples") + "/"))
             self.assertIn("\nspindle: 2\n", said)
             self.assertIn("\ntool length of slot 1, nm: 50000000\n", said)
