@@ -108,17 +108,21 @@ class Copy:
                     raise Refused(command, reply, self.console.status())
             self.start = self.console.status()
         except BaseException:
-            self.__exit__(None, None, None)
+            self.close()
             raise
         at = [nanometres(number) for number in self.start.at]
         self.tally = Tally(Position(self._settings.step_nm, at)) if counted else None
 
     def __enter__(self) -> "Copy":
-        """Ends with the block."""
+        """Begins with the block."""
         return self
 
     def __exit__(self, kind: type[BaseException] | None, why: BaseException | None,
                  where: TracebackType | None) -> None:
+        """Ends with the block."""
+        self.close()
+
+    def close(self) -> None:
         """Ends it and removes its files."""
         self.console.kill()
         self._folder.cleanup()
@@ -196,7 +200,7 @@ def first(make: Callable[[bool], Copy], holds: Callable[[Status], bool]) -> Copy
     try:
         copy.go(ticks)
     except BaseException:
-        copy.__exit__(None, None, None)
+        copy.close()
         raise
     return copy
 
