@@ -242,7 +242,8 @@ class Both:
         child = self.begin("out", "first.toml", "position")
         with open("out", "wb", buffering=0) as pipe:
             pipe.write(b"P 0 1 0 50\nD 3600000000\n")
-            self.wait_for("the record is there", lambda: os.path.exists("position") and "lines 2" in record())
+            kept = Path("position")
+            self.wait_for("the record is there", lambda: kept.exists() and b"\nlines 2\n" in kept.read_bytes())
             child.kill()
             child.wait()
         self.assertEqual(record(), "lines 2\nbytes 24\noutputs S 0 0.000000 0 0 0 0\n"
