@@ -11,7 +11,7 @@ from session_support import FIRST, TOOLS, InFolder, ngc, told  # noqa: E402
 
 from ngc_tools.adapt_main import main as adapt  # noqa: E402
 from ngc_tools.canonical import MOTIONS, Command, parse  # noqa: E402
-from ngc_tools.position import Position  # noqa: E402
+from ngc_tools.position import Position, millimetres  # noqa: E402
 from ngc_tools.rehearse_main import main as rehearse  # noqa: E402
 from ngc_tools.split_main import main as split  # noqa: E402
 
@@ -88,7 +88,7 @@ class Examples(InFolder):
                 self.rehearsed(name)
                 x, y, z = moves(name)[-1].args[:3]
                 shown = self.operate(delete + "run\n" * 3 + "quit\n")
-                ends = " ".join(f"{axis} {nm / 10**6:.6f}" for axis, nm in zip("XYZ", (x, y, z), strict=True))
+                ends = " ".join(f"{axis} {millimetres(nm)}" for axis, nm in zip("XYZ", (x, y, z), strict=True))
                 self.assertIn(f"idle; {ends}; next line ", shown)
                 said = self.said("ngc-player", "--untimed", "--at", "0", "0", "0", "out", "coarse.toml", "position")
                 self.assertEqual(said.splitlines()[-1], Position(STEP_NM, (x, y, z)).reference())
