@@ -124,6 +124,15 @@ class Terminal:
             got += piece
         return got
 
+    def press(self, key: bytes, end: bytes) -> bytes:
+        """Presses a key, again where nothing is shown for two seconds: Python's prompt heeds a Ctrl-C that comes right
+        as it is shown only with the next key. Returns what is shown up to such an end."""
+        for _ in range(PATIENCE_S // 2):
+            self.send(key)
+            if select.select([self.file], [], [], 2)[0]:
+                return self.read_to(end)
+        raise AssertionError(f"nothing comes of {key!r}")
+
     def send_to_end(self, key: bytes) -> bytes:
         """Presses a key again and again until the program ends; returns what is shown meanwhile."""
         got, until = b"", time.monotonic() + PATIENCE_S

@@ -452,8 +452,7 @@ class AtTerminal(InFolder):
         for typed in (b"where\n", b"\x10\n"):  # Ctrl-P takes the line before
             terminal.send(typed)
             self.assertEqual(terminal.read_to(PROMPT), where)
-        terminal.send(b"\x03")
-        self.assertEqual(terminal.read_to(PROMPT), b"\r\nnothing runs; quit ends the session\r\n" + PROMPT)
+        self.assertEqual(terminal.press(b"\x03", PROMPT), b"\r\nnothing runs; quit ends the session\r\n" + PROMPT)
         children = Path(f"/proc/{terminal.pid}/task/{terminal.pid}/children").read_text().split()
         self.assertEqual(len(children), 1)
         os.kill(int(children[0]), signal.SIGKILL)
