@@ -239,11 +239,10 @@ class Others(Documents):
 
     def test_session(self) -> None:
         """docs/SESSION.md: the first session, its answers and pulses, and a program that the shell sends."""
-        _, ((make, _),) = self.chapter("SESSION.md", "The device")
-        text, ((again, _), (run, rest), *piped) = self.chapter("SESSION.md", "A first session")
+        text, ((make, _), (run, rest), *piped) = self.chapter("SESSION.md", "A first session")
         settings, _, talk, pulses, _ = blocks(text)
         Path("first.toml").write_text(settings)
-        self.assertEqual((self.shell(make), self.shell(again)), ("", ""))
+        self.assertEqual(self.shell(make), "")
         typed = [line[:15].strip() for line in talk.splitlines()]
         answers = [re.split(" {2,}", line[15:])[0] for line in talk.splitlines()]
         said = self.shell(run, text="\n".join(filter(None, typed)) + "\n")
@@ -253,6 +252,15 @@ class Others(Documents):
         shutil.copy("examples/first.ngc", "part.ngc")
         script = "\n".join(command for command, _ in piped)
         self.assertRegex(self.shell(script + "\nwait"), r"^done 4\nstatus entries 4 place 0 .* half none idle\n$")
+
+    def test_device(self) -> None:
+        """docs/SESSION.md: what makes a device where there is none, and what lengthens one."""
+        for command, _ in self.chapter("SESSION.md", "The device")[1]:
+            Path("mill.dev").unlink(missing_ok=True)
+            if " grow " in command:
+                self.device()
+            self.assertEqual(self.shell(command), "")
+            self.assertGreaterEqual(Path("mill.dev").stat().st_size, 875_520)
 
     def test_recovery(self) -> None:
         """docs/RECOVERY.md: a rehearsal by the tool, and by hand over a copy, with the OUT of the example's resume."""
