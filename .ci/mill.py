@@ -6,6 +6,19 @@ NGC = f"{HERE}/crates/ngc/out/ngc"
 # Seconds on the clock after which a process is ended.
 SECONDS = 60
 
+# The bytes of a new device, and of a large one.
+DEVICE = 875_520
+LARGE_DEVICE = 2_972_672
+
+# The default machine, without tools.
+SETTINGS = """step_nm = [1000, 1000, 1000]
+low_nm = [-1000000000, -1000000000, -1000000000]
+high_nm = [1000000000, 1000000000, 1000000000]
+traverse_nm_per_min = 6000000000
+period_us = 50
+tools_nm = []
+"""
+
 
 class Wrong(Exception):
     """What isn't as it has to be."""
@@ -22,7 +35,7 @@ def contents(path):
 
 def stored_device(name):
     """A device that the cases keep as rows of a sector, a place in it, and the bytes there; all other bytes are 0."""
-    device = bytearray(512 * 1710)
+    device = bytearray(DEVICE)
     with open(f"{HERE}/crates/ngc_cases/data/{name}.hex") as rows:
         for row in rows:
             sector, place, digits = row.split()

@@ -2,5 +2,5 @@ mod Walked
 mod Entered
 mod Got
 mod JobWords
-mod Formatted
 mod Runs
+mod Headers

@@ -4,3 +4,6 @@ pub mod Refusals
 pub mod Formatting
 pub mod Operating
 pub mod Status
+pub mod Sizes
+pub mod Devices
+pub mod Growing

@@ -1,26 +1,20 @@
 -- What the job `run` does (own): an operator commands a controller over a device in a file, and what it hands out is appended to another.
-use Rattle.std.specs.Prelude.{ℕ, ◌≡◌, ◌⊎◌, ◌/◌, List, [], Option, Some, None, Result, Ok, Err, IfSome, length}
+use Rattle.std.specs.Prelude.{ℕ, ◌⊎◌, List, [], Option, Some, None, Result, Ok, Err}
 use Rattle.std.specs.declared.io.Error.{Error}
 use Rattle.std.specs.declared.alloc.Global.{Global}
 use Rattle.ng_rig.specs.Trace.{Began}
 use Rattle.ng_settings.specs.declared.standard.Settings.{Settings}
-use Rattle.ng_file.specs.FileRig.{failure_count, outlet, sector_count, storage}
+use Rattle.ng_file.specs.FileRig.{failure_count, sector_count}
 use Rattle.ng_file.specs.declared.device.NoDevice.{NoDevice}
 use Rattle.ng_file.specs.declared.opened.OpenedFile.{OpenedFile}
 use Rattle.ng_file.specs.declared.rig.FileRig.{FileRig}
 use Rattle.ng_run.specs.Consoles.{ConsoleSpec}
 use Rattle.ng_console.specs.Chosen.{GivesChoice}
+use Rattle.ng_console.specs.Devices.{IsOver}
 use Rattle.ng_console.specs.Refusals.{IsSilent, RefusesDevice, RefusesSettings, RefusesStorage}
 use Rattle.ng_console.specs.declared.settings_file.NoSettings.{NoSettings}
 
--- The device is that of these bytes, as many sectors as they have whole ones, and hands out to this file.
-pub record IsOver {S O A : Type 0} (content : S → Option (List ℕ)) (device : S) (out : O) (rig : FileRig S O A) : Type 0 where
-  pub bytes : content (storage rig) ≡ content device
-  pub sectors : IfSome (content device) (λ held. sector_count rig ≡ length held / 512)
-  pub hands_out : outlet rig ≡ out
-  pub failures : failure_count rig ≡ 0
-
--- the console's conversation over that device; or none can be made of these bytes: they can't say how many they are, or memory is wanting
+-- the console's conversation over that device; or none can be made of these bytes: they can't say how many they are, or there isn't enough memory
 abbrev pub OperatesDevice : {S O : Type 0} → (S → Option (List ℕ)) → Settings → S → O → Option (List ℕ) → Option (List ℕ) → Option (List ℕ) → ℕ → Type 0
 OperatesDevice {S} {O} content settings device out text old new status =
     ((rig : FileRig S O Global) × (left : FileRig S O Global) × IsOver content device out rig

@@ -1,5 +1,5 @@
 -- How a job that can't be done ends (own).
-use Rattle.std.specs.Prelude.{ℕ, ◌≡◌, ◌≢◌, ◌⊎◌, List, ◌++◌, Option, codes}
+use Rattle.std.specs.Prelude.{ℕ, ◌≡◌, ◌≢◌, ◌⊎◌, List, ◌++◌, Option, Result, Ok, Err, codes}
 use Rattle.std.specs.Io.KnownBytes.{Appends}
 use Rattle.std.specs.IoError.{error_kind}
 use Rattle.std.specs.declared.io.Error.{Error}
@@ -23,6 +23,11 @@ refused_text fault = codes "refused " ++ (fault_text fault ++ codes "\n")
 abbrev pub IsRefusedWith : Fault → Option (List ℕ) → Option (List ℕ) → ℕ → Type 0
 IsRefusedWith fault old new status = (status ≡ 2) × Appends old new (refused_text fault)
 
+-- what a device is asked for is done, and nothing is written; or the line of the fault is
+abbrev pub FaultStatus : {T : Type 0} → Result T Fault → Option (List ℕ) → Option (List ℕ) → ℕ → Type 0
+FaultStatus (Ok _) old new status = (status ≡ 0) × (new ≡ old)
+FaultStatus (Err fault) old new status = IsRefusedWith fault old new status
+
 -- settings that can't be read, or that are refused
 abbrev pub RefusesSettings : NoSettings → Option (List ℕ) → Option (List ℕ) → ℕ → Type 0
 RefusesSettings Unread old new status = IsSilent old new status
@@ -33,7 +38,7 @@ abbrev pub RefusesDevice : NoDevice → Option (List ℕ) → Option (List ℕ) 
 RefusesDevice Unopened old new status = IsSilent old new status
 RefusesDevice Unusable old new status = IsRefusedWith DeviceFailed old new status
 
--- the fault of an error over a file that was opened: memory was wanting, or else the file failed
+-- the fault of an error over a file that was opened: there wasn't enough memory, or else the file failed
 abbrev pub IsFaultOf : Error → Fault → Type 0
 IsFaultOf error fault =
     ((error_kind error ≡ kind.OutOfMemory) × (fault ≡ OutOfMemory))

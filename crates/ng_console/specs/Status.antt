@@ -1,6 +1,6 @@
 -- How `ngc` ends (own): 0 done, 1 a refused program of a dry run, 2 anything that kept it from its work. Faults of status 2 are
 -- looked for in the order words, one file given twice, settings file, other files, the run.
-use Rattle.std.specs.Prelude.{ℕ, ◌≡◌, Bool, List, Option, Result, Ok, Err, IfSome, is_some}
+use Rattle.std.specs.Prelude.{ℕ, ◌≡◌, Bool, List, Option, None, Result, Ok, Err, IfSome, is_some}
 use Rattle.std.specs.declared.io.Error.{Error}
 use Rattle.ng_settings.specs.declared.standard.Settings.{Settings}
 use Rattle.ng_block.specs.Program.{TermsModel}
@@ -12,10 +12,11 @@ use Rattle.ng_file.specs.declared.device.NoDevice.{NoDevice}
 use Rattle.ng_file.specs.declared.opened.OpenedFile.{OpenedFile}
 use Rattle.ng_console.specs.Chosen.{GivesChoice}
 use Rattle.ng_console.specs.Formatting.{FormatsOpened}
+use Rattle.ng_console.specs.Growing.{GrowsOpened}
 use Rattle.ng_console.specs.Operating.{Operates}
 use Rattle.ng_console.specs.Refusals.{IsSilent, RefusesSettings}
 use Rattle.ng_console.specs.declared.command_line.Job.{Job}
-use Rattle.ng_console.specs.declared.command_line.Job.TheVariants.{Dry, Format, Run}
+use Rattle.ng_console.specs.declared.command_line.Job.TheVariants.{Dry, Format, Grow, Run}
 use Rattle.ng_console.specs.declared.settings_file.NoSettings.{NoSettings}
 
 abbrev pub status_of : Result Ended DryFault → ℕ
@@ -53,5 +54,7 @@ module _ {F : Type 0} (bytes_of : F → Option (List ℕ)) where
   JobSpec (Dry program settings block_delete) text old new status =
       (settings_file : Option (Result F Error)) × (program_file : Result F Error) × (is_some settings_file ≡ is_some settings)
       × ((chosen : Result Settings NoSettings) × GivesChoice bytes_of settings_file chosen × RunsChosen chosen block_delete program_file old new status)
-  JobSpec (Format device) text old new status = (opened : Result (OpenedFile F) NoDevice) × FormatsOpened opened old new status
+  JobSpec (Format device large) text old new status = (opened : Result (OpenedFile F) NoDevice) × FormatsOpened (λ (file : OpenedFile F). None) large opened old new status
+  JobSpec (Grow device) text old new status =
+      (opened : Result (OpenedFile F) NoDevice) × GrowsOpened (λ (file : OpenedFile F). None) (λ (file : OpenedFile F). None) opened old new status
   JobSpec (Run device settings out) text old new status = Operates bytes_of text old new status

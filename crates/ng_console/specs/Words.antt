@@ -4,7 +4,7 @@ use Rattle.clap.specs.Words.{App, Row, Rule, Text, first_of, new_app, new_rule, 
 use Rattle.clap.specs.declared.builder.ArgAction.TheVariants.{Set, SetTrue}
 use Rattle.clap.specs.Values.{bool_text}
 use Rattle.ng_console.specs.declared.command_line.Job.{Job}
-use Rattle.ng_console.specs.declared.command_line.Job.TheVariants.{Dry, Format, Run}
+use Rattle.ng_console.specs.declared.command_line.Job.TheVariants.{Dry, Format, Grow, Run}
 
 -- PROGRAM, a file that has to be named
 abbrev pub program_rule : Rule
@@ -26,9 +26,17 @@ dry_app = with_rule (with_rule (with_rule (new_app (codes "dry")) program_rule) 
 abbrev pub device_rule : Rule
 device_rule = record (new_rule (codes "DEVICE")) { action = Some Set; required = true }
 
--- format DEVICE
+-- --large, a flag that is off where it isn't given
+abbrev pub large_rule : Rule
+large_rule = record (new_rule (codes "large")) { long = Some (codes "large"); action = Some SetTrue }
+
+-- format DEVICE [--large]
 abbrev pub format_app : App
-format_app = with_rule (new_app (codes "format")) device_rule
+format_app = with_rule (with_rule (new_app (codes "format")) device_rule) large_rule
+
+-- grow DEVICE
+abbrev pub grow_app : App
+grow_app = with_rule (new_app (codes "grow")) device_rule
 
 -- SETTINGS and OUT, files that have to be named
 abbrev pub settings_file_rule : Rule
@@ -45,21 +53,23 @@ run_app = with_rule (with_rule (with_rule (new_app (codes "run")) device_rule) s
 abbrev pub only_by_subcommands : App → App
 only_by_subcommands app = record app { top = record app.top { has_version = true; subcommand_required = true; arg_required_else_help = true } }
 
--- ngc dry PROGRAM [--settings FILE] [--block-delete], ngc format DEVICE, or ngc run DEVICE SETTINGS OUT
+-- ngc dry PROGRAM [--settings FILE] [--block-delete], ngc format DEVICE [--large], ngc grow DEVICE, or ngc run DEVICE SETTINGS OUT
 abbrev pub ngc_app : App
-ngc_app = with_subcommand (with_subcommand (with_subcommand (only_by_subcommands (new_app (codes "ngc"))) dry_app.top) format_app.top) run_app.top
+ngc_app = with_subcommand (with_subcommand (with_subcommand (with_subcommand (only_by_subcommands (new_app (codes "ngc"))) dry_app.top) format_app.top) grow_app.top) run_app.top
 
 -- the name of the job's subcommand
 abbrev pub subcommand_name : Job → Text
 subcommand_name (Dry program settings block_delete) = codes "dry"
-subcommand_name (Format device) = codes "format"
+subcommand_name (Format device large) = codes "format"
+subcommand_name (Grow device) = codes "grow"
 subcommand_name (Run device settings out) = codes "run"
 
 -- the job's files are those that the subcommand's matches name
 abbrev pub HasFiles : List Row → Job → Type 0
 HasFiles rows (Dry program settings block_delete) =
     (first_of (codes "PROGRAM") rows ≡ Some program.now) × (first_of (codes "settings") rows ≡ option_map (λ file. file.now) settings)
-HasFiles rows (Format device) = first_of (codes "DEVICE") rows ≡ Some device.now
+HasFiles rows (Format device large) = first_of (codes "DEVICE") rows ≡ Some device.now
+HasFiles rows (Grow device) = first_of (codes "DEVICE") rows ≡ Some device.now
 HasFiles rows (Run device settings out) =
     (first_of (codes "DEVICE") rows ≡ Some device.now) × (first_of (codes "SETTINGS") rows ≡ Some settings.now) × (first_of (codes "OUT") rows ≡ Some out.now)
 
@@ -74,7 +84,8 @@ HasFlag flag rows = (is_on : Bool) × SaysFlag flag rows is_on
 -- the job's switches are the flags of the subcommand's matches
 abbrev pub HasFlags : List Row → Job → Type 0
 HasFlags rows (Dry program settings block_delete) = SaysFlag (codes "block-delete") rows block_delete
-HasFlags rows (Format device) = Unit {0}
+HasFlags rows (Format device large) = SaysFlag (codes "large") rows large
+HasFlags rows (Grow device) = Unit {0}
 HasFlags rows (Run device settings out) = Unit {0}
 
 -- the job is what clap's definition makes of the words: the subcommand that they name, its files and its flags

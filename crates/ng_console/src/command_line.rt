@@ -1,7 +1,7 @@
 //! The words of the command line, read with clap.
 ghost use Rattle.std.specs.Prelude.{◌≡◌, IfOk, IfErr, true, is_some, map, codes};
 ghost use Rattle.clap.specs.Words.{app_of, first_of, found_of, kind_of, rows_of, takes};
-ghost use Rattle.ng_console.specs.Words.{RequestsJob, HasFiles, HasFlag, HasFlags, dry_app, format_app, ngc_app, run_app, subcommand_name};
+ghost use Rattle.ng_console.specs.Words.{RequestsJob, HasFiles, HasFlag, HasFlags, dry_app, format_app, grow_app, ngc_app, run_app, subcommand_name};
 
 use clap::error::ErrorKind;
 use clap::{Arg, ArgAction, ArgMatches, Command, Error};
@@ -12,19 +12,23 @@ const VERSION: &str = "0.1.0";
 
 /// What stands below the help text of the program: how a job ends.
 const ENDINGS: &str =
-    "Exit status:\n  0  done: a program ran to its end, a device is fresh, an operator's commands are\n     answered\n  1  dry: a line was refused; the last line printed says which one and why\n  2  the words are wrong, or ask for help or the version; or a file can't be\n     opened or read, the settings or the device are refused, the device, the\n     input or the output fails, or memory is wanting\n\nRefused settings and devices print why. A file that can't be read prints nothing.";
+    "Exit status:\n  0  done: a program ran to its end, a device is fresh or large, an operator's\n     commands are answered\n  1  dry: a line was refused; the last line printed says which one and why\n  2  the words are wrong, or ask for help or the version; or a file can't be\n     opened or read, the settings or the device are refused, the device, the\n     input or the output fails, or there isn't enough memory\n\nRefused settings and devices print why. A file that can't be read prints nothing.";
 
 /// What stands below that of `dry`.
 const PROGRAM_ENDINGS: &str =
-    "Exit status:\n  0  the program ran to its end\n  1  a line was refused; the last line printed says which one and why\n  2  the words are wrong, or ask for help; or a file can't be read, the settings\n     are refused, the output can't be written, or memory is wanting\n\nRefused settings print why. A file that can't be read prints nothing.";
+    "Exit status:\n  0  the program ran to its end\n  1  a line was refused; the last line printed says which one and why\n  2  the words are wrong, or ask for help; or a file can't be read, the settings\n     are refused, the output can't be written, or there isn't enough memory\n\nRefused settings print why. A file that can't be read prints nothing.";
 
 /// What stands below that of `format`.
 const DEVICE_ENDINGS: &str =
-    "Exit status:\n  0  the device is fresh\n  2  the words are wrong, or ask for help; or the file can't be opened or made, is\n     too short, is a directory, is held by another process, or fails, or memory\n     is wanting\n\nA file that can't be opened or made prints nothing; the others print why.";
+    "Exit status:\n  0  the device is fresh\n  2  the words are wrong, or ask for help; or the file can't be opened or made, is\n     too short, is a directory, is held by another process, or fails, or there\n     isn't enough memory\n\nA file that can't be opened or made prints nothing; the others print why.";
+
+/// What stands below that of `grow`.
+const GROWTH_ENDINGS: &str =
+    "What the device holds stays. A program still has at most 131072 bytes: nothing uses\nthe new sectors yet.\n\nExit status:\n  0  the device has 5806 sectors or more\n  2  the words are wrong, or ask for help; or the file can't be opened, is no device,\n     is a directory, is held by another process, or fails\n\nA file that can't be opened prints nothing; the others print why. After a failure,\nor where it was ended, the device is as good as before: grow it again.";
 
 /// What stands below that of `run`: the commands of its console, and how it ends.
 const RUN_COMMANDS_AND_ENDINGS: &str =
-    "Commands, read from the input, a line each:\n  load N           store the program in the N bytes after this line\n  start            run the program from its place on\n  hold             hand out nothing more until `continue` or an `mdi` line\n  continue         go on with what was held, or stopped at M0, M1 or M60\n  mdi LINE         do a line of the operator's own\n  reference X Y Z  tell where the machine stands, in machine millimetres\n  resume           go on with a half-done block, from where the machine stands\n  abandon          give a half-done block up; nothing moves\n  tool N LENGTH    put a tool's length into slot N of the tool table, in millimetres\n  optional on|off  stop the program at M1, or don't\n  delete on|off    leave out the lines that begin with a slash, or don't\n  tick N           do up to N steps of the work, 1 to 1000000\n  status           tell where the machine stands and what it does\n  quit             end, as the end of the input does\n\nExit status:\n  0  all commands are answered, up to `quit` or to the end of the input\n  2  the words are wrong, or ask for help; or a file can't be opened or read, the\n     settings or the device are refused, the device is held by another process or\n     failed, the input or the output failed, or memory is wanting\n\nA refused command or program line prints why, and the next one is read. Refused\nsettings and devices print why. A file that can't be read prints nothing.";
+    "Commands, read from the input, a line each:\n  load N           store the program in the N bytes after this line\n  start            run the program from its place on\n  hold             hand out nothing more until `continue` or an `mdi` line\n  continue         go on with what was held, or stopped at M0, M1 or M60\n  mdi LINE         do a line of the operator's own\n  reference X Y Z  tell where the machine stands, in machine millimetres\n  resume           go on with a half-done block, from where the machine stands\n  abandon          give a half-done block up; nothing moves\n  tool N LENGTH    put a tool's length into slot N of the tool table, in millimetres\n  optional on|off  stop the program at M1, or don't\n  delete on|off    leave out the lines that begin with a slash, or don't\n  tick N           do up to N steps of the work, 1 to 1000000\n  status           tell where the machine stands and what it does\n  quit             end, as the end of the input does\n\nExit status:\n  0  all commands are answered, up to `quit` or to the end of the input\n  2  the words are wrong, or ask for help; or a file can't be opened or read, the\n     settings or the device are refused, the device is held by another process or\n     failed, the input or the output failed, or there isn't enough memory\n\nA refused command or program line prints why, and the next one is read. Refused\nsettings and devices print why. A file that can't be read prints nothing.";
 
 /// What a command line asks for.
 #[derive(Clone, Copy, Debug, PartialEq, Eq)]
@@ -38,8 +42,15 @@ pub enum Job<'a> {
         /// Whether the lines that begin with a slash are deleted.
         block_delete: bool,
     },
-    /// `ngc format DEVICE`: a device is made fresh, with no program.
+    /// `ngc format DEVICE [--large]`: a device is made fresh, with no program.
     Format {
+        /// The path of the device's file.
+        device: &'a str,
+        /// Whether it is to be a large device.
+        large: bool,
+    },
+    /// `ngc grow DEVICE`: a device is lengthened to a large one.
+    Grow {
         /// The path of the device's file.
         device: &'a str,
     },
@@ -69,6 +80,9 @@ pub fn words<'a>(alloc: Global, words: &'a [&'a str]) -> Result<Job<'a>, Error>
     if let Some(format) = matches.subcommand_matches("format") {
         return Ok(format_job(format));
     }
+    if let Some(grow) = matches.subcommand_matches("grow") {
+        return Ok(grow_job(grow));
+    }
     match matches.subcommand_matches("run") {
         Some(run) => Ok(run_job(run)),
         None => unreachable!(),
@@ -97,13 +111,28 @@ fn dry_job<'a>(matches: &ArgMatches<'a>) -> Job<'a>
 
 /// The job of the matches of `format`.
 fn format_job<'a>(matches: &ArgMatches<'a>) -> Job<'a>
-    requires { is_some (first_of (codes "DEVICE") (rows_of (found_of matches.now))) ≡ true }
+    requires device { is_some (first_of (codes "DEVICE") (rows_of (found_of matches.now))) ≡ true }
+    requires flag { HasFlag (codes "large") (rows_of (found_of matches.now)) }
     ensures files { HasFiles (rows_of (found_of matches.now)) result }
     ensures flags { HasFlags (rows_of (found_of matches.now)) result }
     ensures name { subcommand_name result ≡ codes "format" }
 {
+    let large = matches.get_flag("large");
     match matches.get_str("DEVICE") {
-        Some(device) => Job::Format { device },
+        Some(device) => Job::Format { device, large },
+        None => unreachable!(),
+    }
+}
+
+/// The job of the matches of `grow`.
+fn grow_job<'a>(matches: &ArgMatches<'a>) -> Job<'a>
+    requires { is_some (first_of (codes "DEVICE") (rows_of (found_of matches.now))) ≡ true }
+    ensures files { HasFiles (rows_of (found_of matches.now)) result }
+    ensures flags { HasFlags (rows_of (found_of matches.now)) result }
+    ensures name { subcommand_name result ≡ codes "grow" }
+{
+    match matches.get_str("DEVICE") {
+        Some(device) => Job::Grow { device },
         None => unreachable!(),
     }
 }
@@ -145,6 +174,7 @@ fn command<'a>(alloc: Global) -> Result<Command<'a>, AllocError>
         .arg_required_else_help(true)
         .subcommand(dry_command(alloc)?)?
         .subcommand(format_command(alloc)?)?
+        .subcommand(grow_command(alloc)?)?
         .subcommand(run_command(alloc)?)
 }
 
@@ -183,9 +213,30 @@ fn format_command<'a>(alloc: Global) -> Result<Command<'a>, AllocError>
         )
         .required(true)
         .action(ArgAction::Set);
+    let large = Arg::new(alloc, "large")
+        .long("large")
+        .help(
+            "Make a device of 5806 sectors, in place of 1710; a file that is there and has fewer is refused",
+        )
+        .action(ArgAction::SetTrue);
     Command::new(alloc, "format")
         .about("Make a device fresh: OVERWRITES the file that it is given, whatever it holds")
         .after_help(DEVICE_ENDINGS)
+        .arg(device)?
+        .arg(large)
+}
+
+/// The subcommand `grow`.
+fn grow_command<'a>(alloc: Global) -> Result<Command<'a>, AllocError>
+    ensures { IfOk result (λ command. app_of command ≡ grow_app) }
+{
+    let device = Arg::new(alloc, "DEVICE")
+        .help("The file of the device, as `format` made it")
+        .required(true)
+        .action(ArgAction::Set);
+    Command::new(alloc, "grow")
+        .about("Lengthen a device to the 5806 sectors of a large one; what it holds stays")
+        .after_help(GROWTH_ENDINGS)
         .arg(device)
 }
 

@@ -1,9 +1,15 @@
 //! The job `format`: a device is made fresh.
-ghost use Rattle.std.specs.Prelude.{IfOk, ◌≤◌};
+ghost use Rattle.std.specs.Prelude.{◌≡◌, ◌<◌, ◌≤◌, ◌↔◌, ◌⊎◌, IfErr, IfOk, IsErrOf};
+ghost use Rattle.ng_num.specs.declared.fault.Fault.TheVariants.{DeviceFailed, NotFormatted};
+ghost use Rattle.ng_rig.specs.Calls.{IfHonest};
+ghost use Rattle.ng_journal.specs.Formats.{FormatSpec};
+ghost use Rattle.ng_journal.specs.Journal.{CountsFailure};
 ghost use Rattle.ng_console.specs.Formatting.{FormatsDevice, FormatsOpened, FormatsRig};
 ghost use Rattle.ng_console.specs.Refusals.{IsFaultOf, RefusesDevice, RefusesStorage};
+ghost use Rattle.ng_console.specs.Sizes.{wanted_size};
 
 use crate::program::{DONE, FAILED, refuse};
+use crate::size::wanted_size;
 use ng_file::{FileRig, NoDevice, Storage};
 use ng_journal::format;
 use ng_num::Fault;
@@ -12,19 +18,20 @@ use std::alloc::Global;
 use std::io;
 use std::io::{ErrorKind, Write};
 
-/// Makes the device in a file that was opened fresh, and gives the exit status: 0 where that is done. Where the file couldn't be
-/// opened nothing is written; where it can't be used, is too short or fails, or memory is wanting, the line of the fault is. The
-/// error is that of the writer.
+/// Makes the device in a file that was opened fresh, a large one or any, and gives the exit status: 0 where that is done. Where the file
+/// couldn't be opened nothing is written; where it can't be used, is too short or fails, or there isn't enough memory, the line of the
+/// fault is. The error is that of the writer.
 pub(crate) fn format_opened<S: Storage + Drop, W: Write>(
     alloc: Global,
     opened: Result<S, NoDevice>,
+    large: bool,
     writer: &mut W,
 ) -> io::Result<u8>
-    ensures run { IfOk result (FormatsOpened opened (W.contents writer.old) (W.contents writer.new)) }
+    ensures run { IfOk result (FormatsOpened S.content large opened (W.contents writer.old) (W.contents writer.new)) }
     ensures range { IfOk result (λ status. status ≤ 2) }
 {
     match opened {
-        Ok(file) => format_storage(alloc, file, writer),
+        Ok(file) => format_storage(alloc, file, large, writer),
         Err(why) => refuse_device(writer, why),
     }
 }
@@ -48,13 +55,14 @@ pub(crate) fn refuse_device<W: Write>(writer: &mut W, why: NoDevice) -> io::Resu
 fn format_storage<S: Storage + Drop, W: Write>(
     alloc: Global,
     file: S,
+    large: bool,
     writer: &mut W,
 ) -> io::Result<u8>
-    ensures run { IfOk result (FormatsDevice (W.contents writer.old) (W.contents writer.new)) }
+    ensures run { IfOk result (FormatsDevice S.content large file (W.contents writer.old) (W.contents writer.new)) }
     ensures range { IfOk result (λ status. status ≤ 2) }
 {
     match FileRig::over(alloc, file, io::sink()) {
-        Ok(mut rig) => format_rig(&mut rig, writer),
+        Ok(mut rig) => format_rig(&mut rig, large, writer),
         Err(error) => refuse_storage(writer, error),
     }
 }
@@ -69,7 +77,7 @@ pub(crate) fn refuse_storage<W: Write>(writer: &mut W, why: io::Error) -> io::Re
     Ok(FAILED)
 }
 
-/// The fault of an error over a file that was opened. Want of memory is no failure of the device.
+/// The fault of an error over a file that was opened. Too little memory is no failure of the device.
 fn fault_of(error: &io::Error) -> Fault
     ensures { IsFaultOf error.now result }
 {
@@ -80,17 +88,32 @@ fn fault_of(error: &io::Error) -> Fault
     }
 }
 
-/// Makes a device fresh, and gives the exit status: 0 where that is done, else 2, and the line of the fault is written. The
-/// error is that of the writer.
-pub fn format_rig<R: Rig, W: Write>(rig: &mut R, writer: &mut W) -> io::Result<u8>
+/// Makes a device fresh, a large one or any, and gives the exit status: 0 where that is done, else 2, and the line of the fault is
+/// written. The error is that of the writer.
+pub fn format_rig<R: Rig, W: Write>(rig: &mut R, large: bool, writer: &mut W) -> io::Result<u8>
     ensures range { IfOk result (λ status. status ≤ 2) }
-    ensures run { IfOk result (FormatsRig R.sectors R.failed R.honest R.trace rig.old rig.new (W.contents writer.old) (W.contents writer.new)) }
+    ensures run { IfOk result (FormatsRig large R.sectors R.failed R.honest R.trace rig.old rig.new (W.contents writer.old) (W.contents writer.new)) }
 {
-    match format(rig) {
+    match format_wanted(rig, large) {
         Ok(()) => Ok(DONE),
         Err(fault) => {
             refuse(writer, fault)?;
             Ok(FAILED)
         }
     }
+}
+
+/// Makes a device fresh that has the sectors of a large one, or of any. J2 where it has fewer, and then it isn't called.
+fn format_wanted<R: Rig>(rig: &mut R, large: bool) -> Result<(), Fault>
+    ensures formats { wanted_size large ≤ R.sectors rig.old
+        → IfHonest (R.honest rig.old) (R.honest rig.new) (FormatSpec result (R.trace rig.old) (R.trace rig.new)) }
+    ensures small { IsErrOf result NotFormatted ↔ (R.sectors rig.old < wanted_size large) }
+    ensures unchanged { IsErrOf result NotFormatted → rig.new ≡ rig.old }
+    ensures errors { IfErr result (λ e. (e ≡ NotFormatted) ⊎ (e ≡ DeviceFailed)) }
+    ensures failures { CountsFailure result (R.failed rig.old) (R.failed rig.new) }
+{
+    if rig.size() < wanted_size(large) {
+        return Err(Fault::NotFormatted);
+    }
+    format(rig)
 }

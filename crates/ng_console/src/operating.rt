@@ -83,7 +83,7 @@ where
 }
 
 /// Operates the machine of the device in these bytes, and appends what is handed out to a file. The error is that of the writer,
-/// where the bytes can't say how many they are or memory for a line is wanting.
+/// where the bytes can't say how many they are or there isn't enough memory for a line.
 fn operate_device<S: Storage + Drop, O: Write + Drop, I: Read, W: Write>(
     alloc: Global,
     settings: Settings,

@@ -7,11 +7,12 @@ ghost use Rattle.ng_console.specs.Words.{RequestsJob};
 
 use crate::command_line::{Job, words};
 use crate::format::format_opened;
+use crate::grow::grow_opened;
 use crate::operating::{are_three_files, operate_chosen};
 use crate::settings_file::{NoSettings, chosen_settings};
+use crate::size::wanted_size;
 use ng_dry::{DryFault, Ended, dry};
-use ng_file::{Hold, make_device};
-use ng_layout::LEAST_SIZE;
+use ng_file::{Hold, make_device, open_device};
 use ng_num::Fault;
 use ng_settings::Settings;
 use std::alloc::{Allocator, Global};
@@ -82,12 +83,12 @@ fn given_words<R: Env + AllocGlobal>(rt: &R) -> io::Result<Vec<String>> {
 /// Does what a line of words asks for, writes what that prints, and gives the exit status. The reader is an operator's, whom
 /// `run` alone hears.
 ///
-/// 0: the program ran to its end, the device is fresh, or all that the operator asked is answered. 1: the program of a dry run is
+/// 0: the program ran to its end, the device is fresh or large, or all that the operator asked is answered. 1: the program of a dry run is
 /// refused, and the last line written says where and why. 2, for the first of these that holds: the words ask for nothing that
 /// `ngc` does, or for help, and clap's text is written; two of the three files of `run` are one, and nothing is written or made;
 /// the settings file can't be opened or read, and nothing is written, or it is refused, and one line with its fault is written;
 /// another file can't be opened or read, or the one to which is handed out can't be held, and nothing is written, or a device can't be
-/// used, and one line with its fault is written; the device, the reader or the writer fails, or memory is wanting.
+/// used, and one line with its fault is written; the device, the reader or the writer fails, or there isn't enough memory.
 /// Source: own.
 pub fn ngc<R: Files + AllocGlobal, I: Read, W: Write>(
     rt: &R,
@@ -137,9 +138,13 @@ where
             let chosen = chosen_settings(rt.alloc(), settings);
             run_chosen(rt.alloc(), chosen, program, writer, block_delete).unwrap_or(FAILED)
         }
-        Job::Format { device } => {
-            let opened = make_device(rt, device, LEAST_SIZE);
-            format_opened(rt.alloc(), opened, writer).unwrap_or(FAILED)
+        Job::Format { device, large } => {
+            let opened = make_device(rt, device, wanted_size(large));
+            format_opened(rt.alloc(), opened, large, writer).unwrap_or(FAILED)
+        }
+        Job::Grow { device } => {
+            let opened = open_device(rt, device);
+            grow_opened(opened, writer).unwrap_or(FAILED)
         }
         Job::Run {
             device,
@@ -218,7 +223,7 @@ fn run_file<R: Read + Drop, W: Write, A: Allocator + Copy + Drop>(
 }
 
 /// Runs a program with settings and without a machine, writes its canonical text, and gives the exit status: 0 at the
-/// program's end, 1 where it is refused, 2 where the reader or the writer fails or memory is wanting. Lines that begin
+/// program's end, 1 where it is refused, 2 where the reader or the writer fails or there isn't enough memory. Lines that begin
 /// with a slash are deleted where `block_delete` is set.
 pub fn run_dry<R: Read, W: Write, A: Allocator + Copy + Drop>(
     alloc: A,

@@ -11,7 +11,7 @@ use std::io::Read;
 /// Why there are no settings.
 #[derive(Clone, Copy)]
 pub(crate) enum NoSettings {
-    /// The file can't be opened or read, or memory for its bytes is wanting.
+    /// The file can't be opened or read, or there isn't enough memory for its bytes.
     Unread,
     /// The text is refused.
     Refused(Fault),

@@ -1,5 +1,5 @@
 -- The bytes of a file, and its sectors of 512 (own).
-use Rattle.std.specs.Prelude.{◌≡◌, ◌⊎◌, ◌≤◌, ◌+◌, ◌*◌, ℕ, List, ◌++◌, Option, Some, IfSome, length, take, drop, slice_range}
+use Rattle.std.specs.Prelude.{◌≡◌, ◌⊎◌, ◌≤◌, ◌+◌, ◌-◌, ◌*◌, ℕ, List, ◌++◌, Option, Some, IfSome, length, replicate, take, drop, slice_range}
 use Rattle.std.specs.Io.KnownBytes.{Appends}
 
 -- what sector n of these bytes holds
@@ -22,3 +22,11 @@ PutInPart place old new = IfSome old (λ held. place + 512 ≤ length held →
 -- a beginning of these bytes is appended, perhaps none of them or all
 abbrev pub AppendsBeginning : Option (List ℕ) → Option (List ℕ) → List ℕ → Type 0
 AppendsBeginning old new bytes = (n : ℕ) × Appends old new (take n bytes)
+
+-- after these bytes stand as many zeros as they are short of so many, none where they aren't
+abbrev pub Lengthened : ℕ → Option (List ℕ) → Option (List ℕ) → Type 0
+Lengthened size old new = IfSome old (λ held. new ≡ Some (held ++ replicate (size - length held) 0))
+
+-- the same with fewer zeros, perhaps none, or with all of them
+abbrev pub LengthenedInPart : ℕ → Option (List ℕ) → Option (List ℕ) → Type 0
+LengthenedInPart size old new = IfSome old (λ held. (n : ℕ) × (n ≤ size - length held) × (new ≡ Some (held ++ replicate n 0)))

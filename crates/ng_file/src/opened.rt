@@ -1,7 +1,7 @@
 //! A file of the system as storage.
 ghost use Rattle.std.specs.Prelude.{◌≡◌};
 
-use crate::storage::Storage;
+use crate::storage::{Append, Storage};
 use std::fs::OpenFile;
 use std::io;
 use std::io::{Read, Seek, SeekFrom, Write};
@@ -38,5 +38,12 @@ impl<F: Read + Write + Seek + OpenFile> Storage for OpenedFile<F> {
 
     fn sync(&mut self) -> io::Result<()> {
         self.file.sync_all()
+    }
+}
+
+impl<F: Read + Write + Seek + OpenFile> Append for OpenedFile<F> {
+    fn append(&mut self, bytes: &[u8]) -> io::Result<()> {
+        self.file.seek(SeekFrom::End(0))?;
+        self.file.write_all(bytes)
     }
 }

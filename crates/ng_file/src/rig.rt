@@ -35,8 +35,8 @@ impl<S: Storage + Drop, W: Write + Drop, A: Allocator + Copy + Drop> FileRig<S, 
     ghost use Rattle.ng_file.specs.FileRig.{failure_count, outlet, sector_count, storage};
     ghost use Rattle.ng_file.specs.Lines.{item_line};
 
-    /// The device in a file, which hands out to a writer. Fails where the file can't say its length, or memory for a line
-    /// is wanting.
+    /// The device in a file, which hands out to a writer. Fails where the file can't say its length, or there isn't enough memory
+    /// for a line.
     pub fn over(alloc: A, mut file: S, out: W) -> io::Result<Self>
         ensures size { IfOk result (λ rig. IfSome (S.content file) (λ held. sector_count rig ≡ length held / 512)) }
         ensures bytes { IfOk result (λ rig. S.content (storage rig) ≡ S.content file) }

@@ -1,6 +1,7 @@
 //! The bytes of a file.
 ghost use Rattle.std.specs.Prelude.{◌≡◌, ◌+◌, ◌<◌, ◌≤◌, ◌^◌, ℕ, List, Option, Some, None, length, slice_range, IfOk, OnOk, OnErr, IfSome};
-ghost use Rattle.ng_file.specs.Bytes.{Put, PutInPart};
+ghost use Rattle.std.specs.Io.KnownBytes.{Appends};
+ghost use Rattle.ng_file.specs.Bytes.{AppendsBeginning, Put, PutInPart};
 
 use std::io;
 
@@ -35,4 +36,12 @@ pub trait Storage {
     fn sync(&mut self) -> io::Result<()>
         ensures lasts { OnOk result (IfSome (lasting self.new) (λ kept. content self.new ≡ Some kept)) }
         ensures bytes { content self.new ≡ content self.old };
+}
+
+/// A file that can have more bytes (own). A device in a file, `FileRig`, asks for none: its size never changes.
+pub trait Append: Storage {
+    /// Writes bytes after the last one. After an error a beginning of them may have been written.
+    fn append(&mut self, bytes: &[u8]) -> io::Result<()>
+        ensures whole { OnOk result (Appends (Self.content self.old) (Self.content self.new) bytes.now) }
+        ensures part { OnErr result (AppendsBeginning (Self.content self.old) (Self.content self.new) bytes.now) };
 }

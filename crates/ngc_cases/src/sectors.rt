@@ -8,6 +8,9 @@ const SECTOR: usize = 512;
 /// The bytes of a device of the least size.
 const LEAST_DEVICE: usize = 875_520;
 
+/// More bytes than a device of a case has.
+const MOST: usize = 4 * LEAST_DEVICE;
+
 fn byte_of(pair: &[u8]) -> Result<u8> {
     Ok(u8::from_str_radix(std::str::from_utf8(pair)?, 16)?)
 }
@@ -20,7 +23,7 @@ fn put_row(device: &mut Vec<u8>, row: &str) -> Result<()> {
     let from = sector.saturating_mul(SECTOR).saturating_add(place.parse()?);
     let end = from.saturating_add(digits.len() / 2);
     ensure!(digits.len() % 2 == 0, "half a byte");
-    ensure!(end <= 2 * LEAST_DEVICE, "past the end");
+    ensure!(end <= MOST, "past the end");
     if device.len() < end {
         device.resize(end, 0)?;
     }

@@ -1,0 +1,11 @@
+-- The device in a file (own).
+use Rattle.std.specs.Prelude.{ℕ, ◌≡◌, ◌/◌, List, Option, IfSome, length}
+use Rattle.ng_file.specs.FileRig.{failure_count, outlet, sector_count, storage}
+use Rattle.ng_file.specs.declared.rig.FileRig.{FileRig}
+
+-- The device is that of these bytes, as many sectors as they have whole ones, and hands out to this file.
+pub record IsOver {S O A : Type 0} (content : S → Option (List ℕ)) (device : S) (out : O) (rig : FileRig S O A) : Type 0 where
+  pub bytes : content (storage rig) ≡ content device
+  pub sectors : IfSome (content device) (λ held. sector_count rig ≡ length held / 512)
+  pub hands_out : outlet rig ≡ out
+  pub failures : failure_count rig ≡ 0

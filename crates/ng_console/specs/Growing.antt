@@ -1,0 +1,46 @@
+-- What the job `grow` does (own).
+use Rattle.std.specs.Prelude.{ℕ, ◌≡◌, ◌⊎◌, ◌*◌, ◌&&◌, Bool, true, false, nat_le, List, Option, Some, Result, Ok, Err, IfErr, IfSome, IsErrOf, OnOk, is_some, length}
+use Rattle.ng_num.specs.declared.fault.Fault.{Fault}
+use Rattle.ng_num.specs.declared.fault.Fault.TheVariants.{DeviceFailed, NotFormatted}
+use Rattle.ng_file.specs.Bytes.{Lengthened, LengthenedInPart, sector_of}
+use Rattle.ng_file.specs.declared.device.NoDevice.{NoDevice}
+use Rattle.ng_layout.specs.Areas.{least_size}
+use Rattle.ng_layout.specs.Stands.{in_force}
+use Rattle.ng_console.specs.Refusals.{FaultStatus, RefusesDevice}
+use Rattle.ng_console.specs.Sizes.{large_size}
+
+-- one of the two headers is valid
+abbrev pub has_header : List ℕ → Bool
+has_header held = is_some (in_force (λ n. sector_of n held))
+
+-- these bytes are a device's: there are the sectors of one, and a valid header
+abbrev pub is_device : List ℕ → Bool
+is_device held = nat_le (512 * least_size) (length held) && has_header held
+
+-- how many bytes a large device has
+abbrev pub large_bytes : ℕ
+large_bytes = 512 * large_size
+
+-- nothing is changed, or the bytes are a device's and some of the zeros stand after them
+abbrev pub GrowsInPart : {S : Type 0} → (S → Option (List ℕ)) → S → S → Type 0
+GrowsInPart content old new =
+    (content new ≡ content old)
+    ⊎ (IfSome (content old) (λ held. is_device held ≡ true) × LengthenedInPart large_bytes (content old) (content new))
+
+-- A file that is a device gets the length of a large one, by zeros after what it held, and lasts. One that is none is refused as such, and stays as it was. Where the
+-- file fails nothing is changed, or it is a device and has some of the zeros.
+pub record GrowsFile {S : Type 0} (content lasting : S → Option (List ℕ)) (file_old file_new : S) (old new : Option (List ℕ)) (status : ℕ) : Type 0 where
+  pub grown : Result (Unit {0}) Fault
+  pub answers : FaultStatus grown old new status
+  pub faults : IfErr grown (λ fault. (fault ≡ NotFormatted) ⊎ (fault ≡ DeviceFailed))
+  pub device : OnOk grown (IfSome (content file_old) (λ held. is_device held ≡ true))
+  pub lengthened : OnOk grown (Lengthened large_bytes (content file_old) (content file_new))
+  pub lasts : OnOk grown (IfSome (lasting file_new) (λ kept. content file_new ≡ Some kept))
+  pub refused : IsErrOf grown NotFormatted → IfSome (content file_old) (λ held. is_device held ≡ false)
+  pub unchanged : IsErrOf grown NotFormatted → content file_new ≡ content file_old
+  pub failed : IsErrOf grown DeviceFailed → GrowsInPart content file_old file_new
+
+-- The same of a file as it was opened.
+abbrev pub GrowsOpened : {S : Type 0} → (S → Option (List ℕ)) → (S → Option (List ℕ)) → Result S NoDevice → Option (List ℕ) → Option (List ℕ) → ℕ → Type 0
+GrowsOpened {S} content lasting (Ok file) old new status = (left : S) × GrowsFile content lasting file left old new status
+GrowsOpened content lasting (Err why) old new status = RefusesDevice why old new status

@@ -1,0 +1,17 @@
+//! How many sectors a device has.
+ghost use Rattle.std.specs.Prelude.{◌≡◌, ◌≤◌};
+ghost use Rattle.ng_layout.specs.Areas.{least_size};
+ghost use Rattle.ng_console.specs.Sizes.{wanted_size};
+
+use ng_layout::LEAST_SIZE;
+
+/// The sectors of a large device: those of any device, and two areas of 2,048 for longer programs, which nothing uses yet.
+pub(crate) const LARGE_SIZE: usize = LEAST_SIZE + 2 * 2_048;
+
+/// How many sectors `format` asks for, of a large device or of any.
+pub(crate) fn wanted_size(large: bool) -> usize
+    ensures value { result ≡ wanted_size large }
+    ensures enough { least_size ≤ result }
+{
+    if large { LARGE_SIZE } else { LEAST_SIZE }
+}
