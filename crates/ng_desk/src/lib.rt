@@ -18,6 +18,7 @@ mod desk;
 mod disagreeing;
 mod moments;
 mod origin;
+mod past;
 mod seat;
 
 pub use book::Book;
