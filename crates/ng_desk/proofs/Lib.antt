@@ -1,2 +1,3 @@
 pub mod Rising
 pub mod Histories
+pub mod OneField

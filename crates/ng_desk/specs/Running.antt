@@ -9,14 +9,15 @@ use Rattle.ng_core.specs.Headline.{AreRun}
 use Rattle.ng_desk.specs.declared.call.Call.{Call}
 use Rattle.ng_desk.specs.Calls.{Seated, NumberedFrom, events_of, replies_of, lists_of}
 
--- a book as its callers see it: the controller, and the history of all that it was given
+-- a book as its callers see it: the controller, the history of all that it was given, and the moments of its device's trace at which each
+-- event was answered
 pub record Booked (R A : Type 0) : Type 0 where
   pub controller : ControllerModel R
   pub history : List (Call A)
-
--- What `run` promises of these events with these replies, answered at moments of the device's trace, from one controller to another.
-pub record IsPromisedRun {A R : Type 0} (honest : R → Type 0) (trace : R → Trace) (failed sectors : R → ℕ) (events : List (Event A)) (replies : List Reply) (old new : ControllerModel R) : Type 0 where
   pub moments : List ℕ
+
+-- What `run` promises of these events with these replies, answered at these moments, from one controller to another.
+pub record IsPromisedRun {A R : Type 0} (honest : R → Type 0) (trace : R → Trace) (failed sectors : R → ℕ) (events : List (Event A)) (replies : List Reply) (moments : List ℕ) (old new : ControllerModel R) : Type 0 where
   pub runs : AreRun honest trace failed sectors events replies moments old new
   pub each : length replies ≡ length events
   pub failures : CountsOneFailure old.journal.broken new.journal.broken (failed old.journal.rig) (failed new.journal.rig)
@@ -24,14 +25,15 @@ pub record IsPromisedRun {A R : Type 0} (honest : R → Type 0) (trace : R → T
   pub size : sectors new.journal.rig ≡ sectors old.journal.rig
 
 -- the same of a history, from the controller where it started
-abbrev pub RunsFrom : {A R : Type 0} → (R → Type 0) → (R → Trace) → (failed sectors : R → ℕ) → Option (ControllerModel R) → List (Call A) → ControllerModel R → Type 0
-RunsFrom {A} {R} honest trace failed sectors start history now =
-    (first : ControllerModel R) → start ≡ Some first → IsPromisedRun honest trace failed sectors (events_of history) (replies_of history) first now
+abbrev pub RunsFrom : {A R : Type 0} → (R → Type 0) → (R → Trace) → (failed sectors : R → ℕ) → Option (ControllerModel R) → List (Call A) → (moments : List ℕ) → ControllerModel R → Type 0
+RunsFrom {A} {R} honest trace failed sectors start history moments now =
+    (first : ControllerModel R) → start ≡ Some first → IsPromisedRun honest trace failed sectors (events_of history) (replies_of history) moments first now
 
--- A desk was closed with these seats: controller and history, whose numbers count up from 0, and the lists of the seats as they were. The
--- history is as long as these lists together.
+-- A desk was closed with these seats: controller and history, whose numbers count up from 0, by the moments that its book kept, and the lists
+-- of the seats as they were. The history is as long as these lists together.
 pub record IsClosed {A R : Type 0} (honest : R → Type 0) (trace : R → Trace) (failed sectors : R → ℕ) (start : Option (ControllerModel R)) (seats : List (Seated A)) (controller : ControllerModel R) (history : List (Call A)) (left : List (Seated A)) : Type 0 where
-  pub runs : RunsFrom honest trace failed sectors start history controller
+  pub moments : List ℕ
+  pub runs : RunsFrom honest trace failed sectors start history moments controller
   pub numbered : NumberedFrom 0 history
   pub each : length history ≡ sum_by (λ seat. length seat.calls) seats
   pub lists : lists_of left ≡ lists_of seats

@@ -1,11 +1,13 @@
 //! A controller, and the history of what it was given.
 ghost use Rattle.std.specs.Prelude.{◌≡◌, ◌<◌, ◌+◌, ◌++◌, [], ◌∷◌, Some, length, IfOk, IfErr, OnOk};
 ghost use Rattle.ng_num.specs.declared.fault.Fault.TheVariants.{OutOfMemory};
+ghost use Rattle.ng_rig.specs.Trace.{moment};
 ghost use Rattle.ng_desk.specs.Calls.{NumberedFrom};
 ghost use Rattle.ng_core.specs.AnsweredEvents.{IsAnsweredEvent};
 ghost use Rattle.ng_desk.specs.Running.{RunsFrom};
 
 use crate::call::{Call, copied};
+use crate::moments::Moments;
 use crate::origin::Origin;
 use ng_core::{Controller, Event};
 use ng_num::Fault;
@@ -16,11 +18,13 @@ use std::sync::ledger;
 use std::sync::ledger::Share;
 
 /// A controller and the history of all that it was given (own). Contracts see a `Booked`. Replies and controller are always what `run`
-/// promises of the history's events, from the controller that the book was made of.
+/// promises of the history's events, from the controller that the book was made of, each answered at the moment that the book keeps of it.
 pub struct Book<R: Rig, A: Allocator + Copy + Drop, O: Origin<R>> {
     alloc: A,
     controller: Controller<R, A>,
     history: Vec<Call<A>, A>,
+    /// When each of the history's events was answered.
+    moments: Moments<R, A>,
     /// Counts the calls of all shares.
     calls: ledger::Book<O>,
     /// Of no part, and of no call.
@@ -34,9 +38,9 @@ impl<R: Rig, A: Allocator + Copy + Drop, O: Origin<R>> Model for Book<R, A, O> {
 
     ghost Value = { Booked R A };
 
-    ghost view = { λ b. record { controller = b.controller; history = b.history.items } };
+    ghost view = { λ b. record { controller = b.controller; history = b.history.items; moments = b.moments } };
 
-    ghost invariant = { λ b. (length b.history.items ≡ b.calls.total) × (b.spare.parts ≡ 0) × NumberedFrom 0 b.history.items × RunsFrom R.honest R.trace R.failed R.sectors O.start b.history.items b.controller };
+    ghost invariant = { λ b. (length b.history.items ≡ b.calls.total) × (b.spare.parts ≡ 0) × NumberedFrom 0 b.history.items × RunsFrom R.honest R.trace R.failed R.sectors O.start b.history.items b.moments b.controller };
 }
 
 impl<R: Rig, A: Allocator + Copy + Drop, O: Origin<R>> Book<R, A, O> {
@@ -53,27 +57,30 @@ impl<R: Rig, A: Allocator + Copy + Drop, O: Origin<R>> Book<R, A, O> {
     ) -> Book<R, A, O>
         requires start { O.start ≡ Some controller }
         requires none { calls.total ≡ 0 }
-        ensures book { result ≡ record { controller = controller; history = [] } }
+        ensures book { result ≡ record { controller = controller; history = []; moments = [] } }
         ensures share { share.new ≡ share.old }
     {
         Book {
             alloc,
             controller,
             history: Vec::new(alloc),
+            moments: Moments::none(),
             calls,
             spare: share.empty(),
         }
     }
 
     /// Gives an event to the controller, and appends a call: the event, what was answered, and how many there were before as its number
-    /// (own). It answers a copy of that call, and the share counts it.
+    /// (own). It answers a copy of that call, and the share counts it. In proofs it also keeps the moment at which the device then is.
     ///
-    /// M1 where memory is wanting, for the history or for a copy of the event's text: the event isn't given then, and nothing is changed.
+    /// M1 where there isn't enough memory for the history or for a copy of the event's text: the event isn't given then, and nothing is
+    /// changed.
     /// Every other refusal is the call's reply.
     pub fn give(&mut self, event: &Event<A>, mine: &mut Share<O>) -> Result<Call<A>, Fault>
         requires { 0 < mine.old.parts }
         ensures call { IfOk result (λ call. (call.number ≡ length self.old.history) × (call.event ≡ event.now)) }
         ensures history { IfOk result (λ call. self.new.history ≡ self.old.history ++ call ∷ []) }
+        ensures moments { OnOk result (self.new.moments ≡ self.old.moments ++ moment (R.trace self.new.controller.journal.rig) ∷ []) }
         ensures turn { IfOk result (λ call. IsAnsweredEvent R.honest R.trace R.failed R.sectors event.now call.reply self.old.controller self.new.controller) }
         ensures size { R.sectors self.new.controller.journal.rig ≡ R.sectors self.old.controller.journal.rig }
         ensures counted { OnOk result (mine.new.amount ≡ mine.old.amount + 1) }
@@ -86,6 +93,7 @@ impl<R: Rig, A: Allocator + Copy + Drop, O: Origin<R>> Book<R, A, O> {
         let given = copied(self.alloc, event)?;
         let number = self.history.len() as u64;
         let reply = self.controller.on(given);
+        self.moments.push(&self.controller);
         self.calls.add(mine, 1);
         self.history.push_reserved(Call::of(number, kept, &reply));
         Ok(Call::of(number, told, &reply))
@@ -102,7 +110,7 @@ impl<R: Rig, A: Allocator + Copy + Drop, O: Origin<R>> Book<R, A, O> {
     /// The controller and the history, which is as long as what all shares together have counted.
     pub(crate) fn close(self, all: Share<O>) -> (Controller<R, A>, Vec<Call<A>, A>)
         requires { all.parts ≡ O.parts }
-        ensures runs { RunsFrom R.honest R.trace R.failed R.sectors O.start result.1.items result.0 }
+        ensures runs { RunsFrom R.honest R.trace R.failed R.sectors O.start result.1.items self.moments result.0 }
         ensures numbered { NumberedFrom 0 result.1.items }
         ensures counted { length result.1.items ≡ all.amount }
     {
@@ -111,6 +119,7 @@ impl<R: Rig, A: Allocator + Copy + Drop, O: Origin<R>> Book<R, A, O> {
             alloc: _,
             controller,
             history,
+            moments: _,
             mut calls,
             spare: _,
         } = self;

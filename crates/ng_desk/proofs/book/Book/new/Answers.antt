@@ -1,4 +1,4 @@
-use Rattle.std.proofs.Common.{◌≡◌, ◌∙◌, List, [], length, sym, ap, subst}
+use Rattle.std.proofs.Common.{◌≡◌, ◌∙◌, ℕ, List, [], length, sym, ap, subst}
 use Rattle.ng_desk.specs.declared.call.Call.{Call}
 use Rattle.ng_desk.specs.Calls.{NumberedFrom}
 use Rattle.ng_desk.specs.Running.{RunsFrom}
@@ -11,6 +11,7 @@ invariant_of-result g c =
       ap (λ (l : List (Call g.row.A.Denot)). length l) none ∙ sym c.requires.none,
       c.empty.ensures.parts,
       subst (λ (l : List (Call g.row.A.Denot)). NumberedFrom 0 l) (sym none) tt,
-      subst (λ (l : List (Call g.row.A.Denot)). RunsFrom g.R.Rig.honest g.R.Rig.trace g.R.Rig.failed g.R.Rig.sectors g.O.Origin.start l c.args.controller) (sym none)
-          (runs_none g.R.Rig.honest g.R.Rig.trace g.R.Rig.failed g.R.Rig.sectors g.O.Origin.start c.args.controller c.requires.start),
+      subst (λ (m : List ℕ). RunsFrom g.R.Rig.honest g.R.Rig.trace g.R.Rig.failed g.R.Rig.sectors g.O.Origin.start c.new.result.items m c.args.controller) (sym c.none.ensures)
+          (subst (λ (l : List (Call g.row.A.Denot)). RunsFrom g.R.Rig.honest g.R.Rig.trace g.R.Rig.failed g.R.Rig.sectors g.O.Origin.start l [] c.args.controller) (sym none)
+          (runs_none g.R.Rig.honest g.R.Rig.trace g.R.Rig.failed g.R.Rig.sectors g.O.Origin.start c.args.controller c.requires.start)),
     )

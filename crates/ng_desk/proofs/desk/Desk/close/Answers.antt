@@ -9,6 +9,7 @@ use Rattle.ng_desk.proofs.desk.Desk.close.Goals as goal
 pub returns-clause-closed : goal.returns-clause-closed
 returns-clause-closed g c =
     record {
+      moments = c.no_share-all.new.self.moments;
       runs = c.close-controller.ensures.runs;
       numbered = c.close-controller.ensures.numbered;
       each = c.close-controller.ensures.counted ∙ c.gather.ensures.amount ∙ ap (λ (l : List (Seated g.row.A.Denot)). sum_by (λ (s : Seated g.row.A.Denot). length s.calls) l) c.as_mut_slice.ensures.value;

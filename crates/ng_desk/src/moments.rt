@@ -1,0 +1,43 @@
+//! When events were answered, for proofs alone.
+ghost use Rattle.std.specs.Prelude.{◌≡◌, ◌++◌, [], ◌∷◌};
+
+use crate::past::Past;
+use ng_core::Controller;
+use ng_rig::Rig;
+use std::alloc::Allocator;
+use std::marker::Model;
+
+/// The moments of a device's trace at which events were answered, one after the other (own). Contracts see a list of numbers; a program
+/// keeps none of them, so it takes no memory.
+#[derive(Drop)]
+pub(crate) struct Moments<R: Rig, A: Allocator + Copy + Drop> {
+    /// The controller as each event left it.
+    past: Past<Controller<R, A>>,
+}
+
+impl<R: Rig, A: Allocator + Copy + Drop> Model for Moments<R, A> {
+    ghost use Rattle.std.specs.Prelude.{ℕ, List, map};
+    ghost use Rattle.ng_rig.specs.Trace.{moment};
+
+    ghost Value = { List ℕ };
+
+    ghost view = { λ m. map (λ c. moment (R.trace c.journal.rig)) m.past.values };
+}
+
+impl<R: Rig, A: Allocator + Copy + Drop> Moments<R, A> {
+    ghost use Rattle.ng_rig.specs.Trace.{moment};
+
+    /// No event was answered yet.
+    pub(crate) fn none() -> Moments<R, A>
+        ensures { result ≡ [] }
+    {
+        Moments { past: Past::new() }
+    }
+
+    /// One more event was answered, which left this controller.
+    pub(crate) fn push(&mut self, controller: &Controller<R, A>)
+        ensures { self.new ≡ self.old ++ moment (R.trace controller.now.journal.rig) ∷ [] }
+    {
+        self.past = self.past.and(controller);
+    }
+}

@@ -1,0 +1,36 @@
+//! Values of the past, for proofs alone.
+ghost use Rattle.std.specs.Prelude.{◌≡◌, List, [], ◌∷◌, ◌++◌};
+ghost use Rattle.std.specs.Borrow.{ftrue};
+
+use std::marker::{Model, PhantomData};
+
+/// Values as they were, one after the other (own), which only proofs read as `values`. It takes no memory, and its methods do nothing at
+/// run time.
+#[derive(Drop)]
+pub(crate) struct Past<T> {
+    of: PhantomData<T>,
+    pub ghost values: { List T },
+}
+
+impl<T> Model for Past<T> {
+    ghost also_owns = { λ _. ftrue };
+}
+
+// It owns nothing.
+unsafe impl<T> Send for Past<T> {}
+
+impl<T> Past<T> {
+    /// No value yet.
+    pub(crate) fn new() -> Past<T>
+        ensures { result.values ≡ [] }
+    {
+        Past { of: PhantomData }
+    }
+
+    /// These values, and after them this one as it is now.
+    pub(crate) fn and(&self, value: &T) -> Past<T>
+        ensures { result.values ≡ self.now.values ++ value.now ∷ [] }
+    {
+        Past { of: PhantomData }
+    }
+}
