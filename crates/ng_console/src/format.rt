@@ -8,12 +8,13 @@ ghost use Rattle.ng_console.specs.Formatting.{FormatsDevice, FormatsOpened, Form
 ghost use Rattle.ng_console.specs.Refusals.{IsFaultOf, RefusesDevice, RefusesStorage};
 ghost use Rattle.ng_console.specs.Sizes.{wanted_size};
 
-use crate::program::{DONE, FAILED, refuse};
+use crate::program::refuse;
 use crate::size::wanted_size;
 use ng_file::{FileRig, NoDevice, Storage};
 use ng_journal::format;
 use ng_num::Fault;
 use ng_rig::Rig;
+use ng_run::{DONE, FAILED};
 use std::alloc::Global;
 use std::io;
 use std::io::{ErrorKind, Write};

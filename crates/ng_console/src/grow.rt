@@ -7,11 +7,12 @@ ghost use Rattle.ng_layout.specs.Stands.{newer};
 ghost use Rattle.ng_console.specs.Growing.{GrowsFile, GrowsInPart, GrowsOpened, is_device, large_bytes};
 
 use crate::format::refuse_device;
-use crate::program::{DONE, FAILED, refuse};
+use crate::program::refuse;
 use crate::size::LARGE_SIZE;
 use ng_file::{Append, NoDevice, Storage, lengthen};
 use ng_layout::{Header, LEAST_SIZE, SECTOR_BYTES};
 use ng_num::Fault;
+use ng_run::{DONE, FAILED};
 use std::io;
 use std::io::Write;
 

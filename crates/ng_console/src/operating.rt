@@ -5,10 +5,10 @@ ghost use Rattle.ng_file.specs.declared.opened.OpenedFile.{OpenedFile};
 ghost use Rattle.ng_console.specs.Operating.{OperatesChosen, OperatesDevice, OperatesOpened};
 
 use crate::format::{refuse_device, refuse_storage};
-use crate::program::{FAILED, refuse_settings};
+use crate::program::refuse_settings;
 use crate::settings_file::NoSettings;
 use ng_file::{FileRig, Hold, NotHeld, Storage, is_same_file, open_device};
-use ng_run::console;
+use ng_run::{FAILED, console};
 use ng_settings::Settings;
 use std::alloc::Global;
 use std::fs::OpenOptions;

@@ -14,6 +14,7 @@ use crate::size::wanted_size;
 use ng_dry::{DryFault, Ended, dry};
 use ng_file::{Hold, make_device, open_device};
 use ng_num::Fault;
+use ng_run::{DONE, FAILED};
 use ng_settings::Settings;
 use std::alloc::{Allocator, Global};
 use std::fs::OpenOptions;
@@ -21,14 +22,8 @@ use std::io::{Read, Write};
 use std::rt::{Env, Files};
 use std::{env, fs, io};
 
-/// What was asked for is done.
-pub(crate) const DONE: u8 = 0;
-
 /// The program that was to be run is refused.
 const REFUSED: u8 = 1;
-
-/// The words, a file, the settings, the device, the reader, the writer or memory kept the program from its work.
-pub(crate) const FAILED: u8 = 2;
 
 /// Does what the words that the process was started with ask for, and gives the exit status. A standard stream that is closed at the start
 /// is `/dev/null` to the end.

@@ -72,7 +72,7 @@ acts_read r out program old new trace_old trace_new alive rests known replied ne
   untouched = λ nothing. alive;
 }
 
--- memory or a count was wanting, and nothing was written
+-- there wasn't enough memory, or no count was left, and nothing was written
 pub acts_aside : {R : Type 0} (fault : Fault) (out : Transition) (program : List ℕ) (old new : ControllerModel R) (trace_old trace_new : Trace)
     → (fault ≡ OutOfMemory) ⊎ (fault ≡ CountersUsed) → trace_new ≡ trace_old → new.session ≡ old.session → IsDurablyAt trace_new new.journal (durable_state_of program old.session) → IsKnownOf program new.lines
     → IsCarriedOut (Err fault) out program old new trace_old trace_new

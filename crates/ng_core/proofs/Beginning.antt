@@ -114,7 +114,7 @@ begun_line r out first line place old new runs at beginning replied next ledger 
       ledger = ledger;
     }
 
--- memory was wanting for the state after the line
+-- there wasn't enough memory for the state after the line
 pub does_begin_short : {R : Type 0} (honest : R → Type 0) (trace : R → Trace) (fault : Fault) (first : LineKind) (line : Option ProgramLineModel) (place : ℕ) (out : List ℕ → Transition) (old new : ControllerModel R)
     → FindingBoth honest trace first line old.lines place old.journal new.journal → fault ≡ OutOfMemory → new.session ≡ old.session → new.lines ≡ old.lines
     → IsCarriedOutIfHonest honest trace (Err fault) out old new

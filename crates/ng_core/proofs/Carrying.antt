@@ -75,7 +75,7 @@ module _ {R : Type 0} (honest : R → Type 0) (trace : R → Trace) (failed sect
       carried_to memory memory device device reads reads (λ program. refuses program fault c.session) out (Ok (reply.Refused fault)) c c (λ m. m) (λ d. d) (λ e. e) (λ e. e) equal
       (carried_still memory device reads (reply.Refused fault) (λ program. refuses program fault c.session) c c whole unread (λ program. still refl refl refl) refl refl refl (λ program. refl) (λ program. refl))
 
-  -- memory was wanting
+  -- there wasn't enough memory
   pub carried_short : (memory device reads : Type 0) (fault : Fault) (out : List ℕ → Transition) (old new : ControllerModel R)
       → old.journal.broken ≡ false → fault ≡ OutOfMemory → memory
       → new.journal ≡ old.journal → new.lines ≡ old.lines → new.equipment ≡ old.equipment → new.session ≡ old.session
@@ -148,7 +148,7 @@ module _ {R : Type 0} (honest : R → Type 0) (trace : R → Trace) (failed sect
       } in
       subst (λ (f : Fault). CarriesOut honest trace failed sectors memory device reads out (Err f) old new) (sym is) there
 
-  -- for a line of the program, and then memory was wanting
+  -- for a line of the program, and then there wasn't enough memory
   pub carried_read : (memory device reads : Type 0) (fault : Fault) (out : List ℕ → Transition) (old new : ControllerModel R)
       → fault ≡ OutOfMemory → memory → IsCarriedOutIfHonest honest trace (Err fault) out old new
       → new.equipment ≡ old.equipment → new.session ≡ old.session → ledger_of new.journal ≡ ledger_of old.journal → ((reads → ⊥) → new.journal ≡ old.journal)

@@ -28,7 +28,7 @@ does_still {R} honest trace r out old new quiet same lines replied next = record
       (quiet program).items (quiet program).program_is (quiet program).stored_is;
 }
 
--- memory was wanting, or a count, and nothing was asked of the device
+-- there wasn't enough memory, or no count was left, and nothing was asked of the device
 pub does_aside : {R : Type 0} (honest : R → Type 0) (trace : R → Trace) (fault : Fault) (out : List ℕ → Transition) (old new : ControllerModel R)
     → (fault ≡ OutOfMemory) ⊎ (fault ≡ CountersUsed) → new.journal ≡ old.journal → new.lines ≡ old.lines → new.session ≡ old.session → IsCarriedOutIfHonest honest trace (Err fault) out old new
 does_aside {R} honest trace fault out old new which same lines still = record {

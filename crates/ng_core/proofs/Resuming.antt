@@ -158,7 +158,7 @@ resumed_line r place old new s same free line beyond goes ledger =
       ledger = ledger;
     }
 
--- memory was wanting for the states after the block and after its approach
+-- there wasn't enough memory for the states after the block and after its approach
 pub does_resume_short : {R E : Type 0} (honest : R → Type 0) (trace : R → Trace) (fault : Fault) (place : ℕ) (s : SessionModel) (out : List ℕ → Transition) (old new : ControllerModel R)
     → FindingNext {E = E} honest trace (Ok place) s old.journal new.journal → fault ≡ OutOfMemory → new.session ≡ old.session → new.lines ≡ old.lines
     → IsCarriedOutIfHonest honest trace (Err fault) out old new

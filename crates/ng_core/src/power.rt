@@ -21,10 +21,9 @@ use std::alloc::Allocator;
 ///
 /// A device of format 1 is given the tools of the settings, and is of format 2 from then on; with format 2 they aren't looked at.
 ///
-/// J2 for fewer than 1,710 sectors, with no call of the device, and where it isn't formatted; J3 where what stands is damaged, or a log
-/// has begun; J4 where the journal's counter is used up, or with format 1 where it hasn't two epochs left: all before any write. J1 where
-/// the device failed. M1 where there isn't enough memory, before any call of the device. The device is handed back with each of them.
-/// Nothing is handed out.
+/// J2 for fewer than 1,710 sectors, with no call of the device, and where it isn't formatted; J3 where what stands is damaged; J4 where
+/// the journal's counter is used up, or with format 1 where it hasn't two epochs left: all before any write. J1 where the device failed.
+/// M1 where there isn't enough memory, before any call of the device. The device is handed back with each of them. Nothing is handed out.
 pub fn power_on<R: Rig, A: Allocator + Copy + Drop>(
     alloc: A,
     rig: R,

@@ -1,4 +1,4 @@
-//! Memory that is wanting at a desk: for its seats, for a call.
+//! Too little memory at a desk: for its seats, for a call.
 ghost use Rattle.std.specs.Prelude.{◌≡◌, ◌≤◌, Some, false};
 
 use crate::devices::started;
@@ -109,7 +109,7 @@ const HEAPS: &[(usize, Outcome)] = &[
 ];
 
 #[test]
-fn memory_that_is_wanting(rt: HostRuntime) -> Result<(), Fail> {
+fn too_little_memory(rt: HostRuntime) -> Result<(), Fail> {
     for (bytes, wanted) in HEAPS {
         let heap = LocalHeap::new(rt.alloc(), *bytes)?;
         assert_eq!(rt;

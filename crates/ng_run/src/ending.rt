@@ -23,11 +23,11 @@ pub enum ConsoleAbort {
     Output,
 }
 
-/// The exit status when all is done.
-const DONE: u8 = 0;
+/// The exit status when all is done (own).
+pub const DONE: u8 = 0;
 
-/// The exit status when anything failed.
-const FAILED: u8 = 2;
+/// The exit status when anything failed (own).
+pub const FAILED: u8 = 2;
 
 /// How a console ends whose text is answered.
 pub(crate) fn ended_by(is_broken: bool) -> ConsoleEnd

@@ -10,4 +10,5 @@ mod ending;
 mod opening;
 mod talking;
 
+pub use ending::{DONE, FAILED};
 pub use opening::console;

@@ -17,7 +17,7 @@ use std::io::{Read, Write};
 ///
 /// A line that is no command is refused, and so is what the controller refuses: the console goes on. 0: all is answered. 2: all is
 /// answered, and a call of the device failed meanwhile; or power on is refused, and that is told; or the reader or the writer failed,
-/// or memory was wanting for a line of the operator or of an answer, and a beginning of the answers is written. Each line is flushed.
+/// or there wasn't enough memory for a line of the operator or of an answer, and a beginning of the answers is written. Each line is flushed.
 /// No tick is made after one whose line can't be written. A tick reads nothing. It takes memory for its line, and where it begins a line
 /// of the program: it is refused by M1 where that finds none.
 pub fn console<I: Read, W: Write, R: Rig, A: Allocator + Copy + Drop>(
