@@ -1,25 +1,30 @@
 #!/usr/bin/env python3
-"""Ends `ngc run` by kill -9 in the midst of jobs, goes on each time where the job was cut, and looks at what each session leaves.
+"""Ends `ngc run` by kill -9 in the midst of jobs, goes on each time where the job was cut, and looks at what each session
+leaves.
 
 usage, at the top of the repository: bench/cut.py [JOBS [SEED]] [--ngc PATH] [--folder FOLDER] [--cuts N]
 
-Each job (100 where JOBS isn't given; made by jobs.py, by chance from SEED) begins over a new device, by telling its tools, or, one in three, over one
-of format 1, which takes the tools of the settings; over a device of format 2 the settings name no tool. It is run to its end once, a tick and a status
-at a time: that gives the segments of each block with their lines of OUT, and the status after each entry. Then it is run again over another device, and
-its process is ended: over a device of format 1 twice within power on; then within a `load`, then within power on, right before one of the writes or
-syncs of that; and then at a moment taken by chance, up to N times (4) over the job: right before its n-th write to the device, its n-th sync, or its
-n-th line of OUT, by strace, and now and then, or where strace isn't there, by the clock: then none is surely within a `load`. Each time the device is
-read by tools/ngc_tools, and `ngc run` is started again with a new OUT, asked for its status, told where the machine stands (by the pulses of all
-OUTs; now and then the axes were moved by hand besides), and goes on: `resume` where a block is half done, then the rest of the job.
+Each job (100 where JOBS isn't given; made by jobs.py, by chance from SEED) begins over a new device, by telling its
+tools, or, one in three, over one of format 1, which takes the tools of the settings; over a device of format 2 the
+settings name no tool. It is run to its end once, a tick and a status at a time: that gives the segments of each block
+with their lines of OUT, and the status after each entry. Then it is run again over another device, and its process is
+ended: over a device of format 1 twice within power on; then within a `load`, then within power on, right before one of
+the writes or syncs of that; and then at a moment taken by chance, up to N times (4) over the job: right before its n-th
+write to the device, its n-th sync, or its n-th line of OUT, by strace, and now and then, or where strace isn't there,
+by the clock: then none is surely within a `load`. Each time the device is read by tools/ngc_tools, and `ngc run` is
+started again with a new OUT, asked for its status, told where the machine stands (by the pulses of all OUTs; now and
+then the axes were moved by hand besides), and goes on: `resume` where a block is half done, then the rest of the job.
 
-For each cut there has to be one moment of the session at which all of these were so: the lines of OUT, to the byte; what the device stands for, with
-its tool table, and the number of records in its log since it was last written anew as a whole; and the entries, of which the last `done N` that was
-written is the last or the one before. Power on has to show what the device stood for, under the next epoch, or over format 1 under the one after that
-in format 2, with an empty log. At the end the machine has to stand, and the device has to stand for all but the number of entries, as after the run that
-wasn't cut. Status 0 where that holds for each job.
+For each cut there has to be one moment of the session at which all of these were so: the lines of OUT, to the byte;
+what the device stands for, with its tool table, and the number of records in its log since it was last written anew as
+a whole; and the entries, of which the last `done N` that was written is the last or the one before. Power on has to
+show what the device stood for, under the next epoch, or over format 1 under the one after that in format 2, with an
+empty log. At the end the machine has to stand, and the device has to stand for all but the number of entries, as after
+the run that wasn't cut. Status 0 where that holds for each job.
 
 It builds ngc by rt where that is needed and no PATH is given."""
-import argparse, collections, contextlib, dataclasses, functools, math, os, random, re, shutil, subprocess, sys, tempfile, threading, time
+import argparse, collections, contextlib, dataclasses, functools, math, os, random, re, shutil, subprocess, sys
+import tempfile, threading, time
 
 here = os.path.dirname(os.path.dirname(os.path.abspath(__file__)))
 sys.dont_write_bytecode = True
@@ -143,7 +148,8 @@ def shown(device):
         known = state.half_known
         point = state.half_point_nm if known else point
     place = " ".join(map(millimetres, point))
-    return f"status entries {state.entries} place {state.place} at {place} {'known' if known else 'unknown'} half {half} idle\n"
+    told = "known" if known else "unknown"
+    return f"status entries {state.entries} place {state.place} at {place} {told} half {half} idle\n"
 
 
 def asked(child, text):
@@ -339,12 +345,15 @@ class Cutting:
     def found(self, device, status):
         """The state of the one moment at which the last session can have ended."""
         fits = [state for state, lines in self.moments
-                if (lines, state.records) == (len(self.handed), len(device.records)) and status_of(self.steps, state) == status]
+                if (lines, state.records) == (len(self.handed), len(device.records))
+                and status_of(self.steps, state) == status]
         if len(fits) != 1 or fits[0].entries - self.told not in (0, 1):
-            raise Wrong(f"{len(fits)} moments fit: {status!r}, {len(device.records)} records, {len(self.handed)} lines of OUT, {self.told} told done")
+            raise Wrong(f"{len(fits)} moments fit: {status!r}, {len(device.records)} records, "
+                        f"{len(self.handed)} lines of OUT, {self.told} told done")
         tools = [] if device.format == 1 else tools_of(self.steps, fits[0], self.tools)
         if device.tools_nm != tools:
-            raise Wrong(f"the device of format {device.format} has the tools {device.tools_nm}, wanted was {tools}, at {fits[0]}")
+            raise Wrong(f"the device of format {device.format} has the tools {device.tools_nm}, "
+                        f"wanted was {tools}, at {fits[0]}")
         return fits[0]
 
     def counted(self, device, state):
@@ -432,16 +441,19 @@ class Cutting:
         if status != shown(before):
             raise Wrong(f"power on shows {status!r}, and the device stood for {shown(before)!r}")
         device = self.mill.stands()
-        if (device.epoch, device.format, len(device.records), device.torn) != (before.epoch + (2 if before.format == 1 else 1), 2, 0, []):
+        epoch = before.epoch + (2 if before.format == 1 else 1)
+        if (device.epoch, device.format, len(device.records), device.torn) != (epoch, 2, 0, []):
             raise Wrong(f"over epoch {before.epoch} of format {before.format} power on left epoch {device.epoch} of format {device.format} with "
                         f"{len(device.records)} records, and parts in {device.torn}")
         if device.tools_nm != (jobs.TOOLS_NM if before.format == 1 else before.tools_nm):
-            raise Wrong(f"over format {before.format} with the tools {before.tools_nm} power on left the tools {device.tools_nm}")
+            raise Wrong(f"over format {before.format} with the tools {before.tools_nm} "
+                        f"power on left the tools {device.tools_nm}")
 
     def cut_in_power_on(self, before):
         """It left what the session before left, or its recovered under the next epoch, or of format 1 under the one after that in format 2."""
         device, next_epoch = self.mill.stands(), before.epoch + 1
-        valid = [(before.epoch, before.format, len(before.records), before.tools_nm), (next_epoch, before.format, 0, before.tools_nm)]
+        valid = [(before.epoch, before.format, len(before.records), before.tools_nm),
+                 (next_epoch, before.format, 0, before.tools_nm)]
         if before.format == 1:
             valid.append((next_epoch + 1, 2, 0, jobs.TOOLS_NM))
         left, stood = ((it.epoch, it.format, len(it.records), it.tools_nm) for it in (device, before))
@@ -449,7 +461,8 @@ class Cutting:
             raise Wrong(f"power on that was cut left {left}, {shown(device)!r}, and {stood}, {shown(before)!r} stood")
         self.counts[MIGRATION] += before.format == 1
         # what it wrote anew as a whole has no record
-        self.moments = [(state._replace(records=len(device.records)), lines) for state, lines in self.moments if state.records == len(before.records)]
+        self.moments = [(state._replace(records=len(device.records)), lines) for state, lines in self.moments
+                        if state.records == len(before.records)]
         self.counts[POWER_ON] += 1
 
     def goes_on(self, child, state, session, begins):

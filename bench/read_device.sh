@@ -86,7 +86,7 @@ head -c 875520 /dev/zero > "$work/zeros"
 head -c 875519 "$work/device" > "$work/short"
 for file in zeros short; do
     if python3 "$examples/read_device.py" "$work/$file" > "$work/state" 2> "$work/refusal"; then exit 1; fi
-    grep -q "is no device (J2)" "$work/refusal"
+    grep -q "isn't a device (J2)" "$work/refusal"
     test ! -s "$work/state"
 done
 python3 "$work/make.py" "$work/device" < "$examples/device.hex"
@@ -121,4 +121,4 @@ whole "$record 040000000000000001" 4 1
 whole "$record 030000000000000001" 3 1
 damaged "$record 050000000000000001" "sector 686, record 0: slot 5 1"
 damaged "$record 000000000000000001ca9a3b" "sector 686, record 0: slot 0 1000000001"
-echo "read_device.py: refuses what is no device, finds the older header, and says what is damaged"
+echo "read_device.py: refuses what isn't a device, finds the older header, and says what is damaged"

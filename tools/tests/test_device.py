@@ -172,7 +172,7 @@ class Script(InFolder):
         self.assertIn("spindle: 3\n", printed)
         Path("short.dev").write_bytes(image[:-1])
         self.assertEqual(self.read_device("short.dev"), (
-            1, "", "short.dev is no device (J2): 875,519 bytes, and a device has 875,520 or more\n"))
+            1, "", "short.dev isn't a device (J2): 875,519 bytes, and a device has 875,520 or more\n"))
         self.assertEqual(self.read_device("none.dev"), (2, "", "none.dev can't be read: No such file or directory\n"))
         self.assertEqual(self.read_device()[0], 2)
         alone = Path(shutil.copy(ROOT / "examples" / "read_device.py", self.folder))

@@ -3,7 +3,7 @@
 
     read_device.py DEVICE     DEVICE is the file that `ngc format` made, or a disk that is used as one; it is only read
 
-Status 0 where it stands for something; 1 where it is no device (J2) or a damaged one (J3), of which all is printed that
+Status 0 where it stands for something; 1 where it isn't a device (J2) or a damaged one (J3), of which all is printed that
 was found; 2 where it can't be read, or the words are wrong. It reads by tools/ngc_tools/device.py of the checkout that
 it lies in."""
 import signal
@@ -71,7 +71,7 @@ def main(words):
         print(f"{words[1]} can't be read: {error.strerror}", file=sys.stderr)
         return 2
     except NoDevice as why:
-        print(f"{words[1]} is no device (J2): {why}", file=sys.stderr)
+        print(f"{words[1]} isn't a device (J2): {why}", file=sys.stderr)
         return 1
     tell(device)
     for damage in device.damage:
@@ -80,6 +80,6 @@ def main(words):
 
 
 if __name__ == "__main__":
-    # whoever reads the lines may stop at any of them
+    # the reader of the lines may stop at any of them
     signal.signal(signal.SIGPIPE, signal.SIG_DFL)
     sys.exit(main(sys.argv))
