@@ -8,6 +8,7 @@ use Rattle.std.proofs.lemmas.List.Elements.{All-head, All-tail}
 use Rattle.std.proofs.lemmas.List.FromFn.{get_or-map-range_with_len, length-map-range_with_len}
 use Rattle.ng_rig.specs.Trace.{Trace, Began, Wrote, Perhaps, Synced, Handed, MayHold, IsStop, items, moment, trace_at}
 use Rattle.ng_canon.specs.declared.item.Item.{Item}
+use Rattle.std.proofs.lemmas.Bool.{and_parts}
 use Rattle.ng_rig.specs.Kept.{trace_after, trace_of_calls, contents, is_call_within, AllWithin}
 use Rattle.ng_rig.specs.Stops.{unsynced, kept, kept_image, IsReached}
 use Rattle.ng_rig.proofs.Traces.{trace_at-trace_of_calls}
@@ -86,7 +87,7 @@ module _ (size n : ℕ) (past : size ≤ n) where
   unsynced_past trace [] all none = none
   unsynced_past trace (Write m bytes ∷ calls) all none =
       let here = All-head (λ c. is_call_within size c ≡ true) (Write m bytes) calls all in
-      unsynced_past (Wrote m bytes trace) calls (All-tail (λ c. is_call_within size c ≡ true) (Write m bytes) calls all) (other_sector n m (unsynced trace n) size here past ∙ none)
+      unsynced_past (Wrote m bytes trace) calls (All-tail (λ c. is_call_within size c ≡ true) (Write m bytes) calls all) (other_sector n m (unsynced trace n) size (and_parts (nat_lt m size) (nat_lt 0 (length bytes)) here).0 past ∙ none)
   unsynced_past trace (Sync ∷ calls) all none = unsynced_past (Synced trace) calls (All-tail (λ c. is_call_within size c ≡ true) Sync calls all) refl
   unsynced_past trace (Hand item ∷ calls) all none = unsynced_past (Handed item trace) calls (All-tail (λ c. is_call_within size c ≡ true) (Hand item) calls all) none
 

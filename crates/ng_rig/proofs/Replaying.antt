@@ -2,14 +2,14 @@
 use Rattle.std.proofs.Common.{◌≡◌, inl, inr, ℕ, zero, suc, ◌+◌, ◌<◌, ◌≤◌, ◌==◌, nat_lt, Bool, false, ◌&&◌, if◌then◌else◌, true, List, [], ◌∷◌, ◌++◌, length, take, drop, get_or, set, slice_index, refl, sym, ◌∙◌, ap, subst, arith}
 use Rattle.std.specs.List.{list_all}
 use Rattle.std.proofs.lemmas.List.Folds.{list_all-append}
-use Rattle.std.proofs.lemmas.Bool.{cases_eq}
+use Rattle.std.proofs.lemmas.Bool.{cases_eq, and_parts}
 use Rattle.std.proofs.lemmas.Bool.Decides.{nat_tests}
-use Rattle.std.proofs.lemmas.List.{get_or-set_other}
+use Rattle.std.proofs.lemmas.List.{get_or-set_other, get_or-set_same, length-set}
 use Rattle.std.proofs.lemmas.Grind.{get_or-set_at}
 use Rattle.std.proofs.lemmas.List.Sums.{AllPass-from_list_all, list_all-from_AllPass}
 use Rattle.std.proofs.lemmas.List.Elements.{All-get_or, All-drop, All-take}
 use Rattle.ng_rig.specs.Trace.{Trace, Began, Wrote, reads}
-use Rattle.ng_rig.specs.Kept.{after_call, trace_after, trace_of_calls, contents, is_call_within, AllWithin, EndsSynced}
+use Rattle.ng_rig.specs.Kept.{after_call, trace_after, trace_of_calls, contents, is_call_within, AllWithin, EndsSynced, IsWhole}
 use Rattle.ng_rig.specs.Stops.{unsynced, kept, kept_image}
 use Rattle.ng_rig.specs.declared.call.Call.{Call}
 use Rattle.ng_rig.specs.declared.call.Call.TheVariants.{Write, Sync, Hand}
@@ -21,11 +21,26 @@ default_is [] i d e lt = absurd (omega arith)
 default_is (x ∷ xs) zero d e lt = refl
 default_is (x ∷ xs) (suc i) d e lt = default_is xs i d e (omega arith)
 
--- a write among these calls is of a sector below the size
-pub within_at : (size : ℕ) (calls : List Call) (i : ℕ) (d : Call) (n : ℕ) (bytes : List ℕ) → AllWithin size calls → i < length calls → get_or calls i d ≡ Write n bytes → n < size
+-- a sector that holds something may take the place of another
+pub whole_set : (sectors new : List (List ℕ)) (m : ℕ) (bytes : List ℕ) → new ≡ set sectors m bytes → 0 < length bytes → IsWhole sectors → IsWhole new
+whole_set sectors new m bytes is some whole = subst (λ (s : List (List ℕ)). IsWhole s) (sym is) (record { each = each }) where
+    each : (n : ℕ) → n < length (set sectors m bytes) → 0 < length (get_or (set sectors m bytes) n [])
+    each n below =
+        let lengths = length-set sectors m bytes in
+        elim (cases_eq n m) [
+          | inl same ↦ rw (same, get_or-set_same sectors m bytes [] (omega (arith, lengths, below, same))) some
+          | inr other ↦ rw (get_or-set_other sectors m n bytes [] other) (whole.each n (omega (arith, lengths, below)))
+        ]
+
+below-lt : (a b : ℕ) → nat_lt a b ≡ true → a < b
+below-lt a b h = grind (arith, nat_tests)
+
+-- a write among these calls is of a sector below the size, and of some bytes
+pub within_at : (size : ℕ) (calls : List Call) (i : ℕ) (d : Call) (n : ℕ) (bytes : List ℕ) → AllWithin size calls → i < length calls → get_or calls i d ≡ Write n bytes → (n < size) × (0 < length bytes)
 within_at size calls i d n bytes all lt is =
-    let h : nat_lt n size ≡ true = sym (ap (λ (c : Call). is_call_within size c) is) ∙ All-get_or (λ c. is_call_within size c ≡ true) calls i d lt (AllPass-from_list_all (is_call_within size) calls all) in
-    grind (arith, nat_tests)
+    let h : (nat_lt n size && nat_lt 0 (length bytes)) ≡ true = sym (ap (λ (c : Call). is_call_within size c) is) ∙ All-get_or (λ c. is_call_within size c ≡ true) calls i d lt (AllPass-from_list_all (is_call_within size) calls all) in
+    let parts = and_parts (nat_lt n size) (nat_lt 0 (length bytes)) h in
+    (below-lt n size parts.0, below-lt 0 (length bytes) parts.1)
 
 pub within_take : (size : ℕ) (calls : List Call) (i : ℕ) → AllWithin size calls → AllWithin size (take i calls)
 within_take size calls i all = list_all-from_AllPass (is_call_within size) (take i calls) (All-take (λ c. is_call_within size c ≡ true) i calls (AllPass-from_list_all (is_call_within size) calls all))

@@ -1,5 +1,5 @@
 -- The calls that a device in memory keeps, and its trace by them (own).
-use Rattle.std.specs.Prelude.{◌≡◌, ◌≢◌, ◌⊎◌, ◌<◌, ◌≤◌, ℕ, Bool, true, List, [], ◌∷◌, ◌++◌, length, take, drop, get_or, nat_lt}
+use Rattle.std.specs.Prelude.{◌≡◌, ◌≢◌, ◌⊎◌, ◌<◌, ◌≤◌, ℕ, Bool, true, List, [], ◌∷◌, ◌++◌, length, take, drop, get_or, nat_lt, ◌&&◌}
 use Rattle.std.specs.List.{list_all}
 use Rattle.ng_rig.specs.Trace.{Image, Trace, Began, Wrote, Synced, Handed}
 use Rattle.ng_rig.specs.declared.call.Call.{Call}
@@ -22,12 +22,16 @@ contents sectors n = get_or sectors n []
 abbrev pub trace_of_calls : List (List ℕ) → List Call → Trace
 trace_of_calls sectors calls = trace_after (Began (contents sectors)) calls
 
+-- each sector holds something
+pub record IsWhole (sectors : List (List ℕ)) : Type 0 where
+  pub each : (n : ℕ) → n < length sectors → 0 < length (get_or sectors n [])
+
 abbrev pub is_call_within : ℕ → Call → Bool
-is_call_within size (Write n bytes) = nat_lt n size
+is_call_within size (Write n bytes) = nat_lt n size && nat_lt 0 (length bytes)
 is_call_within size Sync = true
 is_call_within size (Hand item) = true
 
--- each write is of a sector below the size
+-- each write is of a sector below the size, and of some bytes
 abbrev pub AllWithin : ℕ → List Call → Type 0
 AllWithin size calls = list_all (is_call_within size) calls ≡ true
 

@@ -1,4 +1,5 @@
 pub mod Calls
+pub mod Extent
 pub mod FailOnce
 pub mod Fuse
 pub mod Kept

@@ -1,7 +1,7 @@
 //! A device in memory, with all that was done to it.
 ghost use Rattle.std.specs.Prelude.{◌≡◌, ◌<◌, ◌≤◌, ℕ, length};
 ghost use Rattle.ng_rig.specs.Trace.{reads};
-ghost use Rattle.ng_rig.specs.Kept.{contents, trace_of_calls, AllWithin};
+ghost use Rattle.ng_rig.specs.Kept.{contents, trace_of_calls, AllWithin, IsWhole};
 
 use crate::call::Call;
 use crate::replay::{items_of, stop_image};
@@ -20,6 +20,8 @@ pub struct MemoryRig<A: Allocator + Copy + Drop> {
     failures: u64,
     ghost same_size: { length present.items ≡ length first.items },
     ghost within: { AllWithin (length first.items) calls.items },
+    ghost first_whole: { IsWhole first.items },
+    ghost whole: { IsWhole present.items },
     ghost present_is: { contents present.items ≡ reads (trace_of_calls first.items calls.items) },
 }
 
@@ -44,6 +46,7 @@ impl<A: Allocator + Copy + Drop> MemoryRig<A> {
 
     /// A device that holds these sectors.
     fn holding(alloc: A, first: Vec<[u8; 512], A>) -> Result<Self, AllocError>
+        requires { IsWhole first.items }
         ensures size { IfOk result (λ rig. sector_count rig ≡ length first.items) }
         ensures trace { IfOk result (λ rig. trace_of rig ≡ Began (contents first.items)) }
         ensures failures { IfOk result (λ rig. failure_count rig ≡ 0) }

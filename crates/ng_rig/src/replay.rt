@@ -1,7 +1,7 @@
 //! What kept calls come to: the items handed out, and the image that a stop leaves.
 ghost use Rattle.std.specs.Prelude.{◌≡◌, ◌≤◌, ◌<◌, ◌+◌, ℕ, List, length, take, drop, IfOk, slice_index};
 ghost use Rattle.ng_rig.specs.Trace.{reads, items};
-ghost use Rattle.ng_rig.specs.Kept.{contents, trace_of_calls, AllWithin, NoSync, IsLastSync};
+ghost use Rattle.ng_rig.specs.Kept.{contents, trace_of_calls, AllWithin, NoSync, IsLastSync, IsWhole};
 ghost use Rattle.ng_rig.specs.Stops.{kept_image};
 
 use crate::call::Call;
@@ -44,7 +44,8 @@ fn synced_calls(calls: &[Call]) -> usize
 /// Makes the image what a read gives after these calls.
 fn replay(image: &mut [[u8; 512]], calls: &[Call])
     requires { AllWithin (length image.old) calls.now }
-    ensures { contents image.new ≡ reads (trace_of_calls image.old calls.now) }
+    ensures whole { IsWhole image.old → IsWhole image.new }
+    ensures image { contents image.new ≡ reads (trace_of_calls image.old calls.now) }
 {
     for call in calls {
         match call {
@@ -73,7 +74,8 @@ fn replay_kept(image: &mut [[u8; 512]], written: &mut [usize], calls: &[Call], k
     requires size { length written.old ≡ length image.old }
     requires none { (n : ℕ) → slice_index written.old n ≡ 0 }
     requires unsynced { NoSync calls.now }
-    ensures { contents image.new ≡ kept_image (trace_of_calls image.old calls.now) keep.now }
+    ensures whole { IsWhole image.old → IsWhole image.new }
+    ensures image { contents image.new ≡ kept_image (trace_of_calls image.old calls.now) keep.now }
 {
     for call in calls {
         match call {
@@ -95,7 +97,8 @@ fn replay_stop(image: &mut [[u8; 512]], written: &mut [usize], calls: &[Call], k
     requires within { AllWithin (length image.old) calls.now }
     requires size { length written.old ≡ length image.old }
     requires none { (n : ℕ) → slice_index written.old n ≡ 0 }
-    ensures { contents image.new ≡ kept_image (trace_of_calls image.old calls.now) keep.now }
+    ensures whole { IsWhole image.old → IsWhole image.new }
+    ensures image { contents image.new ≡ kept_image (trace_of_calls image.old calls.now) keep.now }
 {
     let synced = synced_calls(calls);
     replay(image, &calls[..synced]);
@@ -110,6 +113,7 @@ pub(crate) fn stop_image<A: Allocator + Copy + Drop>(
     keep: &[usize],
 ) -> Result<Vec<[u8; 512], A>, AllocError>
     requires { AllWithin (length first.now) calls.now }
+    ensures whole { IfOk result (λ image. IsWhole first.now → IsWhole image.items) }
     ensures size { IfOk result (λ image. length image.items ≡ length first.now) }
     ensures image { IfOk result (λ image. contents image.items ≡ kept_image (trace_of_calls first.now calls.now) keep.now) }
 {

@@ -1,6 +1,7 @@
 //! What a device is to a journal: the trait `Rig`.
 ghost use Rattle.std.specs.Prelude.{◌≡◌, ◌<◌, ℕ, OnOk};
 ghost use Rattle.ng_rig.specs.Trace.{Trace, reads};
+ghost use Rattle.ng_rig.specs.Extent.{HasExtent};
 ghost use Rattle.ng_rig.specs.Calls.{IfHonest, WriteSpec, SyncSpec, HandOutSpec, FailureCountSpec};
 
 use ng_canon::Item;
@@ -27,7 +28,8 @@ pub trait Rig {
 
     /// Its number of sectors, which no call changes.
     fn size(&self) -> usize
-        ensures { result ≡ sectors self.now };
+        ensures value { result ≡ sectors self.now }
+        ensures extent { honest self.now → HasExtent (sectors self.now) (reads (trace self.now)) };
 
     /// How often a call has failed; 0 follows 2 ^ 64 - 1.
     fn failures(&self) -> u64

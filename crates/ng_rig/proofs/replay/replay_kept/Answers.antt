@@ -2,7 +2,7 @@ use Rattle.std.proofs.Common.{length, take, sym, ◌∙◌, ap, arith, slice_ind
 use Rattle.ng_rig.specs.Kept.{contents, trace_of_calls}
 use Rattle.ng_rig.proofs.Traces.{trace_of_calls-next}
 use Rattle.ng_rig.specs.declared.call.Call.TheVariants.{Sync}
-use Rattle.ng_rig.proofs.Replaying.{default_is, within_at, kept_write, kept_passed, count_write, bound_write}
+use Rattle.ng_rig.proofs.Replaying.{default_is, within_at, whole_set, kept_write, kept_passed, count_write, bound_write}
 use Rattle.ng_rig.proofs.replay.replay_kept.Goals as goal
 use Rattle.ng_rig.proofs.replay.replay_kept.Goals.{in-Write, then-before-number_at, else-before-number_at, in-Sync, in-Hand}
 
@@ -17,6 +17,10 @@ loop-call-preserved c =
           let trace = trace_of_calls c.args.image.now (take c.loop-call.call-index c.args.calls.now) in
           let now = h.count w.in-Write.sector in
           rw next (record {
+            whole = λ was. elim w.if-before-number_at.branch [
+              | then-before-number_at w' ↦ whole_set _ _ w.in-Write.sector w.in-Write.bytes (w.image-is ∙ w'.image-is) within.1 (h.whole was)
+              | else-before-number_at w' ↦ rw (w.image-is ∙ w'.image-is) (h.whole was)
+            ];
             image = elim w.if-before-number_at.branch [
               | then-before-number_at w' ↦ kept_write trace c.args.keep.now _ _ w.in-Write.sector w.in-Write.bytes (omega arith) (omega (arith, now, w.number_at.ensures)) (w.image-is ∙ w'.image-is) h.image
               | else-before-number_at w' ↦ kept_passed trace c.args.keep.now _ _ w.in-Write.sector w.in-Write.bytes (omega (arith, now, w.number_at.ensures)) (w.image-is ∙ w'.image-is) h.image
@@ -29,6 +33,7 @@ loop-call-preserved c =
           let next = trace_of_calls-next c.args.image.now c.args.calls.now c.loop-call.call-index _ _ c.loop-call-test.true (sym c.call-item.is ∙ w.in-Hand.is) in
           let h = c.loop-call.invariant in
           rw next (record {
+            whole = λ was. rw w.image-is (h.whole was);
             image = λ n. ap (λ xs. contents xs n) w.image-is ∙ h.image n;
             count = λ n. ap (λ xs. slice_index xs n) w.written-is ∙ h.count n;
             bound = λ n. omega (arith, ap (λ xs. slice_index xs n) w.written-is, h.bound n);

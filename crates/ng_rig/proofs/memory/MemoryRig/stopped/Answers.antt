@@ -18,6 +18,9 @@ left first was calls part n keep image e p is =
 pub stop_image-requires : goal.stop_image-requires
 stop_image-requires g c = rw (c.deref.ensures.value, c.before-2.ensures) (within_take _ _ c.args.n c.args.self.now.within)
 
+pub holding-requires : goal.holding-requires
+holding-requires g c = c.in_ok-image.ensures.whole (rw c.deref.ensures.value c.args.self.now.first_whole)
+
 pub returns-in_err-image-clause-every : goal.returns-in_err-image-clause-every
 returns-in_err-image-clause-every g c = reached_at c.args.n c.args.self.now.first.items c.args.self.now.calls.items c.args.self.now.within
 

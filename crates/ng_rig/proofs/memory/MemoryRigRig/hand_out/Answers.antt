@@ -7,6 +7,8 @@ pub invariant_of-self : goal.invariant_of-self
 invariant_of-self g c = record {
   same_size = c.args.self.now.same_size;
   within = within-maybe (is_ok c.push.result) _ c.args.self.now.calls.items _ (Hand c.args.item) c.push.ensures.items c.args.self.now.within refl;
+  first_whole = c.args.self.now.first_whole;
+  whole = c.args.self.now.whole;
   present_is = reads-maybe (is_ok c.push.result) _ _ c.args.self.now.calls.items _ (Hand c.args.item) c.push.ensures.items refl c.args.self.now.present_is;
 }
 
