@@ -16,9 +16,9 @@ pub record IsToolLength (n : ℤ) : Type 0 where
   pub least : pos 0 ≤ℤ n
   pub most : n ≤ℤ longest_tool
 
--- at most 64 slots, each with a length within its limits
+-- at most 128 slots, each with a length within its limits
 pub record AreTools (lengths : List ℤ) : Type 0 where
-  pub few : length lengths ≤ 64
+  pub few : length lengths ≤ 128
   pub each : All IsToolLength lengths
 
 -- the length of a slot: slot 0 is no tool and has none (NISTIR 6556, 3.5.11)

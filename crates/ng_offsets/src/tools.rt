@@ -6,7 +6,7 @@ use ng_num::Len;
 use std::marker::Model;
 
 /// The most slots that a tool table has.
-pub const SLOTS: usize = 64;
+pub const SLOTS: usize = 128;
 
 /// A tool length for a slot, which a table has or has next.
 #[derive(Clone, Copy, Debug, PartialEq, Eq)]
@@ -44,7 +44,7 @@ impl Tools {
         }
     }
 
-    /// The number of slots, 0 to 64.
+    /// The number of slots, 0 to 128.
     pub fn slots(&self) -> usize
         ensures value { result ≡ length self.now }
         ensures range { result ≤ SLOTS }
@@ -65,7 +65,7 @@ impl Tools {
         }
     }
 
-    /// Adds the next slot. The caller sees to it that there are fewer than 64, and that it is a tool's length.
+    /// Adds the next slot. The caller sees to it that there are fewer than 128, and that it is a tool's length.
     pub fn push(&mut self, tool_length: Len)
         requires room { length self.old < SLOTS }
         requires tool { IsToolLength tool_length }

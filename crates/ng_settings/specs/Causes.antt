@@ -52,6 +52,6 @@ is_beyond_limits numbers =
     || are_beyond (pos 1) (pos 1_000_000) numbers.period
     || are_beyond (pos 0) (pos 1_000_000_000) numbers.tools
 
--- S6: more than 64 tool lengths
+-- S6: more than 128 tool lengths
 unfoldable pub has_many_tools : Numbers → Bool
-has_many_tools numbers = nat_lt 64 (length numbers.tools)
+has_many_tools numbers = nat_lt 128 (length numbers.tools)

@@ -42,7 +42,7 @@ fn settings_of(table: &Table) -> Result<Settings, Fault>
 
 /// The settings of a TOML text (own). S1 where it is no TOML, M1 for want of memory; else the least of S2 to S6 whose cause
 /// holds: S2 a key is missing, S3 there is another key, S4 a value is of another type, S5 a number is beyond its limits, S6
-/// there are more than 64 tool lengths. Each is looked at over all keys.
+/// there are more than 128 tool lengths. Each is looked at over all keys.
 pub fn settings(alloc: Global, text: &[u8]) -> Result<Settings, Fault>
     ensures { MatchResult result (AreSettings text.now) (IsRefused text.now) }
 {

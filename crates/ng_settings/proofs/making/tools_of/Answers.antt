@@ -27,7 +27,7 @@ loop-value-preserved c =
           (let n = w.in-Some.nm in
           let here = with_number vs i c.value-item.result n lt at (sym w.in-Some.ensures) in
           let pushed : w.tool_length.result ≡ n = search rules in
-          let room : length c.loop-value.tools < 64 = omega arith in
+          let room : length c.loop-value.tools < 128 = omega arith in
           rw (w.tools-is, w.push.ensures, pushed)
           (record {
             within = (head_within (pos 0) (pos 1_000_000_000) n (numbers_from (i + 1) vs) (rw here at before.within)).1;
