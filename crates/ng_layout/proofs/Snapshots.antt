@@ -139,7 +139,7 @@ snapshot-new format saved row area long each table_is =
     λ i. and_then (report i) (λ r. and_then (counted i) (λ xs. and_then (table_is i) (λ tools. Some (record { report = r; params = xs; tools = tools }))))
 
 -- A tool area whose sectors hold a table is that table.
-module _ (tools : List ℤ) (area : Row) (each : (part : ℕ) → part < 2 → HoldsLengths tools (64 * part) (area part)) (long : All IsToolLength tools) (few : length tools ≤ 64) where
+module _ (tools : List ℤ) (area : Row) (each : (part : ℕ) → part < 2 → HoldsLengths tools (64 * part) (area part)) (long : All IsToolLength tools) (few : length tools ≤ 128) where
   one-length : (n : ℕ) → n < length tools → tool_length_of (signed_at (8 * (n % 64)) (area (n / 64))) ≡ Some (get_or tools n (pos 0))
   one-length n lt =
       let is : signed_at (8 * (n % 64)) (area (n / 64)) ≡ get_or tools (64 * (n / 64) + n % 64) (pos 0) = (each (n / 64) (omega arith)).each (n % 64) (omega arith) (omega arith) in
@@ -161,11 +161,11 @@ up-to : (limit n : ℕ) → n ≤ limit → up_to limit n ≡ Some n
 up-to limit n le = grind (arith, nat_tests)
 
 -- what a format has of a table: none in format 1
-pub tools-new : (format : Format) (saved : StoredModel) (first : List ℕ) (area : Row) → number_at 2 456 first ≡ length saved.tools → length saved.tools ≤ 64 → All IsToolLength saved.tools → (format ≡ One → saved.tools ≡ []) → (format ≡ Two → (part : ℕ) → part < 2 → HoldsToolPart saved part (area part)) → tools_in format first area ≡ Some saved.tools
+pub tools-new : (format : Format) (saved : StoredModel) (first : List ℕ) (area : Row) → number_at 2 456 first ≡ length saved.tools → length saved.tools ≤ 128 → All IsToolLength saved.tools → (format ≡ One → saved.tools ≡ []) → (format ≡ Two → (part : ℕ) → part < 2 → HoldsToolPart saved part (area part)) → tools_in format first area ≡ Some saved.tools
 tools-new One saved first area slots few long none parts = ap (λ (l : List ℤ). Some l) (sym (none refl))
 tools-new Two saved first area slots few long none parts =
-    (λ i. and_then (up_to 64 (slots i)) (λ n. lengths_in area n))
-    ∙ ap (λ (o : Option ℕ). and_then o (λ n. lengths_in area n)) (up-to 64 (length saved.tools) few)
+    (λ i. and_then (up_to 128 (slots i)) (λ n. lengths_in area n))
+    ∙ ap (λ (o : Option ℕ). and_then o (λ n. lengths_in area n)) (up-to 128 (length saved.tools) few)
     ∙ lengths-whole saved.tools area (parts refl) long few
 
 -- A row whose sectors hold a text is that text.

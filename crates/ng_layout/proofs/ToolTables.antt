@@ -21,10 +21,10 @@ pub length-back : (n : ℤ) → IsToolLength n → tool_length_of n ≡ Some n
 length-back (pos n) small = let b = small.most in grind (arith, nat_tests)
 length-back (negsuc n) small = absurd (let a = small.least in omega arith)
 
-by-slot : (slots slot : ℕ) (tool : ℤ) → 1 ≤ slot → slot ≤ slots + 1 → slot ≤ 64 → tool_length_of tool ≡ Some tool → slot_change_by slots slot tool ≡ Some (Some (record { slot = slot; length = tool }))
+by-slot : (slots slot : ℕ) (tool : ℤ) → 1 ≤ slot → slot ≤ slots + 1 → slot ≤ 128 → tool_length_of tool ≡ Some tool → slot_change_by slots slot tool ≡ Some (Some (record { slot = slot; length = tool }))
 by-slot slots slot tool low next most back =
     let a : (slot == 0) ≡ false = grind (arith, nat_tests) in
-    let b : (nat_le slot (slots + 1) && nat_le slot 64) ≡ true = grind (arith, nat_tests) in
+    let b : (nat_le slot (slots + 1) && nat_le slot 128) ≡ true = grind (arith, nat_tests) in
     (λ i. and_then (back i) (λ n. if a i then Some None else if b i then Some (Some (record { slot = slot; length = n })) else None))
 
 change-back : (slots : List ℤ) (change : Option SlotChange) → IfSome change (IsStorableChange slots) → slot_change_by (length slots) (slot_number change) (slot_length change) ≡ Some change
@@ -88,7 +88,7 @@ module _ (area : ℕ → List ℕ) where
         ap (lengths_in area) e ∙ none-later (suc (64 * part + k)) (n - suc k) (suc-more (64 * part + k) xs None before (here ∙ none))
 
 -- the table of an area, by its two sectors
-module _ (first : List ℕ) (area : ℕ → List ℕ) (slots : ℕ) (o : Option ℕ) (some : o ≡ Some slots) (is : o ≡ up_to 64 (number_at 2 456 first)) where
+module _ (first : List ℕ) (area : ℕ → List ℕ) (slots : ℕ) (o : Option ℕ) (some : o ≡ Some slots) (is : o ≡ up_to 128 (number_at 2 456 first)) where
   table-is : tools_in Two first area ≡ lengths_in area slots
   table-is = ap (λ (x : Option ℕ). and_then x (λ n. lengths_in area n)) (sym is ∙ some)
 
@@ -113,7 +113,7 @@ no-part area b new other slots is lt found =
     let all : lengths_in area slots ≡ None = ap (lengths_in area) e ∙ none-later area 64 (slots - 64) none in
     subst (λ (x : Bool). MatchBool x (lengths_in area slots ≡ Some other) (lengths_in area slots ≡ None)) (sym is) all
 
-pub storable-more : (xs : List ℤ) (tool : ℤ) → length xs < 64 → IsToolLength tool → IsStorableTools xs → IsStorableTools (xs ++ tool ∷ [])
+pub storable-more : (xs : List ℤ) (tool : ℤ) → length xs < 128 → IsToolLength tool → IsStorableTools xs → IsStorableTools (xs ++ tool ∷ [])
 storable-more xs tool lt small s = record {
   few = omega (arith, length-append xs (tool ∷ []));
   each = λ k d within. elim (cases_lt k (length xs)) [

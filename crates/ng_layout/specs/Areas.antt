@@ -1,6 +1,6 @@
 -- What lies where on a device: sectors 0 and 1 hold headers, then come two snapshot areas, two program areas, the log; in format 2 the log
--- is shorter, and two tool areas come after it (own).
-use Rattle.std.specs.Prelude.{ℕ, ◌+◌, ◌-◌, ◌*◌, ◌%◌}
+-- is shorter, and two tool areas come after it. A large device has two larger program areas at its end (own).
+use Rattle.std.specs.Prelude.{ℕ, ◌+◌, ◌-◌, ◌*◌, ◌%◌, ◌==◌, Bool, true, false, nat_le, if◌then◌else◌}
 use Rattle.ng_layout.specs.declared.header.Format.{Format}
 use Rattle.ng_layout.specs.declared.header.Format.TheVariants.{One, Two}
 use Rattle.ng_layout.specs.declared.header.Header.{Header}
@@ -17,21 +17,27 @@ snapshot_size = 86
 abbrev pub snapshot_first : ℕ → ℕ
 snapshot_first epoch = header_count + snapshot_size * (epoch % 2)
 
--- the greatest number of a program area; the least is 0
-abbrev pub greatest_area : ℕ
-greatest_area = 1
+-- the number of sectors from which on a device is large
+abbrev pub large_size : ℕ
+large_size = 5806
+
+-- the greatest number of a program area, on a large device and on any other; the least is 0
+abbrev pub greatest_area : Bool → ℕ
+greatest_area true = 3
+greatest_area false = 1
 
 -- how many sectors the program area of this number has
 abbrev pub program_size : ℕ → ℕ
-program_size area = 256
+program_size area = if nat_le 2 area then 2048 else 256
 
 -- the first sector of the program area of this number
 abbrev pub program_first : ℕ → ℕ
-program_first area = 174 + program_size area * area
+program_first area = if nat_le 2 area then 1710 + 2048 * (area - 2) else 174 + 256 * area
 
 -- the program area that a load writes while this one is in force
-abbrev pub spare_area : ℕ → ℕ
-spare_area area = 1 - area
+abbrev pub spare_area : Bool → ℕ → ℕ
+spare_area true area = if area == 2 then 3 else 2
+spare_area false area = 1 - area
 
 -- the first sector of the log
 abbrev pub log_first : ℕ

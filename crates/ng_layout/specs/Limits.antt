@@ -5,13 +5,13 @@ use Rattle.std.specs.Prelude.{ℕ}
 abbrev pub greatest_count : ℕ
 greatest_count = 1_000_000_000_000
 
--- of the bytes of a program
+-- of the bytes of a program, on a large device
 abbrev pub longest_program : ℕ
-longest_program = 131_072
+longest_program = 1_048_576
 
 -- of the numbers of slots
 abbrev pub greatest_slot : ℕ
-greatest_slot = 64
+greatest_slot = 128
 
 -- how many tool lengths a sector holds
 abbrev pub sector_lengths : ℕ

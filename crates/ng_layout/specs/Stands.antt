@@ -1,5 +1,5 @@
 -- What an image of a device stands for (own).
-use Rattle.std.specs.Prelude.{◌≡◌, ℕ, ◌+◌, ◌<◌, ◌≤◌, nat_lt, nat_le, List, [], ℤ, unsigned_abs, Option, Some, None, is_some, Result, Ok, Err, if◌then◌else◌}
+use Rattle.std.specs.Prelude.{◌≡◌, ℕ, ◌+◌, ◌-◌, Bool, length, ◌<◌, ◌≤◌, nat_lt, nat_le, List, [], ℤ, unsigned_abs, Option, Some, None, is_some, Result, Ok, Err, if◌then◌else◌}
 use Rattle.std.specs.Option.{option_map}
 use Rattle.std.specs.List.{list_all}
 use Rattle.ng_num.specs.Range.{greatest}
@@ -9,10 +9,10 @@ use Rattle.ng_params.specs.Numbers.{parameter_count}
 use Rattle.ng_layout.specs.Fields.{number_at}
 use Rattle.ng_layout.specs.StateField.{field_at}
 use Rattle.ng_layout.specs.declared.header.Header.{Header}
-use Rattle.ng_layout.specs.Header.{header_in}
+use Rattle.ng_layout.specs.Header.{header_in, program_room}
 use Rattle.ng_layout.specs.Report.{and_then, decoded_state_of}
 use Rattle.ng_layout.specs.Sectors.{values, program_text}
-use Rattle.ng_layout.specs.Areas.{snapshot_size, snapshot_first, tools_size, tools_first, program_size, program_first, log_first, log_size_of, shortest_log}
+use Rattle.ng_layout.specs.Areas.{large_size, snapshot_size, snapshot_first, tools_size, tools_first, program_size, program_first, log_first, log_size_of, shortest_log}
 use Rattle.ng_layout.specs.Tools.{tools_in}
 use Rattle.ng_layout.specs.declared.header.Format.{Format}
 use Rattle.ng_layout.specs.declared.header.Format.TheVariants.{One, Two}
@@ -33,9 +33,13 @@ newer None b = b
 newer (Some a) None = Some a
 newer (Some a) (Some b) = if nat_lt a.epoch b.epoch then Some b else Some a
 
+-- the device has all sectors of a large one
+abbrev pub is_large : (ℕ → List ℕ) → Bool
+is_large image = nat_lt 0 (length (image (large_size - 1)))
+
 -- the header in force
 unfoldable pub in_force : (ℕ → List ℕ) → Option Header
-in_force image = newer (header_in 0 (image 0)) (header_in 1 (image 1))
+in_force image = newer (header_in (is_large image) 0 (image 0)) (header_in (is_large image) 1 (image 1))
 
 -- these values, where each is within the range
 abbrev pub all_counts : List ℤ → Option (List ℤ)
@@ -47,18 +51,18 @@ snapshot format length row area =
     and_then (decoded_state_of length (field_at (row 0))) (λ report. and_then (all_counts (values parameter_count row)) (λ params. and_then (tools_in format (row 0) area) (λ tools.
     Some (record { report = report; params = params; tools = tools }))))
 
--- what was found, with the program
-abbrev pub standing : Option ReplayState → List ℕ → ℕ → Result DurableState Fault
-standing None program length = Err Damaged
-standing (Some f) program length = Ok (record {
-  saved = record { entries = f.report.entries; setup = record { params = f.params; machine = f.report.machine }; tools = f.tools; place = f.report.place; length = length; half = f.report.half };
+-- what was found, with the program and the room for one
+abbrev pub standing : ℕ → Option ReplayState → List ℕ → ℕ → Result DurableState Fault
+standing room None program length = Err Damaged
+standing room (Some f) program length = Ok (record {
+  saved = record { entries = f.report.entries; setup = record { params = f.params; machine = f.report.machine }; tools = f.tools; place = f.report.place; length = length; room = room; half = f.report.half };
   program = program;
 })
 
--- what a header, its snapshot, its tool area, its program and the log stand for
-unfoldable pub durable_state_under : Header → (ℕ → List ℕ) → (ℕ → List ℕ) → (ℕ → List ℕ) → (ℕ → List ℕ) → Result DurableState Fault
-durable_state_under h area tools text log =
-    standing (run (log_size_of h) h.format h.length log h.epoch (record { at = 0; number = 0; found = snapshot h.format h.length area tools })).found (program_text h.length text) h.length
+-- what a header, its snapshot, its tool area, its program and the log stand for on a device with this room
+unfoldable pub durable_state_under : ℕ → Header → (ℕ → List ℕ) → (ℕ → List ℕ) → (ℕ → List ℕ) → (ℕ → List ℕ) → Result DurableState Fault
+durable_state_under room h area tools text log =
+    standing room (run (log_size_of h) h.format h.length log h.epoch (record { at = 0; number = 0; found = snapshot h.format h.length area tools })).found (program_text h.length text) h.length
 
 abbrev pub by_header : Option Header → (Header → Result DurableState Fault) → Result DurableState Fault
 by_header None f = Err NotFormatted
@@ -66,7 +70,7 @@ by_header (Some h) f = f h
 
 -- what an image stands for by itself: a device of format 1 has no tool table
 unfoldable pub stands : (ℕ → List ℕ) → Result DurableState Fault
-stands image = by_header (in_force image) (λ h. durable_state_under h (stretch (snapshot_first h.epoch) snapshot_size image) (stretch (tools_first h.epoch) tools_size image) (stretch (program_first h.area) (program_size h.area) image) (stretch log_first (log_size_of h) image))
+stands image = by_header (in_force image) (λ h. durable_state_under (program_room (is_large image)) h (stretch (snapshot_first h.epoch) snapshot_size image) (stretch (tools_first h.epoch) tools_size image) (stretch (program_first h.area) (program_size h.area) image) (stretch log_first (log_size_of h) image))
 
 -- the epoch in force, 0 where none is
 abbrev pub epoch_in_force : Option Header → ℕ

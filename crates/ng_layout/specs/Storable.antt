@@ -36,4 +36,5 @@ pub record IsStorable (saved : StoredModel) : Type 0 where
   pub machine : IsStorableMachine saved.setup.machine
   pub half : IfSome saved.half IsStorableHalf
   pub place : saved.place ≤ saved.length
-  pub program : saved.length ≤ longest_program
+  pub program : saved.length ≤ saved.room
+  pub room : saved.room ≤ longest_program

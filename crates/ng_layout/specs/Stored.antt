@@ -29,14 +29,17 @@ pub record StoredModel : Type 0 where
   pub tools : List ℤ
   pub place : ℕ
   pub length : ℕ
+  -- the most bytes of a program that the device has room for
+  pub room : ℕ
   pub half : Option HalfModel
 
-abbrev pub fresh_stored : StoredModel
-fresh_stored = record { entries = 0; setup = fresh_setup; tools = []; place = 0; length = 0; half = None }
+-- on a device with this room
+abbrev pub fresh_stored : ℕ → StoredModel
+fresh_stored room = record { entries = 0; setup = fresh_setup; tools = []; place = 0; length = 0; room = room; half = None }
 
--- what a state field says beside parameters, tools and the length of a program
+-- what a state field says beside parameters, tools, the length of a program and the room for one
 abbrev pub with_decoded_state : StoredModel → DecodedStateModel → ℕ → StoredModel
-with_decoded_state s r length = record { entries = r.entries; setup = record { params = s.setup.params; machine = r.machine }; tools = s.tools; place = r.place; length = length; half = r.half }
+with_decoded_state s r length = record { entries = r.entries; setup = record { params = s.setup.params; machine = r.machine }; tools = s.tools; place = r.place; length = length; room = s.room; half = r.half }
 
 -- all of it
 pub record DurableState : Type 0 where

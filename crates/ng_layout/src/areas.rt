@@ -1,7 +1,11 @@
-//! What lies where on a device: two headers, two snapshot areas, two program areas, the log.
-ghost use Rattle.std.specs.Prelude.{◌≡◌, ◌≤◌, ◌+◌};
-ghost use Rattle.ng_layout.specs.Areas.{least_size, snapshot_size, snapshot_first, greatest_area};
+//! What lies where on a device: two headers, two snapshot areas, two program areas, the log, which in format 2 is shorter
+//! and has two tool areas after it; on a large device two larger program areas come last.
+ghost use Rattle.std.specs.Prelude.{true, false, ◌≡◌, ◌≢◌, ◌≤◌, ◌+◌};
+ghost use Rattle.ng_layout.specs.Areas.{least_size, large_size, snapshot_size, snapshot_first, greatest_area};
 ghost use Rattle.ng_layout.specs.Areas.{program_size, program_first, spare_area, tools_size, tools_first};
+ghost use Rattle.ng_layout.specs.Header.{longest_in, program_room};
+
+use crate::sectors::SECTOR_BYTES;
 
 /// How many sectors hold headers, from sector 0 on.
 pub const HEADERS: usize = 2;
@@ -12,11 +16,14 @@ pub const SNAPSHOT_SIZE: usize = 86;
 /// The first sector of the first program area.
 const FIRST_PROGRAM: usize = HEADERS + 2 * SNAPSHOT_SIZE;
 
-/// How many sectors a program area has.
+/// How many sectors program areas 0 and 1 have.
 const PROGRAM_SIZE: usize = 256;
 
-/// The greatest number of a program area.
-pub(crate) const GREATEST_AREA: u64 = 1;
+/// How many sectors program areas 2 and 3 have, which a large device alone has.
+const LARGE_PROGRAM_SIZE: usize = 2048;
+
+/// The number of sectors from which on a device is large.
+pub const LARGE_SIZE: usize = LEAST_SIZE + 2 * LARGE_PROGRAM_SIZE;
 
 /// The first sector of the log.
 pub const LOG_FIRST: usize = FIRST_PROGRAM + 2 * PROGRAM_SIZE;
@@ -40,21 +47,66 @@ pub fn snapshot_first(epoch: u64) -> usize
     HEADERS + SNAPSHOT_SIZE * (epoch % 2) as usize
 }
 
-/// The first sector of the program area of this number, 0 or 1 (own).
-pub fn program_first(area: u64) -> usize
-    requires { area ≤ greatest_area }
-    ensures is { result ≡ program_first area }
-    ensures within { result + program_size area ≤ least_size }
+/// The greatest number of a program area, on a large device and on any other.
+pub(crate) fn greatest_area(is_large: bool) -> u64
+    ensures { result ≡ greatest_area is_large }
 {
-    FIRST_PROGRAM + PROGRAM_SIZE * area as usize
+    if is_large { 3 } else { 1 }
 }
 
-/// The program area that a load writes while this one, 0 or 1, is in force (own).
-pub fn spare_area(area: u64) -> u64
-    requires { area ≤ greatest_area }
-    ensures { result ≡ spare_area area }
+/// How many sectors the program area of this number has.
+fn program_size(area: u64) -> usize
+    ensures { result ≡ program_size area }
 {
-    1 - area
+    if 2 <= area {
+        LARGE_PROGRAM_SIZE
+    } else {
+        PROGRAM_SIZE
+    }
+}
+
+/// The most bytes of a program in the area of this number.
+pub(crate) fn longest_in(area: u64) -> u64
+    ensures { result ≡ longest_in area }
+{
+    (SECTOR_BYTES * program_size(area)) as u64
+}
+
+/// The most bytes of a program on a large device, and on any other (own).
+pub fn program_room(is_large: bool) -> u64
+    ensures { result ≡ program_room is_large }
+{
+    longest_in(greatest_area(is_large))
+}
+
+/// The first sector of the program area of this number, 0 to 3 (own).
+pub fn program_first(area: u64) -> usize
+    requires { area ≤ greatest_area true }
+    ensures is { result ≡ program_first area }
+    ensures within { result + program_size area ≤ large_size }
+    ensures small { area ≤ greatest_area false → result + program_size area ≤ least_size }
+{
+    if 2 <= area {
+        LEAST_SIZE + LARGE_PROGRAM_SIZE * (area - 2) as usize
+    } else {
+        FIRST_PROGRAM + PROGRAM_SIZE * area as usize
+    }
+}
+
+/// The program area that a load writes while this one is in force, on a large device or on any other (own).
+pub fn spare_area(is_large: bool, area: u64) -> u64
+    requires { area ≤ greatest_area is_large }
+    ensures is { result ≡ spare_area is_large area }
+    ensures most { result ≤ greatest_area is_large }
+    ensures apart { result ≢ area }
+{
+    if !is_large {
+        1 - area
+    } else if area == 2 {
+        3
+    } else {
+        2
+    }
 }
 
 /// The first sector of the tool area of an epoch, in format 2 (own).

@@ -1,7 +1,7 @@
-//! The header of an epoch: what names the snapshot and the program in force.
+//! The header of an epoch: what names the snapshot, the program and the tool table in force.
 ghost use Rattle.std.specs.Prelude.{◌≡◌, ◌≤◌, IfSome};
 
-use crate::areas::{GREATEST_AREA, LONGEST_LOG, SHORTEST_LOG};
+use crate::areas::{LONGEST_LOG, SHORTEST_LOG, greatest_area, longest_in};
 use crate::bytes::{get_u32, get_u64, put_u32, put_u64};
 use crate::report::GREATEST_COUNT;
 use crate::sectors::SECTOR_BYTES;
@@ -17,9 +17,6 @@ const EPOCH_AT: usize = 16;
 const AREA_AT: usize = 24;
 
 const LENGTH_AT: usize = 32;
-
-/// The most bytes of a program.
-pub const LONGEST_PROGRAM: u64 = 131_072;
 
 /// The format of a device.
 #[derive(Clone, Copy, Debug, PartialEq, Eq)]
@@ -71,9 +68,9 @@ pub struct Header {
     pub format: Format,
     /// 1 to 1,000,000,000,000.
     pub epoch: u64,
-    /// The program area in force, 0 or 1.
+    /// The program area in force, 0 to 3.
     pub area: u64,
-    /// The bytes of the program, 0 to 131,072.
+    /// The bytes of the program, 0 to 1,048,576.
     pub length: u64,
 }
 
@@ -81,11 +78,11 @@ impl Header {
     ghost use Rattle.ng_layout.specs.Header.{is_valid_header, header_in, IsValidHeader, HoldsHeader};
     ghost use Rattle.ng_layout.specs.Areas.{longest_log, log_size_of};
 
-    /// The header that sector `k` holds; none where it isn't valid.
+    /// The header that sector `k` holds, on a large device or on any other; none where it isn't valid there.
     #[tactic(auto, unfolding(crate::specs::Header::header_in, crate::specs::Header::header_at, crate::specs::Header::is_marked))]
-    pub fn read(k: u64, sector: &[u8; SECTOR_BYTES]) -> Option<Header>
-        ensures value { result ≡ header_in k sector.now }
-        ensures lawful { IfSome result IsValidHeader }
+    pub fn read(is_large: bool, k: u64, sector: &[u8; SECTOR_BYTES]) -> Option<Header>
+        ensures value { result ≡ header_in is_large k sector.now }
+        ensures lawful { IfSome result (IsValidHeader is_large) }
     {
         let is_marked = get_u64(sector, 0) == get_u64(MAGIC, 0);
         let header = Header {
@@ -94,20 +91,20 @@ impl Header {
             area: get_u64(sector, AREA_AT),
             length: get_u64(sector, LENGTH_AT),
         };
-        if is_marked && header.is_within() && header.epoch % 2 == k {
+        if is_marked && header.is_within(is_large) && header.epoch % 2 == k {
             Some(header)
         } else {
             None
         }
     }
 
-    fn is_within(self) -> bool
-        ensures { result ≡ is_valid_header self }
+    fn is_within(self, is_large: bool) -> bool
+        ensures { result ≡ is_valid_header is_large self }
     {
         1 <= self.epoch
             && self.epoch <= GREATEST_COUNT
-            && self.area <= GREATEST_AREA
-            && self.length <= LONGEST_PROGRAM
+            && self.area <= greatest_area(is_large)
+            && self.length <= longest_in(self.area)
     }
 
     /// How many sectors its log has, from `LOG_FIRST` on.

@@ -20,12 +20,12 @@ mod tools;
 mod writing;
 
 pub use areas::{
-    HEADERS, LEAST_SIZE, LOG_FIRST, LONGEST_LOG, SHORTEST_LOG, SNAPSHOT_SIZE, TOOLS_SIZE,
-    program_first, snapshot_first, spare_area, tools_first,
+    HEADERS, LARGE_SIZE, LEAST_SIZE, LOG_FIRST, LONGEST_LOG, SHORTEST_LOG, SNAPSHOT_SIZE,
+    TOOLS_SIZE, program_first, program_room, snapshot_first, spare_area, tools_first,
 };
 pub use field::{CodeField, HalfField, KeptField, StateField, Triple};
 pub use half::{Half, LONGEST_TEXT, Opened, Source, text_from};
-pub use header::{Format, Header, LONGEST_PROGRAM};
+pub use header::{Format, Header};
 pub use part::{
     PART_CHANGES, PartLabel, changes_part, decoded_state_of_part, first_part, parts_for,
     take_changes,

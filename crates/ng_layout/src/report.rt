@@ -22,7 +22,7 @@ use std::marker::Model;
 pub const GREATEST_COUNT: u64 = 1_000_000_000_000;
 
 /// The greatest number of a slot.
-const GREATEST_SLOT: u16 = 64;
+const GREATEST_SLOT: u16 = 128;
 
 /// The bits of all words that a cycle may keep.
 const ALL_KEPT: u8 = 15;

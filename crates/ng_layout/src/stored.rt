@@ -1,5 +1,5 @@
 //! What is stored of a controller.
-ghost use Rattle.std.specs.Prelude.{◌≡◌, ◌≤◌, ◌<◌, ◌+◌, ◌-◌, length, Some, IfOk};
+ghost use Rattle.std.specs.Prelude.{◌≡◌, ◌≤◌, ◌<◌, ◌+◌, ◌-◌, ℕ, length, Some, IfOk};
 ghost use Rattle.std.specs.Option.{option_map};
 ghost use Rattle.ng_layout.specs.Limits.{greatest_count, greatest_slot, sector_size, slots_at};
 ghost use Rattle.ng_params.specs.Numbers.{parameter_count};
@@ -35,6 +35,8 @@ pub struct Stored<A: Allocator> {
     pub place: u64,
     /// The number of bytes of the program.
     pub length: u64,
+    /// The most bytes of a program that the device has room for.
+    pub room: u64,
     pub half: Option<Half>,
 }
 
@@ -43,16 +45,16 @@ impl<A: Allocator> Model for Stored<A> {
 
     ghost Value = { StoredModel };
 
-    ghost view = { λ s. record { entries = s.entries; setup = s.state; tools = s.tools; place = s.place; length = s.length; half = s.half } };
+    ghost view = { λ s. record { entries = s.entries; setup = s.state; tools = s.tools; place = s.place; length = s.length; room = s.room; half = s.half } };
 }
 
 impl<A: Allocator + Copy + Drop> Stored<A> {
     ghost use Rattle.ng_layout.specs.Stored.{fresh_stored, with_decoded_state};
     ghost use Rattle.ng_layout.specs.Stands.{closed};
 
-    /// Of a fresh controller, with no program. `AllocError` where the table found no memory.
-    pub fn fresh(alloc: A) -> Result<Stored<A>, AllocError>
-        ensures value { IfOk result (λ s. s ≡ fresh_stored) }
+    /// Of a fresh controller with no program, on a device with this room for one. `AllocError` where the table found no memory.
+    pub fn fresh(alloc: A, room: u64) -> Result<Stored<A>, AllocError>
+        ensures value { IfOk result (λ s. s ≡ fresh_stored room) }
         ensures table { IfOk result (λ s. length s.setup.params ≡ parameter_count) }
     {
         Ok(Stored {
@@ -61,11 +63,12 @@ impl<A: Allocator + Copy + Drop> Stored<A> {
             tools: Tools::new(),
             place: 0,
             length: 0,
+            room,
             half: None,
         })
     }
 
-    /// Takes over what a state field says beside a program of this length; the parameters and the tools stay.
+    /// Takes over what a state field says beside a program of this length; the parameters, the tools and the room stay.
     pub fn take_decoded_state(&mut self, report: DecodedState, length: u64)
         ensures { self.new ≡ with_decoded_state self.old report length }
     {
@@ -123,6 +126,7 @@ impl<A: Allocator + Copy + Drop> Stored<A> {
         self.entries = other.entries;
         self.place = other.place;
         self.length = other.length;
+        self.room = other.room;
         self.half = match &other.half {
             Some(half) => Some(half.copy()),
             None => None,
@@ -170,7 +174,7 @@ impl<A: Allocator + Copy + Drop> Stored<A> {
 /// The sector of a fresh controller's snapshot that holds this part of it. It takes no memory.
 pub fn fresh_sector(part: usize) -> [u8; SECTOR_BYTES]
     requires { part < snapshot_size }
-    ensures { HoldsPart fresh_stored part result }
+    ensures { (room : ℕ) → HoldsPart (fresh_stored room) part result }
 {
     if part == 0 {
         first_sector(&StateField::of(0, 0, &Machine::fresh(), None), 0)

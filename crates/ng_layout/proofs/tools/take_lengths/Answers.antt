@@ -20,7 +20,7 @@ loop-k-preserved c =
     let same : cast_signed w64 (cast_unsigned w64 c.get_i64.result) ≡ c.get_i64.result = grind (arith, to_z-of_z) in
     let in_part : k < 64 = omega (arith, c.loop-k-test.true, c.requires.count) in
     let small = c.in-Some.ensures.small in
-    let room : length c.loop-k.tools < 64 = omega (arith, inv.long, c.loop-k-test.true, c.requires.room) in
+    let room : length c.loop-k.tools < 128 = omega (arith, inv.long, c.loop-k-test.true, c.requires.room) in
     record {
       long = ap length c.push.ensures ∙ length-append c.loop-k.tools (c.in-Some.length ∷ []) ∙ omega (arith, inv.long);
       adds = λ area there before.
