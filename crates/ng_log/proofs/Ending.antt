@@ -1,5 +1,5 @@
 -- What images stand for whose log ends somewhere, and what those do in which some parts of a record have lasted.
-use Rattle.std.proofs.Common.{◌≡◌, ◌⊎◌, inl, inr, ⊎_elim, ℕ, ◌+◌, ◌-◌, ◌<◌, ◌≤◌, List, length, Option, Some, Ok, sym, ◌∙◌, ap, subst, arith}
+use Rattle.std.proofs.Common.{◌≡◌, ◌⊎◌, inl, inr, ⊎_elim, ℕ, ◌+◌, ◌-◌, ◌<◌, ◌≤◌, List, length, nat_lt, Option, Some, Ok, sym, ◌∙◌, ap, subst, arith}
 use Rattle.std.specs.Prelude.{IfSome}
 use Rattle.ng_params.specs.Changes.{with_changes}
 use Rattle.ng_params.specs.declared.change.Change.{Change}
@@ -78,8 +78,8 @@ module _ (base image : Image) (header : Header) (before : DurableState) (end : L
 
   text : program_text header.length (stretch (program_first header.area) (program_size header.area) image) ≡ before.program
   text =
-      let within = (force-within base header n.was.force).area in
-      ap (program_text header.length) (stretch-same (program_first header.area) (program_size header.area) image base (λ j lt. outside (program_first header.area + j) (inl (omega arith)))) ∙ n.was.program
+      let most : header.area ≤ 3 = omega (arith, (force-within base header n.was.force).area, area-most (is_large base)) in
+      ap (program_text header.length) (stretch-same (program_first header.area) (program_size header.area) image base (λ j lt. outside (program_first header.area + j) (elim (area-where header.area j most lt) [ inl w ↦ inl w.1 | inr w ↦ inr (omega (arith, w.0)) ]))) ∙ n.was.program
 
   in_log : (m : ℕ) → m < log_size_of header → (log_of header image m ≡ log_of header base m) ⊎ IsPartOf e m (log_of header image m)
   in_log m lt =

@@ -9,9 +9,9 @@ use Rattle.ng_layout.specs.Areas.{log_size, log_size_of, shortest_log, log_first
 use Rattle.ng_layout.specs.Log.{ReplayState, LogPosition, run}
 use Rattle.ng_layout.specs.Sectors.{program_text}
 use Rattle.ng_layout.proofs.Spares.{IsSpare, SameButSpare}
-use Rattle.ng_layout.specs.Stands.{by_header, in_force, IsWritten, snapshot, standing, durable_state_under, stands, stretch}
+use Rattle.ng_layout.specs.Stands.{is_large, by_header, in_force, IsWritten, snapshot, standing, durable_state_under, stands, stretch}
 use Rattle.ng_layout.specs.Stored.{StoredModel, DurableState}
-use Rattle.ng_layout.proofs.Images.{under, force-frame, force-within, log-frame, none-of-new, program-frame, same-at, snapshot_decides, tools_decide, stretch-at, stretch-same, written-frame, written-new}
+use Rattle.ng_layout.proofs.Images.{area-most, under, force-frame, force-within, log-frame, none-of-new, program-frame, same-at, snapshot_decides, tools_decide, stretch-at, stretch-same, written-frame, written-new}
 use Rattle.ng_layout.specs.declared.header.Format.TheVariants.{Two}
 use Rattle.ng_log.specs.declared.log_end.LogEnd.{LogEnd}
 use Rattle.ng_log.specs.AtEnd.{replay_state_in, position_of, no_records, EndsIn}
@@ -63,10 +63,10 @@ decides h j lt spare = snapshot_decides h j lt spare
 -- Where images agree on all sectors but the spare ones, their logs end alike.
 pub ends-frame : (image base : Image) (header : Header) (standing : DurableState) (end : LogEnd) → SameButSpare header image base → EndsIn base header standing end → EndsIn image header standing end
 ends-frame image base header standing end same e =
-    let within = force-within base header e.force in
+    let most : header.area ≤ 3 = omega (arith, (force-within base header e.force).area, area-most (is_large base)) in
     let area = stretch-same (snapshot_first header.epoch) snapshot_size image base (λ j lt. same-at header image base same (snapshot_first header.epoch + j) (decides header j lt)) in
-    let tools = stretch-same (tools_first header.epoch) tools_size image base (λ j lt. same-at header image base same (tools_first header.epoch + j) (tools_decide header j within.area lt)) in
-    let text = stretch-same (program_first header.area) (program_size header.area) image base (program-frame header image base within.area same) in
+    let tools = stretch-same (tools_first header.epoch) tools_size image base (λ j lt. same-at header image base same (tools_first header.epoch + j) (tools_decide header j lt)) in
+    let text = stretch-same (program_first header.area) (program_size header.area) image base (program-frame header image base most same) in
     let log = stretch-same log_first (log_size_of header) image base (log-frame header image base same) in
     record {
       force = force-frame header image base same ∙ e.force;

@@ -1,7 +1,7 @@
 //! The longest run of complete records, read in the memory of one state.
 //!
 //! Of a record the labels of all its parts are read first, and then what they hold: one that isn't complete leaves what is stored alone.
-ghost use Rattle.std.specs.Prelude.{◌≡◌, ◌≤◌, ◌<◌, ◌+◌, length, IfOk, IfSome};
+ghost use Rattle.std.specs.Prelude.{true, ◌≡◌, ◌≤◌, ◌<◌, ◌+◌, length, IfOk, IfSome};
 ghost use Rattle.std.specs.Bool.{OnTrue};
 ghost use Rattle.ng_rig.specs.Calls.{IfHonest, FailureCountSpec};
 ghost use Rattle.ng_layout.specs.Limits.{greatest_count, longest_program, record_changes};
@@ -145,7 +145,7 @@ fn next_record<R: Rig, A: Allocator + Copy + Drop>(
     stored: &mut Stored<A>,
 ) -> Result<Next, Failed>
     requires sectors { least_size ≤ R.sectors rig.old }
-    requires lawful { IsValidHeader header }
+    requires lawful { IsValidHeader true header }
     requires room { end.sector ≤ log_size_of header }
     requires number { end.number ≤ end.sector }
     requires storable { IsStorable stored.old }
@@ -202,7 +202,7 @@ pub fn read_log<R: Rig, A: Allocator + Copy + Drop>(
     stored: &mut Stored<A>,
 ) -> Result<Option<LogEnd>, Failed>
     requires sectors { least_size ≤ R.sectors rig.old }
-    requires lawful { IsValidHeader header }
+    requires lawful { IsValidHeader true header }
     requires storable { IsStorable stored.old }
     requires count { stored.old.entries ≤ greatest_count }
     requires long { stored.old.length ≡ header.length }

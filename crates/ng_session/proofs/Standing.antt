@@ -59,7 +59,7 @@ feed-found b s settings tools geometry goal e =
     let kept = found (kept_of b s.machine) _ goal way.2 in
     feed.1 ∙ ap (λ (g : Goal). Ok g.feed_per_min) (same _ goal kept.2)
 
-values-keep : (s : StateModel) (remark : List CanonModel) (values : Settled) (tools : List ℤ) (geometry : Geometry) → length tools ≤ 64 → Keeps s (executed_values s remark values tools geometry)
+values-keep : (s : StateModel) (remark : List CanonModel) (values : Settled) (tools : List ℤ) (geometry : Geometry) → length tools ≤ 128 → Keeps s (executed_values s remark values tools geometry)
 unfolding executed_values
 values-keep s remark values tools geometry few done e can =
     let block = found (checked values.words s.machine.modes (length tools)) _ done e in
@@ -70,13 +70,13 @@ values-keep s remark values tools geometry few done e can =
     subst (λ (d : Done). IsStorableMachine d.setup.machine) is
     (block-stands b s.machine _ (length tools) few accepted can (feed-found b s values.settings tools geometry goal.0 goal.1) refl)
 
-pieces-keep : (s : StateModel) (pieces : List Piece) (tools : List ℤ) (geometry : Geometry) → length tools ≤ 64 → Keeps s (executed_pieces s pieces tools geometry)
+pieces-keep : (s : StateModel) (pieces : List Piece) (tools : List ℤ) (geometry : Geometry) → length tools ≤ 128 → Keeps s (executed_pieces s pieces tools geometry)
 unfolding executed_pieces
 pieces-keep s pieces tools geometry few done e can =
     let values = found (settled_pieces pieces s.params) _ done e in
     values-keep s (remark_of (last_comment pieces)) values.0 tools geometry few done values.2 can
 
-line-keeps : (s : StateModel) (tools : List ℤ) (geometry : Geometry) (text : List ℕ) → length tools ≤ 64 → Keeps s (executed s tools geometry text)
+line-keeps : (s : StateModel) (tools : List ℤ) (geometry : Geometry) (text : List ℕ) → length tools ≤ 128 → Keeps s (executed s tools geometry text)
 unfolding executed
 line-keeps s tools geometry text few done e can =
     let line = found (read text) _ done e in
@@ -85,7 +85,7 @@ line-keeps s tools geometry text few done e can =
 idle-keeps : (s : StateModel) (stop : ProgramFlow) → Keeps s (Ok (idle s stop))
 idle-keeps s stop done e can = subst (λ (d : Done). IsStorableMachine d.setup.machine) (same (idle s stop) done e) can
 
-alone-keeps : (t : TermsModel) (s : StateModel) (text : List ℕ) → length t.tools ≤ 64 → Keeps s (executed_unless_deleted t s text)
+alone-keeps : (t : TermsModel) (s : StateModel) (text : List ℕ) → length t.tools ≤ 128 → Keeps s (executed_unless_deleted t s text)
 alone-keeps t s text few = by (t.block_delete && is_deletable text)
   where
     long : (b : Bool) → Keeps s (cond b (Err LineTooLong) (Ok (idle s GoesOn)))
@@ -96,7 +96,7 @@ alone-keeps t s text few = by (t.block_delete && is_deletable text)
     by true = long (is_too_long text)
     by false = line-keeps s t.tools t.geometry text few
 
-after-keeps : (t : TermsModel) (first : LineKind) (s : StateModel) (text : List ℕ) → length t.tools ≤ 64 → Keeps s (executed_after t first s text)
+after-keeps : (t : TermsModel) (first : LineKind) (s : StateModel) (text : List ℕ) → length t.tools ≤ 128 → Keeps s (executed_after t first s text)
 after-keeps t first s text few = by (percent_by first text)
   where
     by : (o : Option ProgramFlow) → Keeps s (framed o s (executed_unless_deleted t s text))
@@ -109,16 +109,16 @@ kept (Ok x) s does done keeps e = keeps done e
 kept (Err fault) s does done keeps e = tt
 
 -- a line by itself, and one after others
-pub alone-stands : {T : Type 0} (r : Result T Fault) (t : TermsModel) (s : StateModel) (text : List ℕ) (done : Done) → length t.tools ≤ 64
+pub alone-stands : {T : Type 0} (r : Result T Fault) (t : TermsModel) (s : StateModel) (text : List ℕ) (done : Done) → length t.tools ≤ 128
     → MatchResult r (λ x. executed_unless_deleted t s text ≡ Ok done) (λ fault. executed_unless_deleted t s text ≡ Err fault) → OnOk r (IsStorableMachine s.machine → IsStorableMachine done.setup.machine)
 alone-stands r t s text done few = kept r s (executed_unless_deleted t s text) done (alone-keeps t s text few)
 
-pub after-stands : {T : Type 0} (r : Result T Fault) (t : TermsModel) (first : LineKind) (s : StateModel) (text : List ℕ) (done : Done) → length t.tools ≤ 64
+pub after-stands : {T : Type 0} (r : Result T Fault) (t : TermsModel) (first : LineKind) (s : StateModel) (text : List ℕ) (done : Done) → length t.tools ≤ 128
     → MatchResult r (λ x. executed_after t first s text ≡ Ok done) (λ fault. executed_after t first s text ≡ Err fault) → OnOk r (IsStorableMachine s.machine → IsStorableMachine done.setup.machine)
 after-stands r t first s text done few = kept r s (executed_after t first s text) done (after-keeps t first s text few)
 
 -- a half-done one
-pub again-stands : {T : Type 0} (r : Result T Fault) (s : StateModel) (tools : List ℤ) (geometry : Geometry) (text : List ℕ) (done : Done) → length tools ≤ 64
+pub again-stands : {T : Type 0} (r : Result T Fault) (s : StateModel) (tools : List ℤ) (geometry : Geometry) (text : List ℕ) (done : Done) → length tools ≤ 128
     → MatchResult r (λ x. executed s tools geometry text ≡ Ok done) (λ fault. executed s tools geometry text ≡ Err fault) → OnOk r (IsStorableMachine s.machine → IsStorableMachine done.setup.machine)
 again-stands r s tools geometry text done few = kept r s (executed s tools geometry text) done (line-keeps s tools geometry text few)
 

@@ -12,7 +12,7 @@ slot_from lengths slot is = grind (arith, nat_tests)
 pub slot_to : (lengths : List ℤ) (slot : ℕ) → takes_slot lengths slot ≡ true → slot ≤ length lengths + 1
 slot_to lengths slot is = grind (arith, nat_tests)
 
-pub slot_most : (lengths : List ℤ) (slot : ℕ) → takes_slot lengths slot ≡ true → slot ≤ 64
+pub slot_most : (lengths : List ℤ) (slot : ℕ) → takes_slot lengths slot ≡ true → slot ≤ 128
 slot_most lengths slot is = grind (arith, nat_tests)
 
 pub tool_within : (n : ℤ) → is_tool_length n ≡ true → IsToolLength n

@@ -40,7 +40,7 @@ fn execute_alone<'p, A: Allocator + Copy + Drop>(
         tools: &stored.tools,
         geometry,
     };
-    // called for its contract: a table has at most 64 slots, and no more are stored
+    // called for its contract: a table has at most 128 slots, and no more are stored
     let _ = stored.tools.slots();
     match places.execute_unless_deleted(&terms, &stored.state, text) {
         Ok(effect) => Ok(effect),
@@ -73,7 +73,7 @@ pub(crate) fn execute_after_lines<'p, A: Allocator + Copy + Drop>(
         tools: &stored.tools,
         geometry,
     };
-    // called for its contract: a table has at most 64 slots, and no more are stored
+    // called for its contract: a table has at most 128 slots, and no more are stored
     let _ = stored.tools.slots();
     match places.execute_after(&terms, first, &stored.state, text) {
         Ok(effect) => Ok(effect),

@@ -29,7 +29,7 @@ fn execute_again<'p, A: Allocator + Copy + Drop>(
         (λ fault. done_again (record { geometry = geometry.now }) stored.now half.now.text ≡ Err fault) }
     ensures stands { IfOk result (λ e. IsStorableMachine stored.now.setup.machine → IsStorableMachine e.now.machine) }
 {
-    // called for its contract: a table has at most 64 slots, and no more are stored
+    // called for its contract: a table has at most 128 slots, and no more are stored
     let _ = stored.tools.slots();
     let text = half.text.as_slice();
     match places.execute(&stored.state, text, &stored.tools, geometry) {

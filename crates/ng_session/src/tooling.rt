@@ -76,7 +76,7 @@ impl<A: Allocator + Copy + Drop> Session<A> {
         ensures next { self.new ≡ record self.old { stored = record self.old.stored { entries = entries; tools = tools } } }
         ensures before { result ≡ self.old.stored.tools }
     {
-        // called for its contract: a table has at most 64 slots, and no more are stored
+        // called for its contract: a table has at most 128 slots, and no more are stored
         let _ = tools.slots();
         self.stored.entries = entries;
         std::mem::replace(&mut self.stored.tools, tools)

@@ -7,7 +7,7 @@ use Rattle.ng_session.proofs.beginning.execute_after_lines.Goals as goal
 pub returns-in-Ok : goal.returns-in-Ok
 unfolding done_of
 returns-in-Ok g c =
-    let few : length c.stored.inside.tools ≤ 64 = omega (arith, c.slots.ensures.range, c.slots.ensures.value) in
+    let few : length c.stored.inside.tools ≤ 128 = omega (arith, c.slots.ensures.range, c.slots.ensures.value) in
     record {
       does = rw (← c.stored.view_is) c.in-Ok.ensures;
       done = λ program e. rw (← e, ← c.stored.view_is) c.in-Ok.ensures;

@@ -7,7 +7,7 @@ use Rattle.ng_session.proofs.beginning.execute_alone.Goals as goal
 pub returns-in-Ok : goal.returns-in-Ok
 unfolding done_of
 returns-in-Ok g c =
-    let few : length c.stored.inside.tools ≤ 64 = omega (arith, c.slots.ensures.range, c.slots.ensures.value) in
+    let few : length c.stored.inside.tools ≤ 128 = omega (arith, c.slots.ensures.range, c.slots.ensures.value) in
     record {
       done = λ program. rw (← c.stored.view_is) c.in-Ok.ensures;
       short = alone_short (Ok c.in-Ok.effect) _ _ c.args.text.now _ c.in-Ok.ensures;
