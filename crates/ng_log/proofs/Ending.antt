@@ -10,9 +10,10 @@ use Rattle.ng_layout.specs.Fields.{number_at}
 use Rattle.ng_layout.specs.Areas.{shortest_log, log_size, log_size_of, log_first, program_first, program_size, snapshot_first, snapshot_size, tools_first, tools_size}
 use Rattle.ng_layout.specs.Log.{LogPosition}
 use Rattle.ng_layout.specs.Sectors.{program_text}
-use Rattle.ng_layout.specs.Stands.{by_header, epoch_in_force, in_force, IsWritten, snapshot, standing, durable_state_under, stands, stretch}
+use Rattle.ng_layout.specs.Header.{program_room}
+use Rattle.ng_layout.specs.Stands.{is_large, by_header, epoch_in_force, in_force, IsWritten, snapshot, standing, durable_state_under, stands, stretch}
 use Rattle.ng_layout.specs.Stored.{StoredModel, DurableState}
-use Rattle.ng_layout.proofs.Images.{under, force-same, force-within, stretch-at, stretch-same}
+use Rattle.ng_layout.proofs.Images.{area-where, area-most, under, force-same, force-within, stretch-at, stretch-same}
 use Rattle.ng_layout.specs.Storable.{IsStorableChange}
 use Rattle.ng_layout.specs.declared.header.Format.TheVariants.{Two}
 use Rattle.ng_offsets.specs.Tools.{with_change}
@@ -26,21 +27,21 @@ use Rattle.ng_log.proofs.Runs.{ends-longest, part-says, run-longest}
 
 -- the longest run decides
 pub stands-longest : (image : Image) (header : Header) (last : LogPosition) → in_force image ≡ Some header → IsLongest header.format header.length (log_of header image) header.epoch (beginning image header) last → last.at ≤ log_size_of header
-    → stands image ≡ standing last.found (program_text header.length (stretch (program_first header.area) (program_size header.area) image)) header.length
+    → stands image ≡ standing (program_room (is_large image)) last.found (program_text header.length (stretch (program_first header.area) (program_size header.area) image)) header.length
 unfolding durable_state_under
 stands-longest image header last force l room =
     under image header force
-    ∙ ap (λ (p : LogPosition). standing p.found (program_text header.length (stretch (program_first header.area) (program_size header.area) image)) header.length) (run-longest header.format header.length (log_of header image) header.epoch (beginning image header) last l room)
+    ∙ ap (λ (p : LogPosition). standing (program_room (is_large image)) p.found (program_text header.length (stretch (program_first header.area) (program_size header.area) image)) header.length) (run-longest header.format header.length (log_of header image) header.epoch (beginning image header) last l room)
 
 -- a run that leads to what is stored
-pub stands-saved : (image : Image) (header : Header) (saved : StoredModel) (program : List ℕ) (end : LogEnd) → in_force image ≡ Some header → IsLongest header.format header.length (log_of header image) header.epoch (beginning image header) (position_of end saved) → end.sector ≤ log_size_of header → program_text header.length (stretch (program_first header.area) (program_size header.area) image) ≡ program → saved.length ≡ header.length
+pub stands-saved : (image : Image) (header : Header) (saved : StoredModel) (program : List ℕ) (end : LogEnd) → in_force image ≡ Some header → IsLongest header.format header.length (log_of header image) header.epoch (beginning image header) (position_of end saved) → end.sector ≤ log_size_of header → program_text header.length (stretch (program_first header.area) (program_size header.area) image) ≡ program → saved.length ≡ header.length → saved.room ≡ program_room (is_large image)
     → stands image ≡ Ok (record { saved = saved; program = program })
-stands-saved image header saved program end force l room text long =
+stands-saved image header saved program end force l room text long limit =
     stands-longest image header (position_of end saved) force l room
-    ∙ (λ i. Ok (record { saved = record saved { length = sym long i }; program = text i }))
+    ∙ (λ i. Ok (record { saved = record saved { length = sym long i; room = sym limit i }; program = text i }))
 
 pub ends-stand : (image : Image) (header : Header) (standing : DurableState) (end : LogEnd) → EndsIn image header standing end → stands image ≡ Ok standing
-ends-stand image header standing end e = stands-saved image header standing.saved standing.program end e.force (ends-longest header.format header.length (log_of header image) header.epoch (beginning image header) (position_of end standing.saved) e.ends) e.ends.room e.program e.long
+ends-stand image header standing end e = stands-saved image header standing.saved standing.program end e.force (ends-longest header.format header.length (log_of header image) header.epoch (beginning image header) (position_of end standing.saved) e.ends) e.ends.room e.program e.long e.room
 
 -- a device whose log ends somewhere is at rest, and stands for that alone
 pub at-end : (trace : Trace) (header : Header) (standing : DurableState) (end : LogEnd) → IsAtEnd trace header standing end → IsSynced trace × (in_force (reads trace) ≡ Some header) × (stands (reads trace) ≡ Ok standing) × IsWritten (reads trace)
@@ -58,6 +59,7 @@ pub record IsNext (base : Image) (header : Header) (before : DurableState) (end 
   pub slot_is : with_change slot before.saved.tools ≡ saved.tools
   pub room : end.sector + size_of (record_at header.epoch end saved changes slot) ≤ log_size_of header
   pub long : saved.length ≡ header.length
+  pub same_room : before.saved.room ≡ saved.room
   pub restored : with_changes before.saved.setup.params changes ≡ saved.setup.params
 
 module _ (base image : Image) (header : Header) (before : DurableState) (end : LogEnd) (saved : StoredModel) (changes : List Change) (slot : Option SlotChange) (n : IsNext base header before end saved changes slot) (b : IsBlend base image (record_at header.epoch end saved changes slot)) where
@@ -67,8 +69,17 @@ module _ (base image : Image) (header : Header) (before : DurableState) (end : L
   outside : (m : ℕ) → (m < log_first) ⊎ (log_first + shortest_log ≤ m) → image m ≡ base m
   outside m out = ⊎_elim (λ same. same) (λ there. absurd (let room = n.room in let short : log_size_of header ≡ shortest_log = ap log_size n.two in ⊎_elim (λ low. omega (arith, there.log)) (λ high. omega (arith, there.log, there.part.to)) out)) (b.each m)
 
+  same_size : is_large image ≡ is_large base
+  same_size = ap (λ (s : List ℕ). nat_lt 0 (length s)) (outside 5805 (inr (omega arith)))
+
   pub blend-force : in_force image ≡ Some header
-  blend-force = force-same image base (outside 0 (inl (omega arith))) (outside 1 (inl (omega arith))) ∙ n.was.force
+  blend-force = force-same image base same_size (outside 0 (inl (omega arith))) (outside 1 (inl (omega arith))) ∙ n.was.force
+
+  old_room : before.saved.room ≡ program_room (is_large image)
+  old_room = n.was.room ∙ ap program_room (sym same_size)
+
+  new_room : saved.room ≡ program_room (is_large image)
+  new_room = sym n.same_room ∙ old_room
 
   start : beginning image header ≡ beginning base header
   start =
@@ -104,10 +115,10 @@ module _ (base image : Image) (header : Header) (before : DurableState) (end : L
   blend-stands = ⊎_elim
       (λ old. inl (stands-saved image header before.saved before.program end blend-force
       (subst (λ (k : ℕ). IsLongest header.format k (log_of header image) header.epoch (beginning image header) (position_of end before.saved)) n.long (subst (λ (p : LogPosition). IsLongest header.format saved.length (log_of header image) header.epoch p (position_of end before.saved)) (sym start) old))
-      n.was.ends.room text n.was.long))
+      n.was.ends.room text n.was.long old_room))
       (λ new. inr (stands-saved image header saved before.program (end_after end (length changes)) blend-force
       (subst (λ (k : ℕ). IsLongest header.format k (log_of header image) header.epoch (beginning image header) (position_of (end_after end (length changes)) saved)) n.long (subst (λ (p : LogPosition). IsLongest header.format saved.length (log_of header image) header.epoch p (position_of (end_after end (length changes)) saved)) (sym start) (subst (IsLongest header.format saved.length (log_of header image) header.epoch (beginning base header)) after_is new)))
-      n.room text n.long))
+      n.room text n.long new_room))
       (mixture-longest header.format (log_of header base) (log_of header image) (beginning base header) e (replay_state_in before.saved) mixture)
 
   -- and has no part of an epoch to come
@@ -132,4 +143,5 @@ module _ (base image : Image) (header : Header) (before : DurableState) (end : L
         subst (λ (k : ℕ). EndsAt header.format k (log_of header image) header.epoch (beginning image header) (position_of (end_after end (length changes)) saved)) n.long (subst (λ (p : LogPosition). EndsAt header.format saved.length (log_of header image) header.epoch p (position_of (end_after end (length changes)) saved)) (sym start) (subst (EndsAt header.format saved.length (log_of header image) header.epoch (beginning base header)) after_is ends));
     program = text;
     long = n.long;
+    room = new_room;
   }

@@ -9,6 +9,7 @@ use Rattle.ng_layout.specs.Areas.{log_size, log_size_of, shortest_log, log_first
 use Rattle.ng_layout.specs.Log.{ReplayState, LogPosition, run}
 use Rattle.ng_layout.specs.Sectors.{program_text}
 use Rattle.ng_layout.proofs.Spares.{IsSpare, SameButSpare}
+use Rattle.ng_layout.specs.Header.{program_room}
 use Rattle.ng_layout.specs.Stands.{is_large, by_header, in_force, IsWritten, snapshot, standing, durable_state_under, stands, stretch}
 use Rattle.ng_layout.specs.Stored.{StoredModel, DurableState}
 use Rattle.ng_layout.proofs.Images.{area-most, under, force-frame, force-within, log-frame, none-of-new, program-frame, same-at, snapshot_decides, tools_decide, stretch-at, stretch-same, written-frame, written-new}
@@ -21,9 +22,9 @@ use Rattle.ng_log.proofs.Ending.{stands-longest}
 
 -- under a newer header, over an image with no part of an epoch to come, the log is empty
 pub ends-new : (image base : Image) (old new : Header) (saved : StoredModel) (program : List ℕ) → in_force base ≡ Some old → IsWritten base → in_force image ≡ Some new → old.epoch < new.epoch → ((m : ℕ) → m < shortest_log → image (log_first + m) ≡ base (log_first + m))
-    → snapshot new.format new.length (stretch (snapshot_first new.epoch) snapshot_size image) (stretch (tools_first new.epoch) tools_size image) ≡ Some (replay_state_in saved) → program_text new.length (stretch (program_first new.area) (program_size new.area) image) ≡ program → saved.length ≡ new.length
+    → snapshot new.format new.length (stretch (snapshot_first new.epoch) snapshot_size image) (stretch (tools_first new.epoch) tools_size image) ≡ Some (replay_state_in saved) → program_text new.length (stretch (program_first new.area) (program_size new.area) image) ≡ program → saved.length ≡ new.length → saved.room ≡ program_room (is_large image)
     → new.format ≡ Two → EndsIn image new (record { saved = saved; program = program }) no_records
-ends-new image base old new saved program was written now later same snap text long two = record {
+ends-new image base old new saved program was written now later same snap text long room two = record {
   force = now;
   format = two;
   written = written-new image base old new was now (omega arith) written same;
@@ -40,22 +41,23 @@ ends-new image base old new saved program was written now later same snap text l
   };
   program = text;
   long = long;
+  room = room;
 }
 
 -- what a run of complete records finds is what the image stands for
-pub run-stands : (image : Image) (header : Header) (old new : StoredModel) (end : LogEnd) → in_force image ≡ Some header → snapshot header.format header.length (stretch (snapshot_first header.epoch) snapshot_size image) (stretch (tools_first header.epoch) tools_size image) ≡ Some (replay_state_in old) → end.sector ≤ log_size_of header → IsRunOf header old new image (Some end)
+pub run-stands : (image : Image) (header : Header) (old new : StoredModel) (end : LogEnd) → in_force image ≡ Some header → snapshot header.format header.length (stretch (snapshot_first header.epoch) snapshot_size image) (stretch (tools_first header.epoch) tools_size image) ≡ Some (replay_state_in old) → end.sector ≤ log_size_of header → IsRunOf header old new image (Some end) → new.room ≡ program_room (is_large image)
     → stands image ≡ Ok (record { saved = new; program = program_text header.length (stretch (program_first header.area) (program_size header.area) image) })
-run-stands image header old new end force snap room r =
+run-stands image header old new end force snap room r limit =
     let l : IsLongest header.format header.length (log_of header image) header.epoch (beginning image header) (position_of end new) = subst (λ (f : Option ReplayState). IsLongest header.format header.length (log_of header image) header.epoch (record { at = 0; number = 0; found = f }) (position_of end new)) (sym snap) r.0 in
-    stands-longest image header (position_of end new) force l room ∙ (λ i. Ok (record { saved = record new { length = sym r.1 i }; program = program_text header.length (stretch (program_first header.area) (program_size header.area) image) }))
+    stands-longest image header (position_of end new) force l room ∙ (λ i. Ok (record { saved = record new { length = sym r.1 i; room = sym limit i }; program = program_text header.length (stretch (program_first header.area) (program_size header.area) image) }))
 
 -- or it is damaged
 pub run-damaged : (image : Image) (header : Header) (old new : StoredModel) → in_force image ≡ Some header → snapshot header.format header.length (stretch (snapshot_first header.epoch) snapshot_size image) (stretch (tools_first header.epoch) tools_size image) ≡ Some (replay_state_in old) → IsRunOf header old new image None → stands image ≡ Err Damaged
 unfolding durable_state_under
 run-damaged image header old new force snap r =
     under image header force
-    ∙ (λ i. standing (run (log_size_of header) header.format header.length (log_of header image) header.epoch (record { at = 0; number = 0; found = snap i })).found (program_text header.length (stretch (program_first header.area) (program_size header.area) image)) header.length)
-    ∙ ap (λ (f : Option ReplayState). standing f (program_text header.length (stretch (program_first header.area) (program_size header.area) image)) header.length) r
+    ∙ (λ i. standing (program_room (is_large image)) (run (log_size_of header) header.format header.length (log_of header image) header.epoch (record { at = 0; number = 0; found = snap i })).found (program_text header.length (stretch (program_first header.area) (program_size header.area) image)) header.length)
+    ∙ ap (λ (f : Option ReplayState). standing (program_room (is_large image)) f (program_text header.length (stretch (program_first header.area) (program_size header.area) image)) header.length) r
 
 decides : (h : Header) (j : ℕ) → j < 86 → IsSpare h (snapshot_first h.epoch + j) → ⊥
 decides h j lt spare = snapshot_decides h j lt spare
@@ -75,4 +77,5 @@ ends-frame image base header standing end same e =
       ends = subst (λ (row : Image). EndsAt header.format header.length row header.epoch (beginning image header) (position_of end standing.saved)) (sym log) (subst (λ (p : LogPosition). EndsAt header.format header.length (log_of header base) header.epoch p (position_of end standing.saved)) (sym (λ i. record { at = 0; number = 0; found = snapshot header.format header.length (area i) (tools i) })) e.ends);
       program = ap (program_text header.length) text ∙ e.program;
       long = e.long;
+      room = e.room ∙ ap program_room (sym same.large);
     }

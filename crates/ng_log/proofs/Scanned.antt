@@ -82,8 +82,8 @@ damaged_part log at i count changes sector old mid before lt count_is there none
 -- All that a record says.
 
 -- the parameters read, with what the state field says
-abbrev pub taken : List ℤ → List ℤ → DecodedStateModel → ℕ → StoredModel
-taken table tools r length = record { entries = r.entries; setup = record { params = table; machine = r.machine }; tools = tools; place = r.place; length = length; half = r.half }
+abbrev pub taken : List ℤ → List ℤ → DecodedStateModel → ℕ → ℕ → StoredModel
+taken table tools r length room = record { entries = r.entries; setup = record { params = table; machine = r.machine }; tools = tools; place = r.place; length = length; room = room; half = r.half }
 
 -- what the state field of a record's first part says, where that was read
 module _ (format : Format) (length at changes : ℕ) (old new : StoredModel) (image : Image) (sector : List ℕ) (o : Option DecodedStateModel) (there : sector ≡ from_log image at) (is : o ≡ decoded_state_of length (field_at (drop 32 sector))) where
@@ -113,20 +113,20 @@ module _ (format : Format) (length at changes : ℕ) (old new : StoredModel) (im
         let e = reported (Some r) some in
         λ i. and_then (e i) (λ report. and_then (none i) (λ made. and_then (tools_after format (from_log image at) old.tools) (λ tools. Some (record { report = report; params = with_changes old.setup.params made; tools = tools }))))
 
-    all_taken : (table tools : List ℤ) → MakesAll (from_log image) at changes old.setup.params table → tools_after format (from_log image at) old.tools ≡ Some tools → new ≡ taken table tools r length → FindsRecord format length at changes old new image true
-    all_taken table tools m t after =
+    all_taken : (table tools : List ℤ) (room : ℕ) → MakesAll (from_log image) at changes old.setup.params table → tools_after format (from_log image at) old.tools ≡ Some tools → new ≡ taken table tools r length room → FindsRecord format length at changes old new image true
+    all_taken table tools room m t after =
         let e = reported (Some r) some in
         let same : ◌≡◌ {A = ReplayState} (record { report = r; params = with_changes old.setup.params m.changes; tools = tools }) (replay_state_in new) = (λ i. record { report = r; params = (sym m.is) i; tools = tools }) ∙ ap replay_state_in (sym after) in (
           (λ i. and_then (e i) (λ report. and_then (m.there i) (λ made. and_then (t i) (λ tools. Some (record { report = report; params = with_changes old.setup.params made; tools = tools }))))) ∙ ap (λ (f : ReplayState). Some f) same,
           ap (λ (s : StoredModel). s.length) after,
         )
 
-    pub exit_all : (was table was_tools tools : List ℤ) (b s : Bool) → b ≡ true → s ≡ true → was ≡ old.setup.params → was_tools ≡ old.tools → MakesAllOrDamaged at changes was table image b → MatchBool s (tools_after format sector was_tools ≡ Some tools) (tools_after format sector was_tools ≡ None) → new ≡ taken table tools r length → FindsRecord format length at changes old new image b
-    exit_all was table was_tools tools b s whole slot params_are tools_are made slot_made after =
+    pub exit_all : (was table was_tools tools : List ℤ) (room : ℕ) (b s : Bool) → b ≡ true → s ≡ true → was ≡ old.setup.params → was_tools ≡ old.tools → MakesAllOrDamaged at changes was table image b → MatchBool s (tools_after format sector was_tools ≡ Some tools) (tools_after format sector was_tools ≡ None) → new ≡ taken table tools r length room → FindsRecord format length at changes old new image b
+    exit_all was table was_tools tools room b s whole slot params_are tools_are made slot_made after =
         let some_tools : tools_after format sector was_tools ≡ Some tools = subst (λ (x : Bool). MatchBool x (tools_after format sector was_tools ≡ Some tools) (tools_after format sector was_tools ≡ None)) slot slot_made in
         let t : tools_after format (from_log image at) old.tools ≡ Some tools = (λ i. tools_after format (sym there i) (sym tools_are i)) ∙ some_tools in
         let m : MakesAll (from_log image) at changes old.setup.params table = subst (λ (t : List ℤ). MakesAll (from_log image) at changes t table) params_are (subst (λ (x : Bool). MakesAllOrDamaged at changes was table image x) whole made) in
-        subst (λ (x : Bool). FindsRecord format length at changes old new image x) (sym whole) (all_taken table tools m t after)
+        subst (λ (x : Bool). FindsRecord format length at changes old new image x) (sym whole) (all_taken table tools room m t after)
 
     pub exit_not_all : (was table : List ℤ) (b : Bool) → b ≡ false → MakesAllOrDamaged at changes was table image b → FindsRecord format length at changes old new image b
     exit_not_all was table b broken made =

@@ -1,13 +1,12 @@
 //! The longest run of complete records, read in the memory of one state.
 //!
 //! Of a record the labels of all its parts are read first, and then what they hold: one that isn't complete leaves what is stored alone.
-ghost use Rattle.std.specs.Prelude.{true, ◌≡◌, ◌≤◌, ◌<◌, ◌+◌, length, IfOk, IfSome};
+ghost use Rattle.std.specs.Prelude.{◌≡◌, ◌≤◌, ◌<◌, ◌+◌, length, IfOk, IfSome};
 ghost use Rattle.std.specs.Bool.{OnTrue};
 ghost use Rattle.ng_rig.specs.Calls.{IfHonest, FailureCountSpec};
 ghost use Rattle.ng_layout.specs.Limits.{greatest_count, longest_program, record_changes};
 ghost use Rattle.ng_params.specs.Numbers.{parameter_count};
 ghost use Rattle.ng_layout.specs.declared.header.Format.TheVariants.{One};
-ghost use Rattle.ng_layout.specs.Header.{IsValidHeader};
 ghost use Rattle.ng_layout.specs.Areas.{log_size_of, least_size, longest_log};
 ghost use Rattle.ng_layout.specs.Log.{parts_for};
 ghost use Rattle.ng_layout.specs.Part.{label_of};
@@ -108,7 +107,8 @@ fn take_record<R: Rig, A: Allocator + Copy + Drop>(
     requires sectors { least_size ≤ R.sectors rig.old }
     requires few { changes ≤ record_changes }
     requires room { at + parts_for changes ≤ longest_log }
-    requires program { header.length ≤ longest_program }
+    requires program { header.length ≤ stored.old.room }
+    requires most { stored.old.room ≤ longest_program }
     requires tools { IsStorableTools stored.old.tools }
     requires long { length stored.old.setup.params ≡ parameter_count }
     ensures read { IfHonest (R.honest rig.old) (R.honest rig.new)
@@ -119,6 +119,7 @@ fn take_record<R: Rig, A: Allocator + Copy + Drop>(
     ensures count { IfOk result (λ whole. OnTrue whole (stored.new.entries ≤ greatest_count)) }
     ensures long { IfOk result (λ whole. OnTrue whole (stored.new.length ≡ header.length)) }
     ensures none { IfOk result (λ whole. OnTrue whole (header.format ≡ One → stored.new.tools ≡ stored.old.tools)) }
+    ensures limit { stored.new.room ≡ stored.old.room }
     ensures size { R.sectors rig.new ≡ R.sectors rig.old }
     ensures failures { FailureCountSpec result (R.failed rig.old) (R.failed rig.new) }
 {
@@ -145,7 +146,6 @@ fn next_record<R: Rig, A: Allocator + Copy + Drop>(
     stored: &mut Stored<A>,
 ) -> Result<Next, Failed>
     requires sectors { least_size ≤ R.sectors rig.old }
-    requires lawful { IsValidHeader true header }
     requires room { end.sector ≤ log_size_of header }
     requires number { end.number ≤ end.sector }
     requires storable { IsStorable stored.old }
@@ -159,6 +159,7 @@ fn next_record<R: Rig, A: Allocator + Copy + Drop>(
     ensures count { IfOk result (λ next. Goes next (stored.new.entries ≤ greatest_count)) }
     ensures long { IfOk result (λ next. Goes next (stored.new.length ≡ header.length)) }
     ensures none { IfOk result (λ next. Goes next (header.format ≡ One → stored.new.tools ≡ stored.old.tools)) }
+    ensures limit { stored.new.room ≡ stored.old.room }
     ensures size { R.sectors rig.new ≡ R.sectors rig.old }
     ensures failures { FailureCountSpec result (R.failed rig.old) (R.failed rig.new) }
 {
@@ -202,7 +203,6 @@ pub fn read_log<R: Rig, A: Allocator + Copy + Drop>(
     stored: &mut Stored<A>,
 ) -> Result<Option<LogEnd>, Failed>
     requires sectors { least_size ≤ R.sectors rig.old }
-    requires lawful { IsValidHeader true header }
     requires storable { IsStorable stored.old }
     requires count { stored.old.entries ≤ greatest_count }
     requires long { stored.old.length ≡ header.length }
@@ -215,6 +215,7 @@ pub fn read_log<R: Rig, A: Allocator + Copy + Drop>(
     ensures count { IfOk result (λ end. IfSome end (λ e. stored.new.entries ≤ greatest_count)) }
     ensures long { IfOk result (λ end. IfSome end (λ e. stored.new.length ≡ header.length)) }
     ensures none { IfOk result (λ end. IfSome end (λ e. header.format ≡ One → stored.new.tools ≡ stored.old.tools)) }
+    ensures limit { stored.new.room ≡ stored.old.room }
     ensures size { R.sectors rig.new ≡ R.sectors rig.old }
     ensures failures { FailureCountSpec result (R.failed rig.old) (R.failed rig.new) }
 {

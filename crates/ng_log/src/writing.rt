@@ -110,7 +110,7 @@ pub fn append<R: Rig, A: Allocator + Copy + Drop>(
     requires format { header.format ≡ Two }
     ensures appends { IfHonest (R.honest rig.old) (R.honest rig.new) ((before : DurableState) → IsAtEnd (R.trace rig.old) header before end
         → before.saved.setup.params ≡ old.now → IfSome slot (IsStorableChange before.saved.tools)
-        → with_change slot before.saved.tools ≡ stored.now.tools
+        → with_change slot before.saved.tools ≡ stored.now.tools → before.saved.room ≡ stored.now.room
         → AppendSpec result header before stored.now (R.trace rig.old) (R.trace rig.new)) }
     // whatever stands on the device
     ensures writes { IfHonest (R.honest rig.old) (R.honest rig.new)
