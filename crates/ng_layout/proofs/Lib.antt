@@ -3,6 +3,7 @@ pub mod Parts
 pub mod Places
 pub mod Rows
 pub mod SaysAgain
+pub mod Sizes
 pub mod Snapshots
 pub mod Soundness
 pub mod Spares

@@ -1,5 +1,5 @@
 -- Sectors of values and of a text.
-use Rattle.std.proofs.Common.{◌≡◌, ◌≢◌, ◌⊎◌, inl, inr, ⊎_elim, ℕ, zero, suc, ◌+◌, ◌-◌, ◌*◌, ◌<◌, ◌≤◌, min, List, ◌++◌, ℤ, pos, get_or, slice_index, length, take, drop, replicate, set, lit≤, refl, sym, ◌∙◌, ap, subst, arith}
+use Rattle.std.proofs.Common.{◌≡◌, ◌≢◌, ◌⊎◌, inl, inr, ⊎_elim, ℕ, zero, suc, ◌+◌, ◌-◌, ◌*◌, ◌<◌, ◌≤◌, min, List, ◌++◌, ℤ, pos, get_or, slice_index, length, length-append, take, drop, replicate, set, lit≤, refl, sym, ◌∙◌, ap, subst, arith}
 use Rattle.std.proofs.lemmas.Bool.{cases_eq}
 use Rattle.std.proofs.lemmas.List.{drop-replicate, take-replicate, length-replicate, get_or-set_same, get_or-set_other, get_or-take, get_or-drop, get_or_append_left, get_or-append_right, get_or_past, length-take-le}
 use Rattle.std.proofs.Common.{length-drop}
@@ -75,6 +75,7 @@ holds_text text sector first end within is bytes =
     let zeros = replicate (512 - length part) 0 in
     let long : length part ≡ end - first = length-take-le (end - first) (drop first text) (omega (arith, length-drop first text)) in
     record {
+      whole = ap length bytes ∙ length-append part zeros ∙ omega (arith, length-replicate {A = ℕ} (512 - length part) 0);
       each = λ k lt. elim (lt_cases k (end - first)) [
         | inl here ↦ ap (λ (l : List ℕ). slice_index l k) bytes ∙ get_or_append_left part zeros 0 k (omega arith) ∙ get_or-take (end - first) (drop first text) k 0 here ∙ get_or-drop first text k 0
         | inr past ↦ ap (λ (l : List ℕ). slice_index l k) bytes ∙ get_or-append_right part zeros (end - first) k 0 long past ∙ zero_at (512 - length part) (k - (end - first)) ∙ sym (get_or_past text (first + k) 0 (omega arith))

@@ -21,6 +21,10 @@ snapshot_first epoch = header_count + snapshot_size * (epoch % 2)
 abbrev pub large_size : ℕ
 large_size = 5806
 
+-- a device of so many sectors is large
+abbrev pub is_large_size : ℕ → Bool
+is_large_size sectors = nat_le large_size sectors
+
 -- the greatest number of a program area, on a large device and on any other; the least is 0
 abbrev pub greatest_area : Bool → ℕ
 greatest_area true = 3

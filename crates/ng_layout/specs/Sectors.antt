@@ -36,4 +36,5 @@ pub record IsBeyond (first : ℕ) (sector : List ℕ) : Type 0 where
 
 -- the sector holds the 512 bytes from this index on, 0 for those past the end
 pub record HoldsText (text : List ℕ) (first : ℕ) (sector : List ℕ) : Type 0 where
+  pub whole : length sector ≡ sector_size
   pub each : (k : ℕ) → k < sector_size → slice_index sector k ≡ slice_index text (first + k)

@@ -99,6 +99,7 @@ pub fn spare_area(is_large: bool, area: u64) -> u64
     ensures is { result ≡ spare_area is_large area }
     ensures most { result ≤ greatest_area is_large }
     ensures apart { result ≢ area }
+    ensures room { longest_in result ≡ program_room is_large }
 {
     if !is_large {
         1 - area
