@@ -6,10 +6,10 @@ use Rattle.ng_canon.specs.declared.item.Item.{Item}
 use Rattle.ng_rig.specs.Trace.{Image, Trace, items}
 use Rattle.ng_rig.specs.Continuation.{IsContinuation}
 use Rattle.ng_layout.specs.declared.header.Header.{Header}
-use Rattle.ng_layout.specs.Header.{IsValidHeader}
+use Rattle.ng_layout.specs.Header.{program_room, IsValidHeader}
 use Rattle.ng_layout.specs.declared.header.Format.TheVariants.{Two}
 use Rattle.ng_layout.specs.Limits.{greatest_count}
-use Rattle.ng_layout.specs.Areas.{log_size_of, least_size}
+use Rattle.ng_layout.specs.Areas.{is_large_size, log_size_of, least_size}
 use Rattle.ng_layout.specs.Stands.{stands, stands_beside, IsModern, IsWritten}
 use Rattle.ng_layout.specs.Storable.{IsStorable}
 use Rattle.ng_layout.specs.Stored.{StoredModel, DurableState}
@@ -25,17 +25,18 @@ pub record JournalModel (R : Type 0) : Type 0 where
   pub saved : StoredModel
   pub broken : Bool
 
--- The header is of format 2, within its limits, and names a program of this length; its log ends here, within its sectors, of which each record has one at least.
+-- The header is of format 2 and names a program of this length; its log ends here, within its sectors, of which each record has one at least.
 pub record IsTip (length : ℕ) (header : Header) (end : LogEnd) : Type 0 where
-  pub lawful : IsValidHeader header
   pub long : length ≡ header.length
   pub format : header.format ≡ Two
   pub within : end.sector ≤ log_size_of header
   pub number : end.number ≤ end.sector
 
--- What holds of every journal, whatever its device does.
+-- What holds of every journal, whatever its device does: its header is valid on a device of so many sectors, and its room is theirs.
 pub record IsSteady (sectors : ℕ) (header : Header) (end : LogEnd) (saved : StoredModel) : Type 0 where
   pub room : least_size ≤ sectors
+  pub valid : IsValidHeader (is_large_size sectors) header
+  pub limit : saved.room ≡ program_room (is_large_size sectors)
   pub tip : IsTip saved.length header end
   pub storable : IsStorable saved
   pub count : saved.entries ≤ greatest_count

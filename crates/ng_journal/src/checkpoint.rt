@@ -1,5 +1,5 @@
 //! A whole state written under the next epoch.
-ghost use Rattle.std.specs.Prelude.{◌≡◌, ◌≤◌, ◌<◌, ◌+◌, ◌%◌, [], Some};
+ghost use Rattle.std.specs.Prelude.{Bool, ◌≡◌, ◌≤◌, ◌<◌, ◌+◌, ◌%◌, [], Some};
 ghost use Rattle.ng_rig.specs.Trace.{reads};
 ghost use Rattle.ng_layout.specs.declared.header.Format.TheVariants.{One};
 ghost use Rattle.ng_rig.specs.Calls.{IfHonest, FailureCountSpec};
@@ -8,7 +8,7 @@ ghost use Rattle.ng_layout.specs.Areas.{least_size, snapshot_size, tools_size};
 ghost use Rattle.ng_layout.specs.Storable.{IsStorable};
 ghost use Rattle.ng_layout.specs.Header.{header_in, HoldsHeader, IsValidHeader};
 ghost use Rattle.ng_layout.specs.declared.header.Header.{Header};
-ghost use Rattle.ng_journal.specs.Private.CheckpointSteps.{WritesArea, WritesAreas, MayFollow, IsOwnImage, CheckpointSpec, StoresState};
+ghost use Rattle.ng_journal.specs.Private.CheckpointSteps.{WritesArea, WritesAreas, MayFollow, FitsDevice, IsOwnImage, CheckpointSpec, StoresState};
 ghost use Rattle.ng_layout.specs.Snapshot.{HoldsToolPart};
 ghost use Rattle.ng_journal.specs.Private.Overwrites.{Overwrites};
 ghost use Rattle.ng_journal.specs.AtRest.{next_header, migrated};
@@ -79,11 +79,10 @@ fn write_areas<R: Rig, A: Allocator + Copy + Drop>(
     }
 }
 
-/// The sector of a header that is within its limits.
+/// The sector of a header.
 #[tactic(auto, unfolding(ng_layout::specs::Header::header_in))]
 pub(crate) fn header_sector(header: Header) -> [u8; SECTOR_BYTES]
-    requires { IsValidHeader header }
-    ensures read { header_in (header.epoch % 2) result ≡ Some header }
+    ensures read { (large : Bool) → IsValidHeader large header → header_in large (header.epoch % 2) result ≡ Some header }
     ensures holds { HoldsHeader header result }
 {
     header.write()
@@ -122,14 +121,13 @@ pub(crate) fn checkpoint<R: Rig, A: Allocator + Copy + Drop>(
     stored: &Stored<A>,
 ) -> Result<(), Failed>
     requires room { least_size ≤ R.sectors rig.old }
-    requires lawful { IsValidHeader next }
     requires long { stored.now.length ≡ next.length }
     requires count { stored.now.entries ≤ greatest_count }
     requires storable { IsStorable stored.now }
     requires tools { next.format ≡ One → stored.now.tools ≡ [] }
     ensures stops { IfHonest (R.honest rig.old) (R.honest rig.new)
         ((header : Header) → IsOwnImage (R.trace rig.old) header → next.epoch ≡ header.epoch + 1
-        → MayFollow next header (reads (R.trace rig.old))
+        → MayFollow next header (reads (R.trace rig.old)) → FitsDevice (reads (R.trace rig.old)) next stored.now
         → CheckpointSpec result header next stored.now (R.trace rig.old) (R.trace rig.new)) }
     ensures stores { IfHonest (R.honest rig.old) (R.honest rig.new)
         (StoresState result next stored.now (R.trace rig.old) (R.trace rig.new)) }

@@ -1,8 +1,11 @@
 //! A device made fresh: no header is left on it, then it stands for a fresh controller.
-ghost use Rattle.std.specs.Prelude.{◌≡◌, ◌≤◌, ◌<◌, ◌+◌, ◌⊎◌, ◌↔◌, replicate, IsErrOf, IfErr};
+ghost use Rattle.std.specs.Prelude.{ℕ, ◌≡◌, ◌≤◌, ◌<◌, ◌+◌, ◌⊎◌, ◌↔◌, replicate, IsErrOf, IfErr};
 ghost use Rattle.ng_num.specs.declared.fault.Fault.TheVariants.{DeviceFailed, NotFormatted};
 ghost use Rattle.ng_rig.specs.Calls.{IfHonest, FailureCountSpec};
-ghost use Rattle.ng_layout.specs.Areas.{header_count, shortest_log, log_first, snapshot_first, snapshot_size, tools_size, least_size};
+ghost use Rattle.ng_rig.specs.Trace.{reads};
+ghost use Rattle.ng_layout.specs.Header.{program_room};
+ghost use Rattle.ng_layout.specs.Stands.{is_large};
+ghost use Rattle.ng_layout.specs.Areas.{is_large_size, header_count, shortest_log, log_first, snapshot_first, snapshot_size, tools_size, least_size};
 ghost use Rattle.ng_layout.specs.Limits.{sector_size};
 ghost use Rattle.ng_layout.specs.Snapshot.{HoldsPart};
 ghost use Rattle.ng_layout.specs.Stored.{fresh_stored};
@@ -58,8 +61,8 @@ fn clear_log<R: Rig>(rig: &mut R) -> Result<(), Failed>
 fn write_fresh_snapshot<R: Rig>(rig: &mut R, first: usize) -> Result<(), Failed>
     requires sectors { least_size ≤ R.sectors rig.old }
     requires within { first + snapshot_size ≤ least_size }
-    ensures writes { IfHonest (R.honest rig.old) (R.honest rig.new)
-        (Overwrites result first snapshot_size (HoldsPart fresh_stored) (R.trace rig.old) (R.trace rig.new)) }
+    ensures writes { (room : ℕ) → IfHonest (R.honest rig.old) (R.honest rig.new)
+        (Overwrites result first snapshot_size (HoldsPart (fresh_stored room)) (R.trace rig.old) (R.trace rig.new)) }
     ensures size { R.sectors rig.new ≡ R.sectors rig.old }
     ensures failures { FailureCountSpec result (R.failed rig.old) (R.failed rig.new) }
 {
@@ -87,7 +90,8 @@ fn clear_tools<R: Rig>(rig: &mut R, first: usize) -> Result<(), Failed>
 /// Makes a device fresh that is large enough.
 fn make_fresh<R: Rig>(rig: &mut R) -> Result<(), Failed>
     requires { least_size ≤ R.sectors rig.old }
-    ensures formats { IfHonest (R.honest rig.old) (R.honest rig.new) (FormatSpec result (R.trace rig.old) (R.trace rig.new)) }
+    ensures formats { IfHonest (R.honest rig.old) (R.honest rig.new)
+        (FormatSpec result (program_room (is_large (reads (R.trace rig.old)))) (R.trace rig.old) (R.trace rig.new)) }
     ensures size { R.sectors rig.new ≡ R.sectors rig.old }
     ensures failures { FailureCountSpec result (R.failed rig.old) (R.failed rig.new) }
 {
@@ -112,8 +116,8 @@ fn make_fresh<R: Rig>(rig: &mut R) -> Result<(), Failed>
 /// it stands for then, nor of a stop before Ok: it is formatted again. Only the headers' sectors, the log's and the first
 /// epoch's snapshot's are written. Nothing is handed out. It takes no memory.
 pub fn format<R: Rig>(rig: &mut R) -> Result<(), Fault>
-    ensures formats { least_size ≤ R.sectors rig.old
-        → IfHonest (R.honest rig.old) (R.honest rig.new) (FormatSpec result (R.trace rig.old) (R.trace rig.new)) }
+    ensures formats { let room = program_room (is_large_size (R.sectors rig.old)) in least_size ≤ R.sectors rig.old
+        → IfHonest (R.honest rig.old) (R.honest rig.new) (FormatSpec result room (R.trace rig.old) (R.trace rig.new)) }
     ensures small { IsErrOf result NotFormatted ↔ (R.sectors rig.old < least_size) }
     ensures unchanged { IsErrOf result NotFormatted → rig.new ≡ rig.old }
     ensures size { R.sectors rig.new ≡ R.sectors rig.old }

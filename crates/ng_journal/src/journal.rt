@@ -2,8 +2,8 @@
 ghost use Rattle.std.specs.Prelude.{◌≡◌, ◌≤◌, ◌<◌, ◌⊎◌, ◌↔◌, ℤ, List, false, true, [], Some, length, OnOk, IfOk, IfErr, IsSome, IsErrOf, IsErrAnd};
 ghost use Rattle.ng_num.specs.declared.fault.Fault.TheVariants.{DeviceFailed, NotFormatted, CountersUsed, ProgramTooLong, OutOfMemory};
 ghost use Rattle.ng_rig.specs.Calls.{IfHonest, HandOutSpec};
-ghost use Rattle.ng_layout.specs.Areas.{least_size};
-ghost use Rattle.ng_layout.specs.Limits.{greatest_count, longest_program};
+ghost use Rattle.ng_layout.specs.Areas.{is_large_size, least_size, spare_area};
+ghost use Rattle.ng_layout.specs.Limits.{greatest_count};
 ghost use Rattle.ng_params.specs.Numbers.{parameter_count};
 ghost use Rattle.ng_layout.specs.Storable.{IsStorableHalf, IsStorable};
 ghost use Rattle.ng_offsets.specs.Tools.{IsOneSlotFrom};
@@ -21,7 +21,9 @@ use crate::loading::load;
 use crate::recovery::restore;
 use crate::storing::{Tip, changes_between, slot_between, store, store_half, take_changed};
 use ng_canon::Item;
-use ng_layout::{GREATEST_COUNT, Half, LEAST_SIZE, LONGEST_PROGRAM, Stored, spare_area};
+use ng_layout::{
+    GREATEST_COUNT, Half, LARGE_SIZE, LEAST_SIZE, Stored, program_room, spare_area,
+};
 use ng_num::Fault;
 use ng_offsets::Tools;
 use ng_rig::{Failed, Rig};
@@ -78,13 +80,14 @@ pub fn recover<R: Rig, A: Allocator + Copy + Drop>(
     if rig.size() < LEAST_SIZE {
         return Err((Fault::NotFormatted, rig));
     }
-    let (mut stored, mut kept) = match two_fresh(alloc) {
+    let large = rig.size() >= LARGE_SIZE;
+    let (mut stored, mut kept) = match two_fresh(alloc, program_room(large)) {
         Ok(both) => both,
         Err(_) => return Err((Fault::OutOfMemory, rig)),
     };
     // called for its contract: each length is within its limits, and there are no more than may be stored
     let _ = tools.slots();
-    match restore(&mut rig, tools, &mut stored) {
+    match restore(&mut rig, large, tools, &mut stored) {
         Err(Failed) => Err((Fault::DeviceFailed, rig)),
         Ok(Err(fault)) => Err((fault, rig)),
         Ok(Ok(header)) => {
@@ -100,11 +103,14 @@ pub fn recover<R: Rig, A: Allocator + Copy + Drop>(
     }
 }
 
-/// Two of what is stored of a fresh controller: one for the journal and one for its caller.
-fn two_fresh<A: Allocator + Copy + Drop>(alloc: A) -> Result<(Stored<A>, Stored<A>), AllocError>
-    ensures { IfOk result (λ x. (length x.0.setup.params ≡ parameter_count) × (length x.1.setup.params ≡ parameter_count) × (x.0.tools ≡ [])) }
+/// Two of what is stored of a fresh controller on a device with this room: one for the journal and one for its caller.
+fn two_fresh<A: Allocator + Copy + Drop>(
+    alloc: A,
+    room: u64,
+) -> Result<(Stored<A>, Stored<A>), AllocError>
+    ensures { IfOk result (λ x. (length x.0.setup.params ≡ parameter_count) × (length x.1.setup.params ≡ parameter_count) × (x.0.tools ≡ []) × (x.0.room ≡ room)) }
 {
-    Ok((Stored::fresh(alloc)?, Stored::fresh(alloc)?))
+    Ok((Stored::fresh(alloc, room)?, Stored::fresh(alloc, room)?))
 }
 
 impl<R: Rig, A: Allocator + Copy + Drop> Journal<R, A> {
@@ -141,6 +147,7 @@ impl<R: Rig, A: Allocator + Copy + Drop> Journal<R, A> {
         requires whole { self.old.broken ≡ false }
         requires storable { IsStorable stored.now }
         requires program { stored.now.length ≡ self.old.saved.length }
+        requires room { stored.now.room ≡ self.old.saved.room }
         requires tools { IsOneSlotFrom self.old.saved.tools stored.now.tools }
         ensures stops { IfHonest (R.honest self.old.rig) (R.honest self.new.rig)
             ((before : DurableState) → IsDurablyAt (R.trace self.old.rig) self.old before
@@ -219,42 +226,49 @@ impl<R: Rig, A: Allocator + Copy + Drop> Journal<R, A> {
 
     /// Stores a program and what goes with it (own): the text takes the place of the program in force, and the log begins anew.
     ///
-    /// J5 for more than 131,072 bytes; J4 where the entry count or the epoch would be beyond its limit; then nothing
-    /// is changed, and the device isn't called. J1 where the device failed: the journal is broken then, and the
+    /// It is written to program area 1 where area 0 is in force, else to 0; on a large device to area 3 where 2 is in
+    /// force, else to 2.
+    ///
+    /// J5 for more bytes than the device has room for: 131,072, or 1,048,576 on a large device; J4 where the entry count
+    /// or the epoch would be beyond its limit; then nothing is changed, and the device isn't called. J1 where the device failed: the journal is broken then, and the
     /// device stands for what stood before or for the new. It takes no memory.
     #[tactic(auto, unfolding(crate::specs::Storing::UsesUp))]
     pub fn load_program(&mut self, text: &[u8], stored: &Stored<A>) -> Result<(), Fault>
         requires whole { self.old.broken ≡ false }
-        requires storable { length text.now ≤ longest_program → IsStorable stored.now }
+        requires storable { length text.now ≤ self.old.saved.room → IsStorable stored.now }
         requires long { stored.now.length ≡ length text.now }
+        requires room { stored.now.room ≡ self.old.saved.room }
         ensures stops { IfHonest (R.honest self.old.rig) (R.honest self.new.rig)
             ((before : DurableState) → IsDurablyAt (R.trace self.old.rig) self.old before
             → CommitSpec result self.new before (record { saved = stored.now; program = text.now })
             (R.trace self.old.rig) (R.trace self.new.rig)) }
         ensures stores { IfHonest (R.honest self.old.rig) (R.honest self.new.rig)
-            (StoresLoad result self.old.header (record { saved = stored.now; program = text.now })
+            (let area = spare_area (is_large_size (R.sectors self.old.rig)) self.old.header.area in
+            StoresLoad result area self.old.header (record { saved = stored.now; program = text.now })
             (R.trace self.old.rig) (R.trace self.new.rig)) }
         ensures saved { OnOk result (self.new.saved ≡ stored.now) }
         ensures end { OnOk result (self.new.end ≡ no_records) }
-        ensures ledger { OnOk result (ledger_of self.new ≡ with_program (ledger_of self.old) stored.now) }
+        ensures ledger { let area = spare_area (is_large_size (R.sectors self.old.rig)) self.old.header.area in
+            OnOk result (ledger_of self.new ≡ with_program area (ledger_of self.old) stored.now) }
         ensures broken { IsBrokenBy result self.new.broken }
         ensures errors { IfErr result (λ e. (e ≡ ProgramTooLong) ⊎ ((e ≡ CountersUsed) ⊎ (e ≡ DeviceFailed))) }
-        ensures too_long { IsErrOf result ProgramTooLong ↔ (longest_program < length text.now) }
-        ensures used_up { IsErrOf result CountersUsed ↔ ((length text.now ≤ longest_program) × UsesUp (ledger_of self.old) (Load stored.now)) }
+        ensures too_long { IsErrOf result ProgramTooLong ↔ (self.old.saved.room < length text.now) }
+        ensures used_up { IsErrOf result CountersUsed ↔ ((length text.now ≤ self.old.saved.room) × UsesUp (ledger_of self.old) (Load stored.now)) }
         ensures count { OnOk result (stored.now.entries ≤ greatest_count) }
         ensures unchanged { (IsErrOf result CountersUsed ⊎ IsErrOf result ProgramTooLong) → self.new ≡ self.old }
         ensures size { R.sectors self.new.rig ≡ R.sectors self.old.rig }
         ensures failures { CountsFailure result (R.failed self.old.rig) (R.failed self.new.rig) }
     {
-        if text.len() > LONGEST_PROGRAM as usize {
+        if text.len() as u64 > self.stored.room {
             return Err(Fault::ProgramTooLong);
         }
         if self.is_used_up(stored.entries) {
             return Err(Fault::CountersUsed);
         }
         let header = self.tip.header;
-        let next = next_header(header, spare_area(header.area), stored.length);
-        match load(&mut self.rig, header, text, stored) {
+        let area = spare_area(self.rig.size() >= LARGE_SIZE, header.area);
+        let next = next_header(header, area, stored.length);
+        match load(&mut self.rig, header, area, text, stored) {
             Ok(()) => {
                 self.stored.take_over(stored);
                 self.tip = Tip::beginning(next);

@@ -1,10 +1,11 @@
 //! A line of the program in force, read where it begins.
-ghost use Rattle.std.specs.Prelude.{◌≡◌, ℕ, max, List, [], ◌≤◌, ◌<◌, ◌+◌, ◌*◌, ◌-◌, ◌++◌, take, drop, length, IfOk, IfSome};
+ghost use Rattle.std.specs.Prelude.{true, ◌≡◌, ℕ, max, List, [], ◌≤◌, ◌<◌, ◌+◌, ◌*◌, ◌-◌, ◌++◌, take, drop, length, IfOk, IfSome};
 ghost use Rattle.std.specs.Str.Lines.{strip_carriage_return};
 ghost use Rattle.ng_rig.specs.Calls.{IfHonest, FailureCountSpec};
 ghost use Rattle.ng_layout.specs.Limits.{longest_program, sector_size};
 ghost use Rattle.ng_layout.specs.Sectors.{program_text};
-ghost use Rattle.ng_layout.specs.Areas.{program_size, least_size, greatest_area, program_first};
+ghost use Rattle.ng_layout.specs.Areas.{program_size, greatest_area, program_first};
+ghost use Rattle.ng_layout.specs.Header.{longest_in};
 ghost use Rattle.ng_layout.specs.Stands.{stretch};
 ghost use Rattle.ng_log.specs.Reading.{ReadSpec};
 ghost use Rattle.ng_text.specs.Programs.{program_line_at};
@@ -99,10 +100,10 @@ fn find_end<R: Rig>(
     program_end: usize,
     text: &mut ArrayVec<u8, KEPT_LINE>,
 ) -> Result<Option<usize>, Failed>
-    requires sectors { least_size ≤ R.sectors rig.old }
-    requires area { area ≤ greatest_area }
+    requires area { area ≤ greatest_area true }
+    requires sectors { program_first area + program_size area ≤ R.sectors rig.old }
     requires place { place ≤ program_end }
-    requires small { program_end ≤ longest_program }
+    requires small { program_end ≤ longest_in area }
     requires empty { text.old.items ≡ [] }
     ensures read { IfHonest (R.honest rig.old) (R.honest rig.new)
         (ReadSpec result (λ image end. IsEnd (drop place (program_text program_end (stretch (program_first area) (program_size area) image))) text.new.items end) (R.trace rig.old) (R.trace rig.new)) }
@@ -129,10 +130,10 @@ pub(crate) fn read_line<R: Rig>(
     place: usize,
     program_end: usize,
 ) -> Result<Option<ProgramLine>, Failed>
-    requires sectors { least_size ≤ R.sectors rig.old }
-    requires area { area ≤ greatest_area }
+    requires area { area ≤ greatest_area true }
+    requires sectors { program_first area + program_size area ≤ R.sectors rig.old }
     requires place { place ≤ program_end }
-    requires small { program_end ≤ longest_program }
+    requires small { program_end ≤ longest_in area }
     ensures read { IfHonest (R.honest rig.old) (R.honest rig.new)
         (ReadSpec result (λ image line. line ≡ program_line_at (program_text program_end (stretch (program_first area) (program_size area) image)) place) (R.trace rig.old) (R.trace rig.new)) }
     // without honesty too

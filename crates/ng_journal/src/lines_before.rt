@@ -1,9 +1,9 @@
 //! The kind of the first line before a place of the program in force that isn't blank.
-ghost use Rattle.std.specs.Prelude.{◌≡◌, ◌≤◌, ◌+◌, ℕ};
+ghost use Rattle.std.specs.Prelude.{true, ◌≡◌, ◌≤◌, ◌+◌, ℕ};
 ghost use Rattle.ng_rig.specs.Calls.{IfHonest, FailureCountSpec};
-ghost use Rattle.ng_layout.specs.Limits.{longest_program};
 ghost use Rattle.ng_layout.specs.Sectors.{program_text};
-ghost use Rattle.ng_layout.specs.Areas.{program_size, least_size, greatest_area, program_first};
+ghost use Rattle.ng_layout.specs.Areas.{program_size, greatest_area, program_first};
+ghost use Rattle.ng_layout.specs.Header.{longest_in};
 ghost use Rattle.ng_layout.specs.Stands.{stretch};
 ghost use Rattle.ng_log.specs.Reading.{ReadSpec};
 ghost use Rattle.ng_text.specs.FirstLines.{kind_in};
@@ -22,9 +22,9 @@ pub(crate) fn read_first_kind<R: Rig>(
     area: u64,
     place: usize,
 ) -> Result<LineKind, Failed>
-    requires sectors { least_size ≤ R.sectors rig.old }
-    requires area { area ≤ greatest_area }
-    requires small { place ≤ longest_program }
+    requires area { area ≤ greatest_area true }
+    requires sectors { program_first area + program_size area ≤ R.sectors rig.old }
+    requires small { place ≤ longest_in area }
     ensures read { IfHonest (R.honest rig.old) (R.honest rig.new)
         (ReadSpec result (λ image kind. kind ≡ kind_in (program_text place (stretch (program_first area) (program_size area) image)))
         (R.trace rig.old) (R.trace rig.new)) }

@@ -1,24 +1,27 @@
 //! A program written to the area that isn't in force, and what is stored with it.
-ghost use Rattle.std.specs.Prelude.{◌≡◌, ◌≤◌, ◌<◌, ◌+◌, length};
+ghost use Rattle.std.specs.Prelude.{true, ◌≡◌, ◌≢◌, ◌≤◌, ◌<◌, ◌+◌, length};
 ghost use Rattle.ng_rig.specs.Calls.{IfHonest, FailureCountSpec};
-ghost use Rattle.ng_layout.specs.Limits.{greatest_count, longest_program};
-ghost use Rattle.ng_layout.specs.Areas.{program_first, least_size, greatest_area};
+ghost use Rattle.ng_layout.specs.Limits.{greatest_count};
+ghost use Rattle.ng_layout.specs.Areas.{program_first, program_size, least_size, greatest_area};
+ghost use Rattle.ng_layout.specs.Header.{longest_in};
+ghost use Rattle.ng_rig.specs.Trace.{reads};
+ghost use Rattle.ng_journal.specs.AtRest.{next_header};
 ghost use Rattle.ng_layout.specs.declared.header.Format.TheVariants.{Two};
 ghost use Rattle.ng_layout.specs.Storable.{IsStorable};
-ghost use Rattle.ng_journal.specs.Private.CheckpointSteps.{IsOwnImage};
+ghost use Rattle.ng_journal.specs.Private.CheckpointSteps.{FitsDevice, IsOwnImage};
 ghost use Rattle.ng_journal.specs.Private.LoadSteps.{WritesText, LoadSpec};
 ghost use Rattle.ng_journal.specs.Loads.{StoresLoad};
 
 use crate::checkpoint::{checkpoint, next_header};
-use ng_layout::{Header, SECTOR_BYTES, Stored, program_first, spare_area, text_sector};
+use ng_layout::{Header, SECTOR_BYTES, Stored, program_first, text_sector};
 use ng_rig::{Failed, Rig};
 use std::alloc::Allocator;
 
 /// Writes a program's text to the sectors of the program area of this number.
 fn write_program<R: Rig>(rig: &mut R, area: u64, text: &[u8]) -> Result<(), Failed>
-    requires sectors { least_size ≤ R.sectors rig.old }
-    requires area { area ≤ greatest_area }
-    requires short { length text.now ≤ longest_program }
+    requires area { area ≤ greatest_area true }
+    requires sectors { program_first area + program_size area ≤ R.sectors rig.old }
+    requires short { length text.now ≤ longest_in area }
     ensures text { IfHonest (R.honest rig.old) (R.honest rig.new) (WritesText result area text.now (R.trace rig.old) (R.trace rig.new)) }
     ensures size { R.sectors rig.new ≡ R.sectors rig.old }
     ensures failures { FailureCountSpec result (R.failed rig.old) (R.failed rig.new) }
@@ -30,29 +33,33 @@ fn write_program<R: Rig>(rig: &mut R, area: u64, text: &[u8]) -> Result<(), Fail
     Ok(())
 }
 
-/// Writes a program to the area that isn't in force, then what is stored with it under the next epoch.
+/// Writes a program to an area that isn't in force, then what is stored with it under the epoch after this header's.
 pub(crate) fn load<R: Rig, A: Allocator + Copy + Drop>(
     rig: &mut R,
     header: Header,
+    area: u64,
     text: &[u8],
     stored: &Stored<A>,
 ) -> Result<(), Failed>
     requires room { least_size ≤ R.sectors rig.old }
     requires counted { header.epoch < greatest_count }
-    requires area { header.area ≤ greatest_area }
+    requires area { area ≤ greatest_area true }
+    requires apart { area ≢ header.area }
+    requires sectors { program_first area + program_size area ≤ R.sectors rig.old }
+    requires short { length text.now ≤ longest_in area }
     requires count { stored.now.entries ≤ greatest_count }
     requires storable { IsStorable stored.now }
     requires long { stored.now.length ≡ length text.now }
     requires format { header.format ≡ Two }
     ensures stops { IfHonest (R.honest rig.old) (R.honest rig.new)
         (IsOwnImage (R.trace rig.old) header
-        → LoadSpec result header (record { saved = stored.now; program = text.now }) (R.trace rig.old) (R.trace rig.new)) }
+        → FitsDevice (reads (R.trace rig.old)) (next_header header area stored.now.length) stored.now
+        → LoadSpec result area header (record { saved = stored.now; program = text.now }) (R.trace rig.old) (R.trace rig.new)) }
     ensures stores { IfHonest (R.honest rig.old) (R.honest rig.new)
-        (StoresLoad result header (record { saved = stored.now; program = text.now }) (R.trace rig.old) (R.trace rig.new)) }
+        (StoresLoad result area header (record { saved = stored.now; program = text.now }) (R.trace rig.old) (R.trace rig.new)) }
     ensures size { R.sectors rig.new ≡ R.sectors rig.old }
     ensures failures { FailureCountSpec result (R.failed rig.old) (R.failed rig.new) }
 {
-    let area = spare_area(header.area);
     write_program(rig, area, text)?;
     rig.sync()?;
     checkpoint(rig, next_header(header, area, stored.length), stored)

@@ -1,16 +1,17 @@
 //! What a device holds: the header in force and its snapshot.
-ghost use Rattle.std.specs.Prelude.{◌≡◌, ◌≤◌, ◌<◌, ◌+◌, ◌*◌, ◌%◌, true, [], length, IfOk, IfSome};
+ghost use Rattle.std.specs.Prelude.{Bool, ◌≡◌, ◌≤◌, ◌<◌, ◌+◌, ◌*◌, ◌%◌, true, [], length, IfOk, IfSome};
 ghost use Rattle.ng_layout.specs.declared.header.Format.TheVariants.{One};
 ghost use Rattle.std.specs.Bool.{OnTrue};
 ghost use Rattle.ng_rig.specs.Calls.{IfHonest, FailureCountSpec};
-ghost use Rattle.ng_layout.specs.Limits.{greatest_count};
+ghost use Rattle.ng_layout.specs.Limits.{greatest_count, longest_program};
 ghost use Rattle.ng_params.specs.Numbers.{parameter_count};
 ghost use Rattle.ng_layout.specs.Header.{header_in, IsValidHeader};
 ghost use Rattle.ng_layout.specs.Report.{decoded_state_of};
 ghost use Rattle.ng_layout.specs.StateField.{field_at};
 ghost use Rattle.ng_layout.specs.Sound.{IsSound};
 ghost use Rattle.ng_layout.specs.Areas.{least_size, snapshot_size};
-ghost use Rattle.ng_layout.specs.Stands.{in_force, newer};
+ghost use Rattle.ng_rig.specs.Trace.{reads};
+ghost use Rattle.ng_layout.specs.Stands.{is_large, in_force, newer};
 ghost use Rattle.ng_layout.specs.Storable.{IsStorable, IsStorableTools};
 ghost use Rattle.ng_log.specs.Reading.{ReadSpec};
 ghost use Rattle.ng_journal.specs.Private.SnapshotRead.{IsTableOf, IsToolsOf, IsSnapshotOf};
@@ -25,26 +26,24 @@ use ng_params::Params;
 use ng_rig::{Failed, Rig};
 use std::alloc::Allocator;
 
-/// The valid header of sector `k`.
-fn read_header<R: Rig>(rig: &mut R, k: u64) -> Result<Option<Header>, Failed>
+/// The header that sector `k` holds, on a large device or on any other, where it is valid there.
+fn read_header<R: Rig>(rig: &mut R, large: bool, k: u64) -> Result<Option<Header>, Failed>
     requires room { least_size ≤ R.sectors rig.old }
     requires header { k < 2 }
     ensures read { IfHonest (R.honest rig.old) (R.honest rig.new)
-        (ReadSpec result (λ image header. header ≡ header_in k (image k)) (R.trace rig.old) (R.trace rig.new)) }
-    ensures lawful { IfOk result (λ header. IfSome header IsValidHeader) }
+        (ReadSpec result (λ image header. header ≡ header_in large k (image k)) (R.trace rig.old) (R.trace rig.new)) }
+    ensures valid { IfOk result (λ header. IfSome header (IsValidHeader large)) }
     ensures size { R.sectors rig.new ≡ R.sectors rig.old }
     ensures failures { FailureCountSpec result (R.failed rig.old) (R.failed rig.new) }
 {
     let bytes = read_sector(rig, k as usize)?;
-    Ok(Header::read(k, &bytes))
+    Ok(Header::read(large, k, &bytes))
 }
 
 /// Of two valid headers that of the greater epoch.
 fn newer(a: Option<Header>, b: Option<Header>) -> Option<Header>
-    requires a { IfSome a IsValidHeader }
-    requires b { IfSome b IsValidHeader }
     ensures value { result ≡ newer a b }
-    ensures lawful { IfSome result IsValidHeader }
+    ensures valid { (large : Bool) → IfSome a (IsValidHeader large) → IfSome b (IsValidHeader large) → IfSome result (IsValidHeader large) }
 {
     match (a, b) {
         (None, b) => b,
@@ -53,18 +52,22 @@ fn newer(a: Option<Header>, b: Option<Header>) -> Option<Header>
     }
 }
 
-/// The header in force.
+/// The header in force, on a large device or on any other.
 #[tactic(auto, unfolding(ng_layout::specs::Stands::in_force))]
-pub(crate) fn header_in_force<R: Rig>(rig: &mut R) -> Result<Option<Header>, Failed>
-    requires { least_size ≤ R.sectors rig.old }
+pub(crate) fn header_in_force<R: Rig>(
+    rig: &mut R,
+    large: bool,
+) -> Result<Option<Header>, Failed>
+    requires sectors { least_size ≤ R.sectors rig.old }
+    requires large { R.honest rig.old → is_large (reads (R.trace rig.old)) ≡ large }
     ensures read { IfHonest (R.honest rig.old) (R.honest rig.new)
         (ReadSpec result (λ image header. header ≡ in_force image) (R.trace rig.old) (R.trace rig.new)) }
-    ensures lawful { IfOk result (λ header. IfSome header IsValidHeader) }
+    ensures valid { IfOk result (λ header. IfSome header (IsValidHeader large)) }
     ensures size { R.sectors rig.new ≡ R.sectors rig.old }
     ensures failures { FailureCountSpec result (R.failed rig.old) (R.failed rig.new) }
 {
-    let even = read_header(rig, 0)?;
-    let odd = read_header(rig, 1)?;
+    let even = read_header(rig, large, 0)?;
+    let odd = read_header(rig, large, 1)?;
     Ok(newer(even, odd))
 }
 
@@ -136,7 +139,8 @@ pub(crate) fn read_snapshot<R: Rig, A: Allocator + Copy + Drop>(
     stored: &mut Stored<A>,
 ) -> Result<bool, Failed>
     requires room { least_size ≤ R.sectors rig.old }
-    requires lawful { IsValidHeader header }
+    requires program { header.length ≤ stored.old.room }
+    requires most { stored.old.room ≤ longest_program }
     requires long { length stored.old.setup.params ≡ parameter_count }
     requires none { stored.old.tools ≡ [] }
     ensures read { IfHonest (R.honest rig.old) (R.honest rig.new)
@@ -146,6 +150,7 @@ pub(crate) fn read_snapshot<R: Rig, A: Allocator + Copy + Drop>(
     ensures storable { IfOk result (λ is_whole. OnTrue is_whole (IsStorable stored.new)) }
     ensures count { IfOk result (λ is_whole. OnTrue is_whole (stored.new.entries ≤ greatest_count)) }
     ensures long { IfOk result (λ is_whole. OnTrue is_whole (stored.new.length ≡ header.length)) }
+    ensures limit { stored.new.room ≡ stored.old.room }
     ensures size { R.sectors rig.new ≡ R.sectors rig.old }
     ensures failures { FailureCountSpec result (R.failed rig.old) (R.failed rig.new) }
 {

@@ -1,16 +1,17 @@
-//! Power on: what the device holds, written again under the next epoch with nothing open.
-ghost use Rattle.std.specs.Prelude.{◌≡◌, ◌≤◌, ◌<◌, ◌+◌, ℤ, List, [], length, IfOk, IfErr, OnOk};
+//! Power on: what the device holds, written again under the next epoch with nothing open, and over format 1 under one more
+//! epoch in format 2.
+ghost use Rattle.std.specs.Prelude.{Bool, ◌≡◌, ◌≤◌, ◌<◌, ◌+◌, ℤ, List, [], length, IfOk, IfErr, OnOk};
 ghost use Rattle.ng_rig.specs.Calls.{IfHonest, FailureCountSpec};
 ghost use Rattle.ng_layout.specs.Limits.{greatest_count};
 ghost use Rattle.ng_params.specs.Numbers.{parameter_count};
 ghost use Rattle.ng_layout.specs.Areas.{least_size};
-ghost use Rattle.ng_layout.specs.Header.{IsValidHeader};
+ghost use Rattle.ng_layout.specs.Header.{program_room, IsValidHeader};
 ghost use Rattle.ng_layout.specs.Storable.{IsStorable, IsStorableTools};
 ghost use Rattle.ng_log.specs.Reading.{ReadSpec};
 ghost use Rattle.ng_rig.specs.Trace.{reads};
 ghost use Rattle.ng_layout.specs.declared.header.Format.TheVariants.{One, Two};
 ghost use Rattle.ng_layout.specs.Stored.{DurableState};
-ghost use Rattle.ng_layout.specs.Stands.{saved_beside};
+ghost use Rattle.ng_layout.specs.Stands.{is_large, saved_beside};
 ghost use Rattle.ng_journal.specs.Recovery.{epochs_for, IsTableOver};
 ghost use Rattle.ng_journal.specs.Private.CheckpointSteps.{IsBegun};
 ghost use Rattle.ng_journal.specs.Private.RecoverySteps.{IsRead, IsRefusal, RestoreSpec, ModernizeSpec, StoresModern, modern_by};
@@ -24,19 +25,23 @@ use ng_offsets::Tools;
 use ng_rig::{Failed, Rig};
 use std::alloc::Allocator;
 
-/// What the device stands for, with its header, or why that can't be recovered.
+/// What a device that is large or isn't stands for, with its header, or why that can't be recovered.
 fn found<R: Rig, A: Allocator + Copy + Drop>(
     rig: &mut R,
+    large: bool,
     stored: &mut Stored<A>,
 ) -> Result<Result<Header, Fault>, Failed>
     requires room { least_size ≤ R.sectors rig.old }
+    requires large { R.honest rig.old → is_large (reads (R.trace rig.old)) ≡ large }
+    requires limit { stored.old.room ≡ program_room large }
     requires long { length stored.old.setup.params ≡ parameter_count }
     requires none { stored.old.tools ≡ [] }
     ensures none { IfOk result (λ answer. IfOk answer (λ header. header.format ≡ One → stored.new.tools ≡ [])) }
     ensures read { IfHonest (R.honest rig.old) (R.honest rig.new)
         (ReadSpec result (IsRead stored.new) (R.trace rig.old) (R.trace rig.new)) }
     // without honesty too
-    ensures lawful { IfOk result (λ answer. IfOk answer IsValidHeader) }
+    ensures valid { IfOk result (λ answer. IfOk answer (IsValidHeader large)) }
+    ensures limit { stored.new.room ≡ stored.old.room }
     ensures storable { IfOk result (λ answer. OnOk answer (IsStorable stored.new)) }
     ensures count { IfOk result (λ answer. OnOk answer (stored.new.entries ≤ greatest_count)) }
     ensures long { IfOk result (λ answer. IfOk answer (λ header. stored.new.length ≡ header.length)) }
@@ -44,7 +49,7 @@ fn found<R: Rig, A: Allocator + Copy + Drop>(
     ensures size { R.sectors rig.new ≡ R.sectors rig.old }
     ensures failures { FailureCountSpec result (R.failed rig.old) (R.failed rig.new) }
 {
-    match header_in_force(rig)? {
+    match header_in_force(rig, large)? {
         None => Ok(Err(Fault::NotFormatted)),
         Some(header) => {
             let is_whole = read_snapshot(rig, header, stored)?;
@@ -67,7 +72,6 @@ fn modernize<R: Rig, A: Allocator + Copy + Drop>(
     stored: &mut Stored<A>,
 ) -> Result<Header, Failed>
     requires room { least_size ≤ R.sectors rig.old }
-    requires lawful { IsValidHeader header }
     requires epoch { header.format ≡ One → header.epoch < greatest_count }
     requires long { stored.old.length ≡ header.length }
     requires count { stored.old.entries ≤ greatest_count }
@@ -84,7 +88,8 @@ fn modernize<R: Rig, A: Allocator + Copy + Drop>(
     ensures saved { (table : List ℤ) → (header.format ≡ One → table ≡ tools.now)
         → OnOk result (stored.new ≡ saved_beside table header.format stored.old) }
     // without honesty too
-    ensures lawful { IfOk result IsValidHeader }
+    ensures valid { (large : Bool) → IsValidHeader large header → IfOk result (IsValidHeader large) }
+    ensures limit { stored.new.room ≡ stored.old.room }
     ensures format { IfOk result (λ last. last.format ≡ Two) }
     ensures storable { OnOk result (IsStorable stored.new) }
     ensures count { OnOk result (stored.new.entries ≡ stored.old.entries) }
@@ -119,6 +124,7 @@ fn epochs_for(format: Format) -> u64
 /// nothing was recovered: before any write.
 pub(crate) fn restore<R: Rig, A: Allocator + Copy + Drop>(
     rig: &mut R,
+    large: bool,
     tools: &Tools,
     stored: &mut Stored<A>,
 ) -> Result<Result<Header, Fault>, Failed>
@@ -126,12 +132,15 @@ pub(crate) fn restore<R: Rig, A: Allocator + Copy + Drop>(
     requires long { length stored.old.setup.params ≡ parameter_count }
     requires none { stored.old.tools ≡ [] }
     requires tools { IsStorableTools tools.now }
+    requires large { R.honest rig.old → is_large (reads (R.trace rig.old)) ≡ large }
+    requires limit { stored.old.room ≡ program_room large }
     ensures format { IfOk result (λ answer. IfOk answer (λ header. header.format ≡ Two)) }
     ensures restores { IfHonest (R.honest rig.old) (R.honest rig.new)
         ((table : List ℤ) → IsTableOver tools.now table (reads (R.trace rig.old))
         → RestoreSpec table result stored.new (R.trace rig.old) (R.trace rig.new)) }
     // without honesty too
-    ensures lawful { IfOk result (λ answer. IfOk answer IsValidHeader) }
+    ensures valid { IfOk result (λ answer. IfOk answer (IsValidHeader large)) }
+    ensures limit { stored.new.room ≡ stored.old.room }
     ensures storable { IfOk result (λ answer. OnOk answer (IsStorable stored.new)) }
     ensures count { IfOk result (λ answer. OnOk answer (stored.new.entries ≤ greatest_count)) }
     ensures long { IfOk result (λ answer. IfOk answer (λ header. stored.new.length ≡ header.length)) }
@@ -140,7 +149,7 @@ pub(crate) fn restore<R: Rig, A: Allocator + Copy + Drop>(
     ensures failures { FailureCountSpec result (R.failed rig.old) (R.failed rig.new) }
 {
     rig.sync()?;
-    match found(rig, stored)? {
+    match found(rig, large, stored)? {
         Err(fault) => Ok(Err(fault)),
         Ok(header) => {
             if header.epoch + epochs_for(header.format) > GREATEST_COUNT {

@@ -6,7 +6,7 @@ use Rattle.ng_rig.specs.Only.{WritesOnly}
 use Rattle.ng_layout.specs.declared.header.Header.{Header}
 use Rattle.ng_layout.specs.Limits.{sector_size}
 use Rattle.ng_layout.specs.Sectors.{HoldsText}
-use Rattle.ng_layout.specs.Areas.{program_first, spare_area}
+use Rattle.ng_layout.specs.Areas.{program_first}
 use Rattle.ng_layout.specs.Stands.{stands}
 use Rattle.ng_layout.specs.Stored.{DurableState}
 use Rattle.ng_log.specs.AtEnd.{no_records, IsAtEnd}
@@ -23,7 +23,7 @@ pub record WritesText {T E : Type 0} (result : Result T E) (area : ℕ) (text : 
   pub parts : OnOk result (IsTextAt area text (reads new))
 
 -- Each stop since stands for what stood before or for the new with its program, after Ok for that alone, and its log has no record.
-pub record LoadSpec {T E : Type 0} (result : Result T E) (header : Header) (loaded : DurableState) (old new : Trace) : Type 0 where
+pub record LoadSpec {T E : Type 0} (result : Result T E) (area : ℕ) (header : Header) (loaded : DurableState) (old new : Trace) : Type 0 where
   pub stops : IsContinuation old new (IsEither (stands (reads old)) (Ok loaded) (items old))
   pub items_are : items new ≡ items old
-  pub at : OnOk result (IsAtEnd new (next_header header (spare_area header.area) loaded.saved.length) loaded no_records)
+  pub at : OnOk result (IsAtEnd new (next_header header area loaded.saved.length) loaded no_records)
