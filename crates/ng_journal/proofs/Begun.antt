@@ -20,7 +20,7 @@ begins-empty image header at b is = b.clean 0 (omega arith) is
 pub begins-stand : (image : Image) (header : Header) (at : DurableState) → BeginsIn image header at → stands image ≡ Ok at
 begins-stand image header at b =
     stands-snapshot image header b.force (begins-empty image header at b)
-    ∙ (λ i. standing (b.snapshot_is i) (b.program i) (sym b.long i))
+    ∙ (λ i. standing (sym b.room i) (b.snapshot_is i) (b.program i) (sym b.long i))
 
 pub begins-end : (image : Image) (header : Header) (at : DurableState) → header.format ≡ Two → BeginsIn image header at → EndsIn image header at no_records
 begins-end image header at two b =
@@ -37,6 +37,7 @@ begins-end image header at two b =
       };
       program = b.program;
       long = b.long;
+      room = b.room;
     }
 
 pub begun-end : (trace : Trace) (header : Header) (at : DurableState) → header.format ≡ Two → IsBegun trace header at → IsAtEnd trace header at no_records

@@ -11,10 +11,10 @@ use Rattle.ng_rig.specs.Only.{WritesOnly}
 use Rattle.ng_rig.proofs.Running.{is_synced}
 use Rattle.ng_rig.proofs.Writes_only.{only_more, only_write, only_syncs, only_wider, reads_blend}
 use Rattle.ng_layout.specs.declared.header.Header.{Header}
-use Rattle.ng_layout.specs.Header.{HoldsHeader}
-use Rattle.ng_layout.specs.Limits.{longest_program}
-use Rattle.ng_layout.specs.Areas.{shortest_log, snapshot_first, snapshot_size, tools_first, tools_size, program_first, program_size, log_first, spare_area}
+use Rattle.ng_layout.specs.Header.{longest_in, HoldsHeader}
+use Rattle.ng_layout.specs.Areas.{shortest_log, snapshot_first, snapshot_size, tools_first, tools_size, program_first, program_size, log_first}
 use Rattle.ng_layout.specs.Sectors.{HoldsText}
+use Rattle.ng_layout.proofs.Images.{area-where}
 use Rattle.ng_layout.proofs.Rows.{bytes-zeros}
 use Rattle.ng_layout.specs.Snapshot.{HoldsPart, HoldsLengths, HoldsToolPart}
 use Rattle.ng_layout.specs.declared.header.Format.TheVariants.{One, Two}
@@ -42,8 +42,15 @@ among first size IsRight old new w = only_wider (BelongsIn first size IsRight) (
     in_stretch : (n : ℕ) (c : List ℕ) → BelongsIn first size IsRight n c → IsAmong first size n
     in_stretch n c b = let is = b.is in let within = b.within in record { from = omega arith; to = omega arith }
 
-pub among_text : (area : ℕ) (text : List ℕ) (old new : Trace) → WritesOnly (λ n c. BelongsToText text area n c) old new → WritesOnly (λ n c. IsAmong (program_first area) (program_size area) n) old new
-among_text area text old new w = among (program_first area) (program_size area) (λ j part. HoldsText text (512 * j) part) old new w
+-- a sector of a program area, which holds something
+abbrev pub IsInArea : ℕ → ℕ → List ℕ → Type 0
+IsInArea area n c = IsAmong (program_first area) (program_size area) n × (0 < length c)
+
+pub among_text : (area : ℕ) (text : List ℕ) (old new : Trace) → WritesOnly (λ n c. BelongsToText text area n c) old new → WritesOnly (λ n c. IsInArea area n c) old new
+among_text area text old new w = only_wider (λ n c. BelongsToText text area n c) (λ n c. IsInArea area n c) old new (λ n c b. in_area n c b) w
+  where
+    in_area : (n : ℕ) (c : List ℕ) → BelongsToText text area n c → IsInArea area n c
+    in_area n c b = let is = b.is in let within = b.within in let whole = b.right.whole in (record { from = omega arith; to = omega arith }, omega (arith, whole))
 
 -- A checkpoint: the snapshot, a sync, the header, a sync.
 abbrev May : Header → StoredModel → ℕ → List ℕ → Type 0
@@ -182,37 +189,44 @@ of_epoch header saved n bytes (inl b) = inl (of_areas header saved n bytes b)
 of_epoch header saved n bytes (inr h) = inr h.0
 
 -- A load: the text, a sync, a checkpoint.
-abbrev MayLoad : Header → DurableState → ℕ → List ℕ → Type 0
-MayLoad header loaded n bytes = BelongsToLoad header loaded n bytes
+abbrev MayLoad : ℕ → Header → DurableState → ℕ → List ℕ → Type 0
+MayLoad area header loaded n bytes = BelongsToLoad area header loaded n bytes
 
-pub load_text : {T E : Type 0} (result : Result T E) (area : ℕ) (header : Header) (loaded : DurableState) (old new : Trace) → area ≡ spare_area header.area → WritesText result area loaded.program old new → WritesLoad header loaded old new
-load_text result area header loaded old new is w =
-    only_wider (λ n c. BelongsToText loaded.program area n c) (MayLoad header loaded) old new (λ n c b. inl (subst (λ (k : ℕ). BelongsToText loaded.program k n c) is b)) w.writes
+pub load_text : {T E : Type 0} (result : Result T E) (area : ℕ) (header : Header) (loaded : DurableState) (old new : Trace) → WritesText result area loaded.program old new → WritesLoad area header loaded old new
+load_text result area header loaded old new w =
+    only_wider (λ n c. BelongsToText loaded.program area n c) (MayLoad area header loaded) old new (λ n c b. inl b) w.writes
 
-pub load_sync : {T E : Type 0} (result : Result T E) (header : Header) (loaded : DurableState) (old mid new : Trace) → WritesLoad header loaded old mid → SyncSpec result mid new → WritesLoad header loaded old new
-load_sync result header loaded old mid new w is = only_syncs (MayLoad header loaded) result old mid new w is
+pub load_sync : {T E : Type 0} (result : Result T E) (area : ℕ) (header : Header) (loaded : DurableState) (old mid new : Trace) → WritesLoad area header loaded old mid → SyncSpec result mid new → WritesLoad area header loaded old new
+load_sync result area header loaded old mid new w is = only_syncs (MayLoad area header loaded) result old mid new w is
 
-pub load_state : (header : Header) (loaded : DurableState) (old mid new : Trace) → WritesLoad header loaded old mid → WritesState (next_header header (spare_area header.area) loaded.saved.length) loaded.saved mid new → WritesLoad header loaded old new
-load_state header loaded old mid new w last =
-    only_more (MayLoad header loaded) old mid new w (only_wider (May (next_header header (spare_area header.area) loaded.saved.length) loaded.saved) (MayLoad header loaded) mid new (λ n c own. inr own) last)
+pub load_state : (area : ℕ) (header : Header) (loaded : DurableState) (old mid new : Trace) → WritesLoad area header loaded old mid → WritesState (next_header header area loaded.saved.length) loaded.saved mid new → WritesLoad area header loaded old new
+load_state area header loaded old mid new w last =
+    only_more (MayLoad area header loaded) old mid new w (only_wider (May (next_header header area loaded.saved.length) loaded.saved) (MayLoad area header loaded) mid new (λ n c own. inr own) last)
 
 -- the text stays where it stands
-pub text_stays : {T E U F : Type 0} (result : Result T E) (u : U) (area : ℕ) (header : Header) (loaded : DurableState) (old mid synced new : Trace) → length loaded.program ≤ longest_program → area ≡ spare_area header.area → WritesText {E = F} (Ok u) area loaded.program old mid → synced ≡ Synced mid → WritesState (next_header header (spare_area header.area) loaded.saved.length) loaded.saved synced new
-    → OnOk result (IsTextAt (spare_area header.area) loaded.program (reads new))
-text_stays (Err _) u area header loaded old mid synced new short is w is_synced last = tt
-text_stays (Ok _) u area header loaded old mid synced new short is w is_synced last = λ j lt.
-    subst (HoldsText loaded.program (512 * j)) (sym (same (program_first (spare_area header.area) + j) (omega arith) (omega arith))) (subst (λ (k : ℕ). HoldsText loaded.program (512 * j) (reads mid (program_first k + j))) is (w.parts j lt))
+text_stays_at : (area : ℕ) (header : Header) (loaded : DurableState) (mid new : Trace) → area ≤ 3 → WritesOnly (May (next_header header area loaded.saved.length) loaded.saved) (Synced mid) new → (j : ℕ) → j < program_size area → reads new (program_first area + j) ≡ reads mid (program_first area + j)
+text_stays_at area header loaded mid new most on j lt =
+    ⊎_elim (λ was. was) (λ own. absurd (apart (program_first area + j) (area-where area j most lt) (of_epoch next loaded.saved (program_first area + j) (reads new (program_first area + j)) own))) ((reads_blend (May next loaded.saved) (Synced mid) new on).each (program_first area + j))
   where
-    on : WritesOnly (May (next_header header (spare_area header.area) loaded.saved.length) loaded.saved) (Synced mid) new
-    on = subst (λ (l : Trace). WritesOnly (May (next_header header (spare_area header.area) loaded.saved.length) loaded.saved) l new) is_synced last
+    next : Header
+    next = next_header header area loaded.saved.length
 
-    apart : (n : ℕ) → 174 ≤ n → n < log_first + shortest_log → IsOfEpoch (next_header header (spare_area header.area) loaded.saved.length) n → ⊥
-    apart n le high (inl (inl among)) = let to = among.to in omega arith
-    apart n le high (inl (inr among)) = let from = among.1.from in omega arith
-    apart n le high (inr is) = omega arith
+    apart : (n : ℕ) → ((174 ≤ n) × (n < 686)) ⊎ ((1710 ≤ n) × (n < 5806)) → IsOfEpoch next n → ⊥
+    apart n (inl low) (inl (inl among)) = let to = among.to in let from = low.0 in omega arith
+    apart n (inl low) (inl (inr among)) = let from = among.1.from in let to = low.1 in omega arith
+    apart n (inl low) (inr is) = let from = low.0 in omega arith
+    apart n (inr high) (inl (inl among)) = let to = among.to in let from = high.0 in omega arith
+    apart n (inr high) (inl (inr among)) = let to = among.1.to in let from = high.0 in omega arith
+    apart n (inr high) (inr is) = let from = high.0 in omega arith
 
-    same : (n : ℕ) → 174 ≤ n → n < log_first + shortest_log → reads new n ≡ reads mid n
-    same n le high = ⊎_elim (λ was. was) (λ own. absurd (apart n le high (of_epoch (next_header header (spare_area header.area) loaded.saved.length) loaded.saved n (reads new n) own))) ((reads_blend (May (next_header header (spare_area header.area) loaded.saved.length) loaded.saved) (Synced mid) new on).each n)
+pub text_stays : {T E U F : Type 0} (result : Result T E) (u : U) (area : ℕ) (header : Header) (loaded : DurableState) (old mid synced new : Trace) → length loaded.program ≤ longest_in area → area ≤ 3 → WritesText {E = F} (Ok u) area loaded.program old mid → synced ≡ Synced mid → WritesState (next_header header area loaded.saved.length) loaded.saved synced new
+    → OnOk result (IsTextAt area loaded.program (reads new))
+text_stays (Err _) u area header loaded old mid synced new short most w is_synced last = tt
+text_stays (Ok _) u area header loaded old mid synced new short most w is_synced last = λ j lt.
+    subst (HoldsText loaded.program (512 * j)) (sym (text_stays_at area header loaded mid new most on j (omega arith))) (w.parts j lt)
+  where
+    on : WritesOnly (May (next_header header area loaded.saved.length) loaded.saved) (Synced mid) new
+    on = subst (λ (l : Trace). WritesOnly (May (next_header header area loaded.saved.length) loaded.saved) l new) is_synced last
 
 -- A format of whatever is stored: each of the three stretches, a sync, the header, a sync.
 abbrev pub MayFormat : StoredModel → ℕ → List ℕ → Type 0

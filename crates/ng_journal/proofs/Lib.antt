@@ -13,4 +13,5 @@ pub mod Renewing
 pub mod Resting
 pub mod Restoring
 pub mod SnapshotReading
+pub mod Steadying
 pub mod TableReading

@@ -1,5 +1,5 @@
 -- What stands under a header of format 1 whose log has no record, stored in format 2 with a table.
-use Rattle.std.proofs.Common.{◌≡◌, inl, inr, ⊎_elim, ℕ, ◌+◌, List, ℤ, Some, Result, Ok, Err, refl, sym, ◌∙◌, ap, subst}
+use Rattle.std.proofs.Common.{◌≡◌, inl, inr, ⊎_elim, ℕ, ◌+◌, ◌<◌, List, ℤ, Some, Result, Ok, Err, refl, sym, ◌∙◌, ap, subst, arith}
 use Rattle.ng_rig.specs.Trace.{Image, Trace, reads, items}
 use Rattle.ng_rig.specs.Continuation.{IsContinuation}
 use Rattle.ng_rig.specs.Only.{WritesOnly}
@@ -10,10 +10,13 @@ use Rattle.ng_layout.specs.declared.header.Format.TheVariants.{One, Two}
 use Rattle.ng_layout.specs.declared.header.Header.{Header}
 use Rattle.ng_layout.specs.Areas.{program_first, program_size}
 use Rattle.ng_layout.specs.Sectors.{program_text}
-use Rattle.ng_layout.specs.Stands.{stretch, in_force, stands, stands_beside, beside_header, beside_format, saved_beside, IsWritten}
+use Rattle.ng_layout.specs.Header.{IsValidHeader}
+use Rattle.ng_layout.specs.Limits.{greatest_count}
+use Rattle.ng_layout.proofs.Images.{force-within}
+use Rattle.ng_layout.specs.Stands.{is_large, stretch, in_force, stands, stands_beside, beside_header, beside_format, saved_beside, IsWritten}
 use Rattle.ng_layout.specs.Stored.{StoredModel, DurableState}
 use Rattle.ng_log.specs.AtEnd.{no_records, IsAtEnd}
-use Rattle.ng_journal.specs.Private.CheckpointSteps.{IsOwnImage, IsBegun, IsEitherUnder, MayFollow, WritesState, StoresState, beside, CheckpointSpec}
+use Rattle.ng_journal.specs.Private.CheckpointSteps.{FitsDevice, IsOwnImage, IsBegun, IsEitherUnder, MayFollow, WritesState, StoresState, beside, CheckpointSpec}
 use Rattle.ng_journal.specs.AtRest.{BelongsTo, IsLaidOut, migrated}
 use Rattle.ng_journal.specs.Journal.{StandsBeside}
 use Rattle.ng_journal.specs.Private.RecoverySteps.{ModernizeSpec, StoresModern, BelongsToModern, modern_by}
@@ -55,7 +58,7 @@ modern_stored v tools header last saved with old new one last_is with_is s = rec
   synced = λ _. s.synced;
 }
 
-module _ (tools : List ℤ) (header last : Header) (saved with : StoredModel) (standing : DurableState) (old new : Trace) (one : header.format ≡ One) (last_is : last ≡ migrated header) (with_is : with ≡ record saved { tools = tools }) (b : IsBegun old header standing) (saved_is : standing.saved ≡ saved) where
+module _ (tools : List ℤ) (header last : Header) (saved with : StoredModel) (standing : DurableState) (old new : Trace) (one : header.format ≡ One) (last_is : last ≡ migrated header) (with_is : with ≡ record saved { tools = tools }) (b : IsBegun old header standing) (saved_is : standing.saved ≡ saved) (more : header.epoch < greatest_count) where
   own : IsOwnImage old header
   own = record { synced = b.synced; force = b.image.force; written = b.image.written }
 
@@ -84,8 +87,16 @@ module _ (tools : List ℤ) (header last : Header) (saved with : StoredModel) (s
     handed_is = p.handed_is;
   })
 
+  fits : FitsDevice (reads old) last with
+  fits =
+      let w = force-within (reads old) header b.image.force in
+      record {
+        valid = subst (λ (h : Header). IsValidHeader (is_large (reads old)) h) (sym last_is) (record { counted = omega arith; few = omega arith; area = w.area; length = w.length });
+        limit = ap (λ (s : StoredModel). s.room) with_is ∙ sym (ap (λ (s : StoredModel). s.room) saved_is) ∙ b.image.room;
+      }
+
   spec : {T E : Type 0} (result : Result T E) → Promised result last with old new → CheckpointSpec result header last with old new
-  spec result c = c header own (ap (λ (h : Header). h.epoch) last_is) (inr (one, begins-empty (reads old) header standing b.image))
+  spec result c = c header own (ap (λ (h : Header). h.epoch) last_is) (inr (one, begins-empty (reads old) header standing b.image)) fits
 
   pub modern_failed : {T E F : Type 0} (e : E) (result : Result T F) → Promised result last with old new → ModernizeSpec tools (Err e) header standing old new
   modern_failed e result c = let d = spec result c in record { stops = each_stop result d; items_are = d.items_are; at = tt }

@@ -1,10 +1,9 @@
 -- What is stored moves a journal at rest from what stood to the new.
-use Rattle.std.proofs.Common.{◌≡◌, ◌∙◌, inl, inr, ⊎_elim, Result, Ok, Err, sym, subst}
+use Rattle.std.proofs.Common.{◌≡◌, ◌∙◌, ℕ, inl, inr, ⊎_elim, Result, Ok, Err, sym, subst}
 use Rattle.ng_rig.specs.Trace.{Trace, reads, items}
 use Rattle.ng_rig.specs.Continuation.{IsContinuation}
 use Rattle.ng_rig.proofs.Running.{weaker}
 use Rattle.ng_layout.specs.declared.header.Header.{Header}
-use Rattle.ng_layout.specs.Areas.{spare_area}
 use Rattle.ng_layout.specs.Stands.{stands}
 use Rattle.ng_layout.specs.Stored.{StoredModel, DurableState}
 use Rattle.ng_log.specs.declared.log_end.LogEnd.{LogEnd}
@@ -13,6 +12,7 @@ use Rattle.ng_log.proofs.Ending.{ends-stand}
 use Rattle.ng_journal.specs.declared.storing.Tip.{Tip}
 use Rattle.ng_journal.specs.AtRest.{IsEither, next_header}
 use Rattle.ng_journal.specs.Private.LoadSteps.{LoadSpec}
+use Rattle.ng_journal.specs.Loads.{StoresLoad}
 use Rattle.ng_journal.specs.Journal.{JournalModel, CommitSpec}
 use Rattle.ng_journal.specs.Private.Records.{ledger, tip_of, StoreRecordSpec}
 use Rattle.ng_journal.specs.Storing.{Ledger, IsLedgerAfter, StoresRecord, ledger_of}
@@ -48,9 +48,9 @@ as_moved old new header end before loaded at stops = weaker old new (IsEither (s
   handed_is = p.handed_is;
 })
 
-pub loaded : {R T U E F : Type 0} (v : T) (u : U) (journal : JournalModel R) (header next : Header) (end : LogEnd) (before after : DurableState) (old new : Trace) → tip_of (ledger_of journal) ≡ record { header = next; end = no_records } → next ≡ next_header header (spare_area header.area) after.saved.length → journal.saved ≡ after.saved
-    → IsAtEnd old header before end → LoadSpec {E = F} (Ok u) header after old new → CommitSpec {E = E} (Ok v) journal before after old new
-loaded v u journal header next end before after old new tip_is next_is saved_is at l = record {
+pub loaded : {R T U E F : Type 0} (v : T) (u : U) (journal : JournalModel R) (area : ℕ) (header next : Header) (end : LogEnd) (before after : DurableState) (old new : Trace) → tip_of (ledger_of journal) ≡ record { header = next; end = no_records } → next ≡ next_header header area after.saved.length → journal.saved ≡ after.saved
+    → IsAtEnd old header before end → LoadSpec {E = F} (Ok u) area header after old new → CommitSpec {E = E} (Ok v) journal before after old new
+loaded v u journal area header next end before after old new tip_is next_is saved_is at l = record {
   stops = as_moved old new header end before after at l.stops;
   items_are = l.items_are;
   at = record {
@@ -59,5 +59,12 @@ loaded v u journal header next end before after old new tip_is next_is saved_is 
   };
 }
 
-pub not_loaded : {R T U E F : Type 0} (e : E) (result : Result U F) (journal : JournalModel R) (header : Header) (end : LogEnd) (before after : DurableState) (old new : Trace) → IsAtEnd old header before end → LoadSpec result header after old new → CommitSpec {T = T} (Err e) journal before after old new
-not_loaded e result journal header end before after old new at l = record { stops = as_moved old new header end before after at l.stops; items_are = l.items_are; at = tt }
+pub not_loaded : {R T U E F : Type 0} (e : E) (result : Result U F) (journal : JournalModel R) (area : ℕ) (header : Header) (end : LogEnd) (before after : DurableState) (old new : Trace) → IsAtEnd old header before end → LoadSpec result area header after old new → CommitSpec {T = T} (Err e) journal before after old new
+not_loaded e result journal area header end before after old new at l = record { stops = as_moved old new header end before after at l.stops; items_are = l.items_are; at = tt }
+
+-- what a load writes, where its area is this one
+pub loaded_as : {T U E F : Type 0} {v : T} {u : U} (area is : ℕ) (header : Header) (after : DurableState) (old new : Trace) → area ≡ is → StoresLoad {E = F} (Ok u) area header after old new → StoresLoad {E = E} (Ok v) is header after old new
+loaded_as {E = E} {v = v} area is header after old new same s = subst (λ (n : ℕ). StoresLoad {E = E} (Ok v) n header after old new) same (record { writes = s.writes; text = s.text; laid = s.laid; synced = s.synced })
+
+pub not_loaded_as : {T U E F : Type 0} (area is : ℕ) (e : E) (result : Result U F) (header : Header) (after : DurableState) (old new : Trace) → area ≡ is → StoresLoad result area header after old new → StoresLoad {T = T} (Err e) is header after old new
+not_loaded_as {T = T} area is e result header after old new same s = subst (λ (n : ℕ). StoresLoad {T = T} (Err e) n header after old new) same (record { writes = s.writes; text = tt; laid = tt; synced = tt })

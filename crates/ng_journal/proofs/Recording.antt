@@ -11,7 +11,9 @@ use Rattle.ng_layout.specs.declared.header.Header.{Header}
 use Rattle.ng_layout.specs.Areas.{log_first, shortest_log, log_size_of, program_first, program_size}
 use Rattle.ng_layout.specs.Log.{parts_for}
 use Rattle.ng_layout.specs.Sectors.{program_text}
-use Rattle.ng_layout.specs.Stands.{stands, stretch}
+use Rattle.ng_layout.specs.Header.{IsValidHeader}
+use Rattle.ng_layout.specs.Limits.{greatest_count}
+use Rattle.ng_layout.specs.Stands.{is_large, stands, stretch}
 use Rattle.ng_layout.specs.Stored.{StoredModel, DurableState}
 use Rattle.ng_log.specs.declared.log_end.LogEnd.{LogEnd}
 use Rattle.ng_log.specs.AtEnd.{no_records, IsAtEnd}
@@ -21,19 +23,28 @@ use Rattle.ng_offsets.specs.declared.tools.SlotChange.{SlotChange}
 use Rattle.ng_params.specs.Differences.{differences}
 use Rattle.ng_log.specs.Records.{LogRecord, size_of, BelongsToRecord, record_from}
 use Rattle.ng_params.proofs.Differing.{differences-none}
-use Rattle.ng_layout.proofs.Images.{log-short}
+use Rattle.ng_layout.proofs.Images.{force-within, log-short}
 use Rattle.ng_log.proofs.Ending.{ends-stand}
 use Rattle.ng_journal.specs.declared.storing.Tip.{Tip}
-use Rattle.ng_journal.specs.Private.CheckpointSteps.{IsOwnImage, IsEitherUnder, StoresState, beside, CheckpointSpec}
+use Rattle.ng_journal.specs.Private.CheckpointSteps.{FitsDevice, IsOwnImage, IsEitherUnder, StoresState, beside, CheckpointSpec}
 use Rattle.ng_layout.specs.declared.header.Format.TheVariants.{Two}
 use Rattle.ng_journal.proofs.Begun.{begun-end}
-use Rattle.ng_journal.specs.AtRest.{IsEither, IsOfEpoch, BelongsTo, IsLaidOut}
+use Rattle.ng_journal.specs.AtRest.{IsEither, IsOfEpoch, BelongsTo, IsLaidOut, next_header}
 use Rattle.ng_journal.specs.Journal.{IsTip, StandsFor}
 use Rattle.ng_journal.specs.Private.Records.{ledger, tip_of, IsRoom, MakeRoomSpec, IsRenewed, StoresRoom, StoreRecordSpec}
 use Rattle.ng_journal.specs.Storing.{Ledger, changes_to, HasRoomFor, IsFullFor, renewed, with_record, IsLedgerAfter, record_of, BelongsToStoring, IsRecorded, IsStoredIn, StoresRecord}
 
 pub own : {trace : Trace} {header : Header} {standing : DurableState} {end : LogEnd} → IsAtEnd trace header standing end → IsOwnImage trace header
 own at = record { synced = at.synced; force = at.image.force; written = at.image.written }
+
+-- what stands fits a device under the next epoch too
+pub fits_next : {trace : Trace} {header : Header} {before : DurableState} {end : LogEnd} (next : Header) (saved : StoredModel) → IsAtEnd trace header before end → before.saved ≡ saved → next ≡ next_header header header.area header.length → header.epoch < greatest_count → FitsDevice (reads trace) next saved
+fits_next {trace = trace} {header = header} next saved at is next_is more =
+    let w = force-within (reads trace) header at.image.force in
+    record {
+      valid = subst (λ (h : Header). IsValidHeader (is_large (reads trace)) h) (sym next_is) (record { counted = omega arith; few = omega arith; area = w.area; length = w.length });
+      limit = sym (ap (λ (s : StoredModel). s.room) is) ∙ at.image.room;
+    }
 
 -- ---- what stops leave
 
@@ -205,7 +216,7 @@ has_room_yet b header end changes iff no_ = elim (cases_lt (log_size_of header) 
 
 -- the same tip, for a program of the same length
 pub same_length : (a b : ℕ) (tip : Tip) → b ≡ a → IsTip a tip.header tip.end → IsTip b tip.header tip.end
-same_length a b tip is t = record { lawful = t.lawful; long = is ∙ t.long; format = t.format; within = t.within; number = t.number }
+same_length a b tip is t = record { long = is ∙ t.long; format = t.format; within = t.within; number = t.number }
 
 record_is : (tip : Tip) (table : List ℤ) (slot : Option SlotChange) (was saved : StoredModel) → table ≡ was.setup.params → slot ≡ first_change was.tools saved.tools → record_from tip.header.epoch tip.end table slot saved ≡ record_of (ledger tip was) saved
 record_is tip table slot was saved is slot_is = λ i. record_from tip.header.epoch tip.end (is i) (slot_is i) saved

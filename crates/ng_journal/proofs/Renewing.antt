@@ -1,5 +1,5 @@
 -- The stops of a checkpoint: what is stored written to the next epoch's areas, a sync, the next header, a sync.
-use Rattle.std.proofs.Common.{◌≡◌, ◌≢◌, ◌⊎◌, inl, inr, ⊎_elim, ℕ, ◌+◌, ◌%◌, ◌<◌, ◌≤◌, ◌==◌, if◌then◌else◌, List, [], Some, Result, Ok, Err, length, refl, sym, ◌∙◌, ap, subst, arith}
+use Rattle.std.proofs.Common.{◌≡◌, ◌≢◌, ◌⊎◌, inl, inr, ⊎_elim, ℕ, ◌+◌, ◌%◌, ◌<◌, ◌≤◌, ◌==◌, nat_lt, Bool, if◌then◌else◌, List, [], Some, Result, Ok, Err, length, refl, sym, ◌∙◌, ap, subst, arith}
 use Rattle.std.proofs.lemmas.Bool.{cases_eq}
 use Rattle.std.proofs.lemmas.Bool.Decides.{nat_tests}
 use Rattle.ng_canon.specs.declared.item.Item.{Item}
@@ -13,18 +13,18 @@ use Rattle.ng_layout.specs.declared.header.Format.{Format}
 use Rattle.ng_layout.specs.declared.header.Format.TheVariants.{One, Two}
 use Rattle.ng_layout.specs.declared.header.Header.{Header}
 use Rattle.ng_layout.specs.Fields.{number_at}
-use Rattle.ng_layout.specs.Header.{header_in}
+use Rattle.ng_layout.specs.Header.{header_in, program_room, IsValidHeader}
 use Rattle.ng_layout.specs.Sectors.{program_text}
 use Rattle.ng_layout.specs.Snapshot.{HoldsPart, HoldsToolPart}
 use Rattle.ng_layout.specs.Spare.{IsAmong}
 use Rattle.ng_layout.specs.Storable.{IsStorable}
 use Rattle.ng_layout.proofs.Spares.{IsSpare, SameButSpare, IsInTail, SameButTail}
 use Rattle.ng_layout.specs.Areas.{snapshot_first, snapshot_size, tools_first, tools_size, program_first, program_size, log_first, shortest_log}
-use Rattle.ng_layout.specs.Stands.{stretch, in_force, snapshot, stands, IsWritten}
+use Rattle.ng_layout.specs.Stands.{is_large, stretch, in_force, snapshot, stands, IsWritten}
 use Rattle.ng_layout.specs.Stored.{StoredModel, DurableState}
-use Rattle.ng_layout.proofs.Images.{header-within, force-frame, force-next, stretch-same, stretch-at, stands-frame, written-frame, written-new, none-of-new, tail-force, tail-stands, tail-written}
+use Rattle.ng_layout.proofs.Images.{area-most, area-where, force-frame, force-next, stretch-same, stretch-at, stands-frame, written-frame, written-new, none-of-new, tail-force, tail-stands, tail-written}
 use Rattle.ng_layout.proofs.Snapshots.{snapshot-new, tools-new}
-use Rattle.ng_journal.specs.Private.CheckpointSteps.{WritesAreas, MayFollow, IsOwnImage, IsEitherUnder, BeginsIn, IsBegun, beside, CheckpointSpec}
+use Rattle.ng_journal.specs.Private.CheckpointSteps.{WritesAreas, MayFollow, FitsDevice, IsOwnImage, IsEitherUnder, BeginsIn, IsBegun, beside, CheckpointSpec}
 use Rattle.ng_journal.specs.AtRest.{IsOfAreas, BelongsToAreas}
 use Rattle.ng_journal.proofs.Begun.{begins-stand}
 use Rattle.ng_journal.proofs.Framing.{of_areas}
@@ -36,6 +36,14 @@ abbrev P : Trace → Header → Header → DurableState → Image → List Item 
 P old header next target = IsEitherUnder header next (stands (reads old)) (Ok target) (items old)
 
 -- ---- what is written for a header changes nothing of what stands under the one before
+
+not_areas : (next : Header) (n : ℕ) → (n < 2) ⊎ (((174 ≤ n) × (n < log_first + shortest_log)) ⊎ (1710 ≤ n)) → IsOfAreas next n → ⊥
+not_areas next n where_is (inl a) = elim where_is [ inl low ↦ omega (arith, a.from) | inr (inl high) ↦ (let from = high.0 in omega (arith, a.to)) | inr (inr past) ↦ omega (arith, a.to) ]
+not_areas next n where_is (inr t) = let from = t.1.from in let to = t.1.to in elim where_is [ inl low ↦ omega arith | inr (inl high) ↦ (let below = high.1 in omega arith) | inr (inr past) ↦ omega arith ]
+
+-- nor does it change how large the device is
+same_size : (next : Header) (image base : Image) → ((n : ℕ) → IsOfAreas next n ⊎ (image n ≡ base n)) → is_large image ≡ is_large base
+same_size next image base same = ap (λ (s : List ℕ). nat_lt 0 (length s)) (⊎_elim (λ a. absurd (not_areas next 5805 (inr (inr (omega arith))) a)) (λ e. e) (same 5805))
 
 pub record IsSameUnder (header : Header) (image base : Image) : Type 0 where
   pub force : in_force image ≡ Some header
@@ -52,14 +60,14 @@ area_tail header next n epoch (inr tools) = let from = tools.1.from in let to = 
 
 frames : (trace : Trace) (header next : Header) → IsOwnImage trace header → next.epoch ≡ header.epoch + 1 → MayFollow next header (reads trace) → (image : Image) → ((n : ℕ) → IsOfAreas next n ⊎ (image n ≡ reads trace n)) → IsSameUnder header image (reads trace)
 frames trace header next at epoch (inl format) image same =
-    let spare : SameButSpare header image (reads trace) = record { each = λ n. ⊎_elim (λ a. inl (area_spare header next n epoch format a)) (λ e. inr e) (same n) } in
+    let spare : SameButSpare header image (reads trace) = record { each = λ n. ⊎_elim (λ a. inl (area_spare header next n epoch format a)) (λ e. inr e) (same n); large = same_size next image (reads trace) same } in
     record {
       force = force-frame header image (reads trace) spare ∙ at.force;
       state = stands-frame header image (reads trace) at.force spare;
       written = written-frame header image (reads trace) spare at.written;
     }
 frames trace header next at epoch (inr empty) image same =
-    let tail : SameButTail header image (reads trace) = record { each = λ n. ⊎_elim (λ a. ⊎_elim (λ s. inl s) (λ t. inr (inl t)) (area_tail header next n epoch a)) (λ e. inr (inr e)) (same n) } in
+    let tail : SameButTail header image (reads trace) = record { each = λ n. ⊎_elim (λ a. ⊎_elim (λ s. inl s) (λ t. inr (inl t)) (area_tail header next n epoch a)) (λ e. inr (inr e)) (same n); large = same_size next image (reads trace) same } in
     record {
       force = tail-force header image (reads trace) at.force tail;
       state = tail-stands header image (reads trace) at.force tail empty.0 empty.1;
@@ -94,7 +102,8 @@ pub record Ready (old mid : Trace) (header new : Header) (saved : StoredModel) (
   pub tools : new.format ≡ Two → (j : ℕ) → j < tools_size → HoldsToolPart saved j (reads mid (tools_first new.epoch + j))
   pub storable : IsStorable saved
   pub none : new.format ≡ One → saved.tools ≡ []
-  pub bytes_are : header_in (new.epoch % 2) bytes ≡ Some new
+  pub bytes_are : (large : Bool) → IsValidHeader large new → header_in large (new.epoch % 2) bytes ≡ Some new
+  pub fits : FitsDevice (reads old) new saved
   pub long : new.length ≡ saved.length
 
 abbrev target_of : Trace → Header → StoredModel → DurableState
@@ -104,24 +113,30 @@ target_of old new saved = beside saved new.area (reads old)
 outside : (old mid : Trace) (header next : Header) → IsOwnImage old header → WritesOnly (In next) old mid → (n : ℕ) → (IsOfAreas next n → ⊥) → reads mid n ≡ reads old n
 outside old mid header next at w n out = ⊎_elim (λ may. at.synced.one n (reads mid n) may) (λ areas. absurd (out areas)) ((reads_blend (In next) old mid w).each n)
 
-not_areas : (next : Header) (n : ℕ) → (n < 2) ⊎ ((174 ≤ n) × (n < log_first + shortest_log)) → IsOfAreas next n → ⊥
-not_areas next n where_is (inl a) = ⊎_elim (λ low. omega (arith, a.from)) (λ high. let from = high.0 in omega (arith, a.to)) where_is
-not_areas next n where_is (inr t) = let from = t.1.from in ⊎_elim (λ low. omega arith) (λ high. let to = high.1 in omega arith) where_is
-
 -- an image with the new header
 new_image : (old mid : Trace) (header new : Header) (saved : StoredModel) (bytes : List ℕ) → Ready old mid header new saved bytes → (image : Image) → image (new.epoch % 2) ≡ bytes → ((n : ℕ) → n ≢ new.epoch % 2 → image n ≡ reads mid n) → BeginsIn image new (target_of old new saved)
 new_image old mid header new saved bytes r image there others =
     let b = r.begins in
     let out = outside old mid header new b.at r.writes in
     let base : in_force (reads mid) ≡ Some header = (same_under old header new b (reads mid) (items mid) (reads_blend (In new) old mid r.writes)).force in
-    let force : in_force image ≡ Some new = force-next image (reads mid) header new base b.epoch (ap (header_in (new.epoch % 2)) there ∙ r.bytes_are) (λ k lt ne. others k ne) in
-    let log : (m : ℕ) → m < shortest_log → image (log_first + m) ≡ reads old (log_first + m) = λ m lt. others (log_first + m) (λ e. omega (arith, e)) ∙ out (log_first + m) (not_areas new (log_first + m) (inr (omega arith, omega arith))) in
+    let size_of : (x y : Image) → x 5805 ≡ y 5805 → is_large x ≡ is_large y = λ x y e. ap (λ (s : List ℕ). nat_lt 0 (length s)) e in
+    let same_mid : is_large (reads mid) ≡ is_large (reads old) = size_of (reads mid) (reads old) (out 5805 (not_areas new 5805 (inr (inr (omega arith))))) in
+    let same_now : is_large image ≡ is_large (reads mid) = size_of image (reads mid) (others 5805 (λ e. omega (arith, e))) in
+    let valid : IsValidHeader (is_large (reads mid)) new = subst (λ (large : Bool). IsValidHeader large new) (sym same_mid) r.fits.valid in
+    let force : in_force image ≡ Some new = force-next image (reads mid) header new same_now base b.epoch (ap (header_in (is_large (reads mid)) (new.epoch % 2)) there ∙ r.bytes_are (is_large (reads mid)) valid) (λ k lt ne. others k ne) in
+    let log : (m : ℕ) → m < shortest_log → image (log_first + m) ≡ reads old (log_first + m) = λ m lt. others (log_first + m) (λ e. omega (arith, e)) ∙ out (log_first + m) (not_areas new (log_first + m) (inr (inl (omega arith, omega arith)))) in
     let row : (j : ℕ) → j < snapshot_size → stretch (snapshot_first new.epoch) snapshot_size image j ≡ reads mid (snapshot_first new.epoch + j) = λ j lt. stretch-at (snapshot_first new.epoch) snapshot_size image j lt ∙ others (snapshot_first new.epoch + j) (λ e. omega (arith, e)) in
     let parts : (j : ℕ) → j < snapshot_size → HoldsPart saved j (stretch (snapshot_first new.epoch) snapshot_size image j) = λ j lt. subst (HoldsPart saved j) (sym (row j lt)) (r.parts j lt) in
     let tools : new.format ≡ Two → (j : ℕ) → j < tools_size → HoldsToolPart saved j (stretch (tools_first new.epoch) tools_size image j) = λ two j lt. subst (HoldsToolPart saved j) (sym (stretch-at (tools_first new.epoch) tools_size image j lt ∙ others (tools_first new.epoch + j) (λ e. omega (arith, e)))) (r.tools two j lt) in
     let table = tools-new new.format saved (stretch (snapshot_first new.epoch) snapshot_size image 0) (stretch (tools_first new.epoch) tools_size image) ((parts 0 (omega arith)).slots refl) r.storable.tools.few r.storable.tools.each r.none tools in
     let snap = snapshot-new new.format saved (stretch (snapshot_first new.epoch) snapshot_size image) (stretch (tools_first new.epoch) tools_size image) r.storable.table parts table in
-    let text = stretch-same (program_first new.area) (program_size new.area) image (reads old) (λ j lt. others (program_first new.area + j) (λ e. omega (arith, e)) ∙ out (program_first new.area + j) (not_areas new (program_first new.area + j) (let area = (header-within (new.epoch % 2) bytes new r.bytes_are).area in inr (omega arith, omega arith)))) in
+    let most : new.area ≤ 3 = omega (arith, r.fits.valid.area, area-most (is_large (reads old))) in
+    let text = stretch-same (program_first new.area) (program_size new.area) image (reads old) (λ j lt.
+        let apart : (program_first new.area + j ≢ new.epoch % 2) × (IsOfAreas new (program_first new.area + j) → ⊥) = elim (area-where new.area j most lt) [
+          | inl w ↦ ((λ e. omega (arith, e, w.0)), not_areas new (program_first new.area + j) (inr (inl (w.0, omega (arith, w.1)))))
+          | inr w ↦ ((λ e. omega (arith, e, w.0)), not_areas new (program_first new.area + j) (inr (inr w.0)))
+        ] in
+        others (program_first new.area + j) apart.0 ∙ out (program_first new.area + j) apart.1) in
     record {
       force = force;
       written = written-new image (reads old) header new b.at.force force (omega (arith, b.epoch)) b.at.written log;
@@ -129,6 +144,7 @@ new_image old mid header new saved bytes r image there others =
       snapshot_is = (λ i. snapshot new.format (r.long i) (stretch (snapshot_first new.epoch) snapshot_size image) (stretch (tools_first new.epoch) tools_size image)) ∙ snap;
       program = λ i. program_text (r.long i) (text i);
       long = sym r.long;
+      room = r.fits.limit ∙ ap program_room (sym (same_now ∙ same_mid));
     }
 
 -- a stop with the header unsynced
@@ -189,8 +205,8 @@ exit_areas e result old mid header next saved b w = record {
 pub exit_sync : {T E F : Type 0} (e : E) (result : Result T F) (old mid last : Trace) (header next : Header) (saved : StoredModel) → Begins old header next → WritesAreas result next saved old mid → last ≡ mid → CheckpointSpec {T = T} (Err e) header next saved old last
 exit_sync {T = T} e result old mid last header next saved b w same = subst (λ (l : Trace). CheckpointSpec {T = T} (Err e) header next saved old l) (sym same) (exit_areas e result old mid header next saved b w)
 
-pub ready : {T E : Type 0} (v : T) (old mid : Trace) (header new : Header) (saved : StoredModel) (bytes : List ℕ) → Begins old header new → WritesAreas {E = E} (Ok v) new saved old mid → IsStorable saved → (new.format ≡ One → saved.tools ≡ []) → header_in (new.epoch % 2) bytes ≡ Some new → new.length ≡ saved.length → Ready old mid header new saved bytes
-ready {E = E} v old mid header new saved bytes b w storable none bytes_are long =
+pub ready : {T E : Type 0} (v : T) (old mid : Trace) (header new : Header) (saved : StoredModel) (bytes : List ℕ) → Begins old header new → WritesAreas {E = E} (Ok v) new saved old mid → IsStorable saved → (new.format ≡ One → saved.tools ≡ []) → ((large : Bool) → IsValidHeader large new → header_in large (new.epoch % 2) bytes ≡ Some new) → FitsDevice (reads old) new saved → new.length ≡ saved.length → Ready old mid header new saved bytes
+ready {E = E} v old mid header new saved bytes b w storable none bytes_are fits long =
     let ok : Result _ E = Ok v in
     record {
       begins = b;
@@ -200,6 +216,7 @@ ready {E = E} v old mid header new saved bytes b w storable none bytes_are long 
       storable = storable;
       none = none;
       bytes_are = bytes_are;
+      fits = fits;
       long = long;
     }
 

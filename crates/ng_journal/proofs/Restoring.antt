@@ -15,8 +15,9 @@ use Rattle.ng_layout.specs.declared.header.Header.{Header}
 use Rattle.ng_layout.specs.Limits.{greatest_count}
 use Rattle.ng_layout.specs.Stands.{in_force, stands, stands_beside, beside_header, beside_format, saved_beside, recovered, closed, IsWritten}
 use Rattle.ng_layout.specs.Stored.{StoredModel, DurableState}
+use Rattle.ng_layout.proofs.Images.{force-within}
 use Rattle.ng_log.specs.AtEnd.{no_records, IsAtEnd}
-use Rattle.ng_journal.specs.Private.CheckpointSteps.{IsOwnImage, IsBegun, IsEitherUnder, MayFollow, WritesState, StoresState, beside, CheckpointSpec}
+use Rattle.ng_journal.specs.Private.CheckpointSteps.{FitsDevice, IsOwnImage, IsBegun, IsEitherUnder, MayFollow, WritesState, StoresState, beside, CheckpointSpec}
 use Rattle.ng_journal.specs.AtRest.{BelongsTo, IsLaidOut, next_header, migrated}
 use Rattle.ng_journal.specs.Recovery.{recovered_of, epochs_for, HasCause, BelongsToRenewal, BelongsToNext, Renews, IsEitherBeside, IsFound, IsNextEpoch}
 use Rattle.ng_journal.specs.Journal.{StandsBeside}
@@ -98,13 +99,21 @@ next_is header next found saved image u closed_is is =
     let long : saved.length ≡ header.length = ap (λ (s : StoredModel). s.length) closed_is ∙ u.long in
     is ∙ ap (next_header header header.area) (sym long)
 
+-- A power on that finds the epochs it takes has one left at least.
+pub one_more : (header : Header) → header.epoch + epochs_for header.format ≤ greatest_count → header.epoch < greatest_count
+one_more header room = let one = by header.format in omega arith
+  where
+    by : (f : Format) → 1 ≤ epochs_for f
+    by One = omega arith
+    by Two = omega arith
+
 -- What is promised of a checkpoint under it.
 abbrev pub Promised : {T E : Type 0} → Result T E → Header → StoredModel → Trace → Trace → Type 0
-Promised result next saved now new = (header : Header) → IsOwnImage now header → next.epoch ≡ header.epoch + 1 → MayFollow next header (reads now) → CheckpointSpec result header next saved now new
+Promised result next saved now new = (header : Header) → IsOwnImage now header → next.epoch ≡ header.epoch + 1 → MayFollow next header (reads now) → FitsDevice (reads now) next saved → CheckpointSpec result header next saved now new
 
 -- ---- what was found under a header, and its recovered
 
-module _ (tools : List ℤ) (header : Header) (found saved : StoredModel) (old now : Trace) (is : now ≡ Synced old) (u : StandsUnder header found (reads now)) (closed_is : saved ≡ closed_of found) where
+module _ (tools : List ℤ) (header : Header) (found saved : StoredModel) (old now : Trace) (is : now ≡ Synced old) (u : StandsUnder header found (reads now)) (closed_is : saved ≡ closed_of found) (more : header.epoch < greatest_count) where
   abbrev standing : DurableState
   standing = beside saved header.area (reads now)
 
@@ -131,9 +140,16 @@ module _ (tools : List ℤ) (header : Header) (found saved : StoredModel) (old n
   own_on : IsWritten (reads old) → IsOwnImage now header
   own_on written = record { synced = subst IsSynced (sym is) (is_synced old); force = u.force; written = subst (λ (l : Trace). IsWritten (reads l)) (sym is) written }
 
+  -- and it fits the device under the next epoch
+  fits : FitsDevice (reads now) (Next header saved) saved
+  fits =
+      let w = force-within (reads now) header u.force in
+      let long : saved.length ≡ header.length = ap (λ (s : StoredModel). s.length) closed_is ∙ u.long in
+      record { valid = record { counted = omega arith; few = omega arith; area = w.area; length = omega (arith, long, w.length) }; limit = ap (λ (s : StoredModel). s.room) closed_is ∙ u.room }
+
   done_by : {T E : Type 0} (result : Result T E) (next : Header) (new : Trace) → next ≡ Next header saved → IsWritten (reads old) → Promised result next saved now new → CheckpointSpec result header (Next header saved) saved now new
   done_by result next new is_next written c =
-      subst (λ (h : Header). CheckpointSpec result header h saved now new) is_next (c header (own_on written) (ap (λ (h : Header). h.epoch) is_next) (inl (ap (λ (h : Header). h.format) is_next)))
+      subst (λ (h : Header). CheckpointSpec result header h saved now new) is_next (c header (own_on written) (ap (λ (h : Header). h.epoch) is_next) (inl (ap (λ (h : Header). h.format) is_next)) (subst (λ (h : Header). FitsDevice (reads now) h saved) (sym is_next) fits))
 
   -- each stop of the checkpoint, beside the table
   through : {T E : Type 0} (result : Result T E) (new : Trace) → IsWritten (reads old) → CheckpointSpec result header (Next header saved) saved now new → IsContinuation old new (Same tools old)

@@ -18,8 +18,8 @@ use Rattle.ng_layout.proofs.Images.{stretch-at}
 use Rattle.ng_journal.specs.Private.SnapshotRead.{IsTableOf, IsToolsOf, IsSnapshotOf}
 
 -- the parameters read, with what the state field says
-abbrev pub taken : List ℤ → List ℤ → DecodedStateModel → ℕ → StoredModel
-taken table tools r length = record { entries = r.entries; setup = record { params = table; machine = r.machine }; tools = tools; place = r.place; length = length; half = r.half }
+abbrev pub taken : List ℤ → List ℤ → DecodedStateModel → ℕ → ℕ → StoredModel
+taken table tools r length room = record { entries = r.entries; setup = record { params = table; machine = r.machine }; tools = tools; place = r.place; length = length; room = room; half = r.half }
 
 row-first : (first : ℕ) (image : Image) (bytes : List ℕ) → bytes ≡ image first → stretch first snapshot_size image 0 ≡ bytes
 row-first first image bytes is =
@@ -63,9 +63,9 @@ module _ (header : Header) (image : Image) (bytes : List ℕ) (o : Option Decode
           let n = tools-at None none in
           λ i. and_then (e i) (λ report. and_then (counted i) (λ params. and_then (n i) (λ tools. Some (record { report = report; params = params; tools = tools }))))
 
-      pub whole_snapshot : (new : StoredModel) → IsToolsOf header bytes tools image true → new ≡ taken table tools r header.length → IsSnapshotOf header new image true
+      pub whole_snapshot : (new : StoredModel) (room : ℕ) → IsToolsOf header bytes tools image true → new ≡ taken table tools r header.length room → IsSnapshotOf header new image true
       unfolding snapshot
-      whole_snapshot new found after =
+      whole_snapshot new room found after =
           let e = report-at (Some r) some in
           let t = tools-at (Some tools) found in
           let made : snapshot header.format header.length row area ≡ Some (record { report = r; params = table; tools = tools }) = λ i. and_then (e i) (λ report. and_then (counted i) (λ params. and_then (t i) (λ tools. Some (record { report = report; params = params; tools = tools })))) in

@@ -135,6 +135,7 @@ fn append_to<R: Rig, A: Allocator + Copy + Drop>(
     requires tip { IsTip stored.now.length tip.header tip.end }
     requires slot { slot ≡ first_change old.now.tools stored.now.tools }
     requires one { IsOneSlotFrom old.now.tools stored.now.tools }
+    requires same_room { stored.now.room ≡ old.now.room }
     requires table { length old.now.setup.params ≡ parameter_count }
     requires count { count ≡ length (differences old.now.setup.params stored.now.setup.params) }
     requires few { count ≤ parameter_count }
@@ -144,6 +145,7 @@ fn append_to<R: Rig, A: Allocator + Copy + Drop>(
     ensures appends { IfHonest (R.honest rig.old) (R.honest rig.new)
         ((before : DurableState) → IsAtEnd (R.trace rig.old) tip.header before tip.end
         → before.saved.setup.params ≡ old.now.setup.params → before.saved.tools ≡ old.now.tools
+        → before.saved.room ≡ old.now.room
         → StoreRecordSpec result before stored.now (R.trace rig.old) (R.trace rig.new)) }
     ensures writes { IfHonest (R.honest rig.old) (R.honest rig.new)
         (WritesRecord result (record_of (ledger tip old.now) stored.now) (R.trace rig.old) (R.trace rig.new)) }
@@ -182,6 +184,7 @@ pub(crate) fn store<R: Rig, A: Allocator + Copy + Drop>(
     requires tip { IsTip old.now.length tip.header tip.end }
     requires slot { slot ≡ first_change old.now.tools stored.now.tools }
     requires one { IsOneSlotFrom old.now.tools stored.now.tools }
+    requires same_room { stored.now.room ≡ old.now.room }
     requires count { count ≡ length (differences old.now.setup.params stored.now.setup.params) }
     requires few { count ≤ parameter_count }
     requires epoch { IsFullFor tip.header tip.end count → tip.header.epoch < greatest_count }
@@ -232,6 +235,7 @@ pub(crate) fn store_half<R: Rig, A: Allocator + Copy + Drop>(
     ensures storable { IsStorable stored.new }
     ensures entries { stored.new.entries ≡ stored.old.entries }
     ensures length { stored.new.length ≡ stored.old.length }
+    ensures limit { stored.new.room ≡ stored.old.room }
     ensures tip { IfOk result (λ t. IsTip stored.old.length t.header t.end) }
     ensures size { R.sectors rig.new ≡ R.sectors rig.old }
     ensures failures { FailureCountSpec result (R.failed rig.old) (R.failed rig.new) }

@@ -9,7 +9,8 @@ use Rattle.ng_rig.specs.Only.{WritesOnly}
 use Rattle.ng_layout.specs.declared.header.Format.{Format}
 use Rattle.ng_layout.specs.declared.header.Format.TheVariants.{One, Two}
 use Rattle.ng_layout.specs.declared.header.Header.{Header}
-use Rattle.ng_layout.specs.Stands.{in_force, stands, stands_beside, beside_format, saved_beside, IsWritten}
+use Rattle.ng_layout.specs.Header.{program_room}
+use Rattle.ng_layout.specs.Stands.{is_large, in_force, stands, stands_beside, beside_format, saved_beside, IsWritten}
 use Rattle.ng_layout.specs.Stored.{StoredModel, DurableState}
 use Rattle.ng_log.specs.AtEnd.{no_records, IsAtEnd}
 use Rattle.ng_journal.specs.AtRest.{BelongsTo, IsLaidOut, migrated}
@@ -26,6 +27,7 @@ pub record StandsUnder (header : Header) (saved : StoredModel) (image : Image) :
   pub force : in_force image ≡ Some header
   pub state : stands image ≡ Ok (beside saved header.area image)
   pub long : saved.length ≡ header.length
+  pub room : saved.room ≡ program_room (is_large image)
 
 -- what the reads found
 abbrev pub IsRead : StoredModel → Image → Result Header Fault → Type 0

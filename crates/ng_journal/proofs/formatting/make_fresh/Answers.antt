@@ -1,5 +1,8 @@
 use Rattle.std.proofs.Common.{pos, refl}
 use Rattle.std.proofs.lemmas.Result.{err_from_is_err_and}
+use Rattle.ng_rig.specs.Trace.{reads}
+use Rattle.ng_layout.specs.Header.{program_room}
+use Rattle.ng_layout.specs.Stands.{is_large}
 use Rattle.ng_layout.specs.Stored.{fresh_stored}
 use Rattle.ng_journal.proofs.Beginning.{steps, finished, table_long}
 use Rattle.ng_journal.proofs.Framing.{first_headers, first_log, first_area, first_tools, first_sync, first_write}
@@ -8,16 +11,18 @@ use Rattle.ng_journal.proofs.formatting.make_fresh.Goals as goal
 pub returns-in_err-clear_headers-clause-formats : goal.returns-in_err-clear_headers-clause-formats
 returns-in_err-clear_headers-clause-formats g c =
     let p = err_from_is_err_and c.from_residual.result c.from_residual.ensures.1 in
+    let fresh = fresh_stored (program_room (is_large (reads (g.R.Rig.trace c.args.rig.now)))) in
     let headers = c.clear_headers.ensures.clears in
     rw p.1 (record {
       keeps = headers.keeps;
       back = headers.back;
-      holds = λ h0. record { writes = first_headers c.clear_headers.result fresh_stored _ _ (headers.holds h0); at = tt; laid = tt; zeros = tt };
+      holds = λ h0. record { writes = first_headers c.clear_headers.result fresh _ _ (headers.holds h0); at = tt; laid = tt; zeros = tt };
     })
 
 pub returns-in_err-clear_log-clause-formats : goal.returns-in_err-clear_log-clause-formats
 returns-in_err-clear_log-clause-formats g c =
     let p = err_from_is_err_and c.from_residual-in_err-clear_log.result c.from_residual-in_err-clear_log.ensures.1 in
+    let fresh = fresh_stored (program_room (is_large (reads (g.R.Rig.trace c.args.rig.now)))) in
     let headers = c.clear_headers.ensures.clears in
     let log = c.clear_log.ensures.clears in
     rw p.1 (record {
@@ -25,8 +30,8 @@ returns-in_err-clear_log-clause-formats g c =
       back = λ h. headers.back (log.back h);
       holds = λ h0.
           let h1 = headers.keeps h0 in
-          let one = first_headers c.clear_headers.result fresh_stored _ _ (headers.holds h0) in
-          record { writes = first_log c.clear_log.result fresh_stored _ _ _ one (log.holds h1); at = tt; laid = tt; zeros = tt };
+          let one = first_headers c.clear_headers.result fresh _ _ (headers.holds h0) in
+          record { writes = first_log c.clear_log.result fresh _ _ _ one (log.holds h1); at = tt; laid = tt; zeros = tt };
     })
 
 pub returns-in_err-write_fresh_snapshot-clause-formats : goal.returns-in_err-write_fresh_snapshot-clause-formats
@@ -34,16 +39,17 @@ returns-in_err-write_fresh_snapshot-clause-formats g c =
     let p = err_from_is_err_and c.from_residual-in_err-write_fresh_snapshot.result c.from_residual-in_err-write_fresh_snapshot.ensures.1 in
     let headers = c.clear_headers.ensures.clears in
     let log = c.clear_log.ensures.clears in
-    let area = c.write_fresh_snapshot.ensures.writes in
+    let fresh = fresh_stored (program_room (is_large (reads (g.R.Rig.trace c.args.rig.now)))) in
+    let area = c.write_fresh_snapshot.ensures.writes fresh.room in
     rw p.1 (record {
       keeps = λ h. area.keeps (log.keeps (headers.keeps h));
       back = λ h. headers.back (log.back (area.back h));
       holds = λ h0.
           let h1 = headers.keeps h0 in
           let h2 = log.keeps h1 in
-          let one = first_headers c.clear_headers.result fresh_stored _ _ (headers.holds h0) in
-          let two = first_log c.clear_log.result fresh_stored _ _ _ one (log.holds h1) in
-          record { writes = first_area c.write_fresh_snapshot.result c.snapshot_first.result fresh_stored _ _ _ c.snapshot_first.ensures.is two (area.holds h2); at = tt; laid = tt; zeros = tt };
+          let one = first_headers c.clear_headers.result fresh _ _ (headers.holds h0) in
+          let two = first_log c.clear_log.result fresh _ _ _ one (log.holds h1) in
+          record { writes = first_area c.write_fresh_snapshot.result c.snapshot_first.result fresh _ _ _ c.snapshot_first.ensures.is two (area.holds h2); at = tt; laid = tt; zeros = tt };
     })
 
 pub returns-in_err-clear_tools-clause-formats : goal.returns-in_err-clear_tools-clause-formats
@@ -51,7 +57,8 @@ returns-in_err-clear_tools-clause-formats g c =
     let p = err_from_is_err_and c.from_residual-in_err-clear_tools.result c.from_residual-in_err-clear_tools.ensures.1 in
     let headers = c.clear_headers.ensures.clears in
     let log = c.clear_log.ensures.clears in
-    let area = c.write_fresh_snapshot.ensures.writes in
+    let fresh = fresh_stored (program_room (is_large (reads (g.R.Rig.trace c.args.rig.now)))) in
+    let area = c.write_fresh_snapshot.ensures.writes fresh.room in
     let tools = c.clear_tools.ensures.clears in
     rw p.1 (record {
       keeps = λ h. tools.keeps (area.keeps (log.keeps (headers.keeps h)));
@@ -60,10 +67,10 @@ returns-in_err-clear_tools-clause-formats g c =
           let h1 = headers.keeps h0 in
           let h2 = log.keeps h1 in
           let h3 = area.keeps h2 in
-          let one = first_headers c.clear_headers.result fresh_stored _ _ (headers.holds h0) in
-          let two = first_log c.clear_log.result fresh_stored _ _ _ one (log.holds h1) in
-          let three = first_area c.write_fresh_snapshot.result c.snapshot_first.result fresh_stored _ _ _ c.snapshot_first.ensures.is two (area.holds h2) in
-          record { writes = first_tools c.clear_tools.result c.tools_first.result fresh_stored _ _ _ refl c.tools_first.ensures.is three (tools.holds h3); at = tt; laid = tt; zeros = tt };
+          let one = first_headers c.clear_headers.result fresh _ _ (headers.holds h0) in
+          let two = first_log c.clear_log.result fresh _ _ _ one (log.holds h1) in
+          let three = first_area c.write_fresh_snapshot.result c.snapshot_first.result fresh _ _ _ c.snapshot_first.ensures.is two (area.holds h2) in
+          record { writes = first_tools c.clear_tools.result c.tools_first.result fresh _ _ _ refl c.tools_first.ensures.is three (tools.holds h3); at = tt; laid = tt; zeros = tt };
     })
 
 pub returns-in_err-sync-clause-formats : goal.returns-in_err-sync-clause-formats
@@ -71,7 +78,8 @@ returns-in_err-sync-clause-formats g c =
     let p = err_from_is_err_and c.from_residual-in_err-sync.result c.from_residual-in_err-sync.ensures.1 in
     let headers = c.clear_headers.ensures.clears in
     let log = c.clear_log.ensures.clears in
-    let area = c.write_fresh_snapshot.ensures.writes in
+    let fresh = fresh_stored (program_room (is_large (reads (g.R.Rig.trace c.args.rig.now)))) in
+    let area = c.write_fresh_snapshot.ensures.writes fresh.room in
     let tools = c.clear_tools.ensures.clears in
     let sync = c.sync.ensures.trace in
     rw p.1 (record {
@@ -82,11 +90,11 @@ returns-in_err-sync-clause-formats g c =
           let h2 = log.keeps h1 in
           let h3 = area.keeps h2 in
           let hs = tools.keeps h3 in
-          let one = first_headers c.clear_headers.result fresh_stored _ _ (headers.holds h0) in
-          let two = first_log c.clear_log.result fresh_stored _ _ _ one (log.holds h1) in
-          let three = first_area c.write_fresh_snapshot.result c.snapshot_first.result fresh_stored _ _ _ c.snapshot_first.ensures.is two (area.holds h2) in
-          let more = first_tools c.clear_tools.result c.tools_first.result fresh_stored _ _ _ refl c.tools_first.ensures.is three (tools.holds h3) in
-          record { writes = first_sync c.sync.result fresh_stored _ _ _ more (sync.holds hs); at = tt; laid = tt; zeros = tt };
+          let one = first_headers c.clear_headers.result fresh _ _ (headers.holds h0) in
+          let two = first_log c.clear_log.result fresh _ _ _ one (log.holds h1) in
+          let three = first_area c.write_fresh_snapshot.result c.snapshot_first.result fresh _ _ _ c.snapshot_first.ensures.is two (area.holds h2) in
+          let more = first_tools c.clear_tools.result c.tools_first.result fresh _ _ _ refl c.tools_first.ensures.is three (tools.holds h3) in
+          record { writes = first_sync c.sync.result fresh _ _ _ more (sync.holds hs); at = tt; laid = tt; zeros = tt };
     })
 
 pub returns-in_err-write-clause-formats : goal.returns-in_err-write-clause-formats
@@ -94,7 +102,8 @@ returns-in_err-write-clause-formats g c =
     let p = err_from_is_err_and c.from_residual-in_err-write.result c.from_residual-in_err-write.ensures.1 in
     let headers = c.clear_headers.ensures.clears in
     let log = c.clear_log.ensures.clears in
-    let area = c.write_fresh_snapshot.ensures.writes in
+    let fresh = fresh_stored (program_room (is_large (reads (g.R.Rig.trace c.args.rig.now)))) in
+    let area = c.write_fresh_snapshot.ensures.writes fresh.room in
     let tools = c.clear_tools.ensures.clears in
     let sync = c.sync.ensures.trace in
     let write = c.write.ensures.trace in
@@ -107,19 +116,20 @@ returns-in_err-write-clause-formats g c =
           let h3 = area.keeps h2 in
           let hs = tools.keeps h3 in
           let h4 = sync.keeps hs in
-          let one = first_headers c.clear_headers.result fresh_stored _ _ (headers.holds h0) in
-          let two = first_log c.clear_log.result fresh_stored _ _ _ one (log.holds h1) in
-          let three = first_area c.write_fresh_snapshot.result c.snapshot_first.result fresh_stored _ _ _ c.snapshot_first.ensures.is two (area.holds h2) in
-          let more = first_tools c.clear_tools.result c.tools_first.result fresh_stored _ _ _ refl c.tools_first.ensures.is three (tools.holds h3) in
-          let four = first_sync c.sync.result fresh_stored _ _ _ more (sync.holds hs) in
-          record { writes = first_write c.write.result fresh_stored c.header_sector.result _ _ _ c.header_sector.ensures.holds four (write.holds h4); at = tt; laid = tt; zeros = tt };
+          let one = first_headers c.clear_headers.result fresh _ _ (headers.holds h0) in
+          let two = first_log c.clear_log.result fresh _ _ _ one (log.holds h1) in
+          let three = first_area c.write_fresh_snapshot.result c.snapshot_first.result fresh _ _ _ c.snapshot_first.ensures.is two (area.holds h2) in
+          let more = first_tools c.clear_tools.result c.tools_first.result fresh _ _ _ refl c.tools_first.ensures.is three (tools.holds h3) in
+          let four = first_sync c.sync.result fresh _ _ _ more (sync.holds hs) in
+          record { writes = first_write c.write.result fresh c.header_sector.result _ _ _ c.header_sector.ensures.holds four (write.holds h4); at = tt; laid = tt; zeros = tt };
     })
 
 pub returns-clause-formats : goal.returns-clause-formats
 returns-clause-formats g c =
     let headers = c.in_ok-clear_headers.ensures.clears in
     let log = c.in_ok-clear_log.ensures.clears in
-    let area = c.in_ok-write_fresh_snapshot.ensures.writes in
+    let fresh = fresh_stored (program_room (is_large (reads (g.R.Rig.trace c.args.rig.now)))) in
+    let area = c.in_ok-write_fresh_snapshot.ensures.writes fresh.room in
     let tools = c.in_ok-clear_tools.ensures.clears in
     let sync = c.in_ok-sync.ensures.trace in
     let write = c.in_ok-write.ensures.trace in
@@ -133,7 +143,7 @@ returns-clause-formats g c =
           let h3 = area.keeps h2 in
           let hs = tools.keeps h3 in
           let h4 = sync.keeps hs in
-          let s = steps _ _ _ _ fresh_stored _ _ _ _ _ c.snapshot_first.result c.tools_first.result refl c.snapshot_first.ensures.is c.tools_first.ensures.is (headers.holds h0) (log.holds h1) (area.holds h2) (tools.holds h3) in
-          let f = finished c.sync-2.result fresh_stored _ _ _ _ _ _ _ _ c.header_sector.result s refl refl (table_long 5399 5219 (pos 1_000_000)) c.header_sector.ensures.read c.header_sector.ensures.holds (sync.holds hs) (write.holds h4) (last.holds (write.keeps h4)) in
+          let s = steps _ _ _ _ fresh _ _ _ _ _ c.snapshot_first.result c.tools_first.result refl c.snapshot_first.ensures.is c.tools_first.ensures.is (headers.holds h0) (log.holds h1) (area.holds h2) (tools.holds h3) in
+          let f = finished c.sync-2.result fresh _ _ _ _ _ _ _ _ c.header_sector.result s refl refl (table_long 5399 5219 (pos 1_000_000)) refl c.header_sector.ensures.read c.header_sector.ensures.holds (sync.holds hs) (write.holds h4) (last.holds (write.keeps h4)) in
           record { writes = f.writes; at = f.at; laid = f.laid; zeros = f.zeros };
     }

@@ -1,4 +1,4 @@
-use Rattle.std.proofs.Common.{◌≡◌}
+use Rattle.std.proofs.Common.{◌≡◌, ℕ}
 use Rattle.ng_rig.specs.Calls.{IfHonest}
 use Rattle.ng_layout.specs.Snapshot.{HoldsPart}
 use Rattle.ng_layout.specs.Areas.{snapshot_size}
@@ -8,7 +8,7 @@ use Rattle.ng_journal.proofs.formatting.write_fresh_snapshot.Given as goal
 
 abbrev pub invariant-loop-part : goal.invariant-loop-part
 invariant-loop-part g l = record {
-  writes : IfHonest (g.R.Rig.honest l.initial.rig) (g.R.Rig.honest l.rig) (OverwritesTo l.part l.first snapshot_size (HoldsPart fresh_stored) (g.R.Rig.trace l.initial.rig) (g.R.Rig.trace l.rig));
+  writes : (room : ℕ) → IfHonest (g.R.Rig.honest l.initial.rig) (g.R.Rig.honest l.rig) (OverwritesTo l.part l.first snapshot_size (HoldsPart (fresh_stored room)) (g.R.Rig.trace l.initial.rig) (g.R.Rig.trace l.rig));
   size : g.R.Rig.sectors l.rig ≡ g.R.Rig.sectors l.initial.rig;
   failures : g.R.Rig.failed l.rig ≡ g.R.Rig.failed l.initial.rig;
 }

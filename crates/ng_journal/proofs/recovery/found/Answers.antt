@@ -1,7 +1,9 @@
-use Rattle.std.proofs.Common.{◌≡◌, ◌∙◌, subst}
+use Rattle.std.proofs.Common.{◌≡◌, ◌∙◌, sym, ap, subst}
 use Rattle.ng_rig.specs.Trace.{Trace, reads}
 use Rattle.ng_rig.proofs.Promise.{onto, meaning}
-use Rattle.ng_layout.specs.Areas.{snapshot_first}
+use Rattle.ng_layout.specs.Header.{program_room}
+use Rattle.ng_rig.specs.Calls.{IfHonest}
+use Rattle.ng_layout.specs.Stands.{in_force, is_large}
 use Rattle.ng_log.specs.Reading.{IsRunOf}
 use Rattle.ng_journal.specs.Private.SnapshotRead.{IsSnapshotOf}
 use Rattle.ng_journal.proofs.Finding.{none_found, damage_found, Snapped, snapped, log_damaged, all_found}
@@ -45,10 +47,14 @@ returns-in-Some-2-clause-read g c =
     let saved = c.read_log.new.stored in
     let answer = c.in_ok-read_log-in-Some.field-0 in
     let room = rw c.in-Some-2.is at c.in_ok-read_log-in-Some.ensures.room in
-    let Heads = (g.R.Rig.trace c.read_snapshot.new.rig ≡ old) × Snapped (reads old) header snap in
-    let heads = onto Heads c.in_ok-header_in_force.ensures.read c.in_ok-is_whole-in-Some.ensures.read (λ p q.
-    let here = subst (λ (l : Trace). IsSnapshotOf header snap (reads l) whole) p.same q.right in
-    (q.same ∙ p.same, snapped (reads old) c.in_ok-header_in_force.field-0 header whole snap p.right c.in-Some.is here c.if-not-is_whole.false)) in
+    let stays = c.in_ok-read_log-in-Some.ensures.limit ∙ c.in_ok-is_whole-in-Some.ensures.limit ∙ c.requires.limit in
+    let force = c.in_ok-header_in_force.ensures.read in
+    let Known = (g.R.Rig.trace c.header_in_force.new.rig ≡ old) × (c.in_ok-header_in_force.field-0 ≡ in_force (reads old)) × (is_large (reads old) ≡ c.args.large) in
+    let known : IfHonest (g.R.Rig.honest c.args.rig.now) (g.R.Rig.honest c.header_in_force.new.rig) Known = record { keeps = force.keeps; back = force.back; holds = λ h. ((force.holds h).same, (force.holds h).right, c.requires.large h) } in
+    let Heads = (g.R.Rig.trace c.read_snapshot.new.rig ≡ old) × Snapped (reads old) header snap × (is_large (reads old) ≡ c.args.large) in
+    let heads = onto Heads known c.in_ok-is_whole-in-Some.ensures.read (λ p q.
+    let here = subst (λ (l : Trace). IsSnapshotOf header snap (reads l) whole) p.0 q.right in
+    (q.same ∙ p.0, snapped (reads old) c.in_ok-header_in_force.field-0 header whole snap p.1 c.in-Some.is here c.if-not-is_whole.false, p.2)) in
     onto _ heads c.in_ok-read_log-in-Some.ensures.read (λ p r.
     let run = subst (λ (l : Trace). IsRunOf header snap saved (reads l) answer) p.0 r.right in
-    record { same = r.same ∙ p.0; right = all_found (reads old) header snap saved answer c.in-Some-2.field-0 p.1 c.in-Some-2.is room run })
+    record { same = r.same ∙ p.0; right = all_found (reads old) header snap saved answer c.in-Some-2.field-0 p.1 c.in-Some-2.is room run (stays ∙ ap program_room (sym p.2)) })

@@ -26,7 +26,7 @@ pub returns-clause-stops : goal.returns-clause-stops
 returns-clause-stops g c =
     onto _ c.in_ok-tip.ensures.makes c.append_to.ensures.appends (λ f a before at is.
     let m = f before at is in
-    stored_after c.append_to.result c.in_ok-tip.tip before c.args.stored.now _ _ _ m (a before m.at (ap (λ (s : StoredModel). s.setup.params) is) (ap (λ (s : StoredModel). s.tools) is)))
+    stored_after c.append_to.result c.in_ok-tip.tip before c.args.stored.now _ _ _ m (a before m.at (ap (λ (s : StoredModel). s.setup.params) is) (ap (λ (s : StoredModel). s.tools) is) (ap (λ (s : StoredModel). s.room) is)))
 
 pub returns-clause-stores : goal.returns-clause-stores
 returns-clause-stores g c =

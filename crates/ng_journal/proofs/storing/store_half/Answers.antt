@@ -36,7 +36,7 @@ returns-clause-stops g c =
     onto _ c.in_ok-tip.ensures.makes c.append_to.ensures.appends (λ f a before at is.
     let m = f before at is in
     let params_are = ap (λ (s : StoredModel). s.setup.params) is ∙ sym (ap (λ (s : StoredModel). s.setup.params) c.take_half.ensures) in
-    stored_after c.append_to.result c.in_ok-tip.tip before opened _ _ _ m (as_taken c.append_to.result before c.take_half.new.self opened _ _ c.take_half.ensures (a before m.at params_are (ap (λ (s : StoredModel). s.tools) is ∙ sym (ap (λ (s : StoredModel). s.tools) c.take_half.ensures)))))
+    stored_after c.append_to.result c.in_ok-tip.tip before opened _ _ _ m (as_taken c.append_to.result before c.take_half.new.self opened _ _ c.take_half.ensures (a before m.at params_are (ap (λ (s : StoredModel). s.tools) is ∙ sym (ap (λ (s : StoredModel). s.tools) c.take_half.ensures)) (ap (λ (s : StoredModel). s.room) is ∙ sym (ap (λ (s : StoredModel). s.room) c.take_half.ensures)))))
 
 pub returns-clause-stores : goal.returns-clause-stores
 returns-clause-stores g c =

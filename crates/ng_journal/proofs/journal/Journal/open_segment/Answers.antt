@@ -1,6 +1,10 @@
-use Rattle.std.proofs.Common.{refl}
+use Rattle.std.proofs.Common.{◌≡◌, ◌≤◌, ◌↔◌, true, refl, sym, subst}
+use Rattle.ng_layout.specs.Limits.{greatest_count}
+use Rattle.ng_journal.specs.Journal.{JournalModel}
+use Rattle.ng_journal.specs.Storing.{IsFullFor}
 use Rattle.ng_rig.proofs.Promise.{meaning}
 use Rattle.ng_journal.proofs.Moving.{moved, not_moved, ledger_moved, stored_as, not_stored_as}
+use Rattle.ng_journal.proofs.Steadying.{steady_opened, steady_still}
 use Rattle.ng_journal.proofs.journal.Journal.open_segment.Goals as goal
 
 pub returns-in-Ok-clause-stops : goal.returns-in-Ok-clause-stops
@@ -19,3 +23,13 @@ returns-in-Err-clause-stops g c =
 
 pub returns-in-Err-clause-stores : goal.returns-in-Err-clause-stores
 returns-in-Err-clause-stores g c = rw (← c.self.view_is) (meaning c.store_half.ensures.stores (λ s. not_stored_as _ c.store_half.result _ _ _ _ s))
+
+pub invariant_of-self : goal.invariant_of-self
+invariant_of-self g c =
+    let used = subst (λ (v : JournalModel g.row.R.Denot). (c.is_used_up_by.result ≡ true) ↔ ((greatest_count ≤ v.header.epoch) × IsFullFor v.header v.end 0)) (sym c.self.view_is) c.is_used_up_by.ensures in
+    steady_opened _ _ c.self.inside.tip c.in-Ok.tip c.self.inside.stored c.store_half.new.stored c.args.half.now c.is_used_up_by.result c.self.invariant c.in-Ok.ensures.size used c.if-is_used_up_by.false c.in-Ok.ensures.saved c.in-Ok.ensures.ledger c.in-Ok.ensures.tip c.in-Ok.ensures.storable
+
+pub invariant_of-self-in-Err : goal.invariant_of-self-in-Err
+invariant_of-self-in-Err g c =
+    let e = c.in-Err.ensures in
+    steady_still _ _ c.self.inside.tip.header c.self.inside.tip.end c.self.inside.stored c.store_half.new.stored c.self.invariant e.size e.length e.limit e.entries e.storable
