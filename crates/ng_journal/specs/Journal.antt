@@ -1,7 +1,6 @@
 -- A journal as its callers see it, and what its calls leave (own).
-use Rattle.std.specs.Prelude.{◌≡◌, ◌⊎◌, ◌≤◌, ◌+◌, ◌%◌, ◌^◌, ℕ, ℤ, Bool, true, false, List, [], ◌∷◌, ◌++◌, Result, Ok, Err, OnOk}
+use Rattle.std.specs.Prelude.{◌≡◌, ◌⊎◌, ◌≤◌, ◌+◌, ◌%◌, ◌^◌, ℕ, ℤ, Bool, if◌then◌else◌, false, List, [], ◌∷◌, ◌++◌, Result, Ok, Err, OnOk}
 use Rattle.ng_num.specs.declared.fault.Fault.{Fault}
-use Rattle.ng_num.specs.declared.fault.Fault.TheVariants.{DeviceFailed}
 use Rattle.ng_canon.specs.declared.item.Item.{Item}
 use Rattle.ng_rig.specs.Trace.{Image, Trace, items}
 use Rattle.ng_rig.specs.Continuation.{IsContinuation}
@@ -16,6 +15,7 @@ use Rattle.ng_layout.specs.Stored.{StoredModel, DurableState}
 use Rattle.ng_log.specs.declared.log_end.LogEnd.{LogEnd}
 use Rattle.ng_log.specs.AtEnd.{IsAtEnd}
 use Rattle.ng_journal.specs.AtRest.{IsEither}
+use Rattle.ng_journal.specs.Failures.{is_device_failure}
 
 -- the device, the header in force, where its log ends, what is stored, and whether a call of the device failed
 pub record JournalModel (R : Type 0) : Type 0 where
@@ -74,12 +74,10 @@ pub record JournalHandOutSpec {R T E : Type 0} (result : Result T E) (journal : 
 
 -- The device failed in that call exactly where that is the fault.
 abbrev pub CountsFailure : {T : Type 0} → Result T Fault → ℕ → ℕ → Type 0
-CountsFailure (Err DeviceFailed) old new = new ≡ (old + 1) % 2 ^ 64
-CountsFailure (Err _) old new = new ≡ old
+CountsFailure (Err e) old new = new ≡ (if is_device_failure e then (old + 1) % 2 ^ 64 else old)
 CountsFailure (Ok _) old new = new ≡ old
 
 -- A journal is broken exactly where the device failed.
 abbrev pub IsBrokenBy : {T : Type 0} → Result T Fault → Bool → Type 0
-IsBrokenBy (Err DeviceFailed) broken = broken ≡ true
-IsBrokenBy (Err _) broken = broken ≡ false
+IsBrokenBy (Err e) broken = broken ≡ is_device_failure e
 IsBrokenBy (Ok _) broken = broken ≡ false

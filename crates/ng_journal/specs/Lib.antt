@@ -1,5 +1,6 @@
 pub mod Area
 pub mod AtRest
+pub mod Failures
 pub mod Formats
 pub mod Journal
 pub mod Loads
