@@ -39,7 +39,7 @@ opened_ready geometry x half p (stage.ToApproach a) is r = record {
   between = r.between;
   held = r.held;
   between_is = r.between_is;
-  first = record { count = r.first.count; same = r.first.same; tools = r.first.tools; storable = r.first.storable };
+  first = record { count = r.first.count; same = r.first.same; tools = r.first.tools; room = r.first.room; storable = r.first.storable };
   second = r.second;
   after_is = r.after_is;
 }
@@ -47,15 +47,15 @@ opened_ready geometry x half p (stage.OnApproach a) is r = subst (IsReadyOn (rec
   between = r.between;
   held = r.held;
   between_is = r.between_is;
-  first = record { count = r.first.count; same = r.first.same; tools = r.first.tools; storable = r.first.storable };
+  first = record { count = r.first.count; same = r.first.same; tools = r.first.tools; room = r.first.room; storable = r.first.storable };
   second = r.second;
   after_is = r.after_is;
 })
 opened_ready geometry x half p stage.OnBlock is r = by p.block.left
   where
     by : (left : List Segment) → IsReadyOn (record x { half = Some half }) (record p { block = next_opened geometry p.block left }) (next_opened geometry p.block left).stage
-    by [] = subst (IsReadyOn (record x { half = Some half }) p) (sym is) (record { next = record { count = r.next.count; same = r.next.same; tools = r.next.tools; storable = r.next.storable }; after_is = r.after_is })
-    by (segment ∷ left) = subst (IsReadyOn (record x { half = Some half }) (record p { block = next_opened geometry p.block (segment ∷ left) })) (sym is) (record { next = record { count = r.next.count; same = r.next.same; tools = r.next.tools; storable = r.next.storable }; after_is = r.after_is })
+    by [] = subst (IsReadyOn (record x { half = Some half }) p) (sym is) (record { next = record { count = r.next.count; same = r.next.same; tools = r.next.tools; room = r.next.room; storable = r.next.storable }; after_is = r.after_is })
+    by (segment ∷ left) = subst (IsReadyOn (record x { half = Some half }) (record p { block = next_opened geometry p.block (segment ∷ left) })) (sym is) (record { next = record { count = r.next.count; same = r.next.same; tools = r.next.tools; room = r.next.room; storable = r.next.storable }; after_is = r.after_is })
 
 pub kept_open : (geometry : Geometry) (x : StoredModel) (half : HalfModel) (p r : Prepared) → IsSessionInvariant x (Some p) → IsStorableHalf half → r ≡ record p { block = opened_on geometry p.block p.block.stage } → IsSessionInvariant (record x { half = Some half }) (Some r)
 kept_open geometry x half p r k waits is = record {

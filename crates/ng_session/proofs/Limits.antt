@@ -26,6 +26,7 @@ use Rattle.ng_block.specs.Order.{speed_outputs, selected_outputs, changed_output
 use Rattle.ng_block.specs.Steps.{order}
 use Rattle.ng_block.specs.Tasks.{tasks_of}
 use Rattle.ng_state.specs.declared.machine.Machine.{Machine}
+use Rattle.ng_layout.specs.Limits.{greatest_slot}
 use Rattle.ng_layout.specs.Storable.{IsStorableMachine}
 
 -- ---- results
@@ -69,11 +70,11 @@ word-from_zero InverseTime word given = tt
 
 record Fits (o : Outputs) : Type 0 where
   pub speed : pos 0 ≤ℤ o.speed
-  pub selected : o.selected_slot ≤ 128
-  pub held : o.spindle_slot ≤ 128
+  pub selected : o.selected_slot ≤ greatest_slot
+  pub held : o.spindle_slot ≤ greatest_slot
 
 IsNear : Option ℕ → Type 0
-IsNear slot = IfSome slot (λ n. n ≤ 128)
+IsNear slot = IfSome slot (λ n. n ≤ greatest_slot)
 
 speeds : (speed : Option ℤ) (o : Outputs) → IsFromZero speed → Fits o → Fits (speed_outputs speed o)
 speeds None o given fits = fits
@@ -106,18 +107,18 @@ stops word o fits = by (ends word)
     by true = record { speed = fits.speed; selected = fits.selected; held = fits.held }
     by false = fits
 
-slot-near : (word : Option ℤ) (slots : ℕ) → slots ≤ 128 → IsSlot word slots → IsNear (slot_on word)
+slot-near : (word : Option ℤ) (slots : ℕ) → slots ≤ greatest_slot → IsSlot word slots → IsNear (slot_on word)
 unfolding IsNear
 slot-near None slots few slot = tt
-slot-near (Some v) slots few slot = subst (λ (o : Option ℕ). IfSome o (λ n. n ≤ 128)) (sym slot.1) (let small = slot.2 in omega arith)
+slot-near (Some v) slots few slot = subst (λ (o : Option ℕ). IfSome o (λ n. n ≤ greatest_slot)) (sym slot.1) (let small = slot.2 in omega arith)
 
-held-near : (change : Bool) (slot : Option ℕ) (before : ℕ) → before ≤ 128 → IsNear slot → IsNear (cond change (Some (unwrap_or slot before)) None)
+held-near : (change : Bool) (slot : Option ℕ) (before : ℕ) → before ≤ greatest_slot → IsNear slot → IsNear (cond change (Some (unwrap_or slot before)) None)
 unfolding IsNear
 held-near false slot before low near = tt
 held-near true None before low near = low
 held-near true (Some n) before low near = near
 
-outputs-fit : (b : Block) (m : Modes) (mode : FeedMode) (slots : ℕ) (o : Outputs) → slots ≤ 128 → IsAccepted b m slots → Fits o → Fits (outputs_after (tasks_of b mode o) o order)
+outputs-fit : (b : Block) (m : Modes) (mode : FeedMode) (slots : ℕ) (o : Outputs) → slots ≤ greatest_slot → IsAccepted b m slots → Fits o → Fits (outputs_after (tasks_of b mode o) o order)
 outputs-fit b m mode slots o few is fits =
     let slot = slot-near b.values.t slots few is.selected in
     stops b.m.stop _
@@ -128,7 +129,7 @@ outputs-fit b m mode slots o few is fits =
 
 -- ---- the machine after a block
 
-pub block-stands : (b : Block) (m after : Machine) (slots : ℕ) → slots ≤ 128 → IsAccepted b m.modes slots → IsStorableMachine m
+pub block-stands : (b : Block) (m after : Machine) (slots : ℕ) → slots ≤ greatest_slot → IsAccepted b m.modes slots → IsStorableMachine m
     → feed_of b m ≡ Ok after.feed_per_min → after.outputs ≡ outputs_after (tasks_of b (feed_mode_after b m.modes) m.outputs) m.outputs order → IsStorableMachine after
 block-stands b m after slots few is can feed outputs =
     let fits : Fits m.outputs = record { speed = can.speed; selected = can.selected; held = can.held } in

@@ -9,7 +9,6 @@ use Rattle.ng_text.specs.Percent.{first_kind, missing_end}
 use Rattle.ng_text.specs.Programs.{ProgramLineModel, lines_before, program_line_at}
 use Rattle.ng_block.specs.Effects.{Done}
 use Rattle.ng_canon.specs.Inside.{is_inside}
-use Rattle.ng_layout.specs.Limits.{longest_program}
 use Rattle.ng_offsets.specs.Tools.{is_tool_length}
 use Rattle.ng_layout.specs.Tools.{takes_slot}
 use Rattle.ng_layout.specs.Stored.{HalfModel}
@@ -77,7 +76,7 @@ own_load_unless program s text (Some fault) own = own
 
 own_load : (program : List ℕ) (s : SessionModel) (text : List ℕ) → TellsOwn (load program s text).reply
 own_load program s text =
-    own_load_unless program s text (load_refusal s text) (own_unless (not (accepts_load s)) _ _ refl (own_unless (nat_lt longest_program (length text)) _ _ refl tt))
+    own_load_unless program s text (load_refusal s text) (own_unless (not (accepts_load s)) _ _ refl (own_unless (nat_lt s.stored.room (length text)) _ _ refl tt))
 
 own_reference_unless : (program : List ℕ) (s : SessionModel) (point : Point) (o : Option Fault) → IsOwn o → TellsOwn (reference_unless program s point o).reply
 own_reference_unless program s point None own = tt

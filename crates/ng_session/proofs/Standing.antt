@@ -34,7 +34,7 @@ use Rattle.ng_state.specs.State.{StateModel}
 use Rattle.ng_block.specs.declared.effect.Effect.{Effect}
 use Rattle.ng_block.specs.declared.effect.ProgramFlow.{ProgramFlow}
 use Rattle.ng_block.specs.declared.effect.ProgramFlow.TheVariants.{GoesOn}
-use Rattle.ng_layout.specs.Limits.{longest_program}
+use Rattle.ng_layout.specs.Limits.{greatest_slot}
 use Rattle.ng_offsets.specs.Tools.{AreTools}
 use Rattle.ng_layout.specs.Storable.{IsStorableMachine, IsStorableHalf, IsStorable}
 use Rattle.ng_layout.specs.Stored.{HalfModel, StoredModel}
@@ -59,7 +59,7 @@ feed-found b s settings tools geometry goal e =
     let kept = found (kept_of b s.machine) _ goal way.2 in
     feed.1 ∙ ap (λ (g : Goal). Ok g.feed_per_min) (same _ goal kept.2)
 
-values-keep : (s : StateModel) (remark : List CanonModel) (values : Settled) (tools : List ℤ) (geometry : Geometry) → length tools ≤ 128 → Keeps s (executed_values s remark values tools geometry)
+values-keep : (s : StateModel) (remark : List CanonModel) (values : Settled) (tools : List ℤ) (geometry : Geometry) → length tools ≤ greatest_slot → Keeps s (executed_values s remark values tools geometry)
 unfolding executed_values
 values-keep s remark values tools geometry few done e can =
     let block = found (checked values.words s.machine.modes (length tools)) _ done e in
@@ -70,13 +70,13 @@ values-keep s remark values tools geometry few done e can =
     subst (λ (d : Done). IsStorableMachine d.setup.machine) is
     (block-stands b s.machine _ (length tools) few accepted can (feed-found b s values.settings tools geometry goal.0 goal.1) refl)
 
-pieces-keep : (s : StateModel) (pieces : List Piece) (tools : List ℤ) (geometry : Geometry) → length tools ≤ 128 → Keeps s (executed_pieces s pieces tools geometry)
+pieces-keep : (s : StateModel) (pieces : List Piece) (tools : List ℤ) (geometry : Geometry) → length tools ≤ greatest_slot → Keeps s (executed_pieces s pieces tools geometry)
 unfolding executed_pieces
 pieces-keep s pieces tools geometry few done e can =
     let values = found (settled_pieces pieces s.params) _ done e in
     values-keep s (remark_of (last_comment pieces)) values.0 tools geometry few done values.2 can
 
-line-keeps : (s : StateModel) (tools : List ℤ) (geometry : Geometry) (text : List ℕ) → length tools ≤ 128 → Keeps s (executed s tools geometry text)
+line-keeps : (s : StateModel) (tools : List ℤ) (geometry : Geometry) (text : List ℕ) → length tools ≤ greatest_slot → Keeps s (executed s tools geometry text)
 unfolding executed
 line-keeps s tools geometry text few done e can =
     let line = found (read text) _ done e in
@@ -85,7 +85,7 @@ line-keeps s tools geometry text few done e can =
 idle-keeps : (s : StateModel) (stop : ProgramFlow) → Keeps s (Ok (idle s stop))
 idle-keeps s stop done e can = subst (λ (d : Done). IsStorableMachine d.setup.machine) (same (idle s stop) done e) can
 
-alone-keeps : (t : TermsModel) (s : StateModel) (text : List ℕ) → length t.tools ≤ 128 → Keeps s (executed_unless_deleted t s text)
+alone-keeps : (t : TermsModel) (s : StateModel) (text : List ℕ) → length t.tools ≤ greatest_slot → Keeps s (executed_unless_deleted t s text)
 alone-keeps t s text few = by (t.block_delete && is_deletable text)
   where
     long : (b : Bool) → Keeps s (cond b (Err LineTooLong) (Ok (idle s GoesOn)))
@@ -96,7 +96,7 @@ alone-keeps t s text few = by (t.block_delete && is_deletable text)
     by true = long (is_too_long text)
     by false = line-keeps s t.tools t.geometry text few
 
-after-keeps : (t : TermsModel) (first : LineKind) (s : StateModel) (text : List ℕ) → length t.tools ≤ 128 → Keeps s (executed_after t first s text)
+after-keeps : (t : TermsModel) (first : LineKind) (s : StateModel) (text : List ℕ) → length t.tools ≤ greatest_slot → Keeps s (executed_after t first s text)
 after-keeps t first s text few = by (percent_by first text)
   where
     by : (o : Option ProgramFlow) → Keeps s (framed o s (executed_unless_deleted t s text))
@@ -109,16 +109,16 @@ kept (Ok x) s does done keeps e = keeps done e
 kept (Err fault) s does done keeps e = tt
 
 -- a line by itself, and one after others
-pub alone-stands : {T : Type 0} (r : Result T Fault) (t : TermsModel) (s : StateModel) (text : List ℕ) (done : Done) → length t.tools ≤ 128
+pub alone-stands : {T : Type 0} (r : Result T Fault) (t : TermsModel) (s : StateModel) (text : List ℕ) (done : Done) → length t.tools ≤ greatest_slot
     → MatchResult r (λ x. executed_unless_deleted t s text ≡ Ok done) (λ fault. executed_unless_deleted t s text ≡ Err fault) → OnOk r (IsStorableMachine s.machine → IsStorableMachine done.setup.machine)
 alone-stands r t s text done few = kept r s (executed_unless_deleted t s text) done (alone-keeps t s text few)
 
-pub after-stands : {T : Type 0} (r : Result T Fault) (t : TermsModel) (first : LineKind) (s : StateModel) (text : List ℕ) (done : Done) → length t.tools ≤ 128
+pub after-stands : {T : Type 0} (r : Result T Fault) (t : TermsModel) (first : LineKind) (s : StateModel) (text : List ℕ) (done : Done) → length t.tools ≤ greatest_slot
     → MatchResult r (λ x. executed_after t first s text ≡ Ok done) (λ fault. executed_after t first s text ≡ Err fault) → OnOk r (IsStorableMachine s.machine → IsStorableMachine done.setup.machine)
 after-stands r t first s text done few = kept r s (executed_after t first s text) done (after-keeps t first s text few)
 
 -- a half-done one
-pub again-stands : {T : Type 0} (r : Result T Fault) (s : StateModel) (tools : List ℤ) (geometry : Geometry) (text : List ℕ) (done : Done) → length tools ≤ 128
+pub again-stands : {T : Type 0} (r : Result T Fault) (s : StateModel) (tools : List ℤ) (geometry : Geometry) (text : List ℕ) (done : Done) → length tools ≤ greatest_slot
     → MatchResult r (λ x. executed s tools geometry text ≡ Ok done) (λ fault. executed s tools geometry text ≡ Err fault) → OnOk r (IsStorableMachine s.machine → IsStorableMachine done.setup.machine)
 again-stands r s tools geometry text done few = kept r s (executed s tools geometry text) done (line-keeps s tools geometry text few)
 
@@ -141,29 +141,32 @@ next_storable x next source e was within can = record {
   count = refl;
   same = refl;
   tools = refl;
+  room = refl;
   storable = record {
     table = long-after x.setup.params e.changes.items ∙ was.table;
     machine = can;
     half = tt;
     place = place-within next x.place x.length source e.stop within was.place;
     program = was.program;
+    room = was.room;
     tools = was.tools;
   };
 }
 
-pub load_storable : (x : StoredModel) (length_new : ℕ) → IsStorable x → length_new ≤ longest_program → IsStorable (after_load x length_new)
+pub load_storable : (x : StoredModel) (length_new : ℕ) → IsStorable x → length_new ≤ x.room → IsStorable (after_load x length_new)
 load_storable x length_new was short = record {
   table = length-map (enumerate_from 1 x.setup.params) _ ∙ length-enumerate_from 1 x.setup.params ∙ was.table;
   machine = was.machine;
   half = tt;
   place = omega arith;
   program = short;
+  room = was.room;
   tools = was.tools;
 }
 
 -- with a half-done block besides
 pub half_storable : (x : StoredModel) (half : HalfModel) → IsStorable x → IsStorableHalf half → IsStorable (record x { half = Some half })
-half_storable x half was waits = record { table = was.table; machine = was.machine; half = waits; place = was.place; program = was.program; tools = was.tools }
+half_storable x half was waits = record { table = was.table; machine = was.machine; half = waits; place = was.place; program = was.program; room = was.room; tools = was.tools }
 
 -- after an approach
 pub approach_storable : (x : StoredModel) (half : HalfModel) (point : Point) → IsStorable x → length half.text ≤ 256 → IsNextEntry x (reached x half point)
@@ -171,7 +174,8 @@ approach_storable x half point was short = record {
   count = refl;
   same = refl;
   tools = refl;
-  storable = record { table = was.table; machine = was.machine; half = record { unknown = λ none. let e : false ≡ true = none in cc; text = short }; place = was.place; program = was.program; tools = was.tools };
+  room = refl;
+  storable = record { table = was.table; machine = was.machine; half = record { unknown = λ none. let e : false ≡ true = none in cc; text = short }; place = was.place; program = was.program; room = was.room; tools = was.tools };
 }
 
 -- the machine is known to stand at a point
@@ -179,10 +183,10 @@ pub reference_storable : (x y : StoredModel) (point : Point) → IsStorable x �
 reference_storable x y point was is = subst IsStorable (sym is) (by x.half refl)
   where
     by : (o : Option HalfModel) → x.half ≡ o → IsStorable (referenced x point o)
-    by None held = record { table = was.table; machine = record { feed = was.machine.feed; speed = was.machine.speed; selected = was.machine.selected; held = was.machine.held }; half = tt; place = was.place; program = was.program; tools = was.tools }
+    by None held = record { table = was.table; machine = record { feed = was.machine.feed; speed = was.machine.speed; selected = was.machine.selected; held = was.machine.held }; half = tt; place = was.place; program = was.program; room = was.room; tools = was.tools }
     by (Some half) held =
         let waits : IsStorableHalf half = subst (λ (o : Option HalfModel). IfSome o IsStorableHalf) held was.half in
-        record { table = was.table; machine = was.machine; half = record { unknown = λ none. let e : false ≡ true = none in cc; text = waits.text }; place = was.place; program = was.program; tools = was.tools }
+        record { table = was.table; machine = was.machine; half = record { unknown = λ none. let e : false ≡ true = none in cc; text = waits.text }; place = was.place; program = was.program; room = was.room; tools = was.tools }
 
 -- a half-done block is given up
 pub abandon_storable : (x y : StoredModel) → IsStorable x → y ≡ after_abandon x → IsStorable y
@@ -190,8 +194,8 @@ abandon_storable x y was is = subst IsStorable (sym is) (by x.half)
   where
     by : (o : Option HalfModel) → IsStorable (abandoned x o)
     by None = was
-    by (Some half) = record { table = was.table; machine = record { feed = was.machine.feed; speed = was.machine.speed; selected = was.machine.selected; held = was.machine.held }; half = tt; place = was.place; program = was.program; tools = was.tools }
+    by (Some half) = record { table = was.table; machine = record { feed = was.machine.feed; speed = was.machine.speed; selected = was.machine.selected; held = was.machine.held }; half = tt; place = was.place; program = was.program; room = was.room; tools = was.tools }
 
 -- a table with a number of entries
 pub tool_storable : (x : StoredModel) (tools : List ℤ) (entries : ℕ) → IsStorable x → AreTools tools → IsStorable (record x { entries = entries; tools = tools })
-tool_storable x tools entries was few = record { table = was.table; machine = was.machine; half = was.half; place = was.place; program = was.program; tools = few }
+tool_storable x tools entries was few = record { table = was.table; machine = was.machine; half = was.half; place = was.place; program = was.program; room = was.room; tools = few }

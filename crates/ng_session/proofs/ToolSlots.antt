@@ -4,6 +4,7 @@ use Rattle.std.specs.Prelude.{negsuc}
 use Rattle.std.proofs.lemmas.Bool.Decides.{nat_tests}
 use Rattle.ng_offsets.specs.Tools.{with_slot, is_tool_length, IsToolLength, IsSlotChange, IsOneSlotFrom}
 use Rattle.ng_offsets.specs.declared.tools.SlotChange.{SlotChange}
+use Rattle.ng_layout.specs.Limits.{greatest_slot}
 use Rattle.ng_layout.specs.Tools.{takes_slot}
 
 pub slot_from : (lengths : List ℤ) (slot : ℕ) → takes_slot lengths slot ≡ true → 1 ≤ slot
@@ -12,7 +13,7 @@ slot_from lengths slot is = grind (arith, nat_tests)
 pub slot_to : (lengths : List ℤ) (slot : ℕ) → takes_slot lengths slot ≡ true → slot ≤ length lengths + 1
 slot_to lengths slot is = grind (arith, nat_tests)
 
-pub slot_most : (lengths : List ℤ) (slot : ℕ) → takes_slot lengths slot ≡ true → slot ≤ 128
+pub slot_most : (lengths : List ℤ) (slot : ℕ) → takes_slot lengths slot ≡ true → slot ≤ greatest_slot
 slot_most lengths slot is = grind (arith, nat_tests)
 
 pub tool_within : (n : ℤ) → is_tool_length n ≡ true → IsToolLength n

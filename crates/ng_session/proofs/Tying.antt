@@ -11,7 +11,6 @@ use Rattle.ng_canon.specs.Inside.{is_inside}
 use Rattle.ng_canon.specs.declared.item.Item.{Item}
 use Rattle.ng_canon.specs.declared.segment.Segment.{Segment}
 use Rattle.ng_block.specs.Effects.{Done}
-use Rattle.ng_layout.specs.Limits.{longest_program}
 use Rattle.ng_offsets.specs.Tools.{is_tool_length}
 use Rattle.ng_layout.specs.Tools.{takes_slot}
 use Rattle.ng_text.specs.Programs.{ProgramLineModel, program_line_at, next_line_start}
@@ -185,12 +184,13 @@ next_load q lines p given P s text is t = by_refusal (load_refusal s text) refl
     by_refusal : (o : Option Fault) → load_refusal s text ≡ o → Next q lines p given (load_unless P s text o)
     by_refusal (Some f) h = stays q lines p given P _ s is t
     by_refusal None h =
-        let free = free_of (accepts_load s) (nat_lt longest_program (length text)) h in
-        let short = short_of (accepts_load s) (nat_lt longest_program (length text)) h in
+        let free = free_of (accepts_load s) (nat_lt s.stored.room (length text)) h in
+        let short = short_of (accepts_load s) (nat_lt s.stored.room (length text)) h in
         let none = rest_none s (and_left _ _ free) in
         let at = stands_at q lines p given s none t in
         let half : p.saved.half ≡ None = ap (λ (x : StoredModel). x.half) (sym at.0) ∙ none_of s.stored.half (and_right _ _ free) in
-        Adds (Loaded text) refl refl (within longest_program (length text) short, half) refl at.1
+        let fits : length text ≤ p.saved.room = subst (λ (x : StoredModel). length text ≤ x.room) at.0 (within s.stored.room (length text) short) in
+        Adds (Loaded text) refl refl (fits, half) refl at.1
         (subst (Tied q lines (after q p (Loaded text)) [] (after_load s.stored (length text)) activity.Idle) (sym none) (ap (λ (x : StoredModel). after_load x (length text)) at.0, refl, inl refl))
 
 next_start : (q : Equipment) (lines : List (List ℕ)) (p : DurableState) (given : List Item) (P : List ℕ) (s : SessionModel) → P ≡ p.program → Ties q lines p given s → Next q lines p given (start P s)

@@ -196,14 +196,14 @@ all_given q p given x c done (inr m) =
     m.given_is ∙ ap (λ l. hand_all q m.before ++ l) whole ∙ sym (hand_all-more q m.before m.segment) ∙ ap (hand_all q) (sym m.split)
 
 -- what stands after the block
-leaves_block : (p : DurableState) (x : StoredModel) (c : CurrentBlockModel) (done : Done) → x.entries ≡ p.saved.entries → x.length ≡ p.saved.length → x.tools ≡ p.saved.tools → Leaves p c done
+leaves_block : (p : DurableState) (x : StoredModel) (c : CurrentBlockModel) (done : Done) → x.entries ≡ p.saved.entries → x.length ≡ p.saved.length → x.tools ≡ p.saved.tools → x.room ≡ p.saved.room → Leaves p c done
     → after_current_block x c ≡ after_block (next_line_start p.program p.saved.place) p.saved c.source done
-leaves_block p x c done entries length tools l = λ i. record { entries = entries i + 1; setup = l.setup i; place = l.place i; length = length i; half = None; tools = tools i }
+leaves_block p x c done entries length tools room l = λ i. record { entries = entries i + 1; setup = l.setup i; tools = tools i; place = l.place i; length = length i; room = room i; half = None }
 
 pub after_is_it : (q : Equipment) (p : DurableState) (given : List Item) (x : StoredModel) (c : CurrentBlockModel) (done : Done) → Leaves p c done → IsFresh p given x c done ⊎ IsMidst q p given x c done
     → after_current_block x c ≡ after_block (next_line_start p.program p.saved.place) p.saved c.source done
-after_is_it q p given x c done l (inl f) = leaves_block p x c done (ap (λ (y : StoredModel). y.entries) f.stands) (ap (λ (y : StoredModel). y.length) f.stands) (ap (λ (y : StoredModel). y.tools) f.stands) l
-after_is_it q p given x c done l (inr m) = leaves_block p x c done (ap (λ (y : StoredModel). y.entries) m.stands) (ap (λ (y : StoredModel). y.length) m.stands) (ap (λ (y : StoredModel). y.tools) m.stands) l
+after_is_it q p given x c done l (inl f) = leaves_block p x c done (ap (λ (y : StoredModel). y.entries) f.stands) (ap (λ (y : StoredModel). y.length) f.stands) (ap (λ (y : StoredModel). y.tools) f.stands) (ap (λ (y : StoredModel). y.room) f.stands) l
+after_is_it q p given x c done l (inr m) = leaves_block p x c done (ap (λ (y : StoredModel). y.entries) m.stands) (ap (λ (y : StoredModel). y.length) m.stands) (ap (λ (y : StoredModel). y.tools) m.stands) (ap (λ (y : StoredModel). y.room) m.stands) l
 
 -- ---- the approach
 
@@ -246,13 +246,9 @@ worked_block q lines p x c a given w =
     let r = w.resumed in
     let same : after_current_approach x c a.to.point ≡ (stands_reached p r.half a.to.point).saved =
     ap (λ (y : StoredModel). after_current_approach y c a.to.point) w.stands
-    ∙ (λ i. record {
+    ∙ (λ i. record p.saved {
       entries = p.saved.entries + 1;
-      setup = p.saved.setup;
-      place = p.saved.place;
-      length = p.saved.length;
       half = Some (record { text = r.text i; source = r.source i; index = r.index i; at = Some a.to.point; opened = None });
-      tools = p.saved.tools;
     }) in
     subst (λ (z : DurableState). IsOnBlock q lines z [] (after_current_approach x c a.to.point) (record c { stage = stage.OnBlock; items = [] })) (sym (way_done q p (record c { items = [] }) a r))
     (record {

@@ -62,12 +62,12 @@ place_after next place source stop = if is_end stop then 0 else place_by next pl
 -- what stands after a block, where the next line of the program begins at this place
 abbrev pub after_block : ℕ → StoredModel → Source → Done → StoredModel
 after_block next x source done =
-    record { entries = x.entries + 1; setup = done.setup; place = place_after next x.place source done.stop; length = x.length; half = None; tools = x.tools }
+    record x { entries = x.entries + 1; setup = done.setup; place = place_after next x.place source done.stop; half = None }
 
 -- what stands after the load of a program of this length
 abbrev pub after_load : StoredModel → ℕ → StoredModel
 after_load x length =
-    record { entries = x.entries + 1; setup = record { params = cleared x.setup.params; machine = x.setup.machine }; place = 0; length = length; half = None; tools = x.tools }
+    record x { entries = x.entries + 1; setup = record { params = cleared x.setup.params; machine = x.setup.machine }; place = 0; length = length; half = None }
 
 -- ---- a half-done block
 
@@ -89,15 +89,15 @@ placed_at point half = record half { at = Some point; opened = None }
 
 -- what stands after a reference: with a half-done block it says where that one's machine stands, and nothing else
 abbrev pub referenced : StoredModel → Point → Option HalfModel → StoredModel
-referenced x point None = record { entries = x.entries + 1; setup = placed x.setup point; place = x.place; length = x.length; half = None; tools = x.tools }
-referenced x point (Some half) = record { entries = x.entries + 1; setup = x.setup; place = x.place; length = x.length; half = Some (placed_at point half); tools = x.tools }
+referenced x point None = record x { entries = x.entries + 1; setup = placed x.setup point; half = None }
+referenced x point (Some half) = record x { entries = x.entries + 1; half = Some (placed_at point half) }
 
 abbrev pub after_reference : StoredModel → Point → StoredModel
 after_reference x point = referenced x point x.half
 
 -- what stands after an approach of a half-done block that ended at a point
 abbrev pub reached : StoredModel → HalfModel → Point → StoredModel
-reached x half point = record { entries = x.entries + 1; setup = x.setup; place = x.place; length = x.length; half = Some (placed_at point half); tools = x.tools }
+reached x half point = record x { entries = x.entries + 1; half = Some (placed_at point half) }
 
 abbrev pub reached_by : StoredModel → Option HalfModel → Point → StoredModel
 reached_by x None point = x
@@ -116,7 +116,7 @@ given_up m half = record m { outputs = turned_off m.outputs; point = unwrap_or h
 
 abbrev pub abandoned : StoredModel → Option HalfModel → StoredModel
 abandoned x None = x
-abandoned x (Some half) = record { entries = x.entries + 1; setup = record { params = x.setup.params; machine = given_up x.setup.machine half }; place = x.place; length = x.length; half = None; tools = x.tools }
+abandoned x (Some half) = record x { entries = x.entries + 1; setup = record { params = x.setup.params; machine = given_up x.setup.machine half }; half = None }
 
 -- what stands after a half-done block that is given up
 abbrev pub after_abandon : StoredModel → StoredModel

@@ -8,7 +8,6 @@ use Rattle.ng_canon.specs.declared.item.Item.{Item}
 use Rattle.ng_canon.specs.declared.segment.Segment.{Segment}
 use Rattle.ng_step.specs.Hands.{hand}
 use Rattle.ng_block.specs.Effects.{Done}
-use Rattle.ng_layout.specs.Limits.{longest_program}
 use Rattle.ng_offsets.specs.Tools.{is_tool_length}
 use Rattle.ng_layout.specs.Tools.{takes_slot}
 use Rattle.ng_layout.specs.Stored.{HalfModel, StoredModel, DurableState}
@@ -124,7 +123,7 @@ pub record IsBlock (equipment : Equipment) (lines : List (List ℕ)) (x : Durabl
 
 abbrev pub FollowsFold : Equipment → List (List ℕ) → DurableState → Entry → Type 0
 FollowsFold equipment lines x (Block source text block_delete) = (done : Done) × IsBlock equipment lines x source text block_delete done
-FollowsFold equipment lines x (Loaded text) = (length text ≤ longest_program) × (x.saved.half ≡ None)
+FollowsFold equipment lines x (Loaded text) = (length text ≤ x.saved.room) × (x.saved.half ≡ None)
 FollowsFold equipment lines x (Referenced point) = is_inside equipment.geometry point ≡ true
 FollowsFold equipment lines x Approached = (a : Approach) × (approach_in equipment x ≡ Some a)
 FollowsFold equipment lines x Abandoned = (half : HalfModel) × (x.saved.half ≡ Some half)

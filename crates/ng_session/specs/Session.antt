@@ -14,7 +14,6 @@ use Rattle.ng_block.specs.Effects.{Done}
 use Rattle.ng_state.specs.State.{StateModel}
 use Rattle.ng_block.specs.declared.effect.ProgramFlow.{ProgramFlow}
 use Rattle.ng_block.specs.declared.effect.ProgramFlow.TheVariants as stop
-use Rattle.ng_layout.specs.Limits.{longest_program}
 use Rattle.ng_offsets.specs.Tools.{is_tool_length}
 use Rattle.ng_layout.specs.Tools.{takes_slot}
 use Rattle.ng_layout.specs.Stored.{HalfModel, StoredModel}
@@ -173,7 +172,7 @@ mdi equipment program s text =
 abbrev pub load_refusal : SessionModel → List ℕ → Option Fault
 load_refusal s text =
     if not (accepts_load s) then Some fault.Busy
-    else if nat_lt longest_program (length text) then Some fault.ProgramTooLong
+    else if nat_lt s.stored.room (length text) then Some fault.ProgramTooLong
     else None
 
 abbrev pub loaded : SessionModel → StoredModel → SessionModel
@@ -404,17 +403,13 @@ activity_after source stop.Ends optional_stop before = activity.Idle
 
 -- what stands after the current block
 abbrev pub after_current_block : StoredModel → CurrentBlockModel → StoredModel
-after_current_block x c = record { entries = x.entries + 1; setup = c.setup; place = c.place; length = x.length; half = None; tools = x.tools }
+after_current_block x c = record x { entries = x.entries + 1; setup = c.setup; place = c.place; half = None }
 
 -- what stands after the approach of the current block, which ends at a point
 abbrev pub after_current_approach : StoredModel → CurrentBlockModel → Point → StoredModel
-after_current_approach x c point = record {
+after_current_approach x c point = record x {
   entries = x.entries + 1;
-  setup = x.setup;
-  place = x.place;
-  length = x.length;
   half = Some (record { text = c.text; source = c.source; index = c.index; at = Some point; opened = None });
-  tools = x.tools;
 }
 
 abbrev pub approach_done : SessionModel → CurrentBlockModel → Approach → SessionModel

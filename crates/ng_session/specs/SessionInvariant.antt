@@ -18,11 +18,12 @@ abbrev pub onto : {T : Type 0} → Option T → List T → List T
 onto None rest = rest
 onto (Some first) rest = first ∷ rest
 
--- one entry further in the same program, with the same tools, which can be stored
+-- one entry further in the same program, with the same tools and the same room for a program, which can be stored
 pub record IsNextEntry (x y : StoredModel) : Type 0 where
   pub count : y.entries ≡ x.entries + 1
   pub same : y.length ≡ x.length
   pub tools : y.tools ≡ x.tools
+  pub room : y.room ≡ x.room
   pub storable : IsStorable y
 
 -- a block that is worked, and what is held ready to be stored after it and after its approach

@@ -105,6 +105,7 @@ fn after_block<A: Allocator + Copy + Drop>(
         state,
         place: place_after(next, stored.place, source, effect.stop),
         length: stored.length,
+        room: stored.room,
         half: None,
         tools: stored.tools.copy(),
     })
@@ -129,6 +130,7 @@ fn after_approach<A: Allocator + Copy + Drop>(
         state,
         place: stored.place,
         length: stored.length,
+        room: stored.room,
         half: Some(placed_at(to.point, half)),
         tools: stored.tools.copy(),
     })

@@ -38,7 +38,7 @@ impl<A: Allocator + Drop> Text<A> {
 /// What happens to a session (own).
 #[derive(Drop)]
 pub enum Event<A: Allocator> {
-    /// A program to be stored, of at most 131,072 bytes: a longer one is refused with J5.
+    /// A program to be stored: one for which the device has no room is refused with J5.
     Load(Text<A>),
     /// The program is to run from its place on.
     Start,

@@ -1,13 +1,13 @@
 //! How a program is loaded.
 ghost use Rattle.std.specs.Prelude.{◌≡◌, ◌≤◌, ℕ, Ok, IfOk, length};
-ghost use Rattle.ng_layout.specs.Limits.{greatest_count, longest_program};
+ghost use Rattle.ng_layout.specs.Limits.{greatest_count};
 ghost use Rattle.ng_layout.specs.Storable.{IsStorable};
 ghost use Rattle.ng_session.specs.Entries.{after_load};
 
 use crate::activity::Activity;
 use crate::reply::Reply;
 use crate::session::Session;
-use ng_layout::{LONGEST_PROGRAM, Stored};
+use ng_layout::Stored;
 use ng_num::Fault;
 use std::alloc::{AllocError, Allocator};
 
@@ -26,6 +26,7 @@ fn after_load<A: Allocator + Copy + Drop>(
         state,
         place: 0,
         length,
+        room: stored.room,
         half: None,
         tools: stored.tools.copy(),
     })
@@ -36,16 +37,16 @@ impl<A: Allocator + Copy + Drop> Session<A> {
     ghost use Rattle.ng_session.specs.SessionInvariant.{IsSessionInvariant};
     ghost use Rattle.ng_session.specs.Session.{accepts_load, load, load_refusal, loaded};
 
-    /// Why a program of these bytes isn't loaded now: K1 where the session isn't at rest or a block is half-done, J5 where it is
-    /// too long.
+    /// Why a program of these bytes isn't loaded now: K1 where the session isn't at rest or a block is half-done, J5 where the
+    /// device has no room for them.
     pub fn load_refusal(&self, text: &[u8]) -> Option<Fault>
         ensures value { result ≡ load_refusal self.now text.now }
-        ensures none { IfNone result ((accepts_load self.now ≡ true) × (length text.now ≤ longest_program)) }
+        ensures none { IfNone result ((accepts_load self.now ≡ true) × (length text.now ≤ self.now.stored.room)) }
     {
         if !self.accepts_load() {
             return Some(Fault::Busy);
         }
-        if text.len() > LONGEST_PROGRAM as usize {
+        if text.len() as u64 > self.stored.room {
             return Some(Fault::ProgramTooLong);
         }
         None
@@ -56,7 +57,7 @@ impl<A: Allocator + Copy + Drop> Session<A> {
     #[tactic(auto, using(crate::proofs::Standing::load_storable))]
     pub fn loading(&self, text: &[u8]) -> Result<Stored<A>, AllocError>
         ensures value { IfOk result (λ x. x ≡ after_load self.now.stored (length text.now)) }
-        ensures storable { IfOk result (λ x. length text.now ≤ longest_program → IsStorable x) }
+        ensures storable { IfOk result (λ x. length text.now ≤ self.now.stored.room → IsStorable x) }
     {
         after_load(&self.stored, text.len() as u64)
     }

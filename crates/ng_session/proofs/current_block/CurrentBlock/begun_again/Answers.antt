@@ -15,15 +15,11 @@ returns-clause-ready g c =
     record {
       between = c.in_ok-between.between;
       held = refl;
-      between_is = c.in_ok-between.ensures.value ∙ (λ i. record {
+      between_is = c.in_ok-between.ensures.value ∙ (λ i. record c.args.stored.now {
         entries = c.args.stored.now.entries + 1;
-        setup = c.args.stored.now.setup;
-        place = c.args.stored.now.place;
-        length = c.args.stored.now.length;
         half = Some (record { text = text i; source = source i; index = index i; at = Some (point i); opened = None });
-        tools = c.args.stored.now.tools;
       });
       first = c.in_ok-between.ensures.next;
       second = c.in_ok-after.ensures.next;
-      after_is = λ i. record { entries = c.in_ok-after.ensures.next.count i; setup = c.in_ok-after.after.setup; place = c.in_ok-after.after.place; length = c.in_ok-after.ensures.next.same i; half = ap (λ (y : StoredModel). y.half) c.in_ok-after.ensures.value i; tools = c.in_ok-after.ensures.next.tools i };
+      after_is = λ i. record { entries = c.in_ok-after.ensures.next.count i; setup = c.in_ok-after.after.setup; place = c.in_ok-after.after.place; length = c.in_ok-after.ensures.next.same i; half = ap (λ (y : StoredModel). y.half) c.in_ok-after.ensures.value i; tools = c.in_ok-after.ensures.next.tools i; room = c.in_ok-after.ensures.next.room i };
     }
