@@ -40,8 +40,8 @@ def dangers(lines: Lines, run: Run, is_large: bool) -> list[Danger]:
     """The warnings of a program, for a large device or any other, in the order of its lines, those of the whole first.
     """
     printed = by_line(lines, run)
-    found = [*_too_long(lines, is_large), *_homes(lines, printed), *_dwells(printed), *_full_turns(printed), *_deep(printed),
-             *_modes(lines, printed, run)]
+    found = [*_too_long(lines, is_large), *_homes(lines, printed), *_dwells(printed), *_full_turns(printed),
+             *_deep(printed), *_modes(lines, printed, run)]
     return sorted(found, key=lambda warning: warning.line)
 
 

@@ -178,10 +178,10 @@ class Device:
     """What an image stands for.
 
     `is_large` says that it has the sectors of a large device. `header` is the one in force, `headers` those in sectors
-    0 and 1, None where none is valid; `snapshot` is the state at its checkpoint, `records` the log's, which ends before sector `end`, and `state` what stands after them.
-    `parameters` are 1 to 5399 in millionths, `tools_nm` the lengths of slots 1, 2 .., `program` its text. `torn` are
-    sectors of a record that isn't complete. `damage` says what is out of its range (J3); where it isn't empty, the rest
-    is as found."""
+    0 and 1, None where none is valid; `snapshot` is the state at its checkpoint, `records` the log's, which ends before
+    sector `end`, and `state` what stands after them. `parameters` are 1 to 5399 in millionths, `tools_nm` the lengths
+    of slots 1, 2 .., `program` its text. `torn` are sectors of a record that isn't complete. `damage` says what is out
+    of its range (J3); where it isn't empty, the rest is as found."""
 
     def __init__(self, image: bytes) -> None:
         """Raises NoDevice."""

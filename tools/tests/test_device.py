@@ -144,7 +144,8 @@ class Devices(unittest.TestCase):
         self.assertEqual(Device(bytes(image)).damage, ["sector 686, record 0: slot 129 1000000000"])
         struct.pack_into("<q", image, SECTOR * 1708 + 504, -1)
         struct.pack_into("<q", image, SECTOR * 1709, 10**9 + 1)
-        self.assertEqual(Device(bytes(image)).damage[:2], ["sector 1708: slot 64 -1", "sector 1709: slot 65 1000000001"])
+        self.assertEqual(Device(bytes(image)).damage[:2],
+                         ["sector 1708: slot 64 -1", "sector 1709: slot 65 1000000001"])
 
     def test_program_areas(self) -> None:
         """Areas 2 and 3 hold up to 1,048,576 bytes, on a large device alone; areas 0 and 1 131,072 on any."""
