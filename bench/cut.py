@@ -28,7 +28,7 @@ sets a parameter, which is an entry, and is ended within the load that follows: 
 or one in five, and all where strace isn't there, by the clock, at any moment of the session. The device then has to
 stand for all that it stood for before the load or for all of what it stands for after it: the program to the byte and
 its area, the parameters, the state, the tool table, the entries and the records. The next power on has to find the
-same. At the end of ten loads the program that stands is run, from its first line to its last.
+same. After ten loads one more isn't cut, and its program is run, from its first line to its last.
 
 It builds ngc by rt where that is needed and no PATH is given."""
 import argparse, collections, contextlib, dataclasses, functools, math, os, random, re, shutil, subprocess, sys
@@ -583,9 +583,19 @@ class LongLoads:
         self.mill, self.chance, self.counts = Mill(ngc, tempfile.mkdtemp(dir=folder), True), chance, counts
         self.whole(b"tool 1 0.005\n" + load("G0 X0.002\nM2\n"))
         self.mill.grow()
+        self.took = self.seconds()
+
+    def seconds(self):
+        """How long a session takes that isn't cut; the device is then as before it."""
+        path = f"{self.mill.folder}/mill.dev"
+        with open(path, "rb") as file:
+            image = file.read()
         began = time.monotonic()
         self.whole(self.SET + load(self.program()))
-        self.took = time.monotonic() - began
+        took = time.monotonic() - began
+        with open(path, "wb") as file:
+            file.write(image)
+        return took
 
     def program(self):
         """A program that goes to X0.003 first, and back in the end; between them are comments by chance."""
@@ -646,9 +656,9 @@ class LongLoads:
             raise Wrong(f"after {found[:3]} power on left {now[:3]}, or another state")
 
     def run(self):
-        """Runs the program that stands."""
-        lines = self.mill.stands().program.count(b"\n")
-        entries = self.mill.stands().state.entries
+        """Loads a program without a cut, and runs it."""
+        device = self.whole(load(self.program()))
+        lines, entries = device.program.count(b"\n"), device.state.entries
         self.whole(b"start\ntick 1000000\n")
         # 0.3 m a minute are 1 um in 200 us
         wanted = [f"P {way} 0 0 200\n" for way in (1, 1, 1, -1, -1, -1)] + [OFF]
