@@ -2,7 +2,7 @@
 """Ends `ngc run` by kill -9 in the midst of jobs, goes on each time where the job was cut, and looks at what each session
 leaves.
 
-usage, at the top of the repository: bench/cut.py [JOBS [SEED]] [--ngc PATH] [--folder FOLDER] [--cuts N]
+usage, at the top of the repository: bench/cut.py [JOBS [SEED]] [--ngc PATH] [--folder FOLDER] [--cuts N] [--loads N]
 
 Each job (100 where JOBS isn't given; made by jobs.py, by chance from SEED) begins over a new device, by telling its
 tools, or, one in three, over one of format 1, which takes the tools of the settings; over a device of format 2 the
@@ -22,6 +22,14 @@ show what the device stood for, under the next epoch, or over format 1 under the
 empty log. At the end the machine has to stand, and the device has to stand for all but the number of entries, as after
 the run that wasn't cut. Status 0 where that holds for each job.
 
+Then N loads (100) of programs of 200,000 bytes are cut, over devices that had a short program and were grown; of ten
+loads the first is over such a device, the others over what the one before left. A session powers on, does a line that
+sets a parameter, which is an entry, and is ended within the load that follows: right before one of its writes or syncs,
+or one in five, and all where strace isn't there, by the clock, at any moment of the session. The device then has to
+stand for all that it stood for before the load or for all of what it stands for after it: the program to the byte and
+its area, the parameters, the state, the tool table, the entries and the records. The next power on has to find the
+same. After ten loads one more isn't cut, and its program is run, from its first line to its last.
+
 It builds ngc by rt where that is needed and no PATH is given."""
 import argparse, collections, contextlib, dataclasses, functools, math, os, random, re, shutil, subprocess, sys
 import tempfile, threading, time
@@ -30,7 +38,7 @@ here = os.path.dirname(os.path.dirname(os.path.abspath(__file__)))
 sys.dont_write_bytecode = True
 sys.path.insert(0, os.path.join(here, "tools"))
 import jobs
-from ngc_tools.device import SIZE, Device
+from ngc_tools.device import LARGE_SIZE, SIZE, Device
 
 STATUS = re.compile(r"status entries (\d+) place (\d+) at (\S+ \S+ \S+) (known|unknown) half (none|\S+ \d+) (\w+)\n")
 OFF = "S 0 0.000000 0 0 0 0\n"
@@ -116,6 +124,10 @@ class Mill:
             name, path = ("write", out) if call == "line" else (call, device)
             words = traced(name, path, number, words)
         return subprocess.Popen(words, stdin=subprocess.PIPE, stdout=subprocess.PIPE)
+
+    def grow(self):
+        """Makes the device large."""
+        subprocess.run([self.ngc, "grow", f"{self.folder}/mill.dev"], check=True)
 
     def handed_out(self):
         """The whole lines of OUT of the last session."""
@@ -286,8 +298,9 @@ class Session:
                 going, stopped = step.activity == "running", step.activity == "stopped"
             if step.kind == "load":
                 # which writes the device anew as a whole
-                self.loads.append((self.state().entries, tuple(self.calls), calls_of_load(step)))
-                self.calls = [before + own for before, own in zip(self.calls, calls_of_load(step))]
+                own = calls_of_load(step.text)
+                self.loads.append((self.state().entries, tuple(self.calls), own))
+                self.calls = [before + more for before, more in zip(self.calls, own)]
                 self.comes(entries=self.state().entries + 1, done=self.state().done + 1, half=None, at=None, records=0, kind=NOTHING)
             else:
                 self.work(0)
@@ -485,9 +498,9 @@ class Cutting:
         self.moments = session.moments if self.was_cut else session.moments[-1:]
 
 
-def calls_of_load(step):
+def calls_of_load(text):
     """How many writes to the device, syncs and lines of OUT a load makes: it writes its text, and the device anew as a whole."""
-    return 89 + (len(step.text.encode()) + 511) // 512, 3, 0
+    return 89 + (len(text.encode()) + 511) // 512, 3, 0
 
 
 def traced(call, path, number, words):
@@ -559,6 +572,112 @@ def try_job(ngc, folder, chance, counts, cuts):
     return sum(len(step.segments) for step in steps), sum(len(segment) for step in steps for segment in step.segments)
 
 
+class LongLoads:
+    """Loads of long programs over a device that had a short one and was grown, each cut."""
+
+    BYTES = 200_000
+    # of each session the line before the load, and how many writes and syncs its record takes
+    SET, OF_SET = b"mdi #1=5\ntick 9\n", (1, 1)
+
+    def __init__(self, ngc, folder, chance, counts):
+        self.mill, self.chance, self.counts = Mill(ngc, tempfile.mkdtemp(dir=folder), True), chance, counts
+        self.whole(b"tool 1 0.005\n" + load("G0 X0.002\nM2\n"))
+        self.mill.grow()
+        self.took = self.seconds()
+
+    def seconds(self):
+        """How long a session takes that isn't cut; the device is then as before it."""
+        path = f"{self.mill.folder}/mill.dev"
+        with open(path, "rb") as file:
+            image = file.read()
+        began = time.monotonic()
+        self.whole(self.SET + load(self.program()))
+        took = time.monotonic() - began
+        with open(path, "wb") as file:
+            file.write(image)
+        return took
+
+    def program(self):
+        """A program that goes to X0.003 first, and back in the end; between them are comments by chance."""
+        comments = "".join(f"({self.chance.getrandbits(500):0125x})\n" for _ in range(self.BYTES // 128 - 1))
+        end = "G0 X0\nM2\n"
+        return ("G0 X0.003\n" + comments).ljust(self.BYTES - len(end), "\n") + end
+
+    def whole(self, commands):
+        """A session that isn't cut, and what the device then stands for."""
+        child = self.mill.start()
+        asked(child, commands)
+        child.stdin.close()
+        if child.wait() != 0:
+            raise Wrong(f"a session ended with status {child.returncode}")
+        return self.mill.stands()
+
+    def cut(self):
+        """Cuts one load."""
+        before, text = self.mill.stands(), self.program()
+        kind, is_traced = self.chance.randrange(2), can_trace() and self.chance.random() < 0.8
+        first = OF_POWER_ON[2][kind] + self.OF_SET[kind]
+        number = first + self.chance.randint(1, calls_of_load(text)[kind])
+        child = self.mill.start(*((CALLS[kind], number) if is_traced else ()))
+        timer = threading.Timer(self.chance.uniform(0, 1.2 * self.took), child.kill)
+        if not is_traced:
+            timer.start()
+        written(child, self.SET + load(text), last=True)
+        told = child.stdout.read().decode().count("done")
+        timer.cancel()
+        if child.wait() not in (0, -9) or is_traced and (child.returncode, told) != (-9, 1):
+            raise Wrong(f"a load that was to be cut ended with status {child.returncode}, {told} told done")
+        self.look(self.states(before, text), told)
+
+    def states(self, before, text):
+        """What the device may stand for: as it was, after the line, and after the load, each with the records of its log."""
+        state, parameters, tools, program = stored(before)
+        with_five = {**parameters, 1: 5_000_000}
+        area, entries = before.header.area, before.state.entries
+        return ((entries, len(before.records), area, (state, parameters, tools, program)),
+                (entries, 0, area, (state, parameters, tools, program)),
+                (entries + 1, 1, area, (state, with_five, tools, program)),
+                (entries + 2, 0, 3 if area == 2 else 2,
+                 (dataclasses.replace(state, place=0), {**parameters, 1: 0}, tools, text.encode())))
+
+    def look(self, states, told):
+        """Looks at what a cut left, and at what the next power on makes of it."""
+        device = self.mill.stands()
+        found = (device.state.entries, len(device.records), device.header.area, stored(device))
+        # by how many entries were told done
+        fits = [n for n in ((0, 1, 2), (2, 3), (3,))[told] if states[n] == found]
+        if not fits or len(device.image) != LARGE_SIZE:
+            raise Wrong(f"a load that was cut left {found[:3]} or another state, {told} told done; "
+                        f"there were {[state[:3] for state in states]}")
+        self.counts["new program" if fits == [3] else "old program"] += 1
+        again = self.whole(b"")
+        now = (again.state.entries, len(again.records), again.header.area, stored(again))
+        if now != (found[0], 0, *found[2:]):
+            raise Wrong(f"after {found[:3]} power on left {now[:3]}, or another state")
+
+    def run(self):
+        """Loads a program without a cut, and runs it."""
+        device = self.whole(load(self.program()))
+        lines, entries = device.program.count(b"\n"), device.state.entries
+        self.whole(b"start\ntick 1000000\n")
+        # 0.3 m a minute are 1 um in 200 us
+        wanted = [f"P {way} 0 0 200\n" for way in (1, 1, 1, -1, -1, -1)] + [OFF]
+        if self.mill.handed_out() != wanted or self.mill.stands().state.entries != entries + lines:
+            raise Wrong(f"a program of {lines} lines was run to entry {self.mill.stands().state.entries} from {entries}, "
+                        f"and handed out {self.mill.handed_out()}")
+
+
+def try_loads(ngc, folder, seed, number, counts):
+    """Cuts so many loads of long programs, ten over each device."""
+    for device in range(-(-number // 10)):
+        chance = random.Random(f"{seed} load {device}")
+        with tempfile.TemporaryDirectory(dir=folder) as own:
+            loads = LongLoads(ngc, own, chance, counts)
+            for _ in range(min(10, number - 10 * device)):
+                loads.cut()
+            loads.run()
+
+
 def main():
     words = argparse.ArgumentParser(description=__doc__.splitlines()[0])
     words.add_argument("jobs", nargs="?", type=int, default=100)
@@ -566,6 +685,7 @@ def main():
     words.add_argument("--ngc", help="the program, if it isn't crates/ngc/out/ngc, built by rt")
     words.add_argument("--folder", help="where devices and OUT lie, if not in the system's folder for such files")
     words.add_argument("--cuts", type=int, default=4, help="the most cuts of a job")
+    words.add_argument("--loads", type=int, default=100, help="how many loads of long programs are cut")
     given = words.parse_args()
     ngc = given.ngc and os.path.abspath(given.ngc)
     if not ngc:
@@ -583,12 +703,18 @@ def main():
                 sys.exit(f"job {number} of seed {given.seed}: {wrong}\n{job_of(random.Random(f'{given.seed} {number}'))}")
         segments += made
         lines += handed
+    try:
+        try_loads(ngc, given.folder, given.seed, given.loads, counts)
+    except Wrong as wrong:
+        sys.exit(f"a load of seed {given.seed}: {wrong}")
     kinds = (NOTHING, SEGMENT, TOLD, APPROACH, APPROACHED)
     print(f"{given.jobs} jobs of {segments} segments, {counts['tool']} tools and {lines} lines of OUT, {counts[LATE]} of them to their end before the next cut")
     print(f"cut {sum(counts[kind] for kind in (*kinds, POWER_ON))} times: {counts[POWER_ON]} in power on, {counts[MIGRATION]} of them over format 1, after which stood what had stood "
           f"before; {counts[LOAD]} in a load;")
     print("then stood " + ", ".join(f"{kind} {counts[kind]}" for kind in kinds))
     print(f"{counts[MORE]} times {MORE}, {counts[TORN]} times {TORN}, which counted for nothing")
+    print(f"{given.loads} loads of {LongLoads.BYTES:,} bytes were cut on devices that were grown: then stood the old program "
+          f"{counts['old program']} times, the new one {counts['new program']} times")
 
 
 if __name__ == "__main__":

@@ -86,9 +86,9 @@ def tooled():
     return sorted(found)
 
 
-def is_valid(epoch, area, length, form=1):
-    """Whether the tools take the header for a valid one."""
-    device = bytearray(tool.SIZE)
+def is_valid(epoch, area, length, form=1, size=tool.SIZE):
+    """Whether the tools take the header for a valid one, on a device of so many bytes."""
+    device = bytearray(size)
     struct.pack_into("<8sIxxxxQQQ", device, 512 * (epoch % 2), b"RS274NGC", form, epoch, area, length)
     try:
         return tool.Device(bytes(device)).epoch == epoch
@@ -175,7 +175,7 @@ for byte, name in [(144, "motion"), (145, "plane"), (146, "distance"), (147, "fe
 # The ranges of the tools.
 for field in tool.STATE.values():
     text = ranges[field.byte]
-    wanted = {"count": [-9_999_999_999_999, 9_999_999_999_999], "any": [0, 2**64 - 1]}.get(text) or numbers(text.replace("the program length", "131,072"))
+    wanted = {"count": [-9_999_999_999_999, 9_999_999_999_999], "any": [0, 2**64 - 1]}.get(text) or numbers(text.replace("the program length", f"{tool.MOST_LARGE_PROGRAM}"))
     same(f"range of byte {field.byte}", ("docs", wanted), ("tools", extremes(field.limits)))
 
 # Limits, and where the areas lie.
@@ -187,24 +187,37 @@ for row, name in [(header[2], "greatest_count"), (header[4], "longest_program"),
     same(row[2], ("docs", bound(row)), ("definition", numbers(limits[name])[0]))
 for byte, name in [(158, "greatest_slot"), (160, "greatest_slot"), (166, "longest_text")]:
     same(f"limit of byte {byte}", ("docs", numbers(ranges[byte])[-1]), ("definition", numbers(limits[name])[0]))
-bounds = [bound(row) for row in header[2:5]]
-for n, least in enumerate((1, 0, 0)):
-    given = [2, 1, 0]
-    for number, valid in ((least, True), (bounds[n], True), (bounds[n] + 1, False)) + (((0, False),) if least else ()):
-        given[n] = number
-        same(f"header with {header[2 + n][2]} {number}", ("docs", valid), ("tools", is_valid(*given)))
+for epoch, valid in ((0, False), (2, True), (bound(header[2]), True), (bound(header[2]) + 2, False)):
+    same(f"header with epoch {epoch}", ("docs", valid), ("tools", is_valid(epoch, 1, 0)))
 for form in (0, 1, 2, 3):
     same(f"header of format {form}", ("docs", form in numbers(header[1][3])), ("definition", form in known["format"]),
          ("tools", is_valid(2, 0, 0, form)))
 value = lambda name: numbers(re.search(rf"\n{name}[^\n=]* = (.*)", areas)[1])[0]
 first, step = value("header_count"), value("snapshot_size")
-area, size = value("program_first"), value("program_size")
 log_first, logs, pair = value("log_first"), {1: value("longest_log"), 2: value("shortest_log")}, value("tools_size")
 tools_first = log_first + logs[2]
+
+# Program areas: their numbers, the first sector of each, and the bytes of a program, on a device that is large and on any other.
+_, large_size, small_size = numbers(re.search(r"\nprogram_size area = (if nat_le .*)", areas)[1])
+_, large_first, by, less, area, small_by = numbers(re.search(r"\nprogram_first area = (if nat_le .*)", areas)[1])
+most_areas = {large: numbers(re.search(rf"\ngreatest_area {large} = (\d+)", areas)[1])[0] for large in ("false", "true")}
+same("program areas", ("definition", [large_size, small_size, less]), ("this script", [by, small_by, most_areas["false"] + 1]))
+twice = lambda at, count: [at, at + count - 1, at + count, at + 2 * count - 1]
 same("sectors", ("docs", [numbers(re.sub(" and ", " to ", row[0])) for row in rows("What the journal keeps")]),
-     ("definition", [[0, 1], [first, first + step - 1, first + step, first + 2 * step - 1],
-                     [area, area + size - 1, area + size, area + 2 * size - 1], *[[log_first, log_first + count - 1] for count in logs.values()],
-                     [tools_first, tools_first + pair - 1, tools_first + pair, tools_first + 2 * pair - 1]]))
+     ("definition", [[0, 1], twice(first, step), twice(area, small_size), *[[log_first, log_first + count - 1] for count in logs.values()],
+                     twice(tools_first, pair), twice(large_first, large_size)]))
+defined = [(area + small_size * n, 512 * small_size) for n in range(less)]
+defined += [(large_first + large_size * n, 512 * large_size) for n in range(most_areas["true"] + 1 - less)]
+same("areas", ("definition", defined), ("tools", list(tool.AREAS)))
+last = value("large_size")
+same("size of a large device", ("sectors", large_first + 2 * large_size), ("definition", last), ("tools", tool.LARGE_SIZE // 512))
+same("numbers of areas", ("docs", numbers(header[3][3])), ("definition", [0, most_areas["false"], 0, most_areas["true"]]))
+same("program lengths", ("docs", numbers(header[4][3])), ("definition", [0, 1, 0, defined[0][1], 2, 3, 0, defined[2][1]]))
+for large, size in (("false", tool.SIZE), ("false", 512 * (last - 1)), ("true", 512 * last)):
+    for number in range(most_areas["true"] + 2):
+        for length in (0, *(most + more for _, most in defined[::2] for more in (0, 1))):
+            valid = number <= most_areas[large] and length <= defined[number][1]
+            same(f"header with area {number} and length {length}", ("definition", valid), ("tools", is_valid(2, number, length, 2, size)))
 same("log's end", ("definition", {form: log_first + count for form, count in logs.items()}), ("tools", tool.LOG_END))
 same("least size", ("sectors", log_first + max(logs.values())), ("tools", tool.SIZE // 512))
 same("least size", ("sectors", tools_first + 2 * pair), ("tools", tool.SIZE // 512))

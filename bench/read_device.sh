@@ -109,7 +109,9 @@ whole() {
     python3 "$examples/read_device.py" "$work/device" > "$work/state"
     grep -qx "tool length of slot $2, nm: $3" "$work/state"
 }
-damaged "88 456 4100" "sector 88: number of slots 65"
+damaged "88 456 8100" "sector 88: number of slots 129"
+damaged "88 456 8000
+1709 504 ffffffffffffffff" "sector 1709: slot 128 -1"
 damaged "1708 0 ffffffffffffffff" "sector 1708: slot 1 -1"
 damaged "1708 16 01ca9a3b00000000" "sector 1708: slot 3 1000000001"
 whole "1708 24 ffffffffffffffff" 3 1000000000
@@ -122,3 +124,18 @@ whole "$record 030000000000000001" 3 1
 damaged "$record 050000000000000001" "sector 686, record 0: slot 5 1"
 damaged "$record 000000000000000001ca9a3b" "sector 686, record 0: slot 0 1000000001"
 echo "read_device.py: refuses what isn't a device, finds the older header, and says what is damaged"
+
+# a header that names area 2 counts on a device of 5,806 sectors, and not on one that is a byte shorter
+{ cat "$examples/device2.hex"; echo "1 24 02"; } | python3 "$work/make.py" "$work/device"
+python3 "$examples/read_device.py" "$work/device" > "$work/state"
+grep -qx "epoch: 2" "$work/state"
+printf 'G0 X0.003\nM2\n' | dd of="$work/device" bs=512 seek=1710 conv=notrunc 2> "$work/dd"
+truncate -s 2972671 "$work/device"
+python3 "$examples/read_device.py" "$work/device" > "$work/state"
+grep -qx "epoch: 2" "$work/state"
+truncate -s 2972672 "$work/device"
+python3 "$examples/read_device.py" "$work/device" > "$work/state"
+grep -qx "epoch: 3" "$work/state"
+grep -qx "header in sector 1: epoch 3, program area 2, 13 bytes, format 2, in force" "$work/state"
+grep -qx "G0 X0.003" "$work/state"
+echo "read_device.py: takes a header that names area 2 on a large device alone"

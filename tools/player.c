@@ -26,7 +26,7 @@
 #include <time.h>
 #include <unistd.h>
 
-enum { HAND = 64, ROOM = 1 << 17, LONGEST = 200, SECTOR = 512 };
+enum { HAND = 64, ROOM = 1 << 17, LONGEST = 200, SECTOR = 512, SLOTS = 128 };
 
 struct line { int kind, step[3]; uint64_t us; unsigned spindle, speed, millionths, mist, flood, selected, slot; };
 
@@ -69,7 +69,7 @@ static int print_switch(char *text, size_t size, const struct line *l) {
 static int read_switch(const char *text, struct line *l) {
     return sscanf(text, "S %u %u.%u %u %u %u %u", &l->spindle, &l->speed, &l->millionths, &l->mist, &l->flood,
                   &l->selected, &l->slot) == 7 && l->spindle <= 2 && l->speed <= 9999999 && l->millionths <= 999999
-        && l->mist <= 1 && l->flood <= 1 && l->selected <= 64 && l->slot <= 64;
+        && l->mist <= 1 && l->flood <= 1 && l->selected <= SLOTS && l->slot <= SLOTS;
 }
 
 /* Whether the text is exactly one of docs/OUTPUT.md's three: what was read of it, printed again, is the same. */

@@ -43,6 +43,7 @@ def parser() -> argparse.ArgumentParser:
     words.add_argument("--settings", metavar="FILE", help="the machine's settings; without it the default ones hold")
     words.add_argument("--settings-only", action="store_true", help="check the settings, and no program")
     words.add_argument("--block-delete", action="store_true", help="leave out the lines that begin with a slash")
+    words.add_argument("--large", action="store_true", help="the device is large: a program may have 1,048,576 bytes")
     words.add_argument("--most", metavar="N", type=int, default=0, help="stop after N refusals; else all are found")
     words.add_argument("--ngc", metavar="PATH", help="the program ngc; without it the one beside this tool, or on PATH")
     return words
@@ -105,7 +106,8 @@ def check(ngc: str, given: argparse.Namespace) -> int:
     for finding in find_all(lines, ask, given.most):
         report.refused(finding)
     more = given.most and report.count == given.most and ask(b"".join(lines.all))
-    found = [danger for danger in dangers(lines, run) if danger.line not in report.lines] if not more else []
+    all_found = [] if more else dangers(lines, run, given.large)
+    found = [danger for danger in all_found if danger.line not in report.lines]
     kinds: Counter[str] = Counter()
     for danger in found:
         kinds[danger.kind] += 1

@@ -6,7 +6,7 @@ from pathlib import Path
 from types import TracebackType
 
 from ngc_tools.console import Console, Status
-from ngc_tools.device import SIZE, Device
+from ngc_tools.device import Device
 from ngc_tools.out import Dwell, Pulse, Switch, parse
 from ngc_tools.position import Position, nanometres
 from ngc_tools.settings import Settings
@@ -95,7 +95,7 @@ class Copy:
         self._folder = tempfile.TemporaryDirectory(prefix="ngc-rehearse-", dir=shared)
         folder = Path(self._folder.name)
         self._device, self._out = folder / "device", folder / "out"
-        self._device.write_bytes(image[:SIZE])
+        self._device.write_bytes(image)
         self._settings = Settings.read(settings)
         self.ticks = self.lines = 0
         self.stops: list[int] = []

@@ -7,7 +7,7 @@ from math import isqrt
 
 from ngc_tools import canonical
 from ngc_tools.canonical import MOTIONS, Command
-from ngc_tools.device import MOST_PROGRAM
+from ngc_tools.device import MOST_LARGE_PROGRAM, MOST_PROGRAM
 from ngc_tools.figures import duration, millimetres
 from ngc_tools.moves import PLANES, Point, arc_of
 from ngc_tools.refused import Lines
@@ -36,11 +36,12 @@ Printed = dict[int, list[Command]]
 """What each line of a program printed, by its number; comments aside. 0 is what stands before the program."""
 
 
-def dangers(lines: Lines, run: Run) -> list[Danger]:
-    """The warnings of a program in the order of its lines, those of the whole first."""
+def dangers(lines: Lines, run: Run, is_large: bool) -> list[Danger]:
+    """The warnings of a program, for a large device or any other, in the order of its lines, those of the whole first.
+    """
     printed = by_line(lines, run)
-    found = [*_too_long(lines), *_homes(lines, printed), *_dwells(printed), *_full_turns(printed), *_deep(printed),
-             *_modes(lines, printed, run)]
+    found = [*_too_long(lines, is_large), *_homes(lines, printed), *_dwells(printed), *_full_turns(printed),
+             *_deep(printed), *_modes(lines, printed, run)]
     return sorted(found, key=lambda warning: warning.line)
 
 
@@ -88,11 +89,12 @@ def _parted(commands: list[Command], mark: str) -> Printed:
     return printed
 
 
-def _too_long(lines: Lines) -> list[Danger]:
-    size = sum(map(len, lines.all))
-    if size <= MOST_PROGRAM:
+def _too_long(lines: Lines, is_large: bool) -> list[Danger]:
+    size, most = sum(map(len, lines.all)), MOST_LARGE_PROGRAM if is_large else MOST_PROGRAM
+    if size <= most:
         return []
-    return [Danger(0, "bytes", f"{size:,} bytes: ngc run takes at most {MOST_PROGRAM:,} of a program (J5)")]
+    where = " on a large device" if is_large else f", {MOST_LARGE_PROGRAM:,} on a large device"
+    return [Danger(0, "bytes", f"{size:,} bytes: ngc run takes at most {most:,} of a program{where} (J5)")]
 
 
 def _homes(lines: Lines, printed: Printed) -> list[Danger]:

@@ -7,10 +7,15 @@ from pathlib import Path
 
 SECTOR = 512
 SIZE = SECTOR * 1710  # bytes of the sectors that a device needs
+LARGE_SIZE = SECTOR * 5806  # bytes from which on it is large
 LOG_FIRST = 686
 LOG_END = {1: 1710, 2: 1706}  # the sector after the log, by the format
-SLOTS = 64
+SLOTS = 128
 MOST_PROGRAM = 131_072  # bytes; of more `ngc run` says J5
+MOST_LARGE_PROGRAM = 1_048_576  # the same on a large device
+AREAS = ((174, MOST_PROGRAM), (430, MOST_PROGRAM), (1710, MOST_LARGE_PROGRAM), (3758, MOST_LARGE_PROGRAM))
+"""The program areas: the first sector of each, and the most bytes of a program in it. A large device alone has the
+last two."""
 
 _TOOLS_FIRST = 1706
 LENGTHS = range(10**9 + 1)
@@ -33,7 +38,7 @@ class Field:
 
 STATE = {
     "entries": Field(0, "Q", _COUNTERS, "entry count"),
-    "place": Field(8, "Q", range(MOST_PROGRAM + 1), "place"),
+    "place": Field(8, "Q", range(MOST_LARGE_PROGRAM + 1), "place"),
     "point_nm": Field(16, "3q", _SIGNED, "machine point, nm"),
     "feed_nm_per_min": Field(40, "Q", _COUNTS, "feed, nm per minute"),
     "speed": Field(48, "Q", _COUNTS, "spindle speed, millionths"),
@@ -153,7 +158,7 @@ class State:
             unread += ("half_point_nm",)
         found = [self.said(name) for name, field in STATE.items()
                  if name not in unread and any(number not in field.limits for number in self.numbers(name))]
-        if length < self.place <= MOST_PROGRAM:
+        if length < self.place <= MOST_LARGE_PROGRAM:
             found.append(f"{self.said('place')} of {length} bytes")
         if (self.opened or self.half_known) and not self.half or self.opened and self.half_known:
             found.append(self.said("half", "opened", "half_known"))
@@ -172,24 +177,25 @@ class Record:
 class Device:
     """What an image stands for.
 
-    `header` is the one in force, `headers` those in sectors 0 and 1, None where none is valid; `snapshot` is the state
-    at its checkpoint, `records` the log's, which ends before sector `end`, and `state` what stands after them.
-    `parameters` are 1 to 5399 in millionths, `tools_nm` the lengths of slots 1, 2 .., `program` its text. `torn` are
-    sectors of a record that isn't complete. `damage` says what is out of its range (J3); where it isn't empty, the rest
-    is as found."""
+    `is_large` says that it has the sectors of a large device. `header` is the one in force, `headers` those in sectors
+    0 and 1, None where none is valid; `snapshot` is the state at its checkpoint, `records` the log's, which ends before
+    sector `end`, and `state` what stands after them. `parameters` are 1 to 5399 in millionths, `tools_nm` the lengths
+    of slots 1, 2 .., `program` its text. `torn` are sectors of a record that isn't complete. `damage` says what is out
+    of its range (J3); where it isn't empty, the rest is as found."""
 
     def __init__(self, image: bytes) -> None:
         """Raises NoDevice."""
         if len(image) < SIZE:
             raise NoDevice(f"{len(image):,} bytes, and a device has {SIZE:,} or more")
         self.image = image
-        self.headers = [_header(image, sector) for sector in (0, 1)]
+        self.is_large = len(image) >= LARGE_SIZE
+        self.headers = [self._header(sector) for sector in (0, 1)]
         valid = [header for header in self.headers if header]
         if not valid:
             raise NoDevice("it isn't formatted: neither sector 0 nor sector 1 holds a valid header")
         self.header = max(valid)
         self.epoch, self.format = self.header.epoch, self.header.format
-        start = SECTOR * (174 + 256 * self.header.area)
+        start = SECTOR * AREAS[self.header.area][0]
         self.program = image[start:start + self.header.length]
         self.damage: list[str] = []
         self._take_snapshot(2 + 86 * (self.epoch % 2))
@@ -205,7 +211,7 @@ class Device:
     def read(path: str | Path) -> "Device":
         """Reads the file, whether a session holds it or not. Raises NoDevice or OSError."""
         with open(path, "rb") as file:
-            return Device(file.read(SIZE))
+            return Device(file.read(LARGE_SIZE))
 
     @property
     def selected(self) -> int:
@@ -232,6 +238,14 @@ class Device:
             return None
         return self.image[:SECTOR * sector] + bytes(SECTOR) + self.image[SECTOR * (sector + 1):]
 
+    def _header(self, sector: int) -> Header | None:
+        """The header in a sector, where it is valid on a device of this length."""
+        mark, form, epoch, area, length = struct.unpack_from("<8sI4xQQQ", self.image, SECTOR * sector)
+        rooms = [room for _, room in AREAS if self.is_large or room == MOST_PROGRAM]
+        right = (mark == b"RS274NGC" and form in LOG_END and 1 <= epoch <= 10**12 and epoch % 2 == sector
+                 and area < len(rooms) and length <= rooms[area])
+        return Header(epoch, area, length, form) if right else None
+
     def _take_snapshot(self, first: int) -> None:
         """Reads the snapshot that begins at a sector, and the tool area beside it."""
         image = self.image
@@ -250,8 +264,8 @@ class Device:
             self.damage.append(f"sector {first}: number of slots {slots}")
             return
         self.tools_nm = list(struct.unpack_from(f"<{slots}q", image, SECTOR * area))
-        self._note(f"sector {area}", [f"slot {slot} {nm}" for slot, nm in enumerate(self.tools_nm, 1)
-                                      if nm not in LENGTHS])
+        self.damage += [f"sector {area + (slot - 1) // 64}: slot {slot} {nm}"
+                        for slot, nm in enumerate(self.tools_nm, 1) if nm not in LENGTHS]
 
     def _complete(self, first: int) -> int:
         """How many parts the complete record has that begins at a sector, 0 where there is none."""
@@ -295,24 +309,16 @@ class Device:
         self.damage += [f"{where}: {what}" for what in found]
 
 
-def _header(image: bytes, sector: int) -> Header | None:
-    """The header in a sector, where it is valid."""
-    mark, form, epoch, area, length = struct.unpack_from("<8sI4xQQQ", image, SECTOR * sector)
-    right = (mark == b"RS274NGC" and form in LOG_END and 1 <= epoch <= 10**12 and epoch % 2 == sector
-             and area <= 1 and length <= MOST_PROGRAM)
-    return Header(epoch, area, length, form) if right else None
-
-
 def copied(path: str | Path) -> bytes:
-    """The first 1,710 sectors of a device that no session holds. It is opened to read, and held (by a shared lock) for
-    as long as that takes.
+    """The sectors of a device that no session holds, up to the 5,806 of a large one. It is opened to read, and held (by
+    a shared lock) for as long as that takes.
 
     Raises Held where a session has it, or OSError."""
     file = os.open(path, os.O_RDONLY | os.O_CLOEXEC)
     try:
         fcntl.flock(file, fcntl.LOCK_SH | fcntl.LOCK_NB)
         with os.fdopen(os.dup(file), "rb") as reader:
-            return reader.read(SIZE)
+            return reader.read(LARGE_SIZE)
     except BlockingIOError as why:
         raise Held(why.errno, "a session holds the device: end it by quit", str(path)) from None
     except OSError as why:

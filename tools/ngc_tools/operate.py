@@ -32,7 +32,7 @@ REFUSALS = {
     "J2": "the file is too short for a device, or holds none: ngc format DEVICE",
     "J3": "the device was formatted, and what it holds is in no state that a controller writes",
     "J4": "the device has counted as far as it can: ngc format DEVICE",
-    "J5": "a program has at most 131,072 bytes",
+    "J5": "a program has at most 131,072 bytes, on a large device 1,048,576 (ngc grow DEVICE makes it one)",
     "K1": "a block is under way or half-done, the program runs, or it is held",
     "K2": "no program is loaded, or nothing waits: load FILE, run",
     "K3": "it isn't known where the machine stands: reference X Y Z",

@@ -2,6 +2,8 @@
 import re
 from dataclasses import dataclass
 
+from ngc_tools.device import SLOTS
+
 GREATEST_US = 2**64 - 1
 LONGEST_LINE = 200  # bytes; no line of OUT is as long
 
@@ -71,7 +73,8 @@ OFF = Switch(0, 0, False, False, 0, 0)
 _WHOLE = rb"(0|[1-9][0-9]{0,19})"
 _PULSE = re.compile(rb"P (-1|0|1) (-1|0|1) (-1|0|1) " + _WHOLE)
 _DWELL = re.compile(rb"D " + _WHOLE)
-_SWITCH = re.compile(rb"S ([012]) (0|[1-9][0-9]{0,6})\.([0-9]{6}) ([01]) ([01]) (0|[1-9][0-9]?) (0|[1-9][0-9]?)")
+_SLOT = rb"(0|[1-9][0-9]{0,2})"
+_SWITCH = re.compile(rb"S ([012]) (0|[1-9][0-9]{0,6})\.([0-9]{6}) ([01]) ([01]) " + _SLOT + b" " + _SLOT)
 
 
 def parse(line: bytes | str, number: int, least_period_us: int = 1) -> Line:
@@ -97,8 +100,8 @@ def parse(line: bytes | str, number: int, least_period_us: int = 1) -> Line:
 def _in_range(line: Line, number: int, least_period_us: int) -> None:
     """Raises BadLine where a number of the line is beyond what docs/OUTPUT.md says."""
     if isinstance(line, Switch):
-        if max(line.selected, line.slot) > 64:
-            raise BadLine(number, f"a slot above 64: {line}")
+        if max(line.selected, line.slot) > SLOTS:
+            raise BadLine(number, f"a slot above {SLOTS}: {line}")
     elif line.lasts_us > GREATEST_US:
         raise BadLine(number, f"a time of {line.lasts_us} microseconds")
     elif isinstance(line, Pulse) and line.period_us < least_period_us:

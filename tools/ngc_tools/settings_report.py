@@ -19,7 +19,7 @@ LIMITS = {
     "high_nm": "three whole numbers of nanometres, 0 to 10,000,000,000",
     "traverse_nm_per_min": "a whole number of nanometres a minute, 1 to 100,000,000,000",
     "period_us": "a whole number of microseconds, 1 to 1,000,000",
-    "tools_nm": "an array of at most 64 whole numbers of nanometres, 0 to 1,000,000,000",
+    "tools_nm": "an array of at most 128 whole numbers of nanometres, 0 to 1,000,000,000",
 }
 
 SENTENCES = {
@@ -28,7 +28,7 @@ SENTENCES = {
     "S3": "there is another key",
     "S4": "a value isn't of its type",
     "S5": "a number is beyond its limits",
-    "S6": "there are more than 64 tool lengths",
+    "S6": "there are more than 128 tool lengths",
 }
 
 

@@ -6,17 +6,17 @@ from pathlib import Path
 
 from ngc_tools import faults
 from ngc_tools.causes import cause
-from ngc_tools.device import MOST_PROGRAM
+from ngc_tools.device import MOST_LARGE_PROGRAM, MOST_PROGRAM
 from ngc_tools.position import millimetres, nanometres
 from ngc_tools.run import CannotRun, dry, find_ngc
 from ngc_tools.settings import BadSettings
 from ngc_tools.split import CannotPart, LineRefused, Part, Program, compare, parted
 from ngc_tools.usable import look_at_settings
 
-ABOUT = """Part a program that is longer than a device takes (131,072 bytes) into programs that are run one after the
-other. It is parted after traverses (G0) that end above the work: where the machine stands no lower than any point at
-which a cut begins or ends. Each part but the first begins with the modes in force, and goes to that place, Z first;
-each but the last ends with M2.
+ABOUT = """Part a program that is longer than a device takes (131,072 bytes; 1,048,576 where it is large) into programs
+that are run one after the other. It is parted after traverses (G0) that end above the work: where the machine stands no
+lower than any point at which a cut begins or ends. Each part but the first begins with the modes in force, and goes to
+that place, Z first; each but the last ends with M2.
 
 `ngc dry` does the whole and the parts, and what they do is compared, before anything is written: each motion with its
 feed, tool, spindle and coolant, each dwell, stop and message."""
@@ -38,7 +38,9 @@ def parser() -> argparse.ArgumentParser:
     words.add_argument("--settings", metavar="FILE", help="the machine's settings, for the dry runs")
     words.add_argument("--output", "-o", metavar="PREFIX", help="the parts' names are PREFIX-1.ngc and so on")
     words.add_argument("--above", metavar="Z", help="part it at this machine Z or above, in millimetres")
-    words.add_argument("--limit", metavar="BYTES", type=int, default=MOST_PROGRAM, help="bytes of a part at most")
+    size = words.add_mutually_exclusive_group()
+    size.add_argument("--large", action="store_true", help="the device is large: a part has at most 1,048,576 bytes")
+    size.add_argument("--limit", metavar="BYTES", type=int, help="bytes of a part at most; without it 131,072")
     words.add_argument("--force", action="store_true", help="write over files that are there")
     words.add_argument("--ngc", metavar="PATH", help="the program ngc; without it the one beside this tool, or on PATH")
     return words
@@ -70,16 +72,17 @@ def split(given: argparse.Namespace) -> int:
         look_at_settings(ngc, given.settings)
     above = nanometres(given.above) if given.above is not None else None
     text = Path(given.program).read_bytes()
+    limit = given.limit or (MOST_LARGE_PROGRAM if given.large else MOST_PROGRAM)
 
     def ask(asked: bytes) -> tuple[int, bytes]:
         return dry(ngc, asked, given.settings)
 
     program = Program.read(text)
     places, whole = program.places(ask, above)
-    if len(text) <= given.limit:
+    if len(text) <= limit:
         print(f"{given.program}: {len(text):,} bytes: ngc run takes it as it is")
         return 0
-    parts = parted(program, places, given.limit, _plain(Path(given.program).name))
+    parts = parted(program, places, limit, _plain(Path(given.program).name))
     try:
         compare(whole, parts, ask)
     except LineRefused as why:

@@ -237,12 +237,17 @@ class Warnings(InFolder):
             " block left; write G90 or G91 before it"])
 
     def test_bytes(self) -> None:
-        """131,072 bytes are taken, one more isn't."""
+        """131,072 bytes are taken, one more isn't; by a large device 1,048,576."""
         program = HEAD + ("(" + "x" * 125 + ")\n") * 1023
         program += "(" + "x" * (131_072 - len(program) - 6) + ")\nM2\n"
         self.assertEqual(self.warnings(program), [])
         self.assertEqual(self.warnings(program + "\n"),
-                         [" warning: 131,073 bytes: ngc run takes at most 131,072 of a program (J5)"])
+                         [" warning: 131,073 bytes: ngc run takes at most 131,072 of a program, 1,048,576 on a large"
+                          " device (J5)"])
+        program += "\n" * (1_048_576 - len(program))
+        self.assertEqual(self.warnings(program, "--large"), [])
+        self.assertEqual(self.warnings(program + "\n", "--large"), [
+            " warning: 1,048,577 bytes: ngc run takes at most 1,048,576 of a program on a large device (J5)"])
 
     def test_like_ones(self) -> None:
         """Ten of a kind are shown, the others counted."""
@@ -313,7 +318,7 @@ class Words(InFolder):
         self.assertEqual(self.failed("p.ngc", "--ngc", ngc(), "--settings", "none.toml"),
                          "none.toml: No such file or directory")
         self.assertEqual(self.failed("p.ngc", "--ngc", ngc(), "--settings", "bad.toml"), "    tools_nm is missing: an"
-                         " array of at most 64 whole numbers of nanometres, 0 to 1,000,000,000")
+                         " array of at most 128 whole numbers of nanometres, 0 to 1,000,000,000")
         self.assertEqual(self.failed("p.ngc", "--ngc", sys.executable),
                          "ngc dry ended with status 2, and says nothing")
         self.assertEqual(self.failed("p.ngc", "--ngc", sys.executable, "--settings", "first.toml"),

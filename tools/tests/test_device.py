@@ -10,9 +10,9 @@ from pathlib import Path
 
 sys.path.insert(0, str(Path(__file__).resolve().parent))
 
-from session_support import TOOLS, InFolder  # noqa: E402
+from session_support import TOOLS, InFolder, ngc  # noqa: E402
 
-from ngc_tools.device import LOG_END, SECTOR, SIZE, Device, Held, NoDevice, copied  # noqa: E402
+from ngc_tools.device import LARGE_SIZE, LOG_END, SECTOR, SIZE, Device, Held, NoDevice, copied  # noqa: E402
 
 ROOT = TOOLS.parent
 DATA = ROOT / "crates" / "ngc_cases" / "data"
@@ -99,7 +99,8 @@ class Devices(unittest.TestCase):
         image = stored("examples/device2.hex")
         for sector, place, content, said in (
                 (88, 152, b"\3", "sector 88: spindle 3"),
-                (88, 456, b"\x41\0", "sector 88: number of slots 65"),
+                (88, 456, b"\x81\0", "sector 88: number of slots 129"),
+                (88, 158, b"\x81\0", "sector 88: selected slot 129"),
                 (88, 8, b"\x0e", "sector 88: place 14 of 13 bytes"),
                 (88, 163, b"\1", "sector 88: half-done block 1, what of it is open 1, its point known 1"),
                 (88, 166, b"\1\1", "sector 88: bytes of its text 257"),
@@ -128,6 +129,44 @@ class Devices(unittest.TestCase):
         older = Device(image).without_header()
         self.assertEqual(Device(older or b"").epoch, 2)
         self.assertIsNone(Device(older or b"").without_header())
+
+    def test_two_sectors_of_tools(self) -> None:
+        """128 slots, and the slot after the last one; lengths past 64 stand in the tool area's second sector."""
+        image = bytearray(worked("A worked device of format 2"))
+        image[SECTOR * 88 + 456:SECTOR * 88 + 458] = b"\x7f\0"
+        struct.pack_into("<q", image, SECTOR * 1709, 65)
+        struct.pack_into("<q", image, SECTOR * 1709 + 496, 127)
+        struct.pack_into("<Hxxxxxxq", image, SECTOR * 686 + 488, 128, 10**9)
+        device = Device(bytes(image))
+        self.assertEqual((device.damage, len(device.tools_nm)), ([], 128))
+        self.assertEqual((device.tools_nm[64], device.tools_nm[126:]), (65, [127, 10**9]))
+        struct.pack_into("<H", image, SECTOR * 686 + 488, 129)
+        self.assertEqual(Device(bytes(image)).damage, ["sector 686, record 0: slot 129 1000000000"])
+        struct.pack_into("<q", image, SECTOR * 1708 + 504, -1)
+        struct.pack_into("<q", image, SECTOR * 1709, 10**9 + 1)
+        self.assertEqual(Device(bytes(image)).damage[:2],
+                         ["sector 1708: slot 64 -1", "sector 1709: slot 65 1000000001"])
+
+    def test_program_areas(self) -> None:
+        """Areas 2 and 3 hold up to 1,048,576 bytes, on a large device alone; areas 0 and 1 131,072 on any."""
+        small = bytearray(image_of((DATA / "examples/device2.hex").read_text()))
+        large = bytearray(LARGE_SIZE)
+        large[:SIZE] = small
+        for place, text in ((174, b"0"), (430, b"1"), (1710, b"2"), (3758, b"3")):
+            large[SECTOR * place:SECTOR * place + 100] = 100 * text
+        for area, length, on_small, on_large in (
+                (0, 131_072, 3, 3), (0, 131_073, 2, 2), (1, 131_072, 3, 3), (1, 131_073, 2, 2),
+                (2, 131_073, 2, 3), (2, 1_048_576, 2, 3), (2, 1_048_577, 2, 2),
+                (3, 100, 2, 3), (3, 1_048_576, 2, 3), (3, 1_048_577, 2, 2), (4, 0, 2, 2)):
+            for image, epoch in ((small, on_small), (large, on_large)):
+                struct.pack_into("<QQ", image, SECTOR + 24, area, length)
+                with self.subTest(area=area, length=length, size=len(image)):
+                    device = Device(bytes(image))
+                    self.assertEqual((device.is_large, device.epoch), (len(image) == LARGE_SIZE, epoch))
+                    if epoch == 3 and image is large:
+                        self.assertEqual(len(device.program), length)
+                        self.assertEqual(device.program[:100], 100 * str(area).encode())
+        self.assertFalse(Device(bytes(large[:-1])).is_large)
 
     def test_full_log(self) -> None:
         """A log of format 1 ends after sector 1709, under format 2 before the tool areas."""
@@ -179,6 +218,27 @@ class Script(InFolder):
         self.assertEqual(self.read_device("short.dev", script=alone), (
             2, "", f"{alone}: no folder above it has tools/ngc_tools/device.py, by which it reads: leave it in its"
                    " checkout\n"))
+
+
+class Large(InFolder):
+    """Devices that `ngc` made large."""
+
+    def test_loads(self) -> None:
+        """Programs that `ngc run` stored, before a grow and after it."""
+        self.device()
+        texts = ["M2\n", "G0 X1\nM2\n".ljust(200_000, "\n"), "M2\n".ljust(1_048_576), "G0 X0.002\nM2\n"]
+        for number, (text, area) in enumerate(zip(texts, (1, 2, 3, 2), strict=True), 1):
+            self.assertEqual(self.run_ngc(f"load {len(text)}\n{text}"), [f"done {number}"])
+            device = Device.read("mill.dev")
+            self.assertEqual((device.is_large, device.header.area), (number > 1, area))
+            self.assertEqual((device.program.decode(), device.damage), (text, []))
+            self.assertEqual(Device(copied("mill.dev")).program, device.program)
+            subprocess.run([ngc(), "grow", "mill.dev"], check=True)
+        with open("mill.dev", "r+b") as file:
+            file.truncate(LARGE_SIZE - 1)
+        with self.assertRaisesRegex(NoDevice, "isn't formatted"):
+            Device.read("mill.dev")
+        self.assertEqual(self.run_ngc(""), ["refused J2 NotFormatted"])
 
 
 class Copies(InFolder):

@@ -20,7 +20,8 @@ class Lines(unittest.TestCase):
         self.assertEqual(parse("P 1 0 -1 50", 1), Pulse(1, 0, -1, 50))
         self.assertEqual(parse(b"D 0", 1), Dwell(0))
         self.assertEqual(parse("D 9999999999999", 1), Dwell(9_999_999_999_999))
-        self.assertEqual(parse("S 2 1000.500000 0 1 64 3", 1), Switch(2, 1_000_500_000, False, True, 64, 3))
+        self.assertEqual(parse("S 2 1000.500000 0 1 128 3", 1),
+                         Switch(2, 1_000_500_000, False, True, 128, 3))
         self.assertEqual(str(parse("S 0 0.000000 1 0 0 0", 1)), "S 0 0.000000 1 0 0 0")
 
     def test_other_lines(self) -> None:
@@ -30,7 +31,8 @@ class Lines(unittest.TestCase):
                  "P 1 0 0 18446744073709551616", "D",
                  "D -1", "D 1.5", "D 00", "S 0 0 0 0 0 0", "S 3 0.000000 0 0 0 0", "S 0 0.00000 0 0 0 0",
                  "S 0 00.000000 0 0 0 0", "S 0 10000000.000000 0 0 0 0", "S 0 0.000000 2 0 0 0",
-                 "S 0 0.000000 0 0 65 0", "S 0 0.000000 0 0 0 01", "S 0 0.000000 0 0 0", "P 1 0 0 50P 1 0 0 50",
+                 "S 0 0.000000 0 0 129 0", "S 0 0.000000 0 0 0 129",
+                 "S 0 0.000000 0 0 1000 0", "S 0 0.000000 0 0 0 01", "S 0 0.000000 0 0 0", "P 1 0 0 50P 1 0 0 50",
                  "P 1 0 0 \N{DEVANAGARI DIGIT FIVE}0"]
         for line in wrong:
             with self.assertRaises(BadLine, msg=line) as caught:

@@ -405,7 +405,7 @@ class C(Both, InFolder):
 
     asked = "out:4: asked to stop; stopped, spindle and coolant off\n"
     wrong = [*Both.wrong, "P 1 0 0 50P 1 0 0 50", "S 0 0 0 0 0 0", "D -1", "P 2 0 0 50", "P 1 0 0 50\r", "P 1 0 0 50\0",
-             "D 18446744073709551616", "D 1 ", "S 0 0.000000 0 0 65 0", "P -0 0 0 50", "D 00", "S 3 0.000000 0 0 0 0"]
+             "D 18446744073709551616", "D 1 ", "S 0 0.000000 0 0 129 0", "P -0 0 0 50", "D 00", "S 3 0.000000 0 0 0 0"]
 
     @classmethod
     def setUpClass(cls) -> None:
@@ -458,7 +458,7 @@ class C(Both, InFolder):
         """With bytes changed by chance it takes the lines that `parse` takes, up to the first that is none."""
         chance = random.Random(7)
         for _ in range(60):
-            whole = chance.choices(("P 1 0 -1 50", "D 100", "S 1 1000.000000 0 0 2 2"), k=20)
+            whole = chance.choices(("P 1 0 -1 50", "D 100", "S 1 1000.000000 0 0 2 128"), k=20)
             lines = [damaged(line, chance) for line in whole]
             text = "\n".join(lines) + chance.choice(("\n", ""))
             Path("out").write_text(text, encoding="latin-1", newline="")

@@ -1,5 +1,6 @@
 """ngc-rehearse: what it says, by hand; where the motors were, compared with OUT itself; what it refuses."""
 import fcntl
+import subprocess
 import sys
 import tempfile
 import unittest
@@ -293,6 +294,15 @@ there is no program
         self.assertEqual(self.refused(2), "mill.dev: Is a directory\n")
         Path("first.toml").unlink()
         self.assertEqual(self.refused(2), "first.toml: No such file or directory\n")
+
+    def test_large(self) -> None:
+        """A large device is copied whole: a program that stands past 131,072 bytes goes on there."""
+        subprocess.run([ngc(), "grow", "mill.dev"], check=True)
+        self.session("G0 X0.5\n".rjust(131_080, "\n") + "M2\n")
+        image = bytearray(Path("mill.dev").read_bytes())
+        image[512 * 88 + 8:512 * 88 + 11] = (131_072).to_bytes(3, "little")  # the place of the snapshot of epoch 3
+        Path("mill.dev").write_bytes(image)
+        self.assertIn("start goes on with line 131073 of 131074: G0 X0.5\n", self.rehearse())
 
     def test_format_1(self) -> None:
         """A device of an earlier version stays one; its tool lengths are those of the settings."""

@@ -119,7 +119,7 @@ first.toml: warning: a traverse of 6,000 mm/min is capped to 1,200 by period_us
             FIRST.replace("= 50\n", "= 50.0\n").replace("[50000000]", '["a"]'): """\
 bad.toml: S4 WrongType: a value isn't of its type
     line 5: period_us = 50.0 (S4): it takes a whole number of microseconds, 1 to 1,000,000
-    line 6: tools_nm = ["a"] (S4): it takes an array of at most 64 whole numbers of nanometres, 0 to 1,000,000,000
+    line 6: tools_nm = ["a"] (S4): it takes an array of at most 128 whole numbers of nanometres, 0 to 1,000,000,000
 """,
             FIRST.replace("= 50\n", "= true\n").replace("= 6000000000\n", "= {a = '1'}\n"): """\
 bad.toml: S4 WrongType: a value isn't of its type
@@ -138,9 +138,9 @@ bad.toml: S5 OutOfLimits: a number is beyond its limits
         for text, said in cases.items():
             Path("bad.toml").write_text(text)
             self.assertEqual(self.only("bad.toml"), (2, "", said))
-        Path("bad.toml").write_text(FIRST.replace("[50000000]", str([1] * 65)))
+        Path("bad.toml").write_text(FIRST.replace("[50000000]", str([1] * 129)))
         self.assertEqual(self.only("bad.toml")[2].splitlines()[0],
-                         "bad.toml: S6 TooManyTools: there are more than 64 tool lengths")
+                         "bad.toml: S6 TooManyTools: there are more than 128 tool lengths")
 
     def test_no_file(self) -> None:
         """Where `ngc` says nothing, the path and the cause."""

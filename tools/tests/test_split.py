@@ -134,6 +134,24 @@ class Splits(InFolder):
         self.assertLessEqual(max(sizes), 131_072)
         self.assertEqual(sum(part.count("X27.3750 Z") for part in self.parts()), 100)
 
+    def test_large(self) -> None:
+        """For a large device a part has at most 1,048,576 bytes, and one program of so many is left whole."""
+        row = "G0 X0 Y0 Z5\n" + "G1 X1 Z-1\nG1 X0 Z-2\n" * 1000
+        lines = ["G21 G90 G17 G94 G54\n", "F6000\n", *[row] * 60]
+        text = "".join(lines) + "G0 Z5\nM2\n"
+        Path("part.ngc").write_text(text)
+        words = ("part.ngc", "--large", "--ngc", ngc())
+        status, said, error = told(main, *words)
+        self.assertEqual((status, error), (0, ""))
+        sizes = [len(part) for part in self.parts()]
+        self.assertEqual(len(sizes), 2)
+        self.assertGreater(sizes[0], 1_048_576 - len(row) - 300)
+        self.assertLessEqual(max(sizes), 1_048_576)
+        self.assertIn("2 parts do what the whole does", said)
+        Path("part.ngc").write_text(text[:1_048_566].rpartition("\n")[0].ljust(1_048_573) + "\nM2")
+        self.assertEqual(told(main, *words), (0, "part.ngc: 1,048,576 bytes: ngc run takes it as it is\n", ""))
+        self.assertEqual(told(main, *words, "--limit", "9")[0], 2)
+
     def test_closing_percent(self) -> None:
         """A percent program that ends by its closing line alone, with carriage returns."""
         drills = "".join(f"G0 X{x} Z5\r\n({'x' * 100})\r\nG1 Z-1\r\nG0 Z5\r\n" for x in range(4))

@@ -5,7 +5,7 @@ ghost use Rattle.ng_console.specs.Sizes.{wanted_size};
 
 use ng_layout::LEAST_SIZE;
 
-/// The sectors of a large device: those of any device, and two areas of 2,048 for longer programs, which nothing uses yet.
+/// The sectors of a large device: those of any device, and two areas of 2,048 for longer programs.
 pub(crate) const LARGE_SIZE: usize = LEAST_SIZE + 2 * 2_048;
 
 /// How many sectors `format` asks for, of a large device or of any.
