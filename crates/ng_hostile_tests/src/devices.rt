@@ -19,9 +19,17 @@ use std::io::{Read, Write};
 /// A device in memory.
 pub type Device = MemoryRig<Global>;
 
-/// A formatted device, with no calls.
+/// How many sectors a large device has.
+pub const LARGE: usize = 5_806;
+
+/// A formatted device of the least size, with no calls.
 pub fn formatted(alloc: Global) -> Result<Device, Fault> {
-    let mut rig = MemoryRig::new(alloc, 1_710)?;
+    formatted_of(alloc, 1_710)
+}
+
+/// A formatted device of so many sectors, with no calls.
+pub fn formatted_of(alloc: Global, sectors: usize) -> Result<Device, Fault> {
+    let mut rig = MemoryRig::new(alloc, sectors)?;
     format(&mut rig)?;
     Ok(cut(&rig)?)
 }
@@ -33,7 +41,7 @@ pub fn cut(rig: &Device) -> Result<Device, AllocError> {
 
 /// Another device with what this one holds, and with no calls.
 pub fn copy_of(rig: &Device) -> Result<Device, AllocError> {
-    rig.stopped(usize::MAX, &[usize::MAX; 1_710])
+    rig.stopped(usize::MAX, &[usize::MAX; LARGE])
 }
 
 /// A controller over this device, powered on on the default machine; or why it isn't, and the device.

@@ -8,3 +8,4 @@ mod failing;
 mod full_heap;
 mod listed;
 mod planning;
+mod too_long;

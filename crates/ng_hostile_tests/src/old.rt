@@ -56,9 +56,9 @@ fn first_part(record: u64, parts: u64, changes: u64, entries: u64) -> [u8; 512] 
     sector
 }
 
-/// A device under the header of epoch 2, with that of epoch 1 beside it, of a fresh controller: of the parameters 5220 alone isn't 0.
-fn headed(alloc: Global) -> Result<Device, Fault> {
-    let mut rig = MemoryRig::new(alloc, 1_710)?;
+/// A device of so many sectors under the header of epoch 2, with that of epoch 1 beside it, of a fresh controller: of the parameters 5220 alone isn't 0.
+fn headed(alloc: Global, sectors: usize) -> Result<Device, Fault> {
+    let mut rig = MemoryRig::new(alloc, sectors)?;
     let mut state = [0; 512];
     put_state(&mut state, 0, 0);
     let mut values = [0; 512];
@@ -97,8 +97,17 @@ fn opened(record: u64) -> [u8; 512] {
 /// A device of format 1 under epoch 2, and what it stands for beside settings without tools. Its log has so many blank lines, from sector
 /// 686 on, then a line that sets a parameter, in two sectors, and a line that is open.
 pub fn of_format_1(alloc: Global, blanks: usize) -> Result<(Device, Standing), Fault> {
-    let mut rig = headed(alloc)?;
-    let mut standing = Standing::fresh(alloc)?;
+    of_format_1_with(alloc, 1_710, blanks)
+}
+
+/// The same of a device of so many sectors.
+pub fn of_format_1_with(
+    alloc: Global,
+    sectors: usize,
+    blanks: usize,
+) -> Result<(Device, Standing), Fault> {
+    let mut rig = headed(alloc, sectors)?;
+    let mut standing = Standing::fresh_on(alloc, sectors)?;
     let mut sector = 686usize;
     let mut record = 0u64;
     for _ in 0..blanks {

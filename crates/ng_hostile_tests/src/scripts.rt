@@ -24,6 +24,13 @@ pub const STORED_AND_RUN: &[Row] = &[
     IDLE,
 ];
 
+/// Three programs are stored, one after the other.
+pub const STORED_THREE_TIMES: &[Row] = &[
+    (Order::Load(PROGRAM), Does::Loads(PROGRAM), 93),
+    (Order::Load("M30"), Does::Loads("M30"), 93),
+    (Order::Load(LINES), Does::Loads(LINES), 93),
+];
+
 /// Of 35 bytes: its lines begin at bytes 0, 10, 16, 26 and 32.
 const LINES: &str = "G0 X0.001\nG0 X0\nG0 X0.001\nG0 X0\nM2\n";
 

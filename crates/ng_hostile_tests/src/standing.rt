@@ -89,16 +89,23 @@ fn copy_of(stored: &Stored<Global>) -> Result<Stored<Global>, AllocError> {
         state,
         place: stored.place,
         length: stored.length,
+        room: stored.room,
         half: None,
         tools: stored.tools.copy(),
     })
 }
 
 impl Standing {
-    /// What a formatted device stands for.
+    /// What a formatted device stands for that isn't large.
     pub fn fresh(alloc: Global) -> Result<Standing, AllocError> {
+        Standing::fresh_on(alloc, 1_710)
+    }
+
+    /// What a formatted device of so many sectors stands for.
+    pub fn fresh_on(alloc: Global, sectors: usize) -> Result<Standing, AllocError> {
+        let room = if sectors >= 5_806 { 1_048_576 } else { 131_072 };
         Ok(Standing {
-            stored: Stored::fresh(alloc)?,
+            stored: Stored::fresh(alloc, room)?,
             half: None,
             program: "",
             items: Vec::new(alloc),
@@ -190,7 +197,7 @@ impl Standing {
         let length = Len::of_nm(i128::from(nm))?;
         let slot = u8::try_from(slot).unwrap_or(0);
         let next = self.stored.tools.slots().saturating_add(1);
-        if slot >= 1 && slot as usize <= next.min(64) && 0 <= nm && nm <= 1_000_000_000 {
+        if slot >= 1 && slot as usize <= next.min(128) && 0 <= nm && nm <= 1_000_000_000 {
             self.stored.tools.set(SlotChange { slot, length });
             Ok(())
         } else {
@@ -268,6 +275,7 @@ impl Standing {
         stored.entries == self.stored.entries
             && stored.place == self.stored.place
             && stored.length == self.stored.length
+            && stored.room == self.stored.room
             && stored.state.machine == self.stored.state.machine
     }
 

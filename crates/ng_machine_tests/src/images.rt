@@ -15,7 +15,7 @@ mod sizes;
 enum Base {
     /// Epoch 1: the header in sector 1, its snapshot in sectors 88 to 173.
     Odd,
-    /// Epoch 2: the header in sector 0, its snapshot in sectors 2 to 87; 64 slots, whose lengths stand in sector 1706.
+    /// Epoch 2: the header in sector 0, its snapshot in sectors 2 to 87; 128 slots, whose lengths stand in sectors 1706 and 1707.
     Even,
     /// Epoch 1, with all words of a cycle kept and a half-done block of 256 bytes; it is known where the machine stands.
     Full,
@@ -244,12 +244,12 @@ const CASES: &[Case] = &[
     ("known", Base::Odd, 88, 156, 1, &[2, 128, 255], J3),
     ("kept", Base::Odd, 88, 157, 1, BITS, SAME),
     ("kept", Base::Odd, 88, 157, 1, &[16, 32, 128, 255], J3),
-    ("selected slot", Base::Odd, 88, 158, 2, &[0, 64], SAME),
-    ("selected slot", Base::Odd, 88, 158, 2, &[65, 256, -1], J3),
-    ("selected slot", Base::OldOdd, 88, 158, 2, &[0, 64], SAME),
-    ("selected slot", Base::OldOdd, 88, 158, 2, &[65], J3),
-    ("spindle slot", Base::Odd, 88, 160, 2, &[0, 64], SAME),
-    ("spindle slot", Base::Odd, 88, 160, 2, &[65, 256, -1], J3),
+    ("selected slot", Base::Odd, 88, 158, 2, &[0, 64, 128], SAME),
+    ("selected slot", Base::Odd, 88, 158, 2, &[129, 256, -1], J3),
+    ("selected slot", Base::OldOdd, 88, 158, 2, &[0, 64, 128], SAME),
+    ("selected slot", Base::OldOdd, 88, 158, 2, &[129], J3),
+    ("spindle slot", Base::Odd, 88, 160, 2, &[0, 64, 128], SAME),
+    ("spindle slot", Base::Odd, 88, 160, 2, &[129, 256, -1], J3),
     ("half-done", Base::Odd, 88, 162, 1, &[0, 1, 2], SAME),
     ("half-done", Base::Odd, 88, 162, 1, &[3, 128, 255], J3),
     ("half-done", Base::Full, 88, 162, 1, &[1, 2], SAME),
@@ -293,22 +293,27 @@ const CASES: &[Case] = &[
     ("text, 455", Base::Odd, 88, 455, 1, &[255], ZERO),
     ("text, 202", Base::Lost, 88, 202, 1, &[0, 10, 255], SAME),
     ("text, 203", Base::Lost, 88, 203, 1, &[10, 255], ZERO),
-    ("slots", Base::Odd, 88, 456, 2, &[0, 1, 64], SAME),
-    ("slots", Base::Odd, 88, 456, 2, &[65, 256, 257, -1], J3),
-    ("slots", Base::Even, 2, 456, 2, &[0, 1, 64], SAME),
-    ("slots", Base::Even, 2, 456, 2, &[65, -1], J3),
+    ("slots", Base::Odd, 88, 456, 2, &[0, 1, 64, 65, 128], SAME),
+    ("slots", Base::Odd, 88, 456, 2, &[129, 256, 257, -1], J3),
+    ("slots", Base::Even, 2, 456, 2, &[0, 1, 64, 65, 128], SAME),
+    ("slots", Base::Even, 2, 456, 2, &[129, -1], J3),
     // format 1 has none, and the settings that are given have none
-    ("slots", Base::OldOdd, 88, 456, 2, &[1, 64, 65, -1], ZERO),
-    ("slots", Base::OldEven, 2, 456, 2, &[1, 64, 65, -1], ZERO),
+    ("slots", Base::OldOdd, 88, 456, 2, &[1, 128, 129, -1], ZERO),
+    ("slots", Base::OldEven, 2, 456, 2, &[1, 128, 129, -1], ZERO),
     ("unnamed, 458", Base::Odd, 88, 458, 8, &[-1], ZERO),
     ("unnamed, 504", Base::Full, 88, 504, 8, &[-1], ZERO),
     ("slot 1", Base::Even, 1_706, 0, 8, TOOLS, SAME),
     ("slot 1", Base::Even, 1_706, 0, 8, PAST_TOOLS, J3),
     ("slot 64", Base::Even, 1_706, 504, 8, TOOLS, SAME),
     ("slot 64", Base::Even, 1_706, 504, 8, PAST_TOOLS, J3),
-    ("past all slots", Base::Even, 1_707, 0, 8, &[-1], ZERO),
+    ("slot 65", Base::Even, 1_707, 0, 8, TOOLS, SAME),
+    ("slot 65", Base::Even, 1_707, 0, 8, PAST_TOOLS, J3),
+    ("slot 128", Base::Even, 1_707, 504, 8, TOOLS, SAME),
+    ("slot 128", Base::Even, 1_707, 504, 8, PAST_TOOLS, J3),
     ("another's slot", Base::Even, 1_708, 0, 8, &[-1], ZERO),
+    ("another's slot", Base::Even, 1_709, 0, 8, &[-1], ZERO),
     ("past the slots", Base::Odd, 1_708, 0, 8, &[-1], ZERO),
+    ("past the slots", Base::Odd, 1_709, 0, 8, &[-1], ZERO),
     ("past the slots", Base::OldOdd, 1_708, 0, 8, &[-1], ZERO),
     ("#1", Base::Odd, 89, 0, 8, ENDS, SAME),
     ("#1", Base::Odd, 89, 0, 8, PAST, J3),
@@ -392,8 +397,8 @@ const HALF: [(usize, usize, i64); 8] = [
 /// An Mdi block that is half-done before its first segment, with the text `G0X`.
 const LOST_HALF: [(usize, usize, i64); 3] = [(162, 1, 2), (166, 2, 3), (200, 3, 0x58_3047)];
 
-/// A tool table of 64 slots.
-const SLOTS: [(usize, usize, i64); 1] = [(456, 2, 64)];
+/// A tool table of 128 slots.
+const SLOTS: [(usize, usize, i64); 1] = [(456, 2, 128)];
 
 /// The first sector of the snapshot of a device of this kind.
 fn state_of(base: Base) -> [u8; 512] {

@@ -15,6 +15,7 @@ use ng_rig::{FailRig, MemoryRig, Rig};
 use std::alloc::{AllocError, Allocator, Global};
 use std::test::Fail;
 
+pub mod areas;
 pub mod counting;
 pub mod formatting;
 
@@ -59,6 +60,9 @@ const DEVICES: &[(usize, bool, usize, Option<Fault>, usize)] = &[
     (1_710, true, 100_000, None, 92),
     (5_000, false, 100_000, Some(Fault::NotFormatted), 1),
     (5_000, true, 100_000, None, 92),
+    (5_806, false, 100_000, Some(Fault::NotFormatted), 1),
+    (5_806, true, 50_000, Some(Fault::OutOfMemory), 0),
+    (5_806, true, 100_000, None, 92),
 ];
 
 /// A device of so many sectors, formatted or not.
@@ -479,8 +483,9 @@ fn a_header_is_written_and_read(rt: HostRuntime) {
         let (worked, wanted) = worked_header(format, byte);
         let sector = worked.write();
         assert!(rt; sector == wanted, "{byte}");
-        assert_eq!(rt; Header::read(0, &sector), Some(worked), "{byte}");
-        assert_eq!(rt; Header::read(1, &sector), None, "{byte}");
+        assert_eq!(rt; Header::read(false, 0, &sector), Some(worked), "{byte}");
+        assert_eq!(rt; Header::read(true, 0, &sector), Some(worked), "{byte}");
+        assert_eq!(rt; Header::read(false, 1, &sector), None, "{byte}");
     }
 }
 

@@ -26,6 +26,7 @@ pub struct Mill<R: Rig> {
     ghost whole: { journal.broken ≡ false },
     ghost storable: { IsStorable stored } by { Prim.hlevel props },
     ghost program: { stored.length ≡ journal.saved.length },
+    ghost room: { stored.room ≡ journal.saved.room },
     ghost tools: { stored.tools ≡ journal.saved.tools },
 }
 

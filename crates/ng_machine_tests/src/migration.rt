@@ -68,15 +68,20 @@ fn lay_old<R: Rig>(rig: &mut R, unnamed: i64) -> bool {
     lay(rig, &sectors) && rig.sync().is_ok()
 }
 
+/// A sector of a tool area with the lengths from this slot to that one; slot n is n times as long as the first.
+fn lengths(first: i64, last: i64, first_nm: i64) -> [u8; 512] {
+    let mut sector = [0; 512];
+    for (k, slot) in (first..last.saturating_add(1)).enumerate() {
+        let nm = slot.saturating_mul(first_nm);
+        put(&mut sector, k.saturating_mul(8), 8, nm);
+    }
+    sector
+}
+
 /// Writes over it what power on writes with a table of so many slots, of which slot n is n times as long as the first: epoch 3 in format 1, and
 /// epoch 4 in format 2.
 fn lay_migrated<R: Rig>(rig: &mut R, slots: i64, first_nm: i64) -> bool {
     let [five, first_system] = parameter_sectors();
-    let mut lengths = [0; 512];
-    for (k, slot) in (1..slots.saturating_add(1)).enumerate() {
-        let nm = slot.saturating_mul(first_nm);
-        put(&mut lengths, k.saturating_mul(8), 8, nm);
-    }
     let sectors = [
         (1, header_of(1, 3, 0, 0)),
         (88, one_entry(0)),
@@ -86,7 +91,8 @@ fn lay_migrated<R: Rig>(rig: &mut R, slots: i64, first_nm: i64) -> bool {
         (2, one_entry(slots)),
         (3, five),
         (84, first_system),
-        (1_706, lengths),
+        (1_706, lengths(1, slots.min(64), first_nm)),
+        (1_707, lengths(65, slots, first_nm)),
     ];
     lay(rig, &sectors)
 }
@@ -170,8 +176,10 @@ const MIGRATIONS: &[(u8, i64, i64, Option<i64>)] = &[
     (1, 50_000_000, 0, Some(50_000_000)),
     (1, 50_000_000, -1, Some(50_000_000)),
     (0, 0, 0, None),
-    (0, 0, 65, None),
+    (0, 0, 129, None),
     (64, 15_625_000, 0, Some(15_625_000)),
+    (65, 10_000_000, 0, Some(10_000_000)),
+    (128, 7_812_500, 0, Some(7_812_500)),
 ];
 
 /// The migration of a device with one entry under these settings.

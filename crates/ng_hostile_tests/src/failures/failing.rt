@@ -1,11 +1,11 @@
 //! A device fails one of its calls, each in turn.
-use crate::devices::{Device, cut, formatted, found_on, give, powered, rig_of, shown};
+use crate::devices::{Device, LARGE, cut, formatted, formatted_of, found_on, give, powered, rig_of, shown};
 use crate::old::{FILLING, of_format_1};
 use crate::rows::{EACH_KIND, Row, entries_after, event_of, reply_to};
 use crate::scripts::{
     AFTER_A_CUT, AFTER_A_CUT_OF_A_PROGRAM, AFTER_A_MIGRATION, BEFORE_A_CUT,
-    BEFORE_A_CUT_OF_A_PROGRAM, GIVEN_UP, READ_AHEAD, STORED_AND_RUN, TOOLS, TOOLS_OF_A_PROGRAM,
-    filling_the_log,
+    BEFORE_A_CUT_OF_A_PROGRAM, GIVEN_UP, READ_AHEAD, STORED_AND_RUN, STORED_THREE_TIMES, TOOLS,
+    TOOLS_OF_A_PROGRAM, filling_the_log,
 };
 use crate::standing::Standing;
 use ng_core::{Condition, Controller, HalfShown, Reply, Source, Status};
@@ -272,8 +272,13 @@ fn swept(
 
 /// What comes of one over a new device.
 fn swept_of(alloc: Global, rows: &[Row], sweep: Sweep) -> Result<Swept, Fault> {
-    let mut choice = Choice::at_power_on(rows, Standing::fresh(alloc)?)?;
-    swept(alloc, &formatted(alloc)?, &mut choice, sweep)
+    swept_on(alloc, 1_710, rows, sweep)
+}
+
+/// What comes of one over a new device of so many sectors.
+fn swept_on(alloc: Global, sectors: usize, rows: &[Row], sweep: Sweep) -> Result<Swept, Fault> {
+    let mut choice = Choice::at_power_on(rows, Standing::fresh_on(alloc, sectors)?)?;
+    swept(alloc, &formatted_of(alloc, sectors)?, &mut choice, sweep)
 }
 
 /// How many calls power on over a new device makes: besides its writes and syncs, it reads two headers, a snapshot's 86 sectors, two of tools
@@ -298,6 +303,19 @@ fn each_call_of_a_session(rt: HostRuntime) -> Result<(), Fail> {
             Ok(Ok(Some(*calls)))
         );
     }
+    Ok(())
+}
+
+/// On a large device: the first load writes program area 2, the second 3, the third 2.
+#[test]
+fn each_call_of_loads_on_a_large_device(rt: HostRuntime) -> Result<(), Fail> {
+    let found = swept_on(
+        rt.alloc(),
+        LARGE,
+        STORED_THREE_TIMES,
+        each_from(POWERED_ON),
+    );
+    assert_eq!(rt; found, Ok(Ok(Some(371))));
     Ok(())
 }
 

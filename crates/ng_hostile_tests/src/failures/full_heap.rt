@@ -1,5 +1,5 @@
 //! A load that finds no memory.
-use crate::devices::{formatted, give, rig_of, shown, started};
+use crate::devices::{formatted_of, give, rig_of, shown, started};
 use crate::failures::counting::Counting;
 use crate::rows::{Order, event_of};
 use linked_list_allocator::LocalHeap;
@@ -45,11 +45,12 @@ fn answers<'h>(
     Ok(([refused, done], is_same, calls.get()))
 }
 
-/// That over a new device.
-fn answered(alloc: Global) -> Result<([Reply; 2], bool, [u64; 2]), Fault> {
+/// That over a new device of so many sectors.
+fn answered(alloc: Global, sectors: usize) -> Result<([Reply; 2], bool, [u64; 2]), Fault> {
     let calls = Cell::new([0, 0]);
     let heap = LocalHeap::new(alloc, HEAP)?;
-    let mut controller = started(&heap, Counting::new(formatted(alloc)?, &calls))?;
+    let rig = Counting::new(formatted_of(alloc, sectors)?, &calls);
+    let mut controller = started(&heap, rig)?;
     let answers = answers(alloc, &heap, &mut controller, &calls);
     drop(rig_of(controller));
     answers
@@ -59,6 +60,9 @@ fn answered(alloc: Global) -> Result<([Reply; 2], bool, [u64; 2]), Fault> {
 #[test]
 fn a_load_without_memory_makes_no_call(rt: HostRuntime) -> Result<(), Fail> {
     let replies = [Reply::Refused(Fault::OutOfMemory), Reply::Done(1)];
-    assert_eq!(rt; answered(rt.alloc()), Ok((replies, true, [91, 185])));
+    for sectors in [1_710, 5_806] {
+        let found = answered(rt.alloc(), sectors);
+        assert_eq!(rt; found, Ok((replies, true, [91, 185])), "{sectors}");
+    }
     Ok(())
 }

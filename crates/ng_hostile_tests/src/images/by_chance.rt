@@ -1,5 +1,5 @@
 //! Images that were changed by chance: bytes, numbers and whole sectors, swapped, doubled, lost, or as they were long before.
-use crate::devices::{Device, copy_of};
+use crate::devices::{Device, LARGE, copy_of};
 use crate::images::chance::Chance;
 use crate::images::generations::generations;
 use crate::images::powered::{Astray, Outcome, outcome_of};
@@ -200,13 +200,13 @@ impl Tally {
         None
     }
 
-    /// Whether none of them is rare.
-    fn has_each(&self) -> bool {
-        self.recovered >= 500
-            && self.migrated >= 100
-            && self.not_formatted >= 50
-            && self.damaged >= 250
-            && self.counters_used >= 5
+    /// Whether none of them is rare, of a quarter of ten thousand images or of this part of that.
+    fn has_each(&self, part: u64) -> bool {
+        self.recovered >= 500 / part.max(1)
+            && self.migrated >= 100 / part.max(1)
+            && self.not_formatted >= 50 / part.max(1)
+            && self.damaged >= 250 / part.max(1)
+            && self.counters_used >= 5 / part.max(1)
     }
 }
 
@@ -215,8 +215,18 @@ const IMAGES: u64 = 2_500;
 
 /// The first of so many images that went astray, and how; and how often each answer came.
 fn outcomes(alloc: Global, seed: u64) -> Result<(Option<(u64, Astray)>, Tally), Fault> {
+    outcomes_of(alloc, seed, 1_710, IMAGES)
+}
+
+/// The same of so many images of devices of so many sectors.
+fn outcomes_of(
+    alloc: Global,
+    seed: u64,
+    sectors: usize,
+    images: u64,
+) -> Result<(Option<(u64, Astray)>, Tally), Fault> {
     let mut chance = Chance::new(seed);
-    let mut all = generations(alloc)?;
+    let mut all = generations(alloc, sectors)?;
     let mut tally = Tally {
         recovered: 0,
         migrated: 0,
@@ -224,7 +234,7 @@ fn outcomes(alloc: Global, seed: u64) -> Result<(Option<(u64, Astray)>, Tally), 
         damaged: 0,
         counters_used: 0,
     };
-    for image in 0..IMAGES {
+    for image in 0..images {
         let rig = changed(&mut chance, &mut all)?;
         if let Some(astray) = tally.count(outcome_of(alloc, rig)?) {
             return Ok((Some((image, astray)), tally));
@@ -237,7 +247,7 @@ fn outcomes(alloc: Global, seed: u64) -> Result<(Option<(u64, Astray)>, Tally), 
 fn images_of_the_first_seed(rt: HostRuntime) -> Result<(), Fail> {
     let (astray, tally) = outcomes(rt.alloc(), 0x9e37_79b9_7f4a_7c15)?;
     assert_eq!(rt; astray, None);
-    assert!(rt; tally.has_each(), "{tally:?}");
+    assert!(rt; tally.has_each(1), "{tally:?}");
     Ok(())
 }
 
@@ -245,7 +255,7 @@ fn images_of_the_first_seed(rt: HostRuntime) -> Result<(), Fail> {
 fn images_of_the_second_seed(rt: HostRuntime) -> Result<(), Fail> {
     let (astray, tally) = outcomes(rt.alloc(), 0xd1b5_4a32_d192_ed03)?;
     assert_eq!(rt; astray, None);
-    assert!(rt; tally.has_each(), "{tally:?}");
+    assert!(rt; tally.has_each(1), "{tally:?}");
     Ok(())
 }
 
@@ -253,7 +263,7 @@ fn images_of_the_second_seed(rt: HostRuntime) -> Result<(), Fail> {
 fn images_of_the_third_seed(rt: HostRuntime) -> Result<(), Fail> {
     let (astray, tally) = outcomes(rt.alloc(), 0x2545_f491_4f6c_dd1d)?;
     assert_eq!(rt; astray, None);
-    assert!(rt; tally.has_each(), "{tally:?}");
+    assert!(rt; tally.has_each(1), "{tally:?}");
     Ok(())
 }
 
@@ -261,6 +271,16 @@ fn images_of_the_third_seed(rt: HostRuntime) -> Result<(), Fail> {
 fn images_of_the_fourth_seed(rt: HostRuntime) -> Result<(), Fail> {
     let (astray, tally) = outcomes(rt.alloc(), 0x0123_4567_89ab_cdef)?;
     assert_eq!(rt; astray, None);
-    assert!(rt; tally.has_each(), "{tally:?}");
+    assert!(rt; tally.has_each(1), "{tally:?}");
+    Ok(())
+}
+
+/// A tenth of that on large devices, whose programs are in areas 2 and 3.
+#[test]
+fn images_of_large_devices(rt: HostRuntime) -> Result<(), Fail> {
+    let seed = 0x5851_f42d_4c95_7f2d;
+    let (astray, tally) = outcomes_of(rt.alloc(), seed, LARGE, IMAGES / 10)?;
+    assert_eq!(rt; astray, None);
+    assert!(rt; tally.has_each(10), "{tally:?}");
     Ok(())
 }

@@ -1,6 +1,6 @@
 //! One device as it stood at some times of its life, first of format 1. What each holds is an older image of the next.
 use crate::devices::{Device, copy_of, talk};
-use crate::old::{FILLING, of_format_1};
+use crate::old::{FILLING, of_format_1_with};
 use ng_num::Fault;
 use std::alloc::Global;
 
@@ -20,10 +20,10 @@ const TEXTS: &[&str] = &[
     "reference 0.002 0 0\n",
 ];
 
-/// The device after each of these times; the first is of format 1.
-pub fn generations(alloc: Global) -> Result<Vec<Device>, Fault> {
+/// The device of so many sectors after each of these times; the first is of format 1.
+pub fn generations(alloc: Global, sectors: usize) -> Result<Vec<Device>, Fault> {
     let mut all = Vec::new(alloc);
-    let (mut rig, _) = of_format_1(alloc, FILLING)?;
+    let (mut rig, _) = of_format_1_with(alloc, sectors, FILLING)?;
     for text in TEXTS {
         all.push(copy_of(&rig)?)?;
         rig = asked(alloc, rig, text)?;

@@ -1,5 +1,5 @@
 //! What a changed image stands for, by its headers alone, and whether power on answers so; what was found then is found again.
-use crate::devices::{Device, powered, recovered, rig_of, shown};
+use crate::devices::{Device, LARGE, powered, recovered, rig_of, shown};
 use crate::sectors::{GREATEST, number_at, put, sector_of};
 use crate::standing::is_same_table;
 use ng_core::{Condition, HalfShown, Status};
@@ -45,8 +45,18 @@ pub enum Astray {
     Status,
 }
 
-/// The epoch and the format of a header, if it is valid in this sector.
-fn epoch_and_format(sector: &[u8; 512], place: u64) -> Option<(u64, u64)> {
+/// Whether a header's program area and length are within their limits, on a device of so many sectors.
+fn names_a_program(sector: &[u8; 512], sectors: usize) -> bool {
+    let length = number_at(sector, 32, 8);
+    match number_at(sector, 24, 8) {
+        0 | 1 => length <= 131_072,
+        2 | 3 => sectors >= LARGE && length <= 1_048_576,
+        _ => false,
+    }
+}
+
+/// The epoch and the format of a header, if it is valid in this sector of a device of so many.
+fn epoch_and_format(sector: &[u8; 512], place: u64, sectors: usize) -> Option<(u64, u64)> {
     let format = number_at(sector, 8, 4);
     let epoch = number_at(sector, 16, 8);
     let is_valid = sector.starts_with(b"RS274NGC")
@@ -55,8 +65,7 @@ fn epoch_and_format(sector: &[u8; 512], place: u64) -> Option<(u64, u64)> {
         && epoch >= 1
         && epoch <= GREATEST
         && epoch % 2 == place
-        && number_at(sector, 24, 8) <= 1
-        && number_at(sector, 32, 8) <= 131_072;
+        && names_a_program(sector, sectors);
     if is_valid {
         Some((epoch, format))
     } else {
@@ -66,8 +75,9 @@ fn epoch_and_format(sector: &[u8; 512], place: u64) -> Option<(u64, u64)> {
 
 /// The greatest epoch of a valid header, and the format of that one; epoch 0 where none is valid.
 fn in_force(rig: &mut Device) -> (u64, u64) {
-    let even = epoch_and_format(&sector_of(rig, 0), 0).unwrap_or((0, 0));
-    let odd = epoch_and_format(&sector_of(rig, 1), 1).unwrap_or((0, 0));
+    let sectors = rig.size();
+    let even = epoch_and_format(&sector_of(rig, 0), 0, sectors).unwrap_or((0, 0));
+    let odd = epoch_and_format(&sector_of(rig, 1), 1, sectors).unwrap_or((0, 0));
     if even.0 > odd.0 { even } else { odd }
 }
 

@@ -68,13 +68,23 @@ impl Choice {
     }
 }
 
+/// What is tried after each call.
+#[derive(Clone, Copy, Debug, PartialEq, Eq, Drop)]
+pub enum Depth {
+    /// A stop with all unsynced sectors lost, and one with all kept.
+    Whole,
+    /// Besides, one with each alone kept, and one with each alone lost.
+    Alone,
+    /// Besides, stops of the power on after them.
+    Deep,
+}
+
 /// The stops that are tried, by the calls that they come after.
 #[derive(Clone, Copy, Drop)]
 pub struct Cuts {
     pub first: usize,
     pub last: usize,
-    /// Whether the power on after them is stopped too.
-    pub is_deep: bool,
+    pub depth: Depth,
 }
 
 impl Cuts {
@@ -83,7 +93,7 @@ impl Cuts {
         Cuts {
             first,
             last,
-            is_deep: true,
+            depth: Depth::Deep,
         }
     }
 }
@@ -114,14 +124,14 @@ impl Played {
         is_over: bool,
     ) -> Result<Astray, Fault> {
         let is_new = self.notes.ends_in_write(calls);
-        let is_first = self.cuts.is_deep && calls == self.cuts.first;
+        let is_deep = self.cuts.depth == Depth::Deep;
+        let is_first = is_deep && calls == self.cuts.first;
         let astray = self.astray(alloc, calls, Kept::None, choice, is_over, is_first)?;
         if astray.is_some() {
             return Ok(astray);
         }
-        let is_deep = self.cuts.is_deep && is_new;
-        let astray = self.astray(alloc, calls, Kept::All, choice, is_over, is_deep)?;
-        if astray.is_some() || !is_new {
+        let astray = self.astray(alloc, calls, Kept::All, choice, is_over, is_deep && is_new)?;
+        if astray.is_some() || !is_new || self.cuts.depth == Depth::Whole {
             return Ok(astray);
         }
         self.first_astray_alone(alloc, calls, choice, is_over)

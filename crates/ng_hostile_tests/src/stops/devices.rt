@@ -1,5 +1,5 @@
 //! Devices, and what is found on them.
-use crate::devices::{Device, give, read_again, rig_of, shown, started, started_bare};
+use crate::devices::{Device, LARGE, give, read_again, rig_of, shown, started, started_bare};
 use crate::rows::{Row, entries_after, event_of, reply_to};
 use crate::standing::{Found, Standing};
 use crate::stops::recorder::{Notes, Recorder};
@@ -18,14 +18,14 @@ pub enum Kept {
 }
 
 /// How many of its unsynced writes each sector keeps.
-fn writes_kept(kept: Kept) -> [usize; 1_710] {
+fn writes_kept(kept: Kept) -> [usize; LARGE] {
     let (sector, of_it, of_others) = match kept {
         Kept::None => (0, 0, 0),
         Kept::All => (0, usize::MAX, usize::MAX),
         Kept::Only(sector) => (sector, usize::MAX, 0),
         Kept::AllBut(sector) => (sector, 0, usize::MAX),
     };
-    let mut writes = [of_others; 1_710];
+    let mut writes = [of_others; LARGE];
     if let Some(it) = writes.get_mut(sector) {
         *it = of_it;
     }

@@ -2,7 +2,7 @@
 use crate::devices::{Device, formatted, give, powered, rig_of, started};
 use crate::rows::{Does, Order, Row, event_of};
 use crate::standing::Standing;
-use crate::stops::cuts::{Astray, Choice, Cuts, POWER_ON, Played, first_astray_between};
+use crate::stops::cuts::{Astray, Choice, Cuts, Depth, POWER_ON, Played, first_astray_between};
 use crate::stops::devices::{first_astray, left_by, played};
 use crate::stops::recorder::{Notes, Recorder};
 use ng_core::Reply;
@@ -71,7 +71,7 @@ fn powered_again(alloc: Global, rig: Recorder<Device>) -> Result<Played, Fault> 
     let cuts = Cuts {
         first: rig.calls().saturating_sub(POWER_ON),
         last: rig.calls(),
-        is_deep: false,
+        depth: Depth::Alone,
     };
     Ok(Played { rig, notes, cuts })
 }

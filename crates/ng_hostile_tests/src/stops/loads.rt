@@ -1,8 +1,8 @@
 //! A program takes the place of another.
-use crate::devices::formatted;
+use crate::devices::{LARGE, formatted_of};
 use crate::rows::{Does, Order, Row};
 use crate::standing::Standing;
-use crate::stops::cuts::{Astray, Cuts, first_astray};
+use crate::stops::cuts::{Astray, Cuts, Depth, first_astray};
 use crate::stops::devices::left_by;
 use ng_num::Fault;
 use std::alloc::Global;
@@ -26,14 +26,69 @@ const BEFORE: &[Row] = &[
 /// 91 writes and 3 syncs.
 const LOADS: &[Row] = &[(Order::Load(NEW), Does::Loads(NEW), 94)];
 
-/// The first stop in a load, after power on, that leaves something else.
-fn first_astray_in_load(alloc: Global) -> Result<Astray, Fault> {
-    let (rig, wanted) = left_by(alloc, formatted(alloc)?, Standing::fresh(alloc)?, BEFORE)?;
-    first_astray(alloc, rig, wanted, LOADS, Cuts::deep(92, 186))
+/// The first of these stops in a load, after power on, that leaves something else: over a device of so many sectors, after these events.
+fn first_astray_in_load(
+    alloc: Global,
+    sectors: usize,
+    before: &[Row],
+    cuts: Cuts,
+) -> Result<Astray, Fault> {
+    let wanted = Standing::fresh_on(alloc, sectors)?;
+    let (rig, wanted) = left_by(alloc, formatted_of(alloc, sectors)?, wanted, before)?;
+    first_astray(alloc, rig, wanted, LOADS, cuts)
 }
 
 #[test]
 fn a_stop_at_each_call_of_a_load_over_a_program(rt: HostRuntime) -> Result<(), Fail> {
-    assert_eq!(rt; first_astray_in_load(rt.alloc()), Ok(None));
+    let found = first_astray_in_load(rt.alloc(), 1_710, BEFORE, Cuts::deep(92, 186));
+    assert_eq!(rt; found, Ok(None));
+    Ok(())
+}
+
+/// Two programs are stored, one after the other.
+const TWICE: &[Row] = &[
+    (Order::Load("M30"), Does::Loads("M30"), 93),
+    (Order::Load(OLD), Does::Loads(OLD), 93),
+];
+
+/// What comes before a load on a large device: program area 0 is in force, so that it writes area 2; area 2, so that it writes 3; area 3, so that
+/// it writes 2.
+const BEFORE_LARGE: &[&[Row]] = &[&[], BEFORE, TWICE];
+
+/// Stops of a load, after power on: in the text, up to its sync; in the snapshot and the tool area; as all of that is written, and at the header.
+const CUTS: &[Cuts] = &[
+    Cuts {
+        first: 92,
+        last: 95,
+        depth: Depth::Alone,
+    },
+    Cuts {
+        first: 96,
+        last: 182,
+        depth: Depth::Whole,
+    },
+    Cuts {
+        first: 183,
+        last: 186,
+        depth: Depth::Alone,
+    },
+];
+
+/// The first of those stops that leaves something else.
+fn first_astray_in_large_load(alloc: Global, before: &[Row]) -> Result<Astray, Fault> {
+    for cuts in CUTS {
+        let astray = first_astray_in_load(alloc, LARGE, before, *cuts)?;
+        if astray.is_some() {
+            return Ok(astray);
+        }
+    }
+    Ok(None)
+}
+
+#[test]
+fn a_stop_at_each_call_of_a_load_on_a_large_device(rt: HostRuntime) -> Result<(), Fail> {
+    for before in BEFORE_LARGE {
+        assert_eq!(rt; first_astray_in_large_load(rt.alloc(), before), Ok(None));
+    }
     Ok(())
 }

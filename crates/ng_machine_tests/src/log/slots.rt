@@ -17,32 +17,41 @@ fn snapshot_sector(slots: i64) -> [u8; 512] {
     sector
 }
 
-/// The first sector of a tool area with so many slots, of which slot n is n nm long.
-fn lengths_sector(slots: i64) -> [u8; 512] {
-    let mut sector = [0; 512];
-    for (k, slot) in (1..slots.saturating_add(1)).enumerate() {
-        put(&mut sector, k.saturating_mul(8), 8, slot);
+/// Puts the length of a slot into the two sectors of a tool area; nothing where there is no such slot.
+fn put_length(area: &mut [[u8; 512]; 2], slot: i64, nm: i64) {
+    match slot {
+        1..=64 => put(&mut area[0], (slot as usize - 1) * 8, 8, nm),
+        65..=128 => put(&mut area[1], (slot as usize - 65) * 8, 8, nm),
+        _ => {}
     }
-    sector
+}
+
+/// A tool area with so many slots, of which slot n is n nm long.
+fn lengths(slots: i64) -> [[u8; 512]; 2] {
+    let mut area = [[0; 512]; 2];
+    for slot in 1..slots.saturating_add(1) {
+        put_length(&mut area, slot, slot);
+    }
+    area
 }
 
 /// The same where these slots have these lengths.
-fn changed_sector(slots: i64, changes: &[Change]) -> [u8; 512] {
-    let mut sector = lengths_sector(slots);
-    for (slot, length) in changes {
-        if 1 <= *slot && *slot <= 64 {
-            put(&mut sector, (*slot as usize - 1) * 8, 8, *length);
-        }
+fn changed_lengths(slots: i64, changes: &[Change]) -> [[u8; 512]; 2] {
+    let mut area = lengths(slots);
+    for (slot, nm) in changes {
+        put_length(&mut area, *slot, *nm);
     }
-    sector
+    area
 }
 
 /// A device of epoch 1 with so many slots, and a record of one part for each of these changes.
 fn laid(alloc: Global, slots: i64, changes: &[Change]) -> Result<MemoryRig<Global>, Fail> {
     let mut rig = MemoryRig::new(alloc, 1_710)?;
+    let [first, second] = lengths(slots);
     let mut is_laid = store(&mut rig, 1, &header(1, 0, 0))
         && store(&mut rig, 88, &snapshot_sector(slots))
-        && store(&mut rig, 1_708, &lengths_sector(slots));
+        && store(&mut rig, 1_708, &first)
+        && store(&mut rig, 1_709, &second);
     let mut sector: usize = 686;
     let mut number: i64 = 0;
     for (slot, length) in changes {
@@ -72,16 +81,24 @@ const ROWS: &[Row] = &[
     (3, &[(3, 5)], Some(3)),
     (3, &[(4, 5)], Some(4)),
     (3, &[(5, 5)], None),
-    (3, &[(64, 5)], None),
-    (3, &[(65, 5)], None),
+    (3, &[(128, 5)], None),
+    (3, &[(129, 5)], None),
+    // the last slot of the first sector, and the first of the second
     (63, &[(64, 5)], Some(64)),
     (63, &[(65, 5)], None),
     (64, &[(64, 5)], Some(64)),
-    (64, &[(65, 5)], None),
+    (64, &[(65, 5)], Some(65)),
     (64, &[(66, 5)], None),
-    (64, &[(256, 5)], None),
-    (64, &[(257, 5)], None),
-    (64, &[(-1, 5)], None),
+    (65, &[(65, 5)], Some(65)),
+    (127, &[(128, 5)], Some(128)),
+    (127, &[(129, 5)], None),
+    (128, &[(1, 5)], Some(128)),
+    (128, &[(128, 5)], Some(128)),
+    (128, &[(129, 5)], None),
+    (128, &[(130, 5)], None),
+    (128, &[(256, 5)], None),
+    (128, &[(257, 5)], None),
+    (128, &[(-1, 5)], None),
     (1, &[(1, 0)], Some(1)),
     (1, &[(1, METRE)], Some(1)),
     (1, &[(1, METRE + 1)], None),
@@ -101,8 +118,9 @@ const ROWS: &[Row] = &[
     (0, &[(1, 5), (2, 6), (0, 9), (3, 7)], Some(3)),
     (0, &[(2, 6), (1, 5)], None),
     (0, &[(1, 5), (3, 6)], None),
-    (62, &[(63, 5), (64, 6)], Some(64)),
-    (63, &[(64, 5), (65, 6)], None),
+    (63, &[(64, 5), (65, 6)], Some(65)),
+    (126, &[(127, 5), (128, 6)], Some(128)),
+    (127, &[(128, 5), (129, 6)], None),
     (1, &[(1, 5), (1, 6)], Some(1)),
     (1, &[(1, METRE + 1), (1, 6)], None),
     (1, &[(0, -1), (0, 0)], None),
@@ -120,8 +138,8 @@ fn is_as_wanted(alloc: Global, row: &Row) -> Result<bool, Fail> {
             fault.is_none()
                 && calls == 92
                 && sector_of(&mut rig, 2) == snapshot_sector(slots)
-                && sector_of(&mut rig, 1_706) == changed_sector(row.0, row.1)
-                && sector_of(&mut rig, 1_707) == [0; 512],
+                && [sector_of(&mut rig, 1_706), sector_of(&mut rig, 1_707)]
+                    == changed_lengths(row.0, row.1),
         ),
     }
 }

@@ -4,7 +4,7 @@ ghost use Rattle.std.proofs.Props.{props};
 ghost use Rattle.ng_layout.specs.Storable.{IsStorableHalf, IsStorable};
 
 use crate::images::store;
-use crate::journal::{formatted, header_of, set_slot};
+use crate::journal::{device, header_of, set_slot};
 use crate::log::{Mill, set_all};
 use ng_journal::{ProgramLine, recover};
 use ng_layout::{Format, Half, Header, Opened, Source, Stored, text_from, text_sector};
@@ -62,6 +62,7 @@ fn enter(stored: &mut Stored<Global>, entry: (i64, i64, i64, i64, u64), half: Op
     requires waits { IfSome half IsStorableHalf }
     ensures storable { IsStorable stored.new }
     ensures program { stored.new.length ≡ stored.old.length }
+    ensures room { stored.new.room ≡ stored.old.room }
     ensures tools { stored.new.tools ≡ stored.old.tools }
 {
     let (first, count, value, x, place) = entry;
@@ -79,6 +80,7 @@ struct Plain {
     header: Header,
     stored: Stored<Global>,
     ghost storable: { IsStorable stored } by { Prim.hlevel props },
+    ghost room: { 13 ≤ stored.room },
 }
 
 /// Writes what is stored as a snapshot under this header, in format 2 with its tool area, and then the header.
@@ -102,10 +104,24 @@ fn renew(rig: &mut MemoryRig<Global>, header: Header, stored: &Stored<Global>) -
     is_written && rig.sync().is_ok() && store(rig, sector, &header.write()) && rig.sync().is_ok()
 }
 
+/// Where a load writes that comes while this area is in force, on a device of so many sectors: the area, and its first sector.
+fn next_area(sectors: usize, area: u64) -> (u64, usize) {
+    let is_large = sectors >= 5_806;
+    if is_large && area == 2 {
+        (3, 3_758)
+    } else if is_large {
+        (2, 1_710)
+    } else if area == 0 {
+        (1, 430)
+    } else {
+        (0, 174)
+    }
+}
+
 impl Plain {
-    /// Over a device of this format that is fresh.
-    fn on(alloc: Global, format: Format) -> Result<Plain, Fail> {
-        let mut rig = formatted(alloc)?;
+    /// Over a device of so many sectors and of this format that is fresh.
+    fn on(alloc: Global, sectors: usize, format: Format) -> Result<Plain, Fail> {
+        let mut rig = device(alloc, sectors, true)?;
         let is_laid = format == Format::Two
             || store(&mut rig, 1, &header_of(1, 1, 0, 0)) && rig.sync().is_ok();
         if !is_laid {
@@ -119,7 +135,7 @@ impl Plain {
                 area: 0,
                 length: 0,
             },
-            stored: Stored::fresh(alloc)?,
+            stored: Stored::fresh(alloc, 131_072)?,
         })
     }
 
@@ -140,11 +156,7 @@ impl Plain {
         self.stored.length = 13;
         self.stored.entries = self.stored.entries.saturating_add(1);
         self.stored.half = None;
-        let (area, first) = if self.header.area == 0 {
-            (1, 430)
-        } else {
-            (0, 174)
-        };
+        let (area, first) = next_area(self.rig.size(), self.header.area);
         store(&mut self.rig, first, &text_sector(text, 0)) && self.renew(area)
     }
 
@@ -278,24 +290,27 @@ const DEEDS: &[Deed] = &[
     Deed::Segment(1),
     Deed::PowerOn,
     Deed::Entry(2, 1, 14, 2, 0),
+    Deed::Load(TURN),
 ];
 
-/// The device that the journal leaves after these deeds.
-fn logged(alloc: Global, deeds: &[Deed]) -> Result<MemoryRig<Global>, Fail> {
-    let mut mill = Mill::on(alloc, formatted(alloc)?)?;
+/// The device of so many sectors that the journal leaves after these deeds.
+fn logged(alloc: Global, sectors: usize, deeds: &[Deed]) -> Result<MemoryRig<Global>, Fail> {
+    let mut mill = Mill::on(alloc, device(alloc, sectors, true)?)?;
     for deed in deeds {
         mill = mill.make(alloc, *deed)?;
     }
     Ok(mill.off())
 }
 
-/// The device of this format that the plain journal leaves, and what is stored on it, with nothing open. In format 1 no slot is stored.
+/// The device of so many sectors and of this format that the plain journal leaves, and what is stored on it, with nothing open. In format 1 no
+/// slot is stored.
 fn snapshotted(
     alloc: Global,
+    sectors: usize,
     format: Format,
     deeds: &[Deed],
 ) -> Result<(MemoryRig<Global>, Stored<Global>), Fail> {
-    let mut plain = Plain::on(alloc, format)?;
+    let mut plain = Plain::on(alloc, sectors, format)?;
     for deed in deeds {
         let is_stored = format == Format::Two || !matches!(deed, Deed::Tool(_, _));
         if is_stored && !plain.make(*deed) {
@@ -379,11 +394,12 @@ fn are_lines_alike(one: &Option<ProgramLine>, other: &Option<ProgramLine>) -> bo
     }
 }
 
-/// Whether both journals stand for what is stored, and for the same lines of the program, after these deeds.
-fn stand_for_the_same(alloc: Global, deeds: &[Deed]) -> Result<bool, Fail> {
-    let (rig, stored) = snapshotted(alloc, Format::Two, deeds)?;
+/// Whether both journals stand for what is stored, and for the same lines of the program, after these deeds on devices of so many sectors.
+fn stand_for_the_same(alloc: Global, sectors: usize, deeds: &[Deed]) -> Result<bool, Fail> {
+    let (rig, stored) = snapshotted(alloc, sectors, Format::Two, deeds)?;
     let (wanted, wanted_lines) = found(alloc, &rig, &Tools::new())?;
-    let (other, lines) = found(alloc, &logged(alloc, deeds)?, &Tools::new())?;
+    let logged = logged(alloc, sectors, deeds)?;
+    let (other, lines) = found(alloc, &logged, &Tools::new())?;
     Ok(
         are_alike(&wanted, &stored)?
             && are_alike(&other, &stored)?
@@ -392,11 +408,21 @@ fn stand_for_the_same(alloc: Global, deeds: &[Deed]) -> Result<bool, Fail> {
     )
 }
 
-#[test]
-fn a_journal_of_snapshots_stands_for_the_same(rt: HostRuntime) -> Result<(), Fail> {
+/// The first number of deeds after which they don't.
+fn first_unlike(alloc: Global, sectors: usize) -> Result<Option<usize>, Fail> {
     for n in 0..=DEEDS.len() {
         let deeds = DEEDS.get(..n).unwrap_or_default();
-        assert!(rt; stand_for_the_same(rt.alloc(), deeds)?, "{n}");
+        if !stand_for_the_same(alloc, sectors, deeds)? {
+            return Ok(Some(n));
+        }
+    }
+    Ok(None)
+}
+
+#[test]
+fn a_journal_of_snapshots_stands_for_the_same(rt: HostRuntime) -> Result<(), Fail> {
+    for sectors in [1_710, 5_806] {
+        assert_eq!(rt; first_unlike(rt.alloc(), sectors)?, None, "{sectors}");
     }
     Ok(())
 }
@@ -406,7 +432,7 @@ fn stands_beside_tools(alloc: Global, deeds: &[Deed]) -> Result<bool, Fail> {
     let mut tools = Tools::new();
     set_slot(&mut tools, 1, 50_000_000);
     set_slot(&mut tools, 2, 7);
-    let (rig, mut stored) = snapshotted(alloc, Format::One, deeds)?;
+    let (rig, mut stored) = snapshotted(alloc, 1_710, Format::One, deeds)?;
     stored.take_tools(&tools);
     let (found, _) = found(alloc, &rig, &tools)?;
     Ok(are_alike(&found, &stored)?)

@@ -84,7 +84,7 @@ fn a_program_end_selects_the_first_system(rt: HostRuntime) -> Result<(), Fail> {
 }
 
 #[test]
-fn a_tool_table_counts_its_slots_up_to_64(rt: HostRuntime) -> Result<(), Fail> {
+fn a_tool_table_counts_its_slots_up_to_128(rt: HostRuntime) -> Result<(), Fail> {
     let tool_length = Len::of_nm(50_000_000).unwrap();
     let mut tools = Tools::new();
     assert_eq!(rt; tools.slots(), 0);
@@ -93,11 +93,11 @@ fn a_tool_table_counts_its_slots_up_to_64(rt: HostRuntime) -> Result<(), Fail> {
     // a slot of no length counts too
     tools.push(Len::default());
     assert_eq!(rt; tools.slots(), 2);
-    for _ in 0..100 {
-        if tools.slots() < 64 {
+    for _ in 0..200 {
+        if tools.slots() < 128 {
             tools.push(tool_length);
         }
     }
-    assert_eq!(rt; tools.slots(), 64);
+    assert_eq!(rt; tools.slots(), 128);
     Ok(())
 }
