@@ -63,7 +63,7 @@ does_not_load {R} {T} honest trace fault e saved text old new free is same which
     (does_unmoved {T = T} honest trace fault e (λ program. load_unless program old.session text None) old new (storing_program {T = T} honest trace (Err e) saved text old new.journal is p) which unchanged lines same (λ program. refl))
 
 -- a program that isn't too long isn't refused as too long
-pub not_too_long : (T : Type 0) (e : Fault) (n : ℕ) → n ≤ 131072 → (e ≡ ProgramTooLong) ⊎ ((e ≡ CountersUsed) ⊎ (e ≡ DeviceFailed))
-    → (let answered : Result T Fault = Err e in IsErrOf answered ProgramTooLong ↔ (131072 < n)) → (e ≡ CountersUsed) ⊎ (e ≡ DeviceFailed)
-not_too_long T e n small (inl long) iff = absurd (omega (arith, small, iff.0 (λ i. Err (long i))))
-not_too_long T e n small (inr which) iff = which
+pub not_too_long : (T : Type 0) (e : Fault) (room n : ℕ) → n ≤ room → (e ≡ ProgramTooLong) ⊎ ((e ≡ CountersUsed) ⊎ (e ≡ DeviceFailed))
+    → (let answered : Result T Fault = Err e in IsErrOf answered ProgramTooLong ↔ (room < n)) → (e ≡ CountersUsed) ⊎ (e ≡ DeviceFailed)
+not_too_long T e room n small (inl long) iff = absurd (omega (arith, small, iff.0 (λ i. Err (long i))))
+not_too_long T e room n small (inr which) iff = which

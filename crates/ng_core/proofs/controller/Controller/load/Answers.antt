@@ -1,7 +1,8 @@
-use Rattle.std.proofs.Common.{◌≡◌, ◌⊎◌, inl, ℕ, List, length, Option, None, Some, Ok, Err, refl, sym, ◌∙◌, ap, subst}
+use Rattle.std.proofs.Common.{◌≡◌, ◌≤◌, ◌⊎◌, inl, ℕ, List, length, Option, None, Some, Ok, Err, refl, sym, ◌∙◌, ap, subst}
 use Rattle.std.proofs.lemmas.Result.{err_from_is_err_and}
 use Rattle.ng_num.specs.declared.fault.Fault.{Fault}
 use Rattle.ng_num.specs.declared.fault.Fault.TheVariants.{DeviceFailed, CountersUsed}
+use Rattle.ng_layout.specs.Stored.{StoredModel}
 use Rattle.ng_journal.specs.Storing.{ledger_of}
 use Rattle.ng_session.specs.Entries.{Equipment}
 use Rattle.ng_session.proofs.Ahead.{plan_none}
@@ -15,10 +16,16 @@ use Rattle.ng_core.proofs.Anyway.{comes_load}
 use Rattle.ng_core.proofs.Carrying.{carried_as, carried_refused, carried_short, carried_failed}
 use Rattle.ng_core.proofs.controller.Controller.load.Goals as goal
 
+pub load_program-requires-clause-room : goal.load_program-requires-clause-room
+load_program-requires-clause-room g c =
+    let whole = ap (λ (x : ControllerModel g.row.R.Denot). x.journal.broken) c.self.view_is ∙ c.requires.whole in
+    ap (λ (x : StoredModel). x.room) c.in_ok-stored.ensures.value ∙ ap (λ (x : StoredModel). x.room) (c.self.invariant.saved whole)
+
 pub invariant_of-self : goal.invariant_of-self
 invariant_of-self g c =
-    let which = not_too_long (Unit {0}) c.in_err-load_program.field-0.0 (length c.args.text.now) c.in_default.ensures.none.1 c.in_err-load_program.ensures.errors c.in_err-load_program.ensures.too_long in
     let whole = ap (λ (x : ControllerModel g.row.R.Denot). x.journal.broken) c.self.view_is ∙ c.requires.whole in
+    let small : length c.args.text.now ≤ c.self.inside.journal.saved.room = subst (λ (x : StoredModel). length c.args.text.now ≤ x.room) (c.self.invariant.saved whole) c.in_default.ensures.none.1 in
+    let which = not_too_long (Unit {0}) c.in_err-load_program.field-0.0 c.self.inside.journal.saved.room (length c.args.text.now) small c.in_err-load_program.ensures.errors c.in_err-load_program.ensures.too_long in
     record {
       saved = kept_failed Reply c.in_err-load_program.field-0.0 c.self.inside.journal c.load_program.new.self c.self.inside.session.stored which c.in_err-load_program.ensures.broken
           (λ used. c.in_err-load_program.ensures.unchanged (inl (ap (λ (f : Fault). Err f) used))) (c.self.invariant.saved whole);
@@ -54,14 +61,16 @@ returns-in_err-load_program g c =
     let old : ControllerModel g.row.R.Denot = record { journal = c.self.inside.journal; session = c.self.inside.session; lines = c.self.inside.lines; equipment = equipment } in
     let new : ControllerModel g.row.R.Denot = record { journal = c.load_program.new.self; session = c.self.inside.session; lines = c.self.inside.lines; equipment = equipment } in
     let free : load_refusal old.session c.args.text.now ≡ None = sym c.in_default.ensures.value in
-    let which : (e ≡ CountersUsed) ⊎ (e ≡ DeviceFailed) = not_too_long (Unit {0}) e (length c.args.text.now) c.in_default.ensures.none.1 c.in_err-load_program.ensures.errors c.in_err-load_program.ensures.too_long in
+    let whole = ap (λ (x : ControllerModel g.row.R.Denot). x.journal.broken) c.self.view_is ∙ c.requires.whole in
+    let small : length c.args.text.now ≤ c.self.inside.journal.saved.room = subst (λ (x : StoredModel). length c.args.text.now ≤ x.room) (c.self.invariant.saved whole) c.in_default.ensures.none.1 in
+    let which : (e ≡ CountersUsed) ⊎ (e ≡ DeviceFailed) = not_too_long (Unit {0}) e c.self.inside.journal.saved.room (length c.args.text.now) small c.in_err-load_program.ensures.errors c.in_err-load_program.ensures.too_long in
     let unchanged : e ≡ CountersUsed → new.journal ≡ old.journal = λ used. c.in_err-load_program.ensures.unchanged (inl (ap (λ (f : Fault). Err f) used)) in
     rw (p.1) (carried_as g.R.Rig.honest g.R.Rig.trace g.R.Rig.failed g.R.Rig.sectors (λ (x : ControllerModel g.row.R.Denot). load_refusal x.session c.args.text.now ≡ None) (λ (x : ControllerModel g.row.R.Denot). load_refusal x.session c.args.text.now ≡ None) (λ (x : ControllerModel g.row.R.Denot). ⊥) (λ (x : ControllerModel g.row.R.Denot) (program : List ℕ). load program x.session c.args.text.now) (Err p.0) c.args.self.now old new c.self.view_is
     (carried_failed g.R.Rig.honest g.R.Rig.trace g.R.Rig.failed g.R.Rig.sectors (load_refusal old.session c.args.text.now ≡ None) (load_refusal old.session c.args.text.now ≡ None) ⊥ p.0 e
     (λ (program : List ℕ). load program old.session c.args.text.now) old new p.2
     (does_not_load g.R.Rig.honest g.R.Rig.trace e e c.in_ok-stored.stored c.args.text.now old new free c.in_ok-stored.ensures.value refl which unchanged c.in_err-load_program.ensures.stops refl)
     which unchanged refl refl
-    (hindered_load (Unit {0}) e old.session c.in_ok-stored.stored c.args.text.now (ledger_of old.journal) free c.in_default.ensures.none.1 c.in_ok-stored.ensures.value which c.in_err-load_program.ensures.used_up)
+    (hindered_load (Unit {0}) e c.self.inside.journal.saved.room old.session c.in_ok-stored.stored c.args.text.now (ledger_of old.journal) free small c.in_ok-stored.ensures.value which c.in_err-load_program.ensures.used_up)
     c.in_err-load_program.ensures.broken c.in_err-load_program.ensures.size c.in_err-load_program.ensures.failures))
 
 pub returns : goal.returns
