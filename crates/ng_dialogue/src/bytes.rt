@@ -25,8 +25,8 @@ fn keep_on<A: Allocator + Copy + Drop>(text: &mut Vec<u8, A>, has_room: bool, by
     has_room && text.extend_from_slice(bytes).is_ok()
 }
 
-/// Takes so many bytes, and keeps them in a text that is empty before. Memory grows with the bytes that came. Where the text has ended
-/// the reader isn't read.
+/// Takes so many bytes, and keeps them in a text that is empty before. Its memory grows once, before the first is read.
+/// Where the text has ended the reader isn't read.
 ///
 /// `ReadError` where the reader failed: some of the bytes are taken then. Source: own.
 pub fn take_bytes<R: Read, A: Allocator + Copy + Drop>(
@@ -41,7 +41,7 @@ pub fn take_bytes<R: Read, A: Allocator + Copy + Drop>(
     ensures last { input.old.ended ≡ true → (input.new ≡ input.old) × (reader.new ≡ reader.old) }
 {
     let mut left = length as usize;
-    let mut has_room = true;
+    let mut has_room = text.reserve_exact(length as usize).is_ok();
     while left > 0 {
         if !input.fill(reader)? {
             return Ok(TakenBytes::Cut);

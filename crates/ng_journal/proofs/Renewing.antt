@@ -132,11 +132,11 @@ new_image old mid header new saved bytes r image there others =
     let snap = snapshot-new new.format saved (stretch (snapshot_first new.epoch) snapshot_size image) (stretch (tools_first new.epoch) tools_size image) r.storable.table parts table in
     let most : new.area ≤ 3 = omega (arith, r.fits.valid.area, area-most (is_large (reads old))) in
     let text = stretch-same (program_first new.area) (program_size new.area) image (reads old) (λ j lt.
-        let apart : (program_first new.area + j ≢ new.epoch % 2) × (IsOfAreas new (program_first new.area + j) → ⊥) = elim (area-where new.area j most lt) [
-          | inl w ↦ ((λ e. omega (arith, e, w.0)), not_areas new (program_first new.area + j) (inr (inl (w.0, omega (arith, w.1)))))
-          | inr w ↦ ((λ e. omega (arith, e, w.0)), not_areas new (program_first new.area + j) (inr (inr w.0)))
-        ] in
-        others (program_first new.area + j) apart.0 ∙ out (program_first new.area + j) apart.1) in
+    let apart : (program_first new.area + j ≢ new.epoch % 2) × (IsOfAreas new (program_first new.area + j) → ⊥) = elim (area-where new.area j most lt) [
+      | inl w ↦ ((λ e. omega (arith, e, w.0)), not_areas new (program_first new.area + j) (inr (inl (w.0, omega (arith, w.1)))))
+      | inr w ↦ ((λ e. omega (arith, e, w.0)), not_areas new (program_first new.area + j) (inr (inr w.0)))
+    ] in
+    others (program_first new.area + j) apart.0 ∙ out (program_first new.area + j) apart.1) in
     record {
       force = force;
       written = written-new image (reads old) header new b.at.force force (omega (arith, b.epoch)) b.at.written log;

@@ -21,9 +21,7 @@ use crate::loading::load;
 use crate::recovery::restore;
 use crate::storing::{Tip, changes_between, slot_between, store, store_half, take_changed};
 use ng_canon::Item;
-use ng_layout::{
-    GREATEST_COUNT, Half, LARGE_SIZE, LEAST_SIZE, Stored, program_room, spare_area,
-};
+use ng_layout::{GREATEST_COUNT, Half, LARGE_SIZE, LEAST_SIZE, Stored, program_room, spare_area};
 use ng_num::Fault;
 use ng_offsets::Tools;
 use ng_rig::{Failed, Rig};
@@ -230,8 +228,8 @@ impl<R: Rig, A: Allocator + Copy + Drop> Journal<R, A> {
     /// force, else to 2.
     ///
     /// J5 for more bytes than the device has room for: 131,072, or 1,048,576 on a large device; J4 where the entry count
-    /// or the epoch would be beyond its limit; then nothing is changed, and the device isn't called. J1 where the device failed: the journal is broken then, and the
-    /// device stands for what stood before or for the new. It takes no memory.
+    /// or the epoch would be beyond its limit; then nothing is changed, and the device isn't called. J1 where the device
+    /// failed: the journal is broken then, and the device stands for what stood before or for the new. It takes no memory.
     #[tactic(auto, unfolding(crate::specs::Storing::UsesUp))]
     pub fn load_program(&mut self, text: &[u8], stored: &Stored<A>) -> Result<(), Fault>
         requires whole { self.old.broken ≡ false }

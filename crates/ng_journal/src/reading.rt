@@ -54,10 +54,7 @@ fn newer(a: Option<Header>, b: Option<Header>) -> Option<Header>
 
 /// The header in force, on a large device or on any other.
 #[tactic(auto, unfolding(ng_layout::specs::Stands::in_force))]
-pub(crate) fn header_in_force<R: Rig>(
-    rig: &mut R,
-    large: bool,
-) -> Result<Option<Header>, Failed>
+pub(crate) fn header_in_force<R: Rig>(rig: &mut R, large: bool) -> Result<Option<Header>, Failed>
     requires sectors { least_size ≤ R.sectors rig.old }
     requires large { R.honest rig.old → is_large (reads (R.trace rig.old)) ≡ large }
     ensures read { IfHonest (R.honest rig.old) (R.honest rig.new)

@@ -24,13 +24,13 @@ default_is (x ∷ xs) (suc i) d e lt = default_is xs i d e (omega arith)
 -- a sector that holds something may take the place of another
 pub whole_set : (sectors new : List (List ℕ)) (m : ℕ) (bytes : List ℕ) → new ≡ set sectors m bytes → 0 < length bytes → IsWhole sectors → IsWhole new
 whole_set sectors new m bytes is some whole = subst (λ (s : List (List ℕ)). IsWhole s) (sym is) (record { each = each }) where
-    each : (n : ℕ) → n < length (set sectors m bytes) → 0 < length (get_or (set sectors m bytes) n [])
-    each n below =
-        let lengths = length-set sectors m bytes in
-        elim (cases_eq n m) [
-          | inl same ↦ rw (same, get_or-set_same sectors m bytes [] (omega (arith, lengths, below, same))) some
-          | inr other ↦ rw (get_or-set_other sectors m n bytes [] other) (whole.each n (omega (arith, lengths, below)))
-        ]
+  each : (n : ℕ) → n < length (set sectors m bytes) → 0 < length (get_or (set sectors m bytes) n [])
+  each n below =
+      let lengths = length-set sectors m bytes in
+      elim (cases_eq n m) [
+        | inl same ↦ rw (same, get_or-set_same sectors m bytes [] (omega (arith, lengths, below, same))) some
+        | inr other ↦ rw (get_or-set_other sectors m n bytes [] other) (whole.each n (omega (arith, lengths, below)))
+      ]
 
 below-lt : (a b : ℕ) → nat_lt a b ≡ true → a < b
 below-lt a b h = grind (arith, nat_tests)
