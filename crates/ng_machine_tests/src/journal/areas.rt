@@ -154,7 +154,7 @@ const LOADS: &[Loaded] = &[
 ];
 
 /// Loads a program of so many bytes `x`, as entry 1: what is answered, whether the journal is broken then, and the device.
-fn load<R: Rig + Drop>(
+pub fn load<R: Rig + Drop>(
     alloc: Global,
     rig: R,
     length: usize,
@@ -174,7 +174,7 @@ fn load<R: Rig + Drop>(
 }
 
 /// The first sector of a program area.
-fn first_of(area: i64) -> usize {
+pub fn first_of(area: i64) -> usize {
     match area {
         0 => 174,
         1 => 430,
@@ -184,7 +184,7 @@ fn first_of(area: i64) -> usize {
 }
 
 /// What a sector of a program area has of so many bytes `x`, before which it has so many sectors.
-fn text_sector(before: usize, length: usize) -> [u8; 512] {
+pub fn text_sector(before: usize, length: usize) -> [u8; 512] {
     let mut sector = [0; 512];
     let held = length.saturating_sub(before.saturating_mul(512)).min(512);
     for byte in sector.iter_mut().take(held) {
@@ -256,7 +256,7 @@ fn line(place: u64) -> [u8; 15] {
 }
 
 /// A sector of the text, before which it has so many bytes: 32 lines, each with its newline.
-fn lines(before: u64) -> [u8; 512] {
+pub fn lines(before: u64) -> [u8; 512] {
     let mut sector = [b'\n'; 512];
     for (k, part) in sector.chunks_mut(16).enumerate() {
         let place = before.saturating_add((k as u64).saturating_mul(16));
@@ -288,11 +288,12 @@ fn lay_others<R: Rig>(rig: &mut R) -> bool {
     is_laid
 }
 
-/// A device that is large, with a program of so many bytes of the text in area 2 or 3, and with another text in all other areas.
-fn written(alloc: Global, area: i64, length: i64) -> Result<MemoryRig<Global>, Fail> {
+/// A large device with a program of so many bytes of the text in this area, and with another text in all other areas; under epoch 1.
+pub fn written(alloc: Global, area: i64, length: i64) -> Result<MemoryRig<Global>, Fail> {
     let mut rig = MemoryRig::new(alloc, 5_806)?;
+    let sectors = if area < 2 { 256 } else { 2_048 };
     if lay_others(&mut rig)
-        && lay_lines(&mut rig, first_of(area), 2_048)
+        && lay_lines(&mut rig, first_of(area), sectors)
         && store(&mut rig, 88, &sector_with(&FRESH))
         && store(&mut rig, 1, &header(1, area, length))
         && rig.sync().is_ok()
