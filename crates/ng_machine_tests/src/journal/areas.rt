@@ -12,7 +12,8 @@ use ng_rig::{MemoryRig, Rig};
 use std::alloc::Global;
 use std::test::Fail;
 
-/// A device's sectors, the format of a header of epoch 2, and the program area and the length that it names; whether it is valid there.
+/// A device's sectors, the format of a header of epoch 2, and the program area and the length that it names; whether it
+/// is valid there.
 type Named = (usize, i64, i64, i64, bool);
 
 const HEADERS: &[Named] = &[
@@ -53,8 +54,8 @@ const HEADERS: &[Named] = &[
     (5_807, 2, 3, 1_048_576, true),
 ];
 
-/// A device with the header of a row, of epoch 2, whose state has 7 entries; and perhaps beside it with that of epoch 1 in the same format,
-/// with no program, whose state has 8.
+/// A device with the header of a row, of epoch 2, whose state has 7 entries; and perhaps beside it with that of epoch 1
+/// in the same format, with no program, whose state has 8.
 fn named(alloc: Global, row: &Named, is_beside: bool) -> Result<MemoryRig<Global>, Fail> {
     let (sectors, format, area, length, _) = *row;
     let mut rig = MemoryRig::new(alloc, sectors)?;
@@ -83,8 +84,8 @@ fn powered(alloc: Global, rig: MemoryRig<Global>) -> Powered {
     }
 }
 
-/// What power on makes of a valid header: the next epoch names the same program. Over format 1 that is epoch 3 in format 1, and then epoch 4 in
-/// format 2.
+/// What power on makes of a valid header: the next epoch names the same program. Over format 1 that is epoch 3 in
+/// format 1, and then epoch 4 in format 2.
 fn in_force(row: &Named) -> Powered {
     let (_, format, area, length, _) = *row;
     let even = if format == 1 { 4 } else { 2 };
@@ -97,7 +98,8 @@ fn in_force(row: &Named) -> Powered {
     ))
 }
 
-/// What it makes of the one of epoch 1 beside one that isn't valid: epoch 2 takes its place, and over format 1 epoch 3 comes after it.
+/// What it makes of the one of epoch 1 beside one that isn't valid: epoch 2 takes its place, and over format 1 epoch 3
+/// comes after it.
 fn beside(row: &Named) -> Powered {
     let odd = if row.1 == 1 {
         header(3, 0, 0)
@@ -126,8 +128,9 @@ fn a_header_names_an_area_that_the_device_has(rt: HostRuntime) -> Result<(), Fai
 
 const J5: Result<(), Fault> = Err(Fault::ProgramTooLong);
 
-/// A device's sectors, the program area in force, and the bytes of a program; what its load answers, how many writes and syncs it makes, and
-/// the area in force then. It writes a sector for each 512 bytes, and then 89; of a program for which the device has no room nothing.
+/// A device's sectors, the program area in force, and the bytes of a program; what its load answers, how many writes
+/// and syncs it makes, and the area in force then. It writes a sector for each 512 bytes, and then 89; of a program for
+/// which the device has no room nothing.
 type Loaded = (usize, i64, usize, Result<(), Fault>, [u64; 2], i64);
 
 const LOADS: &[Loaded] = &[
@@ -153,7 +156,8 @@ const LOADS: &[Loaded] = &[
     (5_807, 3, 1_048_577, J5, [0, 0], 3),
 ];
 
-/// Loads a program of so many bytes `x`, as entry 1: what is answered, whether the journal is broken then, and the device.
+/// Loads a program of so many bytes `x`, as entry 1: what is answered, whether the journal is broken then, and the
+/// device.
 pub fn load<R: Rig + Drop>(
     alloc: Global,
     rig: R,
@@ -193,7 +197,8 @@ pub fn text_sector(before: usize, length: usize) -> [u8; 512] {
     sector
 }
 
-/// The first sector of all program areas that doesn't hold what it has of so many bytes in this area, or that isn't 0 elsewhere.
+/// The first sector of all program areas that doesn't hold what it has of so many bytes in this area, or that isn't 0
+/// elsewhere.
 fn first_unlike(rig: &mut MemoryRig<Global>, area: i64, length: usize) -> Option<usize> {
     let first = first_of(area);
     for sector in 174..rig.size() {
@@ -210,8 +215,9 @@ fn first_unlike(rig: &mut MemoryRig<Global>, area: i64, length: usize) -> Option
     None
 }
 
-/// What a load answers, whether the journal is broken then, the reads, writes and syncs of power on and of it, whether the header of epoch 3
-/// or without a load that of epoch 2 names the area and the length that it should, and the first sector of a program area that isn't as it should be.
+/// What a load answers, whether the journal is broken then, the reads, writes and syncs of power on and of it, whether
+/// the header of epoch 3 or without a load that of epoch 2 names the area and the length that it should, and the first
+/// sector of a program area that isn't as it should be.
 type Found = (Result<(), Fault>, bool, [u64; 3], bool, Option<usize>);
 
 fn loaded(alloc: Global, row: &Loaded) -> Result<Found, Fail> {
@@ -288,7 +294,8 @@ fn lay_others<R: Rig>(rig: &mut R) -> bool {
     is_laid
 }
 
-/// A large device with a program of so many bytes of the text in this area, and with another text in all other areas; under epoch 1.
+/// A large device with a program of so many bytes of the text in this area, and with another text in all other areas;
+/// under epoch 1.
 pub fn written(alloc: Global, area: i64, length: i64) -> Result<MemoryRig<Global>, Fail> {
     let mut rig = MemoryRig::new(alloc, 5_806)?;
     let sectors = if area < 2 { 256 } else { 2_048 };
@@ -337,7 +344,12 @@ const LINES: &[Line] = &[
     (2, 1_048_576, 131_056, Some(("G4 P0 (0131056)", 131_072))),
     (2, 1_048_576, 131_072, Some(("G4 P0 (0131072)", 131_088))),
     (2, 1_048_576, 131_078, Some(("(0131072)", 131_088))),
-    (2, 1_048_576, 1_048_560, Some(("G4 P0 (1048560)", 1_048_576))),
+    (
+        2,
+        1_048_576,
+        1_048_560,
+        Some(("G4 P0 (1048560)", 1_048_576)),
+    ),
     (2, 1_048_576, 1_048_576, None),
     // the program ends within a line
     (2, 131_080, 131_072, Some(("G4 P0 (0", 131_080))),
@@ -345,7 +357,12 @@ const LINES: &[Line] = &[
     (3, 131_073, 131_072, Some(("G", 131_073))),
     (3, 131_073, 131_073, None),
     (3, 1_048_576, 131_072, Some(("G4 P0 (0131072)", 131_088))),
-    (3, 1_048_575, 1_048_560, Some(("G4 P0 (1048560)", 1_048_575))),
+    (
+        3,
+        1_048_575,
+        1_048_560,
+        Some(("G4 P0 (1048560)", 1_048_575)),
+    ),
 ];
 
 #[test]
@@ -360,8 +377,8 @@ fn lines_of_a_large_program(rt: HostRuntime) -> Result<(), Fail> {
     Ok(())
 }
 
-/// The first place of those from this one on, 16 bytes further each, at which a journal reads another line or says that the next one begins
-/// elsewhere.
+/// The first place of those from this one on, 16 bytes further each, at which a journal reads another line or says that
+/// the next one begins elsewhere.
 fn first_unlike_line<R: Rig>(
     journal: &mut Journal<R, Global>,
     stored: &Stored<Global>,

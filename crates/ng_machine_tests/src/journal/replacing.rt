@@ -1,4 +1,5 @@
-//! A program takes the place of another on a large device: what stands after a cut in the midst of that, and after a failure.
+//! A program takes the place of another on a large device: what stands after a cut in the midst of that, and after a
+//! failure.
 use crate::images::sector_of;
 use crate::journal::areas::{first_of, lines, load, text_sector, written};
 use crate::journal::header;
@@ -50,8 +51,8 @@ fn has_text<R: Rig>(rig: &mut R, first: usize, length: usize) -> bool {
     true
 }
 
-/// What a device stands for once it is powered on: under epoch 3 with no entry and the old program, or under epoch 4 with one and the new one, of
-/// which each byte is there.
+/// What a device stands for once it is powered on: under epoch 3 with no entry and the old program, or under epoch 4
+/// with one and the new one, of which each byte is there.
 fn standing(alloc: Global, rig: MemoryRig<Global>, row: &Row) -> Result<Stands, Fault> {
     let (old_area, old_length, area, length) = *row;
     match recover(alloc, rig, &Tools::new()) {
@@ -75,8 +76,8 @@ fn standing(alloc: Global, rig: MemoryRig<Global>, row: &Row) -> Result<Stands, 
     }
 }
 
-/// The calls of a load of a program of so many sectors after which power is cut: none, some of the text, all of it, its sync, some and all of
-/// the snapshot and the tool area, their sync, the header, its sync.
+/// The calls of a load of a program of so many sectors after which power is cut: none, some of the text, all of it, its
+/// sync, some and all of the snapshot and the tool area, their sync, the header, its sync.
 fn calls(sectors: usize) -> [usize; 12] {
     [
         0,
@@ -109,8 +110,8 @@ fn writes_kept((is_even, is_odd): Kept) -> [usize; 5_806] {
     writes
 }
 
-/// The first choice of sectors by which a stop after so many calls of a device, 92 of them of power on, doesn't stand for what it should. The header
-/// of epoch 3, in sector 1, is the last call but the sync after it.
+/// The first choice of sectors by which a stop after so many calls of a device, 92 of them of power on, doesn't stand
+/// for what it should. The header of epoch 3, in sector 1, is the last call but the sync after it.
 fn first_astray_after(
     alloc: Global,
     rig: &MemoryRig<Global>,
@@ -168,7 +169,8 @@ fn failing(alloc: Global, row: &Row, calls: usize) -> Result<Done, Fail> {
     Ok((done, is_broken, stands))
 }
 
-/// The first number of calls after which a failure does something else. The new program stands where the header is written.
+/// The first number of calls after which a failure does something else. The new program stands where the header is
+/// written.
 fn first_unlike_failure(alloc: Global, row: &Row) -> Result<Option<(usize, Done)>, Fail> {
     let sectors = row.3.div_ceil(512);
     for calls in calls(sectors) {
