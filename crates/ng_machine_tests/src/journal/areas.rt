@@ -1,11 +1,9 @@
 //! Which program areas a device has by its size, how long a text may be there, and from where its lines are read.
-ghost use Rattle.std.specs.Prelude.{◌≡◌, ◌≤◌, false};
-
-use crate::images::{FRESH, sector_of, sector_with, store};
+use crate::images::{FRESH, put, sector_of, sector_with, store};
 use crate::journal::counting::Counting;
 use crate::journal::{header, header_of, lay_state};
-use ng_journal::{Journal, recover};
-use ng_layout::Stored;
+use crate::log::Mill;
+use ng_journal::{ProgramLine, recover};
 use ng_num::Fault;
 use ng_offsets::Tools;
 use ng_rig::{MemoryRig, Rig};
@@ -126,6 +124,45 @@ fn a_header_names_an_area_that_the_device_has(rt: HostRuntime) -> Result<(), Fai
     Ok(())
 }
 
+/// A program area and the bytes of the program there, and the place in it at which the next line begins; the place that
+/// power on finds, or why it refuses the device.
+type Place = (i64, i64, i64, Result<u64, Fault>);
+
+const PLACES: &[Place] = &[
+    (1, 131_072, 131_072, Ok(131_072)),
+    (1, 131_072, 131_073, Err(Fault::Damaged)),
+    (2, 131_073, 131_073, Ok(131_073)),
+    (2, 131_073, 131_074, Err(Fault::Damaged)),
+    (3, 1_048_576, 1_048_576, Ok(1_048_576)),
+    (3, 1_048_576, 1_048_577, Err(Fault::Damaged)),
+];
+
+/// The place that power on finds on a large device.
+fn place_of(alloc: Global, row: &Place) -> Result<Result<u64, Fault>, Fail> {
+    let (area, length, place, _) = *row;
+    let mut state = sector_with(&FRESH);
+    put(&mut state, 8, 8, place);
+    let mut rig = MemoryRig::new(alloc, 5_806)?;
+    if !store(&mut rig, 88, &state) || !store(&mut rig, 1, &header(1, area, length)) {
+        return Err(Fail::from("a device isn't laid"));
+    }
+    Ok(match recover(alloc, rig, &Tools::new()) {
+        Ok((journal, stored)) => {
+            drop(journal.into_rig());
+            Ok(stored.place)
+        }
+        Err((fault, _)) => Err(fault),
+    })
+}
+
+#[test]
+fn a_place_within_a_large_program(rt: HostRuntime) -> Result<(), Fail> {
+    for row in PLACES {
+        assert_eq!(rt; place_of(rt.alloc(), row)?, row.3, "{row:?}");
+    }
+    Ok(())
+}
+
 const J5: Result<(), Fault> = Err(Fault::ProgramTooLong);
 
 /// A device's sectors, the program area in force, and the bytes of a program; what its load answers, how many writes
@@ -215,6 +252,11 @@ fn first_unlike(rig: &mut MemoryRig<Global>, area: i64, length: usize) -> Option
     None
 }
 
+/// A length, as a header has it.
+pub fn bytes_of(length: usize) -> i64 {
+    i64::try_from(length).unwrap_or(0)
+}
+
 /// What a load answers, whether the journal is broken then, the reads, writes and syncs of power on and of it, whether
 /// the header of epoch 3 or without a load that of epoch 2 names the area and the length that it should, and the first
 /// sector of a program area that isn't as it should be.
@@ -229,7 +271,7 @@ fn loaded(alloc: Global, row: &Loaded) -> Result<Found, Fail> {
     let (done, is_broken, counting) = load(alloc, Counting::new(rig), length)?;
     let (counts, mut rig) = counting.counted();
     let (sector, wanted, held) = if answer.is_ok() {
-        (1, header(3, area, length as i64), length)
+        (1, header(3, area, bytes_of(length)), length)
     } else {
         (1, header(1, before, 0), 0)
     };
@@ -254,8 +296,10 @@ fn a_program_for_which_the_device_has_room(rt: HostRuntime) -> Result<(), Fail> 
 fn line(place: u64) -> [u8; 15] {
     let mut line = *b"G4 P0 (0000000)";
     let mut rest = place;
-    for at in [13, 12, 11, 10, 9, 8, 7] {
-        line[at] = b'0' + (rest % 10) as u8;
+    for k in 0..7usize {
+        if let Some(digit) = line.get_mut(13usize.saturating_sub(k)) {
+            *digit = b'0' + (rest % 10) as u8;
+        }
         rest /= 10;
     }
     line
@@ -377,41 +421,41 @@ fn lines_of_a_large_program(rt: HostRuntime) -> Result<(), Fail> {
     Ok(())
 }
 
-/// The first place of those from this one on, 16 bytes further each, at which a journal reads another line or says that
+/// The first of the lines with these numbers, 16 bytes each, that a journal reads otherwise, or after which it says that
 /// the next one begins elsewhere.
-fn first_unlike_line<R: Rig>(
-    journal: &mut Journal<R, Global>,
-    stored: &Stored<Global>,
+fn first_unlike_line<R: Rig + Drop>(
+    mill: Mill<R>,
     first: u64,
-) -> Result<Option<u64>, Fault>
-    requires whole { journal.old.broken ≡ false }
-    requires same { stored.now ≡ journal.old.saved }
-{
-    let mut place = first;
-    while place < stored.length {
-        let next = place + 16;
-        match journal.program_line(place)? {
-            Some(read) if read.text.as_slice() == line(place).as_slice() && read.next == next => {}
-            _ => return Ok(Some(place)),
+    end: u64,
+) -> Result<Option<u64>, Fault> {
+    let mut mill = mill;
+    for number in first..end {
+        let place = number.saturating_mul(16);
+        let (next, read) = mill.line(place)?;
+        mill = next;
+        if !is_line(&read, place) {
+            drop(mill.off());
+            return Ok(Some(number));
         }
-        place = next;
     }
+    drop(mill.off());
     Ok(None)
 }
 
-/// That in a program of 1,048,576 bytes in this area, from the last line on that a smaller area has.
-fn first_unlike_in(alloc: Global, area: i64) -> Result<Option<u64>, Fail> {
-    match recover(alloc, written(alloc, area, 1_048_576)?, &Tools::new()) {
-        Ok((mut journal, stored)) => {
-            let unlike = first_unlike_line(&mut journal, &stored, 131_056);
-            drop(journal.into_rig());
-            Ok(unlike?)
+/// Whether this is the whole line of the text that begins at this place.
+fn is_line(read: &Option<ProgramLine>, place: u64) -> bool {
+    match read {
+        Some(read) => {
+            read.text.as_slice() == line(place).as_slice() && read.next == place.saturating_add(16)
         }
-        Err((fault, rig)) => {
-            drop(rig);
-            Err(Fail::from(fault))
-        }
+        None => false,
     }
+}
+
+/// That in a program of 1,048,576 bytes in this area, from the last line on that a smaller area has room for.
+fn first_unlike_in(alloc: Global, area: i64) -> Result<Option<u64>, Fail> {
+    let mill = Mill::on(alloc, written(alloc, area, 1_048_576)?)?;
+    Ok(first_unlike_line(mill, 8_191, 65_536)?)
 }
 
 #[test]

@@ -1,7 +1,7 @@
 //! A program takes the place of another on a large device: what stands after a cut in the midst of that, and after a
 //! failure.
 use crate::images::sector_of;
-use crate::journal::areas::{first_of, lines, load, text_sector, written};
+use crate::journal::areas::{bytes_of, first_of, lines, load, text_sector, written};
 use crate::journal::header;
 use ng_journal::recover;
 use ng_num::Fault;
@@ -59,10 +59,10 @@ fn standing(alloc: Global, rig: MemoryRig<Global>, row: &Row) -> Result<Stands, 
         Ok((journal, stored)) => {
             let mut rig = journal.into_rig();
             let is_old = stored.entries == 0
-                && sector_of(&mut rig, 1) == header(3, old_area, old_length as i64)
+                && sector_of(&mut rig, 1) == header(3, old_area, bytes_of(old_length))
                 && has_lines(&mut rig, first_of(old_area), old_length.div_ceil(512));
             let is_new = stored.entries == 1
-                && sector_of(&mut rig, 0) == header(4, area, length as i64)
+                && sector_of(&mut rig, 0) == header(4, area, bytes_of(length))
                 && has_text(&mut rig, first_of(area), length);
             Ok(if is_old {
                 Stands::Old
@@ -133,7 +133,7 @@ fn first_astray_after(
 /// The first of those stops of a load.
 fn first_astray(alloc: Global, row: &Row) -> Result<Option<(usize, Kept)>, Fail> {
     let (area, length, _, next) = *row;
-    let rig = written(alloc, area, length as i64)?.stopped(usize::MAX, &[])?;
+    let rig = written(alloc, area, bytes_of(length))?.stopped(usize::MAX, &[])?;
     let (done, _, rig) = load(alloc, rig, next)?;
     if done.is_err() {
         return Err(Fail::from("a program isn't loaded"));
@@ -161,7 +161,7 @@ type Done = (Result<(), Fault>, bool, Stands);
 fn failing(alloc: Global, row: &Row, calls: usize) -> Result<Done, Fail> {
     let (area, length, _, next) = *row;
     let fuse = FuseRig::new(
-        written(alloc, area, length as i64)?,
+        written(alloc, area, bytes_of(length))?,
         183u64.saturating_add(calls as u64),
     );
     let (done, is_broken, fuse) = load(alloc, fuse, next)?;

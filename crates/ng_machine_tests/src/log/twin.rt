@@ -1,5 +1,5 @@
 //! The journal beside a plain one, which writes a whole snapshot for each entry and each opened segment: what both devices stand for.
-ghost use Rattle.std.specs.Prelude.{◌≡◌, IsSome, IsNone, IfSome};
+ghost use Rattle.std.specs.Prelude.{◌≡◌, ◌≤◌, IsSome, IsNone, IfSome};
 ghost use Rattle.std.proofs.Props.{props};
 ghost use Rattle.ng_layout.specs.Storable.{IsStorableHalf, IsStorable};
 
