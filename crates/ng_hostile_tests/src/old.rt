@@ -56,7 +56,8 @@ fn first_part(record: u64, parts: u64, changes: u64, entries: u64) -> [u8; 512] 
     sector
 }
 
-/// A device of so many sectors under the header of epoch 2, with that of epoch 1 beside it, of a fresh controller: of the parameters 5220 alone isn't 0.
+/// A device of so many sectors under the header of epoch 2, with that of epoch 1 beside it, of a fresh controller: of
+/// the parameters 5220 alone isn't 0.
 fn headed(alloc: Global, sectors: usize) -> Result<Device, Fault> {
     let mut rig = MemoryRig::new(alloc, sectors)?;
     let mut state = [0; 512];

@@ -15,7 +15,8 @@ mod sizes;
 enum Base {
     /// Epoch 1: the header in sector 1, its snapshot in sectors 88 to 173.
     Odd,
-    /// Epoch 2: the header in sector 0, its snapshot in sectors 2 to 87; 128 slots, whose lengths stand in sectors 1706 and 1707.
+    /// Epoch 2: the header in sector 0, its snapshot in sectors 2 to 87; 128 slots, whose lengths stand in sectors 1706
+    /// and 1707.
     Even,
     /// Epoch 1, with all words of a cycle kept and a half-done block of 256 bytes; it is known where the machine stands.
     Full,
@@ -246,7 +247,15 @@ const CASES: &[Case] = &[
     ("kept", Base::Odd, 88, 157, 1, &[16, 32, 128, 255], J3),
     ("selected slot", Base::Odd, 88, 158, 2, &[0, 64, 128], SAME),
     ("selected slot", Base::Odd, 88, 158, 2, &[129, 256, -1], J3),
-    ("selected slot", Base::OldOdd, 88, 158, 2, &[0, 64, 128], SAME),
+    (
+        "selected slot",
+        Base::OldOdd,
+        88,
+        158,
+        2,
+        &[0, 64, 128],
+        SAME,
+    ),
     ("selected slot", Base::OldOdd, 88, 158, 2, &[129], J3),
     ("spindle slot", Base::Odd, 88, 160, 2, &[0, 64, 128], SAME),
     ("spindle slot", Base::Odd, 88, 160, 2, &[129, 256, -1], J3),

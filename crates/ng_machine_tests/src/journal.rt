@@ -18,6 +18,7 @@ use std::test::Fail;
 pub mod areas;
 pub mod counting;
 pub mod formatting;
+mod replacing;
 
 use counting::Counting;
 

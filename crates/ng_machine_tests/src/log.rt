@@ -11,7 +11,7 @@ mod twin;
 mod writing;
 
 use crate::journal::set_slot;
-use ng_journal::{Journal, recover};
+use ng_journal::{Journal, ProgramLine, recover};
 use ng_layout::Stored;
 use ng_num::{Fault, Num};
 use ng_offsets::Tools;
@@ -37,6 +37,25 @@ impl<R: Rig + Drop> Mill<R> {
             Ok((journal, stored)) => Ok(Mill { journal, stored }),
             Err((fault, rig)) => {
                 drop(rig);
+                Err(fault)
+            }
+        }
+    }
+
+    /// The line that begins at a place of the program; `Fault::Broken` past its end.
+    pub fn line(self, place: u64) -> Result<(Mill<R>, Option<ProgramLine>), Fault> {
+        let Mill {
+            mut journal,
+            stored,
+        } = self;
+        if place > stored.length {
+            drop(journal.into_rig());
+            return Err(Fault::Broken);
+        }
+        match journal.program_line(place) {
+            Ok(line) => Ok((Mill { journal, stored }, line)),
+            Err(fault) => {
+                drop(journal.into_rig());
                 Err(fault)
             }
         }

@@ -1,5 +1,7 @@
 //! A device fails one of its calls, each in turn.
-use crate::devices::{Device, LARGE, cut, formatted, formatted_of, found_on, give, powered, rig_of, shown};
+use crate::devices::{
+    Device, LARGE, cut, formatted, formatted_of, found_on, give, powered, rig_of, shown,
+};
 use crate::old::{FILLING, of_format_1};
 use crate::rows::{EACH_KIND, Row, entries_after, event_of, reply_to};
 use crate::scripts::{
@@ -309,12 +311,7 @@ fn each_call_of_a_session(rt: HostRuntime) -> Result<(), Fail> {
 /// On a large device: the first load writes program area 2, the second 3, the third 2.
 #[test]
 fn each_call_of_loads_on_a_large_device(rt: HostRuntime) -> Result<(), Fail> {
-    let found = swept_on(
-        rt.alloc(),
-        LARGE,
-        STORED_THREE_TIMES,
-        each_from(POWERED_ON),
-    );
+    let found = swept_on(rt.alloc(), LARGE, STORED_THREE_TIMES, each_from(POWERED_ON));
     assert_eq!(rt; found, Ok(Ok(Some(371))));
     Ok(())
 }

@@ -8,8 +8,8 @@ use std::alloc::{AllocError, Global};
 use std::cell::Cell;
 use std::test::Fail;
 
-/// A device's sectors and the bytes of a program; how many writes and syncs its load makes: a write for each 512 bytes, and 92 calls more. None
-/// where it is refused, since the device has no room for it.
+/// A device's sectors and the bytes of a program; how many writes and syncs its load makes: a write for each 512 bytes,
+/// and 92 calls more. None where it is refused, since the device has no room for it.
 const PROGRAMS: &[(usize, usize, Option<u64>)] = &[
     (1_710, 131_072, Some(348)),
     (1_710, 131_073, None),
@@ -28,8 +28,8 @@ fn load_of(alloc: Global, length: usize) -> Result<Event<Global>, AllocError> {
     Ok(Event::Load(Text::of(text)))
 }
 
-/// What a load is answered, and whether it shows nowhere; the calls after it; what the load of `M2` after it is answered, and the calls after
-/// that.
+/// What a load is answered, and whether it shows nowhere; the calls after it; what the load of `M2` after it is
+/// answered, and the calls after that.
 type Answered = (Reply, bool, [u64; 2], Reply, [u64; 2]);
 
 fn answers(
@@ -56,8 +56,8 @@ fn answered(alloc: Global, sectors: usize, length: usize) -> Result<Answered, Fa
     answers
 }
 
-/// What has to be answered where the load makes so many calls, or is refused. Power on makes 91 reads and 92 other calls, and a load of one
-/// sector 93.
+/// What has to be answered where the load makes so many calls, or is refused. Power on makes 91 reads and 92 other
+/// calls, and a load of one sector 93.
 fn wanted(calls: Option<u64>) -> Answered {
     let made = 92u64.saturating_add(calls.unwrap_or(0));
     let (first, second) = match calls {

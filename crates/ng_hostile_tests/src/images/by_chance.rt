@@ -200,13 +200,13 @@ impl Tally {
         None
     }
 
-    /// Whether none of them is rare, of a quarter of ten thousand images or of this part of that.
+    /// Whether none of them is rare, of this part of a quarter of ten thousand images.
     fn has_each(&self, part: u64) -> bool {
-        self.recovered >= 500 / part.max(1)
-            && self.migrated >= 100 / part.max(1)
-            && self.not_formatted >= 50 / part.max(1)
-            && self.damaged >= 250 / part.max(1)
-            && self.counters_used >= 5 / part.max(1)
+        self.recovered.saturating_mul(part) >= 500
+            && self.migrated.saturating_mul(part) >= 100
+            && self.not_formatted.saturating_mul(part) >= 50
+            && self.damaged.saturating_mul(part) >= 250
+            && self.counters_used.saturating_mul(part) >= 5
     }
 }
 

@@ -26,7 +26,8 @@ const BEFORE: &[Row] = &[
 /// 91 writes and 3 syncs.
 const LOADS: &[Row] = &[(Order::Load(NEW), Does::Loads(NEW), 94)];
 
-/// The first of these stops in a load, after power on, that leaves something else: over a device of so many sectors, after these events.
+/// The first of these stops in a load, after power on, that leaves something else: over a device of so many sectors,
+/// after these events.
 fn first_astray_in_load(
     alloc: Global,
     sectors: usize,
@@ -51,11 +52,12 @@ const TWICE: &[Row] = &[
     (Order::Load(OLD), Does::Loads(OLD), 93),
 ];
 
-/// What comes before a load on a large device: program area 0 is in force, so that it writes area 2; area 2, so that it writes 3; area 3, so that
-/// it writes 2.
+/// What comes before a load on a large device: program area 0 is in force, so that it writes area 2; area 2, so that it
+/// writes 3; area 3, so that it writes 2.
 const BEFORE_LARGE: &[&[Row]] = &[&[], BEFORE, TWICE];
 
-/// Stops of a load, after power on: in the text, up to its sync; in the snapshot and the tool area; as all of that is written, and at the header.
+/// Stops of a load, after power on: in the text, up to its sync; in the snapshot and the tool area; as all of that is
+/// written, and at the header.
 const CUTS: &[Cuts] = &[
     Cuts {
         first: 92,

@@ -1,18 +1,17 @@
 //! Which program areas a device has by its size, how long a text may be there, and from where its lines are read.
-ghost use Rattle.std.specs.Prelude.{◌≡◌, ◌≤◌, false};
-
-use crate::images::{FRESH, sector_of, sector_with, store};
+use crate::images::{FRESH, put, sector_of, sector_with, store};
 use crate::journal::counting::Counting;
 use crate::journal::{header, header_of, lay_state};
-use ng_journal::{Journal, recover};
-use ng_layout::Stored;
+use crate::log::Mill;
+use ng_journal::{ProgramLine, recover};
 use ng_num::Fault;
 use ng_offsets::Tools;
 use ng_rig::{MemoryRig, Rig};
 use std::alloc::Global;
 use std::test::Fail;
 
-/// A device's sectors, the format of a header of epoch 2, and the program area and the length that it names; whether it is valid there.
+/// A device's sectors, the format of a header of epoch 2, and the program area and the length that it names; whether it
+/// is valid there.
 type Named = (usize, i64, i64, i64, bool);
 
 const HEADERS: &[Named] = &[
@@ -53,8 +52,8 @@ const HEADERS: &[Named] = &[
     (5_807, 2, 3, 1_048_576, true),
 ];
 
-/// A device with the header of a row, of epoch 2, whose state has 7 entries; and perhaps beside it with that of epoch 1 in the same format,
-/// with no program, whose state has 8.
+/// A device with the header of a row, of epoch 2, whose state has 7 entries; and perhaps beside it with that of epoch 1
+/// in the same format, with no program, whose state has 8.
 fn named(alloc: Global, row: &Named, is_beside: bool) -> Result<MemoryRig<Global>, Fail> {
     let (sectors, format, area, length, _) = *row;
     let mut rig = MemoryRig::new(alloc, sectors)?;
@@ -83,8 +82,8 @@ fn powered(alloc: Global, rig: MemoryRig<Global>) -> Powered {
     }
 }
 
-/// What power on makes of a valid header: the next epoch names the same program. Over format 1 that is epoch 3 in format 1, and then epoch 4 in
-/// format 2.
+/// What power on makes of a valid header: the next epoch names the same program. Over format 1 that is epoch 3 in
+/// format 1, and then epoch 4 in format 2.
 fn in_force(row: &Named) -> Powered {
     let (_, format, area, length, _) = *row;
     let even = if format == 1 { 4 } else { 2 };
@@ -97,7 +96,8 @@ fn in_force(row: &Named) -> Powered {
     ))
 }
 
-/// What it makes of the one of epoch 1 beside one that isn't valid: epoch 2 takes its place, and over format 1 epoch 3 comes after it.
+/// What it makes of the one of epoch 1 beside one that isn't valid: epoch 2 takes its place, and over format 1 epoch 3
+/// comes after it.
 fn beside(row: &Named) -> Powered {
     let odd = if row.1 == 1 {
         header(3, 0, 0)
@@ -124,10 +124,50 @@ fn a_header_names_an_area_that_the_device_has(rt: HostRuntime) -> Result<(), Fai
     Ok(())
 }
 
+/// A program area and the bytes of the program there, and the place in it at which the next line begins; the place that
+/// power on finds, or why it refuses the device.
+type Place = (i64, i64, i64, Result<u64, Fault>);
+
+const PLACES: &[Place] = &[
+    (1, 131_072, 131_072, Ok(131_072)),
+    (1, 131_072, 131_073, Err(Fault::Damaged)),
+    (2, 131_073, 131_073, Ok(131_073)),
+    (2, 131_073, 131_074, Err(Fault::Damaged)),
+    (3, 1_048_576, 1_048_576, Ok(1_048_576)),
+    (3, 1_048_576, 1_048_577, Err(Fault::Damaged)),
+];
+
+/// The place that power on finds on a large device.
+fn place_of(alloc: Global, row: &Place) -> Result<Result<u64, Fault>, Fail> {
+    let (area, length, place, _) = *row;
+    let mut state = sector_with(&FRESH);
+    put(&mut state, 8, 8, place);
+    let mut rig = MemoryRig::new(alloc, 5_806)?;
+    if !store(&mut rig, 88, &state) || !store(&mut rig, 1, &header(1, area, length)) {
+        return Err(Fail::from("a device isn't laid"));
+    }
+    Ok(match recover(alloc, rig, &Tools::new()) {
+        Ok((journal, stored)) => {
+            drop(journal.into_rig());
+            Ok(stored.place)
+        }
+        Err((fault, _)) => Err(fault),
+    })
+}
+
+#[test]
+fn a_place_within_a_large_program(rt: HostRuntime) -> Result<(), Fail> {
+    for row in PLACES {
+        assert_eq!(rt; place_of(rt.alloc(), row)?, row.3, "{row:?}");
+    }
+    Ok(())
+}
+
 const J5: Result<(), Fault> = Err(Fault::ProgramTooLong);
 
-/// A device's sectors, the program area in force, and the bytes of a program; what its load answers, how many writes and syncs it makes, and
-/// the area in force then. It writes a sector for each 512 bytes, and then 89; of a program for which the device has no room nothing.
+/// A device's sectors, the program area in force, and the bytes of a program; what its load answers, how many writes
+/// and syncs it makes, and the area in force then. It writes a sector for each 512 bytes, and then 89; of a program for
+/// which the device has no room nothing.
 type Loaded = (usize, i64, usize, Result<(), Fault>, [u64; 2], i64);
 
 const LOADS: &[Loaded] = &[
@@ -153,8 +193,9 @@ const LOADS: &[Loaded] = &[
     (5_807, 3, 1_048_577, J5, [0, 0], 3),
 ];
 
-/// Loads a program of so many bytes `x`, as entry 1: what is answered, whether the journal is broken then, and the device.
-fn load<R: Rig + Drop>(
+/// Loads a program of so many bytes `x`, as entry 1: what is answered, whether the journal is broken then, and the
+/// device.
+pub fn load<R: Rig + Drop>(
     alloc: Global,
     rig: R,
     length: usize,
@@ -174,7 +215,7 @@ fn load<R: Rig + Drop>(
 }
 
 /// The first sector of a program area.
-fn first_of(area: i64) -> usize {
+pub fn first_of(area: i64) -> usize {
     match area {
         0 => 174,
         1 => 430,
@@ -184,7 +225,7 @@ fn first_of(area: i64) -> usize {
 }
 
 /// What a sector of a program area has of so many bytes `x`, before which it has so many sectors.
-fn text_sector(before: usize, length: usize) -> [u8; 512] {
+pub fn text_sector(before: usize, length: usize) -> [u8; 512] {
     let mut sector = [0; 512];
     let held = length.saturating_sub(before.saturating_mul(512)).min(512);
     for byte in sector.iter_mut().take(held) {
@@ -193,7 +234,8 @@ fn text_sector(before: usize, length: usize) -> [u8; 512] {
     sector
 }
 
-/// The first sector of all program areas that doesn't hold what it has of so many bytes in this area, or that isn't 0 elsewhere.
+/// The first sector of all program areas that doesn't hold what it has of so many bytes in this area, or that isn't 0
+/// elsewhere.
 fn first_unlike(rig: &mut MemoryRig<Global>, area: i64, length: usize) -> Option<usize> {
     let first = first_of(area);
     for sector in 174..rig.size() {
@@ -210,8 +252,14 @@ fn first_unlike(rig: &mut MemoryRig<Global>, area: i64, length: usize) -> Option
     None
 }
 
-/// What a load answers, whether the journal is broken then, the reads, writes and syncs of power on and of it, whether the header of epoch 3
-/// or without a load that of epoch 2 names the area and the length that it should, and the first sector of a program area that isn't as it should be.
+/// A length, as a header has it.
+pub fn bytes_of(length: usize) -> i64 {
+    i64::try_from(length).unwrap_or(0)
+}
+
+/// What a load answers, whether the journal is broken then, the reads, writes and syncs of power on and of it, whether
+/// the header of epoch 3 or without a load that of epoch 2 names the area and the length that it should, and the first
+/// sector of a program area that isn't as it should be.
 type Found = (Result<(), Fault>, bool, [u64; 3], bool, Option<usize>);
 
 fn loaded(alloc: Global, row: &Loaded) -> Result<Found, Fail> {
@@ -223,7 +271,7 @@ fn loaded(alloc: Global, row: &Loaded) -> Result<Found, Fail> {
     let (done, is_broken, counting) = load(alloc, Counting::new(rig), length)?;
     let (counts, mut rig) = counting.counted();
     let (sector, wanted, held) = if answer.is_ok() {
-        (1, header(3, area, length as i64), length)
+        (1, header(3, area, bytes_of(length)), length)
     } else {
         (1, header(1, before, 0), 0)
     };
@@ -248,15 +296,17 @@ fn a_program_for_which_the_device_has_room(rt: HostRuntime) -> Result<(), Fail> 
 fn line(place: u64) -> [u8; 15] {
     let mut line = *b"G4 P0 (0000000)";
     let mut rest = place;
-    for at in [13, 12, 11, 10, 9, 8, 7] {
-        line[at] = b'0' + (rest % 10) as u8;
+    for k in 0..7usize {
+        if let Some(digit) = line.get_mut(13usize.saturating_sub(k)) {
+            *digit = b'0' + (rest % 10) as u8;
+        }
         rest /= 10;
     }
     line
 }
 
 /// A sector of the text, before which it has so many bytes: 32 lines, each with its newline.
-fn lines(before: u64) -> [u8; 512] {
+pub fn lines(before: u64) -> [u8; 512] {
     let mut sector = [b'\n'; 512];
     for (k, part) in sector.chunks_mut(16).enumerate() {
         let place = before.saturating_add((k as u64).saturating_mul(16));
@@ -288,11 +338,13 @@ fn lay_others<R: Rig>(rig: &mut R) -> bool {
     is_laid
 }
 
-/// A device that is large, with a program of so many bytes of the text in area 2 or 3, and with another text in all other areas.
-fn written(alloc: Global, area: i64, length: i64) -> Result<MemoryRig<Global>, Fail> {
+/// A large device with a program of so many bytes of the text in this area, and with another text in all other areas;
+/// under epoch 1.
+pub fn written(alloc: Global, area: i64, length: i64) -> Result<MemoryRig<Global>, Fail> {
     let mut rig = MemoryRig::new(alloc, 5_806)?;
+    let sectors = if area < 2 { 256 } else { 2_048 };
     if lay_others(&mut rig)
-        && lay_lines(&mut rig, first_of(area), 2_048)
+        && lay_lines(&mut rig, first_of(area), sectors)
         && store(&mut rig, 88, &sector_with(&FRESH))
         && store(&mut rig, 1, &header(1, area, length))
         && rig.sync().is_ok()
@@ -336,7 +388,12 @@ const LINES: &[Line] = &[
     (2, 1_048_576, 131_056, Some(("G4 P0 (0131056)", 131_072))),
     (2, 1_048_576, 131_072, Some(("G4 P0 (0131072)", 131_088))),
     (2, 1_048_576, 131_078, Some(("(0131072)", 131_088))),
-    (2, 1_048_576, 1_048_560, Some(("G4 P0 (1048560)", 1_048_576))),
+    (
+        2,
+        1_048_576,
+        1_048_560,
+        Some(("G4 P0 (1048560)", 1_048_576)),
+    ),
     (2, 1_048_576, 1_048_576, None),
     // the program ends within a line
     (2, 131_080, 131_072, Some(("G4 P0 (0", 131_080))),
@@ -344,7 +401,12 @@ const LINES: &[Line] = &[
     (3, 131_073, 131_072, Some(("G", 131_073))),
     (3, 131_073, 131_073, None),
     (3, 1_048_576, 131_072, Some(("G4 P0 (0131072)", 131_088))),
-    (3, 1_048_575, 1_048_560, Some(("G4 P0 (1048560)", 1_048_575))),
+    (
+        3,
+        1_048_575,
+        1_048_560,
+        Some(("G4 P0 (1048560)", 1_048_575)),
+    ),
 ];
 
 #[test]
@@ -359,41 +421,41 @@ fn lines_of_a_large_program(rt: HostRuntime) -> Result<(), Fail> {
     Ok(())
 }
 
-/// The first place of those from this one on, 16 bytes further each, at which a journal reads another line or says that the next one begins
-/// elsewhere.
-fn first_unlike_line<R: Rig>(
-    journal: &mut Journal<R, Global>,
-    stored: &Stored<Global>,
+/// The first of the lines with these numbers, 16 bytes each, that a journal reads otherwise, or after which it says that
+/// the next one begins elsewhere.
+fn first_unlike_line<R: Rig + Drop>(
+    mill: Mill<R>,
     first: u64,
-) -> Result<Option<u64>, Fault>
-    requires whole { journal.old.broken ≡ false }
-    requires same { stored.now ≡ journal.old.saved }
-{
-    let mut place = first;
-    while place < stored.length {
-        let next = place + 16;
-        match journal.program_line(place)? {
-            Some(read) if read.text.as_slice() == line(place).as_slice() && read.next == next => {}
-            _ => return Ok(Some(place)),
+    end: u64,
+) -> Result<Option<u64>, Fault> {
+    let mut mill = mill;
+    for number in first..end {
+        let place = number.saturating_mul(16);
+        let (next, read) = mill.line(place)?;
+        mill = next;
+        if !is_line(&read, place) {
+            drop(mill.off());
+            return Ok(Some(number));
         }
-        place = next;
     }
+    drop(mill.off());
     Ok(None)
 }
 
-/// That in a program of 1,048,576 bytes in this area, from the last line on that a smaller area has.
-fn first_unlike_in(alloc: Global, area: i64) -> Result<Option<u64>, Fail> {
-    match recover(alloc, written(alloc, area, 1_048_576)?, &Tools::new()) {
-        Ok((mut journal, stored)) => {
-            let unlike = first_unlike_line(&mut journal, &stored, 131_056);
-            drop(journal.into_rig());
-            Ok(unlike?)
+/// Whether this is the whole line of the text that begins at this place.
+fn is_line(read: &Option<ProgramLine>, place: u64) -> bool {
+    match read {
+        Some(read) => {
+            read.text.as_slice() == line(place).as_slice() && read.next == place.saturating_add(16)
         }
-        Err((fault, rig)) => {
-            drop(rig);
-            Err(Fail::from(fault))
-        }
+        None => false,
     }
+}
+
+/// That in a program of 1,048,576 bytes in this area, from the last line on that a smaller area has room for.
+fn first_unlike_in(alloc: Global, area: i64) -> Result<Option<u64>, Fail> {
+    let mill = Mill::on(alloc, written(alloc, area, 1_048_576)?)?;
+    Ok(first_unlike_line(mill, 8_191, 65_536)?)
 }
 
 #[test]

@@ -1,5 +1,5 @@
 //! The journal beside a plain one, which writes a whole snapshot for each entry and each opened segment: what both devices stand for.
-ghost use Rattle.std.specs.Prelude.{◌≡◌, IsSome, IsNone, IfSome};
+ghost use Rattle.std.specs.Prelude.{◌≡◌, ◌≤◌, IsSome, IsNone, IfSome};
 ghost use Rattle.std.proofs.Props.{props};
 ghost use Rattle.ng_layout.specs.Storable.{IsStorableHalf, IsStorable};
 
@@ -104,7 +104,8 @@ fn renew(rig: &mut MemoryRig<Global>, header: Header, stored: &Stored<Global>) -
     is_written && rig.sync().is_ok() && store(rig, sector, &header.write()) && rig.sync().is_ok()
 }
 
-/// Where a load writes that comes while this area is in force, on a device of so many sectors: the area, and its first sector.
+/// Where a load writes that comes while this area is in force, on a device of so many sectors: the area, and its first
+/// sector.
 fn next_area(sectors: usize, area: u64) -> (u64, usize) {
     let is_large = sectors >= 5_806;
     if is_large && area == 2 {
@@ -302,8 +303,8 @@ fn logged(alloc: Global, sectors: usize, deeds: &[Deed]) -> Result<MemoryRig<Glo
     Ok(mill.off())
 }
 
-/// The device of so many sectors and of this format that the plain journal leaves, and what is stored on it, with nothing open. In format 1 no
-/// slot is stored.
+/// The device of so many sectors and of this format that the plain journal leaves, and what is stored on it, with
+/// nothing open. In format 1 no slot is stored.
 fn snapshotted(
     alloc: Global,
     sectors: usize,
@@ -394,7 +395,8 @@ fn are_lines_alike(one: &Option<ProgramLine>, other: &Option<ProgramLine>) -> bo
     }
 }
 
-/// Whether both journals stand for what is stored, and for the same lines of the program, after these deeds on devices of so many sectors.
+/// Whether both journals stand for what is stored, and for the same lines of the program, after these deeds on devices
+/// of so many sectors.
 fn stand_for_the_same(alloc: Global, sectors: usize, deeds: &[Deed]) -> Result<bool, Fail> {
     let (rig, stored) = snapshotted(alloc, sectors, Format::Two, deeds)?;
     let (wanted, wanted_lines) = found(alloc, &rig, &Tools::new())?;

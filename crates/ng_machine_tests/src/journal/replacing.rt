@@ -1,0 +1,196 @@
+//! A program takes the place of another on a large device: what stands after a cut in the midst of that, and after a
+//! failure.
+use crate::images::sector_of;
+use crate::journal::areas::{bytes_of, first_of, lines, load, text_sector, written};
+use crate::journal::header;
+use ng_journal::recover;
+use ng_num::Fault;
+use ng_offsets::Tools;
+use ng_rig::{FuseRig, MemoryRig, Rig};
+use std::alloc::Global;
+use std::test::Fail;
+
+/// The area and the bytes of the program in force, and those of the one that takes its place.
+type Row = (i64, usize, i64, usize);
+
+const ROWS: &[Row] = &[
+    (0, 131_072, 2, 1_048_576),
+    (1, 13, 2, 131_073),
+    (2, 1_048_576, 3, 13),
+    (2, 131_073, 3, 1_048_576),
+    (3, 1_048_576, 2, 1_048_576),
+];
+
+/// Which program a device stands for.
+#[derive(Clone, Copy, Debug, PartialEq, Eq)]
+enum Stands {
+    Old,
+    New,
+    Neither,
+}
+
+/// Whether the text of lines is in so many sectors from this one on.
+fn has_lines<R: Rig>(rig: &mut R, first: usize, sectors: usize) -> bool {
+    let mut before = 0u64;
+    for sector in first..first.saturating_add(sectors) {
+        if sector_of(rig, sector) != lines(before) {
+            return false;
+        }
+        before = before.saturating_add(512);
+    }
+    true
+}
+
+/// Whether so many bytes `x` are there.
+fn has_text<R: Rig>(rig: &mut R, first: usize, length: usize) -> bool {
+    for k in 0..length.div_ceil(512) {
+        if sector_of(rig, first.saturating_add(k)) != text_sector(k, length) {
+            return false;
+        }
+    }
+    true
+}
+
+/// What a device stands for once it is powered on: under epoch 3 with no entry and the old program, or under epoch 4
+/// with one and the new one, of which each byte is there.
+fn standing(alloc: Global, rig: MemoryRig<Global>, row: &Row) -> Result<Stands, Fault> {
+    let (old_area, old_length, area, length) = *row;
+    match recover(alloc, rig, &Tools::new()) {
+        Ok((journal, stored)) => {
+            let mut rig = journal.into_rig();
+            let is_old = stored.entries == 0
+                && sector_of(&mut rig, 1) == header(3, old_area, bytes_of(old_length))
+                && has_lines(&mut rig, first_of(old_area), old_length.div_ceil(512));
+            let is_new = stored.entries == 1
+                && sector_of(&mut rig, 0) == header(4, area, bytes_of(length))
+                && has_text(&mut rig, first_of(area), length);
+            Ok(if is_old {
+                Stands::Old
+            } else if is_new {
+                Stands::New
+            } else {
+                Stands::Neither
+            })
+        }
+        Err((fault, _)) => Err(fault),
+    }
+}
+
+/// The calls of a load of a program of so many sectors after which power is cut: none, some of the text, all of it, its
+/// sync, some and all of the snapshot and the tool area, their sync, the header, its sync.
+fn calls(sectors: usize) -> [usize; 12] {
+    [
+        0,
+        1,
+        sectors / 2,
+        sectors.saturating_sub(1),
+        sectors,
+        sectors.saturating_add(1),
+        sectors.saturating_add(2),
+        sectors.saturating_add(45),
+        sectors.saturating_add(89),
+        sectors.saturating_add(90),
+        sectors.saturating_add(91),
+        sectors.saturating_add(92),
+    ]
+}
+
+/// Of two sectors that follow one another, the even one first, which are kept of those that aren't synced.
+type Kept = (bool, bool);
+
+const KEPT: [Kept; 4] = [(false, false), (true, true), (true, false), (false, true)];
+
+/// How many writes of each sector a stop keeps.
+fn writes_kept((is_even, is_odd): Kept) -> [usize; 5_806] {
+    let mut writes = [0; 5_806];
+    for (sector, kept) in writes.iter_mut().enumerate() {
+        let is_kept = if sector % 2 == 0 { is_even } else { is_odd };
+        *kept = if is_kept { usize::MAX } else { 0 };
+    }
+    writes
+}
+
+/// The first choice of sectors by which a stop after so many calls of a device, 92 of them of power on, doesn't stand
+/// for what it should. The header of epoch 3, in sector 1, is the last call but the sync after it.
+fn first_astray_after(
+    alloc: Global,
+    rig: &MemoryRig<Global>,
+    row: &Row,
+    calls: usize,
+) -> Result<Option<Kept>, Fail> {
+    let header = row.3.div_ceil(512).saturating_add(91);
+    for kept in KEPT {
+        let stop = rig.stopped(calls.saturating_add(92), &writes_kept(kept))?;
+        let is_new = calls > header || calls == header && kept.1;
+        let wanted = if is_new { Stands::New } else { Stands::Old };
+        if standing(alloc, stop, row)? != wanted {
+            return Ok(Some(kept));
+        }
+    }
+    Ok(None)
+}
+
+/// The first of those stops of a load.
+fn first_astray(alloc: Global, row: &Row) -> Result<Option<(usize, Kept)>, Fail> {
+    let (area, length, _, next) = *row;
+    let rig = written(alloc, area, bytes_of(length))?.stopped(usize::MAX, &[])?;
+    let (done, _, rig) = load(alloc, rig, next)?;
+    if done.is_err() {
+        return Err(Fail::from("a program isn't loaded"));
+    }
+    for calls in calls(next.div_ceil(512)) {
+        if let Some(kept) = first_astray_after(alloc, &rig, row, calls)? {
+            return Ok(Some((calls, kept)));
+        }
+    }
+    Ok(None)
+}
+
+#[test]
+fn a_cut_leaves_the_old_program_or_the_new(rt: HostRuntime) -> Result<(), Fail> {
+    for row in ROWS {
+        assert_eq!(rt; first_astray(rt.alloc(), row)?, None, "{row:?}");
+    }
+    Ok(())
+}
+
+/// What a load answers, whether the journal is broken then, and what the device stands for.
+type Done = (Result<(), Fault>, bool, Stands);
+
+/// That where each call of the device fails after so many of the load. Power on makes 183.
+fn failing(alloc: Global, row: &Row, calls: usize) -> Result<Done, Fail> {
+    let (area, length, _, next) = *row;
+    let fuse = FuseRig::new(
+        written(alloc, area, bytes_of(length))?,
+        183u64.saturating_add(calls as u64),
+    );
+    let (done, is_broken, fuse) = load(alloc, fuse, next)?;
+    let stands = standing(alloc, fuse.into_inner(), row)?;
+    Ok((done, is_broken, stands))
+}
+
+/// The first number of calls after which a failure does something else. The new program stands where the header is
+/// written.
+fn first_unlike_failure(alloc: Global, row: &Row) -> Result<Option<(usize, Done)>, Fail> {
+    let sectors = row.3.div_ceil(512);
+    for calls in calls(sectors) {
+        let wanted = match calls.saturating_sub(sectors) {
+            91 => (Err(Fault::DeviceFailed), true, Stands::New),
+            92 => (Ok(()), false, Stands::New),
+            _ => (Err(Fault::DeviceFailed), true, Stands::Old),
+        };
+        let found = failing(alloc, row, calls)?;
+        if found != wanted {
+            return Ok(Some((calls, found)));
+        }
+    }
+    Ok(None)
+}
+
+#[test]
+fn a_failure_leaves_the_old_program_or_the_new(rt: HostRuntime) -> Result<(), Fail> {
+    for row in ROWS {
+        assert_eq!(rt; first_unlike_failure(rt.alloc(), row)?, None, "{row:?}");
+    }
+    Ok(())
+}
