@@ -1,5 +1,5 @@
 -- A straight move that asks for nothing that may be refused is lawful.
-use Rattle.std.proofs.Common.{◌≡◌, ◌≤◌, arith, ℕ, ℤ, Bool, true, false, List, ◌∷◌, Option, Some, None, refl, length}
+use Rattle.std.proofs.Common.{◌≡◌, ◌≤◌, arith, ℕ, ℤ, Bool, true, false, List, Option, Some, None, refl, length}
 use Rattle.std.specs.Prelude.{not, ◌||◌, ◌&&◌, nat_lt, min, unwrap_or}
 use Rattle.std.specs.Option.{is_some, option_and_then}
 use Rattle.std.proofs.lemmas.Bool.{ltb-false, le-ltb}

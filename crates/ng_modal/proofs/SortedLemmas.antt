@@ -6,14 +6,13 @@ use Rattle.ng_words.specs.declared.letter.Letter.{Letter}
 use Rattle.ng_words.specs.declared.letter.Letter.TheVariants.{G, M}
 use Rattle.ng_expr.specs.declared.word.Word.{Word}
 use Rattle.ng_modal.specs.Codes.{g_word, m_word}
-use Rattle.ng_modal.specs.Groups.{group_of, m_group_of}
-use Rattle.ng_modal.specs.Words.{of_letter, g_code_on, m_code_on, g_codes_of, m_codes_of, has_byte, first}
+use Rattle.ng_modal.specs.Words.{of_letter, g_word_on, m_word_on, g_words_of, m_words_of, has_byte, first}
 use Rattle.ng_modal.specs.ByLetter.{by_letter, takes_value}
 use Rattle.ng_modal.specs.ByGroup.{g_words, m_words, has_word, has_m_word}
 use Rattle.ng_modal.specs.WordCauses.{is_unknown_on, is_left_out_code, is_left_out_letter, is_left_out_on, count_of_m}
 use Rattle.ng_modal.specs.Sorted.{sorted}
-use Rattle.ng_modal.specs.declared.codes.GCode.{GCode}
-use Rattle.ng_modal.specs.declared.codes.MCode.{MCode}
+use Rattle.ng_modal.specs.declared.codes.GWord.{GWord}
+use Rattle.ng_modal.specs.declared.codes.MWord.{MWord}
 use Rattle.ng_modal.specs.declared.by_letter.ByLetter.{ByLetter}
 use Rattle.ng_modal.specs.declared.by_group.GWords.{GWords}
 use Rattle.ng_modal.specs.declared.by_group.MWords.{MWords}
@@ -22,20 +21,20 @@ use Rattle.ng_modal.proofs.GroupLemmas.{has_word_is, has_m_word_is}
 use Rattle.ng_modal.proofs.TwiceLemmas.{repeated_with, group_twice_with, m_group_twice_with}
 
 -- a G word that is a code
-pub sorted_with_g : (v : ℤ) (ws : List Word) (old : Sorted) (code : GCode) (g : GWords) (was left_out : Bool) →
+pub sorted_with_g : (v : ℤ) (ws : List Word) (old : Sorted) (word : GWord) (g : GWords) (was left_out : Bool) →
     old ≡ sorted ws →
-    g_word v ≡ Some code →
-    g ≡ g_words (code ∷ g_codes_of ws) →
-    was ≡ has_word (group_of code) old.block.g →
-    left_out ≡ is_left_out_code (Some code) →
+    g_word v ≡ Some word →
+    g ≡ g_words (word ∷ g_words_of ws) →
+    was ≡ has_word word old.block.g →
+    left_out ≡ is_left_out_code (Some word) →
     record old { block = record old.block { g = g }; group_twice = old.group_twice || was; left_out = left_out || old.left_out }
     ≡ sorted (record { letter = G; value = v } ∷ ws)
-sorted_with_g v ws old code g was left_out before is taken was_is left_out_is =
+sorted_with_g v ws old word g was left_out before is taken was_is left_out_is =
     rw (
       was_is,
       before,
-      has_word_is (group_of code) (g_codes_of ws),
-      ← group_twice_with code (g_codes_of ws),
+      has_word_is word (g_words_of ws),
+      ← group_twice_with word (g_words_of ws),
       taken,
       left_out_is,
       is,
@@ -50,20 +49,20 @@ pub sorted_with_unknown_g : (v : ℤ) (ws : List Word) (old : Sorted) →
 sorted_with_unknown_g v ws old before is = rw (before, is) refl
 
 -- an M word that is a code
-pub sorted_with_m : (v : ℤ) (ws : List Word) (old : Sorted) (code : MCode) (m : MWords) (was : Bool) (count : ℕ) →
+pub sorted_with_m : (v : ℤ) (ws : List Word) (old : Sorted) (word : MWord) (m : MWords) (was : Bool) (count : ℕ) →
     old ≡ sorted ws →
-    m_word v ≡ Some code →
-    m ≡ m_words (code ∷ m_codes_of ws) →
-    was ≡ has_m_word (m_group_of code) old.block.m →
+    m_word v ≡ Some word →
+    m ≡ m_words (word ∷ m_words_of ws) →
+    was ≡ has_m_word word old.block.m →
     count ≡ count_of_m (record { letter = M; value = v } ∷ ws) →
     record old { block = record old.block { m = m }; m_group_twice = old.m_group_twice || was; m_count = count }
     ≡ sorted (record { letter = M; value = v } ∷ ws)
-sorted_with_m v ws old code m was count before is taken was_is counted =
+sorted_with_m v ws old word m was count before is taken was_is counted =
     rw (
       was_is,
       before,
-      has_m_word_is (m_group_of code) (m_codes_of ws),
-      ← m_group_twice_with code (m_codes_of ws),
+      has_m_word_is word (m_words_of ws),
+      ← m_group_twice_with word (m_words_of ws),
       taken,
       counted,
       is,
@@ -78,11 +77,11 @@ pub sorted_with_unknown_m : (v : ℤ) (ws : List Word) (old : Sorted) (count : �
 sorted_with_unknown_m v ws old count before is counted = rw (before, counted, is) refl
 
 -- a word of another letter is no code
-no_g_code : (l : Letter) (v : ℤ) → takes_value l ≡ true → g_code_on l v ≡ None
+no_g_code : (l : Letter) (v : ℤ) → takes_value l ≡ true → g_word_on l v ≡ None
 no_g_code G v e = absurd (cc e)
 no_g_code _ v e = refl
 
-no_m_code : (l : Letter) (v : ℤ) → takes_value l ≡ true → m_code_on l v ≡ None
+no_m_code : (l : Letter) (v : ℤ) → takes_value l ≡ true → m_word_on l v ≡ None
 no_m_code M v e = absurd (cc e)
 no_m_code _ v e = refl
 

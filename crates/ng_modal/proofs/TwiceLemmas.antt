@@ -7,16 +7,14 @@ use Rattle.std.proofs.lemmas.Bool.Decides.{Decides-eqb}
 use Rattle.ng_words.specs.declared.letter.Letter.{Letter}
 use Rattle.ng_words.specs.declared.letter.Letter.TheVariants.{G}
 use Rattle.ng_expr.specs.declared.word.Word.{Word}
-use Rattle.ng_modal.specs.Groups.{number, m_number, groups, m_groups, group_of, m_group_of}
-use Rattle.ng_modal.specs.Words.{byte_of, value_letters, of_byte, of_letter, in_group, in_m_group, of_group, of_m_group, first, is_twice}
+use Rattle.ng_modal.specs.Groups.{groups, m_groups, group_of, m_group_of}
+use Rattle.ng_modal.specs.Words.{byte_of, value_letters, of_byte, of_letter, of_group, of_m_group, first, is_twice}
 use Rattle.ng_modal.specs.ByLetter.{takes_value}
 use Rattle.ng_modal.specs.WordCauses.{is_repeated, is_group_twice, is_m_group_twice}
-use Rattle.ng_modal.specs.declared.codes.GCode.{GCode}
-use Rattle.ng_modal.specs.declared.codes.MCode.{MCode}
-use Rattle.ng_modal.specs.declared.groups.Group.{Group}
-use Rattle.ng_modal.specs.declared.groups.Group.TheVariants.{Motion}
-use Rattle.ng_modal.specs.declared.groups.MGroup.{MGroup}
-use Rattle.ng_modal.specs.declared.groups.MGroup.TheVariants.{Stop}
+use Rattle.ng_modal.specs.declared.codes.GWord.{GWord}
+use Rattle.ng_modal.specs.declared.codes.GWord.TheVariants.{Motion}
+use Rattle.ng_modal.specs.declared.codes.MWord.{MWord}
+use Rattle.ng_modal.specs.declared.codes.MWord.TheVariants.{Stop}
 
 -- the key that is looked at is the word's
 same_key : {X : Type 0} (x : X) (xs : List X) (others here : Bool) → (is_twice (x ∷ xs) || (others || (here && is_some (first xs)))) ≡ ((is_twice xs || others) || ((true || here) && is_some (first xs)))
@@ -64,21 +62,21 @@ repeated_with l v ws =
     one_more byte_of (λ n. of_byte n ws) (byte_of l) v value_letters ∙
     ap (λ b. is_repeated ws || (b && is_some (first (of_letter l ws)))) (is_value_letter l)
 
-is_a_group : (g : Group) → list_any (λ k. number k == number g) groups ≡ true
-is_a_group Motion = refl
+is_a_group : (w : GWord) → list_any (λ k. k == group_of w) groups ≡ true
+is_a_group (Motion _) = refl
 is_a_group _ = refl
 
-is_an_m_group : (g : MGroup) → list_any (λ k. m_number k == m_number g) m_groups ≡ true
-is_an_m_group Stop = refl
+is_an_m_group : (w : MWord) → list_any (λ k. k == m_group_of w) m_groups ≡ true
+is_an_m_group (Stop _) = refl
 is_an_m_group _ = refl
 
--- a group that stands twice now did before, or one of the code's group was there
-pub group_twice_with : (c : GCode) (cs : List GCode) → is_group_twice (c ∷ cs) ≡ (is_group_twice cs || is_some (first (of_group (group_of c) cs)))
-group_twice_with c cs =
-    one_more number (λ n. in_group n cs) (number (group_of c)) c groups ∙
-    ap (λ b. is_group_twice cs || (b && is_some (first (of_group (group_of c) cs)))) (is_a_group (group_of c))
+-- a group that stands twice now did before, or one of the word's group was there
+pub group_twice_with : (w : GWord) (ws : List GWord) → is_group_twice (w ∷ ws) ≡ (is_group_twice ws || is_some (first (of_group (group_of w) ws)))
+group_twice_with w ws =
+    one_more (λ n. n) (λ n. of_group n ws) (group_of w) w groups ∙
+    ap (λ b. is_group_twice ws || (b && is_some (first (of_group (group_of w) ws)))) (is_a_group w)
 
-pub m_group_twice_with : (c : MCode) (cs : List MCode) → is_m_group_twice (c ∷ cs) ≡ (is_m_group_twice cs || is_some (first (of_m_group (m_group_of c) cs)))
-m_group_twice_with c cs =
-    one_more m_number (λ n. in_m_group n cs) (m_number (m_group_of c)) c m_groups ∙
-    ap (λ b. is_m_group_twice cs || (b && is_some (first (of_m_group (m_group_of c) cs)))) (is_an_m_group (m_group_of c))
+pub m_group_twice_with : (w : MWord) (ws : List MWord) → is_m_group_twice (w ∷ ws) ≡ (is_m_group_twice ws || is_some (first (of_m_group (m_group_of w) ws)))
+m_group_twice_with w ws =
+    one_more (λ n. n) (λ n. of_m_group n ws) (m_group_of w) w m_groups ∙
+    ap (λ b. is_m_group_twice ws || (b && is_some (first (of_m_group (m_group_of w) ws)))) (is_an_m_group w)

@@ -1,6 +1,5 @@
 pub mod Codes
 pub mod Groups
-pub mod Meanings
 pub mod Words
 pub mod ByLetter
 pub mod ByGroup

@@ -2,7 +2,7 @@
 use Rattle.std.specs.Prelude.{Bool, not, ◌||◌, ◌&&◌, nat_lt, List, None}
 use Rattle.std.specs.Option.{is_some}
 use Rattle.ng_expr.specs.declared.word.Word.{Word}
-use Rattle.ng_modal.specs.Words.{g_codes_of, m_codes_of}
+use Rattle.ng_modal.specs.Words.{g_words_of, m_words_of}
 use Rattle.ng_modal.specs.ByLetter.{by_letter, has_axis}
 use Rattle.ng_modal.specs.ByGroup.{g_words, m_words}
 use Rattle.ng_modal.specs.WordCauses.{is_repeated, has_unknown, has_left_out, is_group_twice, is_m_group_twice, count_of_m}
@@ -18,15 +18,15 @@ abbrev pub sorted : List Word → Sorted
 sorted ws = record {
   block = record {
     values = by_letter ws;
-    g = g_words (g_codes_of ws);
-    m = m_words (m_codes_of ws);
+    g = g_words (g_words_of ws);
+    m = m_words (m_words_of ws);
     motion = None;
   };
   repeated = is_repeated ws;
   unknown = has_unknown ws;
   left_out = has_left_out ws;
-  group_twice = is_group_twice (g_codes_of ws);
-  m_group_twice = is_m_group_twice (m_codes_of ws);
+  group_twice = is_group_twice (g_words_of ws);
+  m_group_twice = is_m_group_twice (m_words_of ws);
   m_count = count_of_m ws;
 }
 

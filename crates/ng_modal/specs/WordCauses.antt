@@ -7,10 +7,10 @@ use Rattle.ng_words.specs.declared.letter.Letter.TheVariants.{A, B, C, D, G, M}
 use Rattle.ng_expr.specs.declared.word.Word.{Word}
 use Rattle.ng_modal.specs.Codes.{g_word, m_word}
 use Rattle.ng_modal.specs.Groups.{groups, m_groups}
-use Rattle.ng_modal.specs.Words.{value_letters, of_letter, g_codes_of, m_codes_of, of_group, of_m_group, is_twice}
-use Rattle.ng_modal.specs.declared.codes.GCode.{GCode}
-use Rattle.ng_modal.specs.declared.codes.GCode.TheVariants.{G38_2, G41, G42, G84, G87, G88}
-use Rattle.ng_modal.specs.declared.codes.MCode.{MCode}
+use Rattle.ng_modal.specs.Words.{value_letters, of_letter, g_words_of, m_words_of, of_group, of_m_group, is_twice}
+use Rattle.ng_modal.specs.declared.codes.GWord.{GWord}
+use Rattle.ng_modal.specs.declared.codes.GWord.TheVariants.{LeftOutMotion, LeftOutCompensation}
+use Rattle.ng_modal.specs.declared.codes.MWord.{MWord}
 
 -- B1: two words of one letter other than G and M
 abbrev pub is_repeated : List Word → Bool
@@ -26,13 +26,9 @@ abbrev pub has_unknown : List Word → Bool
 has_unknown ws = list_any (λ w. is_unknown_on w.letter w.value) ws
 
 -- left out are probing, cutter radius compensation, tapping, back boring, boring with a manual way out
-abbrev pub is_left_out_code : Option GCode → Bool
-is_left_out_code (Some G38_2) = true
-is_left_out_code (Some G41) = true
-is_left_out_code (Some G42) = true
-is_left_out_code (Some G84) = true
-is_left_out_code (Some G87) = true
-is_left_out_code (Some G88) = true
+abbrev pub is_left_out_code : Option GWord → Bool
+is_left_out_code (Some LeftOutMotion) = true
+is_left_out_code (Some LeftOutCompensation) = true
 is_left_out_code _ = false
 
 -- and words of rotary axes and of the number of a cutter's radius
@@ -51,16 +47,16 @@ is_left_out_on letter value = is_left_out_letter letter
 abbrev pub has_left_out : List Word → Bool
 has_left_out ws = list_any (λ w. is_left_out_on w.letter w.value) ws
 
--- two codes of one group
-abbrev pub is_group_twice : List GCode → Bool
-is_group_twice codes = list_any (λ group. is_twice (of_group group codes)) groups
+-- two words of one group
+abbrev pub is_group_twice : List GWord → Bool
+is_group_twice words = list_any (λ group. is_twice (of_group group words)) groups
 
-abbrev pub is_m_group_twice : List MCode → Bool
-is_m_group_twice codes = list_any (λ group. is_twice (of_m_group group codes)) m_groups
+abbrev pub is_m_group_twice : List MWord → Bool
+is_m_group_twice words = list_any (λ group. is_twice (of_m_group group words)) m_groups
 
 -- B4: two words of one G group or of one M group
 abbrev pub has_group_twice : List Word → Bool
-has_group_twice ws = is_group_twice (g_codes_of ws) || is_m_group_twice (m_codes_of ws)
+has_group_twice ws = is_group_twice (g_words_of ws) || is_m_group_twice (m_words_of ws)
 
 -- B5: more than four M words
 abbrev pub has_many_m : List Word → Bool

@@ -1,14 +1,12 @@
--- What stands on a line: the values by letter and the codes by modal group (NISTIR 6556, 3.3.2 and 3.4).
+-- What stands on a line: the values by letter, and the G and M words by modal group (NISTIR 6556, 3.3.2 and 3.4).
 use Rattle.std.specs.Prelude.{ℕ, ℤ, Bool, true, false, ◌==◌, List, [], ◌∷◌, Option, Some, None, if◌then◌else◌}
 use Rattle.ng_words.specs.declared.letter.Letter.{Letter}
 use Rattle.ng_words.specs.declared.letter.Letter.TheVariants.{A, B, C, D, F, G, H, I, J, K, L, M, P, Q, R, S, T, X, Y, Z}
 use Rattle.ng_expr.specs.declared.word.Word.{Word}
 use Rattle.ng_modal.specs.Codes.{g_word, m_word}
-use Rattle.ng_modal.specs.Groups.{number, m_number, group_of, m_group_of}
-use Rattle.ng_modal.specs.declared.codes.GCode.{GCode}
-use Rattle.ng_modal.specs.declared.codes.MCode.{MCode}
-use Rattle.ng_modal.specs.declared.groups.Group.{Group}
-use Rattle.ng_modal.specs.declared.groups.MGroup.{MGroup}
+use Rattle.ng_modal.specs.Groups.{group_of, m_group_of}
+use Rattle.ng_modal.specs.declared.codes.GWord.{GWord}
+use Rattle.ng_modal.specs.declared.codes.MWord.{MWord}
 
 -- a letter's byte
 abbrev pub byte_of : Letter → ℕ
@@ -50,44 +48,39 @@ of_byte byte (w ∷ ws) = if has_byte byte w.letter then w.value ∷ of_byte byt
 abbrev pub of_letter : Letter → List Word → List ℤ
 of_letter letter ws = of_byte (byte_of letter) ws
 
--- the code of a G word, and that of an M word; none of another word, and of one that has no code
-abbrev pub g_code_on : Letter → ℤ → Option GCode
-g_code_on G value = g_word value
-g_code_on _ value = None
+-- what a G word asks for, and an M word; nothing by another word, and by one that has no code
+abbrev pub g_word_on : Letter → ℤ → Option GWord
+g_word_on G value = g_word value
+g_word_on _ value = None
 
-abbrev pub m_code_on : Letter → ℤ → Option MCode
-m_code_on M value = m_word value
-m_code_on _ value = None
+abbrev pub m_word_on : Letter → ℤ → Option MWord
+m_word_on M value = m_word value
+m_word_on _ value = None
 
 -- what is there, in front of others
 abbrev pub in_front : {X : Type 0} → Option X → List X → List X
 in_front None xs = xs
 in_front (Some x) xs = x ∷ xs
 
--- the codes of the line's words
-abbrev pub g_codes_of : List Word → List GCode
-g_codes_of [] = []
-g_codes_of (w ∷ ws) = in_front (g_code_on w.letter w.value) (g_codes_of ws)
+-- the line's G words and its M words
+abbrev pub g_words_of : List Word → List GWord
+g_words_of [] = []
+g_words_of (w ∷ ws) = in_front (g_word_on w.letter w.value) (g_words_of ws)
 
-abbrev pub m_codes_of : List Word → List MCode
-m_codes_of [] = []
-m_codes_of (w ∷ ws) = in_front (m_code_on w.letter w.value) (m_codes_of ws)
+abbrev pub m_words_of : List Word → List MWord
+m_words_of [] = []
+m_words_of (w ∷ ws) = in_front (m_word_on w.letter w.value) (m_words_of ws)
 
--- those of the group with this number
-abbrev pub in_group : ℕ → List GCode → List GCode
-in_group n [] = []
-in_group n (c ∷ cs) = if n == number (group_of c) then c ∷ in_group n cs else in_group n cs
+-- the words whose group has this number
+abbrev pub with_group : {W : Type 0} → (W → ℕ) → ℕ → List W → List W
+with_group group n [] = []
+with_group group n (w ∷ ws) = if n == group w then w ∷ with_group group n ws else with_group group n ws
 
-abbrev pub in_m_group : ℕ → List MCode → List MCode
-in_m_group n [] = []
-in_m_group n (c ∷ cs) = if n == m_number (m_group_of c) then c ∷ in_m_group n cs else in_m_group n cs
+abbrev pub of_group : ℕ → List GWord → List GWord
+of_group n ws = with_group group_of n ws
 
--- those of a group
-abbrev pub of_group : Group → List GCode → List GCode
-of_group g cs = in_group (number g) cs
-
-abbrev pub of_m_group : MGroup → List MCode → List MCode
-of_m_group g cs = in_m_group (m_number g) cs
+abbrev pub of_m_group : ℕ → List MWord → List MWord
+of_m_group n ws = with_group m_group_of n ws
 
 abbrev pub first : {X : Type 0} → List X → Option X
 first [] = None

@@ -1,18 +1,12 @@
-//! What the codes of a line ask for, by modal group.
+//! What the words of a line ask for, by modal group.
 ghost use Rattle.std.specs.Prelude.{◌≡◌, ◌∷◌, [], List};
-ghost use Rattle.ng_modal.specs.declared.codes.GCode.{GCode as TheGCode};
-ghost use Rattle.ng_modal.specs.declared.codes.MCode.{MCode as TheMCode};
-ghost use Rattle.ng_modal.specs.Groups.{group_of, m_group_of};
+ghost use Rattle.ng_modal.specs.declared.codes.GWord.{GWord as TheGWord};
+ghost use Rattle.ng_modal.specs.declared.codes.MWord.{MWord as TheMWord};
 ghost use Rattle.ng_modal.specs.ByGroup.{g_words, m_words, has_word, has_m_word};
 
 use crate::asks::{Coolant, NonModal, StopWord, ToolLength};
-use crate::codes::{GCode, MCode};
-use crate::groups::{Group, MGroup};
-use crate::meanings::{
-    coolant, distance, feed_mode, motion, non_modal, overrides, path, plane, retract, spindle,
-    stop, system, tool_length, unit,
-};
-use crate::place::{mark, replace};
+use crate::codes::{GWord, MWord};
+use crate::place::{mark, put};
 use ng_canon::{Plane, Spindle};
 use ng_num::Unit;
 use ng_params::System;
@@ -84,28 +78,32 @@ impl GWords {
         }
     }
 
-    /// Takes the code in front of those taken; answers whether one of its group was there.
-    pub(crate) fn take(&mut self, code: GCode) -> bool
-        ghost codes: { List TheGCode }
-        requires { self.old ≡ g_words codes }
-        ensures taken { self.new ≡ g_words (code ∷ codes) }
-        ensures was { result ≡ has_word (group_of code) self.old }
+    /// Takes the word in front of those taken; answers whether one of its group was there.
+    pub(crate) fn take(&mut self, word: GWord) -> bool
+        ghost words: { List TheGWord }
+        requires { self.old ≡ g_words words }
+        ensures taken { self.new ≡ g_words (word ∷ words) }
+        ensures was { result ≡ has_word word self.old }
     {
-        match code.group() {
-            Group::NonModal => replace(&mut self.non_modal, non_modal(code)),
-            Group::Motion => {
-                self.motion = motion(code);
+        match word {
+            GWord::NonModal(asked) => put(&mut self.non_modal, asked),
+            GWord::Motion(motion) => {
+                self.motion = Some(motion);
                 mark(&mut self.motion_word)
             }
-            Group::Plane => replace(&mut self.plane, plane(code)),
-            Group::Distance => replace(&mut self.distance, distance(code)),
-            Group::FeedMode => replace(&mut self.feed_mode, feed_mode(code)),
-            Group::Unit => replace(&mut self.unit, unit(code)),
-            Group::Compensation => mark(&mut self.compensation),
-            Group::ToolLength => replace(&mut self.tool_length, tool_length(code)),
-            Group::Retract => replace(&mut self.retract, retract(code)),
-            Group::System => replace(&mut self.system, system(code)),
-            Group::Path => replace(&mut self.path, path(code)),
+            GWord::LeftOutMotion => {
+                self.motion = None;
+                mark(&mut self.motion_word)
+            }
+            GWord::Plane(plane) => put(&mut self.plane, plane),
+            GWord::Distance(mode) => put(&mut self.distance, mode),
+            GWord::FeedMode(mode) => put(&mut self.feed_mode, mode),
+            GWord::Unit(unit) => put(&mut self.unit, unit),
+            GWord::NoCompensation | GWord::LeftOutCompensation => mark(&mut self.compensation),
+            GWord::ToolLength(asked) => put(&mut self.tool_length, asked),
+            GWord::Retract(mode) => put(&mut self.retract, mode),
+            GWord::System(system) => put(&mut self.system, system),
+            GWord::Path(mode) => put(&mut self.path, mode),
         }
     }
 }
@@ -125,19 +123,19 @@ impl MWords {
         }
     }
 
-    /// Takes the code in front of those taken; answers whether one of its group was there.
-    pub(crate) fn take(&mut self, code: MCode) -> bool
-        ghost codes: { List TheMCode }
-        requires { self.old ≡ m_words codes }
-        ensures taken { self.new ≡ m_words (code ∷ codes) }
-        ensures was { result ≡ has_m_word (m_group_of code) self.old }
+    /// Takes the word in front of those taken; answers whether one of its group was there.
+    pub(crate) fn take(&mut self, word: MWord) -> bool
+        ghost words: { List TheMWord }
+        requires { self.old ≡ m_words words }
+        ensures taken { self.new ≡ m_words (word ∷ words) }
+        ensures was { result ≡ has_m_word word self.old }
     {
-        match code.group() {
-            MGroup::Stop => replace(&mut self.stop, stop(code)),
-            MGroup::ToolChange => mark(&mut self.tool_change),
-            MGroup::Spindle => replace(&mut self.spindle, spindle(code)),
-            MGroup::Coolant => replace(&mut self.coolant, coolant(code)),
-            MGroup::Overrides => replace(&mut self.overrides, overrides(code)),
+        match word {
+            MWord::Stop(asked) => put(&mut self.stop, asked),
+            MWord::ToolChange => mark(&mut self.tool_change),
+            MWord::Spindle(turning) => put(&mut self.spindle, turning),
+            MWord::Coolant(asked) => put(&mut self.coolant, asked),
+            MWord::Overrides(allowed) => put(&mut self.overrides, allowed),
         }
     }
 }

@@ -5,9 +5,10 @@
 //! the least of the faults B1 to B19 whose cause holds. It takes no memory; its places serve any number of lines, and `check`
 //! is the same with places of its own.
 //!
-//! What a code is, its group and what it asks for stand in `specs/Codes.antt`, `Groups.antt` and `Meanings.antt`; each cause
-//! is a sentence in `WordCauses.antt` (B1 to B5, of the words alone) or `Causes.antt` (B6 to B19, of what they ask for), and
-//! their order is the list in `Check.antt`. All codes of the language are known here.
+//! A code is one row of the table in `specs/Codes.antt`, and one of that in `codes.rt`: its number and what its word asks for.
+//! The numbers of the modal groups are in `Groups.antt`; each cause is a sentence in `WordCauses.antt` (B1 to B5, of the words
+//! alone) or `Causes.antt` (B6 to B19, of what they ask for), and their order is the list in `Check.antt`. All codes of the
+//! language are known here.
 //!
 //! The crate stands on `ng_expr` for the values of words, on `ng_state` for the modes, on `ng_params` for the numbers of
 //! coordinate systems and on `ng_canon` for planes and the spindle. It knows nothing of parameters, offsets, arcs and cycles
@@ -21,10 +22,7 @@ mod by_letter;
 mod causes;
 mod checking;
 mod codes;
-mod groups;
 mod looks;
-mod lookup;
-mod meanings;
 mod place;
 mod sorted;
 mod wholes;

@@ -13,17 +13,6 @@ pub(crate) fn put<X: Copy>(place: &mut Option<X>, value: X) -> bool
     was
 }
 
-/// Puts what a code asks for into a place; answers whether something was there.
-#[inline(always)]
-pub(crate) fn replace<X: Copy>(place: &mut Option<X>, asked: Option<X>) -> bool
-    ensures value { place.new ≡ asked }
-    ensures was { result ≡ is_some place.old }
-{
-    let was = place.is_some();
-    *place = asked;
-    was
-}
-
 /// Sets a mark; answers whether it was set.
 #[inline(always)]
 pub(crate) fn mark(place: &mut bool) -> bool

@@ -9,8 +9,7 @@ ghost use Rattle.ng_modal.specs.WordCauses.{is_left_out_code, is_left_out_letter
 use crate::block::Block;
 use crate::by_group::{GWords, MWords};
 use crate::by_letter::ByLetter;
-use crate::codes::GCode;
-use crate::lookup::{g_word, m_word};
+use crate::codes::{GWord, g_word, m_word};
 use ng_expr::Word;
 use ng_num::Num;
 use ng_words::Letter;
@@ -35,13 +34,13 @@ pub struct Sorted {
     pub(crate) m_count: u8,
 }
 
-/// Whether a code is left out.
+/// Whether the code of a word is left out.
 #[inline]
-fn is_left_out_code(code: GCode) -> bool
-    ensures { result ≡ is_left_out_code (Some code) }
+fn is_left_out_code(word: &GWord) -> bool
+    ensures { result ≡ is_left_out_code (Some word.now) }
 {
-    match code {
-        GCode::G38_2 | GCode::G41 | GCode::G42 | GCode::G84 | GCode::G87 | GCode::G88 => true,
+    match *word {
+        GWord::LeftOutMotion | GWord::LeftOutCompensation => true,
         _ => false,
     }
 }
@@ -98,9 +97,9 @@ impl Sorted {
         ensures { self.new ≡ sorted (record { letter = G; value = value } ∷ ws) }
     {
         match g_word(value) {
-            Some(code) => {
-                self.group_twice |= self.block.g.take(code);
-                self.left_out = is_left_out_code(code) | self.left_out;
+            Some(word) => {
+                self.left_out = is_left_out_code(&word) | self.left_out;
+                self.group_twice |= self.block.g.take(word);
             }
             None => self.unknown = true,
         }
@@ -114,7 +113,7 @@ impl Sorted {
     {
         self.m_count = with_one_more(self.m_count);
         match m_word(value) {
-            Some(code) => self.m_group_twice |= self.block.m.take(code),
+            Some(word) => self.m_group_twice |= self.block.m.take(word),
             None => self.unknown = true,
         }
     }

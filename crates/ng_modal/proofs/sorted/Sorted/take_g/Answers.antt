@@ -5,6 +5,6 @@ use Rattle.ng_modal.proofs.sorted.Sorted.take_g.Goals as goal
 
 pub returns-in-Some : goal.returns-in-Some
 returns-in-Some g c =
-    let is : g_word c.args.value ≡ Some c.in-Some.code = cc (c.g_word.ensures, c.in-Some.is) in
-    sorted_with_g c.args.value g.ws c.args.self.now c.in-Some.code c.take.new.self c.take.result c.is_left_out_code.result
+    let is : g_word c.args.value ≡ Some c.in-Some.word = cc (c.g_word.ensures, c.in-Some.is) in
+    sorted_with_g c.args.value g.ws c.args.self.now c.in-Some.word c.take.new.self c.take.result c.is_left_out_code.result
     c.requires is c.take.ensures.taken c.take.ensures.was c.is_left_out_code.ensures

@@ -1,5 +1,5 @@
-use Rattle.ng_modal.specs.Words.{g_codes_of}
+use Rattle.ng_modal.specs.Words.{g_words_of}
 use Rattle.ng_modal.proofs.sorted.Sorted.take_g.Given as goal
 
 abbrev pub ghost-take : goal.ghost-take
-ghost-take g a = g_codes_of g.ws
+ghost-take g a = g_words_of g.ws
