@@ -61,7 +61,8 @@ abbrev pub turning_at : Option Pace → Arc → Path
 turning_at None arc = WithoutFeed
 turning_at (Some pace) arc = Round arc
 
--- round to the line's end; or that a computed length, the centre's too, is beyond the range, or else the first of C1 to C4
+-- round to the line's end; or that a computed length, the centre's too, is beyond the range, or else the first of C1 to
+-- C4
 abbrev pub turned : Block → Machine → Offsets → Option Pace → ArcDirection → Result Path Fault
 turned b m o pace turn =
     and_then (end_of b m o) (λ end.

@@ -1,4 +1,5 @@
--- What a line asks for, whatever forbids it: its pieces, their values, and the move that these call for (NISTIR 6556, 3.3, 3.5).
+-- What a line asks for, whatever forbids it: its pieces, their values, and the move that these call for (NISTIR 6556,
+-- 3.3, 3.5).
 use Rattle.std.specs.Prelude.{ℕ, ℤ, List, [], ◌∷◌, Option, Some, None, false, if◌then◌else◌, Result, Ok, Err}
 use Rattle.std.specs.Option.{is_some}
 use Rattle.std.specs.Result.{result_unwrap_or}
@@ -93,8 +94,8 @@ homeward (Some home) b m o =
     then and_then (end_of b m o) (λ between. Ok (GoesHome between home))
     else Ok (Goes (Some Traverse) home)
 
--- the move from where the machine stands, under these offsets and at this feed; or that a length that its words name is beyond the
--- range
+-- the move from where the machine stands, under these offsets and at this feed; or that a length that its words name is
+-- beyond the range
 abbrev pub move_by : Block → Machine → Offsets → List ℤ → ℤ → Result Move Fault
 move_by b m o table feed =
     if is_straight b.motion then straight b m o feed

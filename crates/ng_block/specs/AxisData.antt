@@ -1,5 +1,5 @@
--- What a line's coordinate system and axis data make of the offsets: G54 to G59.3, G10, G92 and its three others (NISTIR 6556,
--- 3.5.5, 3.5.13, 3.5.18).
+-- What a line's coordinate system and axis data make of the offsets: G54 to G59.3, G10, G92 and its three others
+-- (NISTIR 6556, 3.5.5, 3.5.13, 3.5.18).
 use Rattle.std.specs.Prelude.{ℕ, ℤ, List, Option, Some, None, unwrap_or, Result, Ok}
 use Rattle.std.specs.Option.{option_map}
 use Rattle.ng_num.specs.Points.{zero_point}

@@ -1,5 +1,5 @@
--- Why a line is refused: all faults, each with its cause before it, in the order in which they are looked for (own; NISTIR 6556, 3.3 to 3.8).
--- Each cause is said of what the line asks for, whatever else forbids it.
+-- Why a line is refused: all faults, each with its cause before it, in the order in which they are looked for (own;
+-- NISTIR 6556, 3.3 to 3.8). Each cause is said of what the line asks for, whatever else forbids it.
 use Rattle.std.specs.Prelude.{ℕ, ℤ, int_lt, Bool, true, false, ◌||◌, List, [], ◌∷◌, ◌++◌, length, is_none, is_err, Result, Ok, Err}
 use Rattle.std.specs.List.{list_any}
 use Rattle.std.specs.Result.{result_unwrap_or}

@@ -28,7 +28,8 @@ use Rattle.ng_block.specs.After.{machine_after}
 use Rattle.ng_block.specs.Shifts.{shown_in}
 use Rattle.ng_block.specs.Order.{Plan, commands_of, segments_of}
 
--- what a line has done: the new state, the outputs that it began with, its segments and commands in their order, and how the program goes on
+-- what a line has done: the new state, the outputs that it began with, its segments and commands in their order, and
+-- how the program goes on
 pub record Done : Type 0 where
   pub setup : StateModel
   pub before : Outputs
@@ -68,8 +69,9 @@ block_done b goal remark s =
     let plan = plan_of remark (feed_set b mode goal.feed_per_min) tasks goal s.machine in
     record { setup = changed s (machine_after b goal tasks s.machine) goal.changes; before = plan.before; segments = segments_of plan; commands = commands_of plan; stop = stop_of b.m.stop }
 
--- what the values of a line do. It is refused by B1 to B19 of its words, then for a computed length or offset (E3), then for the shape
--- of its arc (C1 to C4) or for its cycle (Y1 to Y8), then for its move (X1, X2); of each of these by the first whose cause holds
+-- what the values of a line do. It is refused by B1 to B19 of its words, then for a computed length or offset (E3),
+-- then for the shape of its arc (C1 to C4) or for its cycle (Y1 to Y8), then for its move (X1, X2); of each of these by
+-- the first whose cause holds
 unfoldable pub executed_values : StateModel → List CanonModel → Settled → List ℤ → Geometry → Result Done Fault
 executed_values s remark values tools geometry =
     and_then (checked values.words s.machine.modes (length tools)) (λ b.

@@ -26,8 +26,8 @@ turns_outside geometry arc = not (stays_inside arc geometry)
 abbrev pub homes_outside : Geometry → (between home : Point) → Bool
 homes_outside geometry between home = not (is_inside geometry between && is_inside geometry home)
 
--- X1 of a path: it is found without a feed where its move has none (`has_no_feed` of specs/Causes.antt). A cycle is found with a feed,
--- and within the travel, or not at all
+-- X1 of a path: it is found without a feed where its move has none (`has_no_feed` of specs/Causes.antt). A cycle is
+-- found with a feed, and within the travel, or not at all
 abbrev pub is_without_feed : Path → Bool
 is_without_feed WithoutFeed = true
 is_without_feed _ = false

@@ -28,8 +28,8 @@ sets_at_most (Some DropOffset) = true
 sets_at_most (Some RestoreOffset) = true
 sets_at_most _ = false
 
--- G54 to G59.3, G10, G92 and its three others, G43, G49, and nothing that moves: no word of group 1, and no X, Y or Z but those that
--- G10 and G92 take
+-- G54 to G59.3, G10, G92 and its three others, G43, G49, and nothing that moves: no word of group 1, and no X, Y or Z
+-- but those that G10 and G92 take
 pub record SetsOffsetsAlone (b : Block) : Type 0 where
   pub no_motion : b.g.motion ≡ None
   pub no_way_home : sets_at_most b.g.non_modal ≡ true

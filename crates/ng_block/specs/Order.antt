@@ -24,8 +24,8 @@ use Rattle.ng_block.specs.Ends.{ends}
 use Rattle.ng_block.specs.Paths.{path_segments, path_commands, spindle_command}
 use Rattle.ng_block.specs.Steps.{order}
 
--- what a block says, the feed that its F sets, what its other words give to do, what it prints of offsets, where its motion goes,
--- the origin after it, and the outputs before it
+-- what a block says, the feed that its F sets, what its other words give to do, what it prints of offsets, where its
+-- motion goes, the origin after it, and the outputs before it
 pub record Plan : Type 0 where
   pub remark : List CanonModel
   pub feed : Option ℤ

@@ -15,7 +15,8 @@ use Rattle.ng_block.specs.Tasks.{tasks_in}
 abbrev pub standing_before : Effect → Point → MotionState
 standing_before e start = record { point = start; outputs = e.plan.before }
 
--- before segment n, counted from 0: each segment before it leaves the machine where it ends, and a switch leaves its outputs
+-- before segment n, counted from 0: each segment before it leaves the machine where it ends, and a switch leaves its
+-- outputs
 abbrev pub standing_at : Effect → Point → ℕ → MotionState
 standing_at e start n = after_segments (standing_before e start) (take n (segments_by e))
 

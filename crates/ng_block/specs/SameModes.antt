@@ -2,7 +2,8 @@
 use Rattle.std.specs.Prelude.{◌≡◌}
 use Rattle.ng_modal.specs.declared.block.Block.{Block}
 
--- two lines have the same words of the groups of modes: each group's word or none; M48 or M49; and the word that stops or ends the program
+-- two lines have the same words of the groups of modes: each group's word or none; M48 or M49; and the word that stops
+-- or ends the program
 pub record HasSameModes (one other : Block) : Type 0 where
   pub motion : other.g.motion ≡ one.g.motion
   pub plane : other.g.plane ≡ one.g.plane

@@ -1,5 +1,6 @@
--- The offsets that a line puts in force, in the order of its steps: tool length, coordinate system, axis data (NISTIR 6556, 3.8).
--- None of them moves the machine. Origins and stored offsets are those of the table that the line's settings leave.
+-- The offsets that a line puts in force, in the order of its steps: tool length, coordinate system, axis data (NISTIR
+-- 6556, 3.8). None of them moves the machine. Origins and stored offsets are those of the table that the line's
+-- settings leave.
 use Rattle.std.specs.Prelude.{ℤ, Bool, not, ◌||◌, List, Option, Some, None, Result, Ok}
 use Rattle.std.specs.Option.{is_some}
 use Rattle.ng_num.specs.Results.{and_then}

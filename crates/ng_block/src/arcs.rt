@@ -94,8 +94,8 @@ fn turned(
 }
 
 /// Where a line's motion goes round under offsets, with the feed after the line; still, where it is no arc. E3 where a
-/// coordinate of its end or its centre is beyond the range, else C1 to C4: an arc without an end or without an offset in its
-/// plane, with radii that differ, or with none.
+/// coordinate of its end or its centre is beyond the range, else C1 to C4: an arc without an end or without an offset
+/// in its plane, with radii that differ, or with none.
 #[inline(never)]
 #[tactic(auto, unfolding(crate::specs::Arcs::path_along_arc))]
 pub fn path_along_arc(

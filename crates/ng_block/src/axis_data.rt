@@ -86,8 +86,8 @@ fn with_offset(
     })
 }
 
-/// What a line's word of group 0 makes of the offsets that are in force after its coordinate system, in the table that its
-/// settings leave. E3 where an offset, or a sum that is printed, is beyond the range.
+/// What a line's word of group 0 makes of the offsets that are in force after its coordinate system, in the table that
+/// its settings leave. E3 where an offset, or a sum that is printed, is beyond the range.
 pub fn axis_data_of<A: Allocator + Copy + Drop>(
     block: &Block,
     machine: &Machine,

@@ -1,5 +1,5 @@
-//! All lengths that a line computes, found before any of its commands: its feed, the offsets after it, the parameters that it sets,
-//! and its path.
+//! All lengths that a line computes, found before any of its commands: its feed, the offsets after it, the parameters
+//! that it sets, and its path.
 ghost use Rattle.std.specs.Prelude.{◌≡◌, ◌≤◌, ◌+◌, ◌++◌, length, Ok, Err, MatchResult, OnOk};
 ghost use Rattle.ng_modal.specs.Accepted.{IsSlot};
 ghost use Rattle.ng_block.specs.Paths.{moving_at};
@@ -88,8 +88,8 @@ impl Effect {
         }
     }
 
-    /// Finds the offsets and the path of a block that has a word for offsets or of group 0. A call of its own, so that nearly all
-    /// lines pass by its places.
+    /// Finds the offsets and the path of a block that has a word for offsets or of group 0. A call of its own, so that
+    /// nearly all lines pass by its places.
     #[inline(never)]
     fn find_path<A: Allocator + Copy + Drop>(
         &mut self,
@@ -163,9 +163,9 @@ impl Effect {
         self.changes.push(System::first().selection());
     }
 
-    /// Finds all lengths that a block's words come to in a state: the feed and the offsets after it, the parameters that it
-    /// sets, its path, and the words that a cycle keeps after it. E3 where one of them is beyond the range; else C1 to C4 where its
-    /// arc is none, and Y1 to Y8, X1, X2 where its cycle is.
+    /// Finds all lengths that a block's words come to in a state: the feed and the offsets after it, the parameters
+    /// that it sets, its path, and the words that a cycle keeps after it. E3 where one of them is beyond the range;
+    /// else C1 to C4 where its arc is none, and Y1 to Y8, X1, X2 where its cycle is.
     pub(crate) fn find_goal<A: Allocator + Copy + Drop>(
         &mut self,
         state: &State<A>,

@@ -99,8 +99,8 @@ pub fn kept_beside(block: &Block, machine: &Machine) -> KeptWords
     }
 }
 
-/// The words kept after a cycle's line: its own, and those that were kept for it where the line has none; the program's end drops
-/// them. E3 where a length of its own is beyond the range.
+/// The words kept after a cycle's line: its own, and those that were kept for it where the line has none; the program's
+/// end drops them. E3 where a length of its own is beyond the range.
 #[inline(never)]
 pub fn kept_in(kind: CycleKind, block: &Block, machine: &Machine) -> Result<KeptWords, Fault>
     ensures { result ≡ kept_in kind block.now machine.now }
@@ -183,9 +183,9 @@ fn setting_of(
     }
 }
 
-/// The canned cycle of a line's motion under offsets, with the feed after the line; still, where it is no cycle. E3 where a length
-/// that it computes is beyond the range, else the first of Y1 to Y8, X1 and X2: the extreme coordinates decide it, and neither
-/// repeats nor pecks are walked.
+/// The canned cycle of a line's motion under offsets, with the feed after the line; still, where it is no cycle. E3
+/// where a length that it computes is beyond the range, else the first of Y1 to Y8, X1 and X2: the extreme coordinates
+/// decide it, and neither repeats nor pecks are walked.
 #[inline(never)]
 #[tactic(auto, unfolding(crate::specs::Cycles::cycle_path))]
 pub fn cycle_path(

@@ -79,8 +79,8 @@ impl Effect {
         }
     }
 
-    /// The one move of a block that only goes straight, after the feed that it sets, if any; none of any other block. So the
-    /// commands of nearly every line are had without a cursor.
+    /// The one move of a block that only goes straight, after the feed that it sets, if any; none of any other block.
+    /// So the commands of nearly every line are had without a cursor.
     #[inline]
     pub fn only_move(&self) -> Option<(Option<Feed>, &StraightMove)>
         ensures { IfSome result (λ x. commands_by self.now ≡ map numeric (command_for CanonicalCommand.FeedRate x.0 ++ pace_command x.1.now.pace x.1.now.end ∷ [])) }

@@ -1,5 +1,5 @@
-//! What a line does to motion: its feed, its pace and where it goes (NISTIR 6556, 3.5.1, 3.5.2, 3.5.12, 3.5.17, 3.5.19). E3 where
-//! a length that it computes is beyond the range.
+//! What a line does to motion: its feed, its pace and where it goes (NISTIR 6556, 3.5.1, 3.5.2, 3.5.12, 3.5.17,
+//! 3.5.19). E3 where a length that it computes is beyond the range.
 ghost use Rattle.std.specs.Prelude.{◌≡◌, ◌-ℤ◌};
 ghost use Rattle.ng_params.specs.Changes.{with_changes};
 ghost use Rattle.ng_modal.specs.Causes.{is_machine};
@@ -241,8 +241,8 @@ fn straight_to(block: &Block, machine: &Machine, feed_per_min: Feed, end: Point)
     Path::moving_at(pace, machine.point, end)
 }
 
-/// Where a line's motion goes that isn't straight, on a line without a word of group 0, with the feed after the line. E3 where a
-/// coordinate of it is beyond the range; of an arc else C1 to C4, of a cycle Y1 to Y8, X1, X2.
+/// Where a line's motion goes that isn't straight, on a line without a word of group 0, with the feed after the line.
+/// E3 where a coordinate of it is beyond the range; of an arc else C1 to C4, of a cycle Y1 to Y8, X1, X2.
 #[inline(never)]
 pub fn turning_path_of(
     block: &Block,
@@ -261,8 +261,8 @@ pub fn turning_path_of(
     Ok(Path::Still)
 }
 
-/// Where a line's motion goes under offsets, with the feed after the line, in the table that its settings leave. E3 where a
-/// coordinate of it is beyond the range; of an arc else C1 to C4, of a cycle Y1 to Y8, X1, X2.
+/// Where a line's motion goes under offsets, with the feed after the line, in the table that its settings leave. E3
+/// where a coordinate of it is beyond the range; of an arc else C1 to C4, of a cycle Y1 to Y8, X1, X2.
 pub fn path_of<A: Allocator + Copy + Drop>(
     block: &Block,
     state: &State<A>,

@@ -4,11 +4,11 @@
 //! that change, and the plan of the block, whose commands and segments come one at a time, in the order of its steps,
 //! through cursors whose models are the lists. `Scratch::execute` is the one way for a line: who runs a program keeps
 //! places and runs it there, by `Scratch::execute_after` for each line after those before it; `execute` takes new ones.
-//! What the lines of a whole program come to is said above, by the dry run (`ng_dry`) and the controller's session.
-//! The crate stands on the reader of lines, the state, the parameter table, the offsets and the canonical text below it.
+//! What the lines of a whole program come to is said above, by the dry run (`ng_dry`) and the controller's session. The
+//! crate stands on the reader of lines, the state, the parameter table, the offsets and the canonical text below it.
 //!
-//! Each code that `ng_modal` accepts is done here. What a line asks for, and whether it may, is `ng_modal`'s; which arcs are lawful is
-//! `ng_arc`'s; what a canned cycle does, and whether it is lawful, is `ng_cycles`'s.
+//! Each code that `ng_modal` accepts is done here. What a line asks for, and whether it may, is `ng_modal`'s; which
+//! arcs are lawful is `ng_arc`'s; what a canned cycle does, and whether it is lawful, is `ng_cycles`'s.
 #![tactic(auto)]
 
 mod after;

@@ -29,7 +29,8 @@ pub struct Scratch {
     line: Line,
     values: Values,
     sorted: Sorted,
-    /// What the last line did that was lawful; after a fault it may hold anything, so it is handed out with an answer alone.
+    /// What the last line did that was lawful; after a fault it may hold anything, so it is handed out with an answer
+    /// alone.
     effect: Effect,
 }
 
@@ -144,9 +145,9 @@ impl Scratch {
         }
     }
 
-    /// What a line does in a state, or the first fault that refuses it, in the order of docs/LANGUAGE.md; the state stays
-    /// as it is. What it does lies in these places until the next line comes; after a fault there is nothing to be had.
-    /// A dry run and the controller run this for each line. Source: NISTIR 6556, 3.8, and own.
+    /// What a line does in a state, or the first fault that refuses it, in the order of docs/LANGUAGE.md; the state
+    /// stays as it is. What it does lies in these places until the next line comes; after a fault there is nothing to
+    /// be had. A dry run and the controller run this for each line. Source: NISTIR 6556, 3.8, and own.
     #[inline(always)]
     pub fn execute<A: Allocator + Copy + Drop>(
         &mut self,

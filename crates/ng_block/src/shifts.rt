@@ -1,5 +1,5 @@
-//! The offsets that a line puts in force, in the order of its steps: tool length, coordinate system, axis data. None of them
-//! moves the machine.
+//! The offsets that a line puts in force, in the order of its steps: tool length, coordinate system, axis data. None of
+//! them moves the machine.
 ghost use Rattle.std.specs.Prelude.{◌≡◌, ◌≤◌, length};
 ghost use Rattle.std.specs.Option.{option_map};
 ghost use Rattle.ng_params.specs.Changes.{with_changes};
@@ -114,8 +114,8 @@ fn with_system<A: Allocator + Copy + Drop>(
     }
 }
 
-/// The offsets after a line's words, in the table that its settings leave. E3 where one of them, or a sum that is printed, is
-/// beyond the range.
+/// The offsets after a line's words, in the table that its settings leave. E3 where one of them, or a sum that is
+/// printed, is beyond the range.
 #[inline(never)]
 pub fn shift_of<A: Allocator + Copy + Drop>(
     block: &Block,

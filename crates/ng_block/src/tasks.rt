@@ -1,5 +1,5 @@
-//! What a block's words give its steps to do, but for its remark and its motion; the feed that its F sets stands apart, since
-//! most lines that do more than move set a feed and move.
+//! What a block's words give its steps to do, but for its remark and its motion; the feed that its F sets stands apart,
+//! since most lines that do more than move set a feed and move.
 ghost use Rattle.std.specs.Prelude.{◌≡◌};
 ghost use Rattle.ng_block.specs.Tasks.{feed_set, tasks_of, tasks_in, gives_nothing};
 
@@ -87,8 +87,8 @@ impl Tasks {
     }
 }
 
-/// Puts what a block's words give to do into a place; none where there is nothing to do. Most lines only move, so this is
-/// looked at first.
+/// Puts what a block's words give to do into a place; none where there is nothing to do. Most lines only move, so this
+/// is looked at first.
 #[inline]
 pub fn put_tasks(block: &Block, mode: FeedMode, before: &Outputs, place: &mut Option<Tasks>)
     ensures { tasks_in place.new ≡ tasks_of block.now mode before.now }

@@ -10,8 +10,8 @@ use Rattle.ng_commands.specs.declared.asked.ConsoleCommand.TheVariants.{Load, St
 abbrev pub AreDigitsOf : List ℕ → ℕ → Type 0
 AreDigitsOf digits n = AreDigits digits × (0 < length digits) × (n ≡ written_after 0 digits)
 
--- A text writes a length in millimetres, this many nanometres: it is a number as on a line of a program, of any length, and its rounded
--- value is in range.
+-- A text writes a length in millimetres, this many nanometres: it is a number as on a line of a program, of any length,
+-- and its rounded value is in range.
 abbrev pub SpellsLength : List ℕ → ℤ → Type 0
 SpellsLength text nm = IsNumber text nm × IsCount nm
 

@@ -17,7 +17,8 @@ pub enum ConsoleCommand<'a> {
     Continue,
     /// `mdi LINE`: a line of the language, the bytes after the blank.
     Mdi(&'a [u8]),
-    /// `reference X Y Z`: where the machine stands, three numbers as on a line of a program, millimetres of machine coordinates.
+    /// `reference X Y Z`: where the machine stands, three numbers as on a line of a program, millimetres of machine
+    /// coordinates.
     Reference(Point),
     /// `resume`
     Resume,

@@ -17,8 +17,8 @@ const GREATEST_LENGTH: u32 = 9_999_999;
 /// The most ticks of one command.
 const MOST_TICKS: u32 = 1_000_000;
 
-/// What a line asks for, without its end; none where it is no command. It is read as it stands: a carriage return belongs
-/// to it. Source: own.
+/// What a line asks for, without its end; none where it is no command. It is read as it stands: a carriage return
+/// belongs to it. Source: own.
 #[tactic(auto, using(crate::proofs::Fixed::not_loaded, crate::proofs::Fixed::not_ticked, crate::proofs::Fixed::not_asked))]
 pub fn command_of(line: &[u8]) -> Option<ConsoleCommand<'_>>
     ensures { MatchOption result (IsNoCommand line.now) (IsCommand line.now) }

@@ -1,4 +1,5 @@
--- Programs in which a line is found as a device gave it: lines of each kind before a place, and each place at which a next line begins.
+-- Programs in which a line is found as a device gave it: lines of each kind before a place, and each place at which a
+-- next line begins.
 use Rattle.std.proofs.Common.{◌≡◌, ℕ, zero, suc, ◌-◌, ◌≤◌, List, [], ◌∷◌, length, drop, refl, sym, ◌∙◌, ap, arith}
 use Rattle.std.specs.Str.Lines.{lines}
 use Rattle.std.proofs.lemmas.List.{take_all}

@@ -1,4 +1,5 @@
--- The reply tells of a failed device exactly where that counted a failure: an event that is answered is refused for no failure of the device.
+-- The reply tells of a failed device exactly where that counted a failure: an event that is answered is refused for no
+-- failure of the device.
 use Rattle.std.proofs.Common.{◌≡◌, inl, inr, ℕ, Bool, true, false, if◌then◌else◌, List, [], Option, Result, Ok, Err, sym, ◌∙◌, ap, subst}
 use Rattle.ng_num.specs.declared.fault.Fault.{Fault}
 use Rattle.ng_num.specs.declared.fault.Fault.TheVariants.{DeviceFailed, CountersUsed, OutOfMemory}

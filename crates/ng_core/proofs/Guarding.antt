@@ -1,5 +1,5 @@
--- What a stop leaves has at least as many entries as were acknowledged by then: so no body takes an acknowledged one away, not even for a
--- moment.
+-- What a stop leaves has at least as many entries as were acknowledged by then: so no body takes an acknowledged one
+-- away, not even for a moment.
 use Rattle.std.proofs.Common.{◌≡◌, ◌≤◌, ◌<◌, ◌+◌, ℕ, ℤ, zero, suc, List, [], ◌∷◌, ◌++◌, length, take, Option, Some, None, Result, Ok, Err, refl, sym, ◌∙◌, ap, subst, arith}
 use Rattle.std.proofs.lemmas.List.{length-take-le}
 use Rattle.ng_num.specs.declared.fault.Fault.{Fault}
@@ -114,7 +114,8 @@ take_told zero (r ∷ told) more is = absurd (omega (arith, is))
 take_told (suc n) [] more is = absurd (omega (arith, is))
 take_told {X} (suc n) (r ∷ told) more is = ap (λ (l : List X). r ∷ l) (take_told n told more (omega (arith, is)))
 
--- A stop within an event has all entries that were acknowledged before it: by `past` of `on`, and by nothing else that is said of `on`.
+-- A stop within an event has all entries that were acknowledged before it: by `past` of `on`, and by nothing else that
+-- is said of `on`.
 pub none_taken_away : {A R : Type 0} (honest : R → Type 0) (trace : R → Trace) (failed sectors : R → ℕ) (e : Event A) (r : Reply) (old new : ControllerModel R)
     → AddsToPast {A = A} honest trace failed sectors (e ∷ []) (r ∷ []) (moment (trace new.journal.rig) ∷ []) old new
     → (x : DurableState) (events : List (Event A)) (told : List Reply) (before : List ℕ) (first : ControllerModel R) → honest first.journal.rig → IsPast honest trace failed sectors x events told before first old

@@ -25,7 +25,8 @@ use Rattle.ng_core.proofs.Timing.{none_by, one_by, same_moment, same_more, same_
 
 -- ---- what a stop leaves, and how much of it was acknowledged
 
--- A stop leaves what stands after some of these events, no fewer than so many; of their replies so many are Done, or one more.
+-- A stop leaves what stands after some of these events, no fewer than so many; of their replies so many are Done, or
+-- one more.
 pub record IsLeftAt {A : Type 0} (equipment : Equipment) (scene : ProgramSession) (given : List Item) (least : ℕ) (events : List (Event A)) (acknowledged : ℕ) (image : Image) (handed : List Item) : Type 0 where
   pub after : IsCrashAfterSome least equipment scene given events image handed
   pub all : acknowledged ≤ dones (replies_of equipment scene (take after.count events))

@@ -20,7 +20,8 @@ abbrev pub program_after : Result Reply Fault → Transition → List ℕ → Li
 program_after (Ok r) out program = out.program
 program_after (Err fault) out program = program
 
--- An event came to its outcome in a whole controller, or was hindered; the controller is broken then where the device failed.
+-- An event came to its outcome in a whole controller, or was hindered; the controller is broken then where the device
+-- failed.
 pub record OnSpecIfHonest {A R : Type 0} (trace : R → Trace) (answer : Result Reply Fault) (event : Event A) (program : List ℕ) (old new : ControllerModel R) : Type 0 where
   pub acts : IsCarriedOut answer (transition_of old program event) program old new (trace old.journal.rig) (trace new.journal.rig)
   pub hindered : IfErr answer (HasRefusalCause old event)

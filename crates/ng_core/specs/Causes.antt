@@ -53,8 +53,8 @@ UsesUpCounter ledger out = IsSomeAnd (stored_for out out.reply) (UsesUp ledger)
 abbrev pub IsCommitted : Entry → Type 0
 IsCommitted entry = (saved : StoredModel) → with_entry saved entry ≡ Commit saved
 
--- There isn't enough memory, where some is taken; or a counter is used up that the outcome needs; or the device failed, where it is asked and
--- no counter is used up. The outcome is by the program that the device has.
+-- There isn't enough memory, where some is taken; or a counter is used up that the outcome needs; or the device failed,
+-- where it is asked and no counter is used up. The outcome is by the program that the device has.
 abbrev pub IsCausedBy : (memory device : Type 0) → Ledger → (List ℕ → Transition) → Fault → Type 0
 IsCausedBy memory device ledger told fault =
     ((fault ≡ OutOfMemory) × memory)

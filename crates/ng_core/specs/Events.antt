@@ -25,15 +25,15 @@ abbrev pub reply_to : Result Reply Fault → Reply
 reply_to (Ok r) = r
 reply_to (Err fault) = reply.Refused fault
 
--- What is told, and the session then, of an event that leads to this. Without memory or a counter for it the session stays;
--- where the device failed, what the status shows stays.
+-- What is told, and the session then, of an event that leads to this. Without memory or a counter for it the session
+-- stays; where the device failed, what the status shows stays.
 abbrev pub IsAnsweredBy : {R : Type 0} → Result Reply Fault → Transition → ControllerModel R → ControllerModel R → Type 0
 IsAnsweredBy (Ok r) out old new = (r ≡ out.reply) × (new.session ≡ out.next)
 IsAnsweredBy (Err DeviceFailed) out old new = session_status new.session ≡ session_status old.session
 IsAnsweredBy (Err fault) out old new = new.session ≡ old.session
 
--- Where an event isn't answered, what the status shows stays. Where the device didn't fail, so does all of the session, and what the
--- journal keeps; and the device isn't called, unless a line is read.
+-- Where an event isn't answered, what the status shows stays. Where the device didn't fail, so does all of the session,
+-- and what the journal keeps; and the device isn't called, unless a line is read.
 pub record KeepsSession {R : Type 0} (reads : Type 0) (fault : Fault) (old new : ControllerModel R) : Type 0 where
   pub status : session_status new.session ≡ session_status old.session
   pub session : fault ≢ DeviceFailed → new.session ≡ old.session
@@ -45,20 +45,21 @@ abbrev pub IsAnsweredAnyway : {R : Type 0} → (reads : Type 0) → Result Reply
 IsAnsweredAnyway reads answer out old new =
     MatchResult answer (λ r. (reads → ⊥) → (program : List ℕ) → (r ≡ (out program).reply) × (new.session ≡ (out program).next)) (λ fault. KeepsSession reads fault old new)
 
--- What an event leads to by a line that was read, or by none: a program that runs begins that line, after the lines of this program before
--- its place; a half-done block goes on as in this program.
+-- What an event leads to by a line that was read, or by none: a program that runs begins that line, after the lines of
+-- this program before its place; a half-done block goes on as in this program.
 abbrev pub by_line : {R : Type 0} → (List ℕ → Transition) → ControllerModel R → List ℕ → Option ProgramLineModel → Transition
 by_line out c program line = if is_running c.session.activity then begin c.equipment program c.session line else out program
 
--- Whatever the device gave: it is answered for one line, after the lines of some program, or for none, and the session goes on as by that
--- alone; what the journal keeps stays.
+-- Whatever the device gave: it is answered for one line, after the lines of some program, or for none, and the session
+-- goes on as by that alone; what the journal keeps stays.
 pub record IsAnsweredByLine {R : Type 0} (r : Reply) (out : List ℕ → Transition) (old new : ControllerModel R) : Type 0 where
   pub program : List ℕ
   pub line : Option ProgramLineModel
   pub comes : IsAnsweredBy (Ok r) (by_line out old program line) old new
   pub ledger : ledger_of new.journal ≡ ledger_of old.journal
 
--- What stands then and was handed out: of an answer what it leads to, alone; without memory or a counter for it the device stays.
+-- What stands then and was handed out: of an answer what it leads to, alone; without memory or a counter for it the
+-- device stays.
 abbrev pub LeavesDevice : {R : Type 0} → Result Reply Fault → Transition → List ℕ → ControllerModel R → Trace → Trace → Type 0
 LeavesDevice (Ok r) out program new trace_old trace_new = IsAtRestWith trace_new new out.program × (items trace_new ≡ items trace_old ++ out.items)
 LeavesDevice (Err DeviceFailed) out program new trace_old trace_new = Unit {0}
@@ -88,15 +89,16 @@ pub record IsCrashOfEither (before after : CrashState) (image : Image) (handed :
 abbrev pub program_session_of : {R : Type 0} → List ℕ → ControllerModel R → ProgramSession
 program_session_of program c = record { program = program; session = c.session }
 
--- An event came to its outcome: each stop since leaves what was there before it or what is there after it. Where nothing is stored and
--- nothing handed out, the device's trace is as it was.
+-- An event came to its outcome: each stop since leaves what was there before it or what is there after it. Where
+-- nothing is stored and nothing handed out, the device's trace is as it was.
 pub record IsCarriedOut {R : Type 0} (answer : Result Reply Fault) (out : Transition) (program : List ℕ) (old new : ControllerModel R) (trace_old trace_new : Trace) : Type 0 where
   pub comes : IsAnsweredBy answer out old new
   pub stops : IsContinuation trace_old trace_new (IsCrashOfEither (crash_in (program_session_of program old) (items trace_old)) (crash_in (session_of_transition out) (items trace_old ++ out.items)))
   pub leaves : LeavesDevice answer out program new trace_old trace_new
   pub untouched : IfOk answer (λ r. TouchesNothing r → trace_new ≡ trace_old)
 
--- The same over an honest device that rests with what the session stored: what it leads to is by the program of what stands.
+-- The same over an honest device that rests with what the session stored: what it leads to is by the program of what
+-- stands.
 abbrev pub IsCarriedOutIfHonest : {R : Type 0} → (R → Type 0) → (R → Trace) → Result Reply Fault → (List ℕ → Transition) → ControllerModel R → ControllerModel R → Type 0
 IsCarriedOutIfHonest honest trace answer out old new =
     IfHonest (honest old.journal.rig) (honest new.journal.rig) ((program : List ℕ) → IsAtRestWith (trace old.journal.rig) old program
@@ -106,10 +108,10 @@ IsCarriedOutIfHonest honest trace answer out old new =
 abbrev pub handing : Item → List ℕ → SessionModel → Transition
 handing item program s = record { reply = reply.Moved; items = item ∷ []; entries = []; program = program; next = s }
 
--- An answer to what leads to this, and what it leaves: of an honest device, and of any; where a line is read for it, it is that line's. An
--- error has its cause: memory is taken, the device is
--- asked, and a line of the program is read, where these say so. The journal is broken, and the device counted a failure, exactly where that
--- failed; the device keeps its size.
+-- An answer to what leads to this, and what it leaves: of an honest device, and of any; where a line is read for it, it
+-- is that line's. An error has its cause: memory is taken, the device is asked, and a line of the program is read,
+-- where these say so. The journal is broken, and the device counted a failure, exactly where that failed; the device
+-- keeps its size.
 pub record CarriesOut {R : Type 0} (honest : R → Type 0) (trace : R → Trace) (failed sectors : R → ℕ) (memory device reads : Type 0) (out : List ℕ → Transition) (answer : Result Reply Fault) (old new : ControllerModel R) : Type 0 where
   pub does : IsCarriedOutIfHonest honest trace answer out old new
   pub comes : IsAnsweredAnyway reads answer out old new

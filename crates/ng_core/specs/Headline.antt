@@ -35,8 +35,9 @@ pub record IsPast {A R : Type 0} (honest : R → Type 0) (trace : R → Trace) (
 
 -- ---- what a stop leaves of it
 
--- A stop leaves a cut of the first of the executed entries, which the plain interpreter carries out from what stood, of an operator who
--- gave these lines: of as many as were acknowledged, or of one more. Next come the other executed ones and what is under way then.
+-- A stop leaves a cut of the first of the executed entries, which the plain interpreter carries out from what stood, of
+-- an operator who gave these lines: of as many as were acknowledged, or of one more. Next come the other executed ones
+-- and what is under way then.
 pub record IsAccounted (equipment : Equipment) (lines : List (List ℕ)) (x : DurableState) (before : List Item) (executed begun : List Entry) (acknowledged : ℕ) (image : Image) (handed : List Item) : Type 0 where
   pub count : ℕ
   pub all : acknowledged ≤ count
@@ -46,16 +47,17 @@ pub record IsAccounted (equipment : Equipment) (lines : List (List ℕ)) (x : Du
   pub cut : IsCut equipment lines x before (take count executed) (drop count (executed ++ begun)) left
   pub stands_for : StandsFor left.standing left.items image handed
 
--- What came passes as the session does, and whenever power was cut since power on, the stop is accounted for: by the entries that the
--- session executed for the events answered by then and the one under way, and what is under way after that, as many as Done was answered by
--- then or one more, and by the lines that these events gave. These are the moments at which the events were answered.
+-- What came passes as the session does, and whenever power was cut since power on, the stop is accounted for: by the
+-- entries that the session executed for the events answered by then and the one under way, and what is under way after
+-- that, as many as Done was answered by then or one more, and by the lines that these events gave. These are the
+-- moments at which the events were answered.
 pub record Accounts {A R : Type 0} (trace : R → Trace) (x : DurableState) (events : List (Event A)) (replies : List Reply) (moments : List ℕ) (first now : ControllerModel R) : Type 0 where
   pub passes : PassesAsSession trace events replies moments first.equipment (session_at_power_on x) (trace first.journal.rig) now
   pub stops : AtEachStop (trace first.journal.rig) (trace now.journal.rig) (λ t. let n = answered_by t moments in let tried = tried_events (take (suc n) events) passes.answers in
       IsAccounted first.equipment (lines_given (take (suc n) events)) x (items (trace first.journal.rig)) (entries_of first.equipment (session_at_power_on x) tried) (under_way first.equipment (session_at_power_on x) tried) (dones (take n replies)))
 
--- So a stop has, of what stood at power on, as many entries more as Done was answered by its moment, or one more, whatever table power on
--- reads it beside.
+-- So a stop has, of what stood at power on, as many entries more as Done was answered by its moment, or one more,
+-- whatever table power on reads it beside.
 abbrev pub CountsAcknowledged : {R : Type 0} → (R → Trace) → DurableState → List Reply → (moments : List ℕ) → ControllerModel R → ControllerModel R → Type 0
 CountsAcknowledged trace x replies moments first now = (t : ℕ) (image : Image) (handed : List Item) (tools : List ℤ) (y : DurableState)
     → moment (trace first.journal.rig) ≤ t → t ≤ moment (trace now.journal.rig) → IsStop (trace_at t (trace now.journal.rig)) image handed → stands_beside tools image ≡ Ok y
@@ -63,20 +65,21 @@ CountsAcknowledged trace x replies moments first now = (t : ℕ) (image : Image)
 
 -- ---- what the calls promise of it
 
--- Power on gives the first past, of no event: over the recovered of what stood, beside these tools if it was of format 1, where only such a
--- controller wrote it.
+-- Power on gives the first past, of no event: over the recovered of what stood, beside these tools if it was of format
+-- 1, where only such a controller wrote it.
 abbrev pub BeginsPast : {R : Type 0} → Type 0 → List ℤ → (R → Type 0) → (R → Trace) → (failed sectors : R → ℕ) → PowerOnResult R → Trace → Type 0
 BeginsPast {R} A tools honest trace failed sectors result old =
     IsWritten (reads old) → IfOk result (λ c. (x : DurableState) → recovered_of (stands_beside tools (reads old)) ≡ Ok x → IsPast {A = A} honest trace failed sectors x [] [] [] c c)
 
--- Each past has these events, replies and moments at its end now, after its own as they were, and all of it is accounted for.
+-- Each past has these events, replies and moments at its end now, after its own as they were, and all of it is
+-- accounted for.
 abbrev pub AddsToPast : {A R : Type 0} → (R → Type 0) → (R → Trace) → (failed sectors : R → ℕ) → List (Event A) → List Reply → (moments : List ℕ) → ControllerModel R → ControllerModel R → Type 0
 AddsToPast {A} {R} honest trace failed sectors events replies moments old new = (x : DurableState) (past : List (Event A)) (told : List Reply) (before : List ℕ) (first : ControllerModel R)
     → IsPast honest trace failed sectors x past told before first old
     → IsPast honest trace failed sectors x (past ++ events) (told ++ replies) (before ++ moments) first new × Accounts trace x (past ++ events) (told ++ replies) (before ++ moments) first new
 
--- What a list of events does, each answered in turn at its moment of the device's trace, one of these: over an honest device they pass as
--- the session does, and each past has them at its end.
+-- What a list of events does, each answered in turn at its moment of the device's trace, one of these: over an honest
+-- device they pass as the session does, and each past has them at its end.
 pub record AreRun {A R : Type 0} (honest : R → Type 0) (trace : R → Trace) (failed sectors : R → ℕ) (events : List (Event A)) (replies : List Reply) (moments : List ℕ) (old new : ControllerModel R) : Type 0 where
   pub turns : AreAnsweredEvents honest trace failed sectors events replies old new
   pub answered : moments ≡ answered_at honest trace failed sectors events replies old new turns

@@ -7,7 +7,8 @@ use Rattle.ng_session.specs.Entries.{Equipment}
 use Rattle.ng_session.specs.Planned.{KnownModel, IsKnownOf, base_of, IsPlan}
 use Rattle.ng_session.specs.Session.{SessionModel}
 
--- the journal of its device, its session, what it knows of the lines of its program, and the geometry that it was powered on with
+-- the journal of its device, its session, what it knows of the lines of its program, and the geometry that it was
+-- powered on with
 pub record ControllerModel (R : Type 0) : Type 0 where
   pub journal : JournalModel R
   pub session : SessionModel
@@ -18,12 +19,13 @@ pub record ControllerModel (R : Type 0) : Type 0 where
 abbrev pub durable_state_of : List ℕ → SessionModel → DurableState
 durable_state_of program s = record { saved = s.stored; program = program }
 
--- The device has one image, which stands for what the session stored, with this program; what is known of its lines is true.
+-- The device has one image, which stands for what the session stored, with this program; what is known of its lines is
+-- true.
 abbrev pub IsAtRestWith : {R : Type 0} → Trace → ControllerModel R → List ℕ → Type 0
 IsAtRestWith trace c program = IsDurablyAt trace c.journal (durable_state_of program c.session) × IsKnownOf program c.lines
 
--- What holds of each controller: unless the device failed, its session stands over what the journal has stored; and what was read ahead is
--- planned on what will be stored once nothing is left of the current block.
+-- What holds of each controller: unless the device failed, its session stands over what the journal has stored; and
+-- what was read ahead is planned on what will be stored once nothing is left of the current block.
 pub record IsControllerInvariant {R : Type 0} (journal : JournalModel R) (session : SessionModel) (lines : KnownModel) (equipment : Equipment) : Type 0 where
   pub saved : journal.broken ≡ false → session.stored ≡ journal.saved
   pub plan : IsPlan equipment (base_of session) lines.ahead

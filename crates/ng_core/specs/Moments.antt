@@ -3,7 +3,8 @@ use Rattle.std.specs.Prelude.{◌≡◌, ◌≤◌, ℕ, suc, List, [], ◌∷�
 use Rattle.ng_canon.specs.declared.item.Item.{Item}
 use Rattle.ng_rig.specs.Trace.{Image, Trace, moment, trace_at, IsStop}
 
--- The new trace is the old one with what came then; and of each stop from the old one's last moment until now this is said, by its moment.
+-- The new trace is the old one with what came then; and of each stop from the old one's last moment until now this is
+-- said, by its moment.
 pub record AtEachStop (old new : Trace) (Said : ℕ → Image → List Item → Type 0) : Type 0 where
   pub was : trace_at (moment old) new ≡ old
   pub each : (t : ℕ) (image : ℕ → List ℕ) (handed : List Item) → moment old ≤ t → t ≤ moment new → IsStop (trace_at t new) image handed → Said t image handed

@@ -36,14 +36,15 @@ pub record IsControllerRecovered {R : Type 0} (tools : List ℤ) (c : Controller
   pub rests : IsAtRestWith new c program
   pub is : recovered_of (stands_beside tools (reads old)) ≡ Ok (record { saved = c.session.stored; program = program })
 
--- The journal recovers what stands, or tells why not, over any image, where one of format 1 stands beside this tool table; over one that
--- only such a controller wrote, the device rests then with the recovered of what stood, which the session has too.
+-- The journal recovers what stands, or tells why not, over any image, where one of format 1 stands beside this tool
+-- table; over one that only such a controller wrote, the device rests then with the recovered of what stood, which the
+-- session has too.
 pub record PowerOnSpecIfHonest {R : Type 0} (tools : List ℤ) (result : PowerOnResult R) (old new : Trace) : Type 0 where
   pub recovers : RecoverSpec tools (journal_result result) old new
   pub rests : IsWritten (reads old) → IfOk result (λ c. IsControllerRecovered tools c old new)
 
--- What power on gives, of any device: a whole controller at rest with what stands, or a fault and the device. A device of format 1 is given
--- the tools of the settings; with one of format 2 they aren't looked at.
+-- What power on gives, of any device: a whole controller at rest with what stands, or a fault and the device. A device
+-- of format 1 is given the tools of the settings; with one of format 2 they aren't looked at.
 pub record PowerOnSpec {R : Type 0} (honest : R → Type 0) (trace : R → Trace) (failed sectors : R → ℕ) (settings : Settings) (rig : R) (answer : PowerOnResult R) : Type 0 where
   pub powers : least_size ≤ sectors rig → (tools : List ℤ) → IsTableOver settings.tools tools (reads (trace rig)) → IfHonest (honest rig) (honest (power_on_rig answer)) (PowerOnSpecIfHonest tools answer (trace rig) (trace (power_on_rig answer)))
   pub rests : IfOk answer (λ c. (c.journal.broken ≡ false) × (c.session ≡ resting c.journal.saved) × IsStorable c.session.stored)

@@ -54,9 +54,9 @@ pub record IsCrashAfterSome {A : Type 0} (least : ℕ) (equipment : Equipment) (
   pub within : count ≤ length events
   pub stands_for : let left = crash_after equipment scene before (take count events) in StandsFor left.standing left.items image handed
 
--- The replies are the session's to the events that came. Each event was answered at its moment of the device's trace, one of these, and a
--- stop leaves what stands after those that came of the events answered by then, or after the one under way too. While the device didn't
--- fail, what stands and was handed out now is the session's.
+-- The replies are the session's to the events that came. Each event was answered at its moment of the device's trace,
+-- one of these, and a stop leaves what stands after those that came of the events answered by then, or after the one
+-- under way too. While the device didn't fail, what stands and was handed out now is the session's.
 pub record PassesAsSession {A R : Type 0} (trace : R → Trace) (events : List (Event A)) (replies : List Reply) (moments : List ℕ) (equipment : Equipment) (scene : ProgramSession) (trace_old : Trace) (new : ControllerModel R) : Type 0 where
   pub answers : List (Result Reply Fault)
   pub replies_are : replies ≡ map reply_to answers

@@ -11,8 +11,8 @@ use ng_session::{Condition, Event, KnownLines, Reply, Session, Status};
 use std::alloc::Allocator;
 use std::marker::Model;
 
-/// A machine's controller, over its device (own). Contracts see a `ControllerModel`. After a call of the device failed it is broken, until it
-/// is powered on anew.
+/// A machine's controller, over its device (own). Contracts see a `ControllerModel`. After a call of the device failed
+/// it is broken, until it is powered on anew.
 pub struct Controller<R: Rig, A: Allocator + Copy + Drop> {
     pub(crate) alloc: A,
     pub(crate) journal: Journal<R, A>,
@@ -62,14 +62,15 @@ impl<R: Rig, A: Allocator + Copy + Drop> Controller<R, A> {
 
     /// Answers an event (own).
     ///
-    /// Refused by the session, which stays as it is: K1, K2, K3, K4, J5, a point outside the travel by X2, a tool's slot by B14 and its
-    /// length by E3, a line of the operator or of a half-done block by its own faults. A line of the program that is refused, and a text
-    /// that ends before its program does (X3, X4), leave the program stopped there. M1 where there isn't enough memory, which only a Load,
-    /// a line of the operator, a Resume and a Tick between two lines take; J4 where the journal has used up a counter that a Load, an
-    /// opened segment or approach, or an entry needs. Nothing is changed then, though a Tick or a Resume has read its line. J1 where the
-    /// device failed: the controller is broken then, and the device stands for what stood before the event or for what stands after it. K5
-    /// to all but Status where it is broken already. The device keeps its size. Over an honest device all that came since power on, with
-    /// this event, is accounted for by the plain interpreter, whenever power is cut.
+    /// Refused by the session, which stays as it is: K1, K2, K3, K4, J5, a point outside the travel by X2, a tool's
+    /// slot by B14 and its length by E3, a line of the operator or of a half-done block by its own faults. A line of
+    /// the program that is refused, and a text that ends before its program does (X3, X4), leave the program stopped
+    /// there. M1 where there isn't enough memory, which only a Load, a line of the operator, a Resume and a Tick
+    /// between two lines take; J4 where the journal has used up a counter that a Load, an opened segment or approach,
+    /// or an entry needs. Nothing is changed then, though a Tick or a Resume has read its line. J1 where the device
+    /// failed: the controller is broken then, and the device stands for what stood before the event or for what stands
+    /// after it. K5 to all but Status where it is broken already. The device keeps its size. Over an honest device all
+    /// that came since power on, with this event, is accounted for by the plain interpreter, whenever power is cut.
     pub fn on(&mut self, event: Event<A>) -> Reply
         ensures serves { self.old.journal.broken ≡ false → Handles R.honest R.trace R.failed R.sectors event result self.old self.new }
         ensures failures { self.old.journal.broken ≡ false → TellsFailure result (R.failed self.old.journal.rig) (R.failed self.new.journal.rig) }
@@ -110,7 +111,8 @@ impl<R: Rig, A: Allocator + Copy + Drop> Controller<R, A> {
         self.carry_out(event)
     }
 
-    /// The same of a whole device. What was read ahead is dropped already where it doesn't come any more after the event.
+    /// The same of a whole device. What was read ahead is dropped already where it doesn't come any more after the
+    /// event.
     fn carry_out(&mut self, event: &Event<A>) -> Result<Reply, Fault>
         requires whole { self.old.journal.broken ≡ false }
         requires alone { drops_plan event.now ≡ true → self.old.lines.ahead ≡ [] }

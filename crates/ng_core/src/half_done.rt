@@ -18,8 +18,9 @@ use ng_rig::Rig;
 use ng_session::{Reply, Session};
 use std::alloc::Allocator;
 
-/// The byte of the program at which its next line begins after the half-done block: after the line at the place where the block is a
-/// line of the program, for which that is read, and else the place. J1 where the device failed: the journal is broken then.
+/// The byte of the program at which its next line begins after the half-done block: after the line at the place where
+/// the block is a line of the program, for which that is read, and else the place. J1 where the device failed: the
+/// journal is broken then.
 fn next_line<R: Rig, A: Allocator + Copy + Drop>(
     journal: &mut Journal<R, A>,
     session: &Session<A>,
@@ -55,8 +56,8 @@ impl<R: Rig, A: Allocator + Copy + Drop> Controller<R, A> {
     ghost use Rattle.ng_core.specs.Events.{CarriesOut};
     ghost use Rattle.ng_core.specs.Causes.{IsCommitted};
 
-    /// Commits a report: it takes the place of what is stored of it. J4 where a counter is used up, J1 where the device failed: the
-    /// session is as it was then.
+    /// Commits a report: it takes the place of what is stored of it. J4 where a counter is used up, J1 where the device
+    /// failed: the session is as it was then.
     fn keep(&mut self, report: DecodedState) -> Result<Reply, Fault>
         requires whole { self.old.journal.broken ≡ false }
         requires alone { self.old.lines.ahead ≡ [] }
@@ -78,8 +79,9 @@ impl<R: Rig, A: Allocator + Copy + Drop> Controller<R, A> {
         }
     }
 
-    /// The machine stands at a point, in nm of machine coordinates, once that is stored. K1 and X2 by the session's refusal, J4 where a
-    /// counter is used up: nothing is changed then. J1 where the device failed: the journal is broken then, and the session is as it was.
+    /// The machine stands at a point, in nm of machine coordinates, once that is stored. K1 and X2 by the session's
+    /// refusal, J4 where a counter is used up: nothing is changed then. J1 where the device failed: the journal is
+    /// broken then, and the session is as it was.
     pub(crate) fn reference(&mut self, point: &Point) -> Result<Reply, Fault>
         requires whole { self.old.journal.broken ≡ false }
         requires alone { self.old.lines.ahead ≡ [] }
@@ -96,8 +98,9 @@ impl<R: Rig, A: Allocator + Copy + Drop> Controller<R, A> {
         self.keep(report)
     }
 
-    /// The half-done block is given up, once that is stored. K1 and K4 by the session's refusal, J4 where a counter is used up: nothing is
-    /// changed then. J1 where the device failed: the journal is broken then, and the session is as it was.
+    /// The half-done block is given up, once that is stored. K1 and K4 by the session's refusal, J4 where a counter is
+    /// used up: nothing is changed then. J1 where the device failed: the journal is broken then, and the session is as
+    /// it was.
     pub(crate) fn abandon(&mut self) -> Result<Reply, Fault>
         requires whole { self.old.journal.broken ≡ false }
         requires alone { self.old.lines.ahead ≡ [] }
@@ -116,9 +119,9 @@ impl<R: Rig, A: Allocator + Copy + Drop> Controller<R, A> {
         }
     }
 
-    /// The half-done block goes on. K1, K4, K3 and its line's own faults by the session's refusal, with no call of the device. Where it is
-    /// a line of the program, it is read at once where the next one begins: J1 where the device failed, and the journal is broken then. M1
-    /// where there isn't enough memory. The session is as it was then.
+    /// The half-done block goes on. K1, K4, K3 and its line's own faults by the session's refusal, with no call of the
+    /// device. Where it is a line of the program, it is read at once where the next one begins: J1 where the device
+    /// failed, and the journal is broken then. M1 where there isn't enough memory. The session is as it was then.
     pub(crate) fn resume(&mut self) -> Result<Reply, Fault>
         requires whole { self.old.journal.broken ≡ false }
         requires alone { self.old.lines.ahead ≡ [] }

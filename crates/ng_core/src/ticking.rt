@@ -1,5 +1,5 @@
-//! A Tick: held, or the first of these that applies. An item is handed out, an approach or a segment is opened, an entry is committed, a
-//! line is begun.
+//! A Tick: held, or the first of these that applies. An item is handed out, an approach or a segment is opened, an
+//! entry is committed, a line is begun.
 ghost use Rattle.std.specs.Prelude.{◌≡◌, ◌≤◌, ℕ, List, true, false, Some, IfOk, IfErr, IfSome, IsSome};
 ghost use Rattle.ng_num.specs.declared.fault.Fault.TheVariants.{DeviceFailed};
 ghost use Rattle.ng_rig.specs.Calls.{IfHonest};
@@ -34,7 +34,8 @@ fn known_before(known: &LinesBefore, place: u64) -> Option<LineKind>
     known.first_before(place)
 }
 
-/// The kind of the first line before a place of the program in force that isn't blank. Nothing is read where it is known.
+/// The kind of the first line before a place of the program in force that isn't blank. Nothing is read where it is
+/// known.
 fn first_kind_before<R: Rig, A: Allocator + Copy + Drop>(
     journal: &mut Journal<R, A>,
     known: &KnownLines<A>,
@@ -58,8 +59,8 @@ fn first_kind_before<R: Rig, A: Allocator + Copy + Drop>(
     }
 }
 
-/// What is known of the lines after the line at a place, where the next one begins; no more after one that is too long, which is
-/// refused.
+/// What is known of the lines after the line at a place, where the next one begins; no more after one that is too long,
+/// which is refused.
 fn lines_after<A: Allocator + Copy + Drop>(
     known: &KnownLines<A>,
     place: u64,
@@ -109,7 +110,8 @@ impl<R: Rig, A: Allocator + Copy + Drop> Controller<R, A> {
         }
     }
 
-    /// With nothing left to open: commits the approach or the current block; with none, begins the program's next line, if it runs.
+    /// With nothing left to open: commits the approach or the current block; with none, begins the program's next line,
+    /// if it runs.
     fn end(&mut self) -> Result<Reply, Fault>
         requires { self.old.journal.broken ≡ false }
         ensures { CarriesOut R.honest R.trace R.failed R.sectors (IsBetweenLines self.old.session) (has_work self.old.session ≡ true) (IsBetweenLines self.old.session)
@@ -158,8 +160,9 @@ impl<R: Rig, A: Allocator + Copy + Drop> Controller<R, A> {
         Ok(self.session.commit())
     }
 
-    /// Begins the program's next line, which was read ahead or is read now, or stops the program at the end of its text; where one was
-    /// begun, lines after it are read ahead. Where the device failed in that, the line is begun, which the status doesn't show.
+    /// Begins the program's next line, which was read ahead or is read now, or stops the program at the end of its
+    /// text; where one was begun, lines after it are read ahead. Where the device failed in that, the line is begun,
+    /// which the status doesn't show.
     fn begin_next(&mut self) -> Result<Reply, Fault>
         requires whole { self.old.journal.broken ≡ false }
         requires runs { is_running self.old.session.activity ≡ true }
@@ -177,7 +180,8 @@ impl<R: Rig, A: Allocator + Copy + Drop> Controller<R, A> {
         }
     }
 
-    /// Begins the program's line at its place, which was read ahead or is read now, or stops the program at the end of its text.
+    /// Begins the program's line at its place, which was read ahead or is read now, or stops the program at the end of
+    /// its text.
     fn begin(&mut self) -> Result<Reply, Fault>
         requires whole { self.old.journal.broken ≡ false }
         requires runs { is_running self.old.session.activity ≡ true }
@@ -213,8 +217,8 @@ impl<R: Rig, A: Allocator + Copy + Drop> Controller<R, A> {
         }
     }
 
-    /// Reads one more line ahead and plans it, unless none can be planned. J1 where the device failed: the journal is broken then, and
-    /// nothing else is changed.
+    /// Reads one more line ahead and plans it, unless none can be planned. J1 where the device failed: the journal is
+    /// broken then, and nothing else is changed.
     fn plan(&mut self) -> Result<(), Fault>
         requires whole { self.old.journal.broken ≡ false }
         ensures { PlansAhead R.honest R.trace R.failed R.sectors result self.old self.new }

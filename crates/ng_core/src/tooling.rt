@@ -18,8 +18,8 @@ impl<R: Rig, A: Allocator + Copy + Drop> Controller<R, A> {
     ghost use Rattle.ng_core.specs.Events.{CarriesOut};
     ghost use Rattle.ng_core.specs.Causes.{IsCommitted};
 
-    /// Commits a table with one slot changed or added, as one entry more: it takes the place of the one that is stored. J4 where a counter
-    /// is used up, J1 where the device failed: the session is as it was then.
+    /// Commits a table with one slot changed or added, as one entry more: it takes the place of the one that is stored.
+    /// J4 where a counter is used up, J1 where the device failed: the session is as it was then.
     fn keep_tools(&mut self, tools: Tools) -> Result<Reply, Fault>
         requires whole { self.old.journal.broken ≡ false }
         requires alone { self.old.lines.ahead ≡ [] }
@@ -40,8 +40,9 @@ impl<R: Rig, A: Allocator + Copy + Drop> Controller<R, A> {
         }
     }
 
-    /// A tool's length, in nm, is put into a slot of the table, once that is stored. K1, B14 and E3 by the session's refusal, J4 where a
-    /// counter is used up: nothing is changed then. J1 where the device failed: the journal is broken then, and the session is as it was.
+    /// A tool's length, in nm, is put into a slot of the table, once that is stored. K1, B14 and E3 by the session's
+    /// refusal, J4 where a counter is used up: nothing is changed then. J1 where the device failed: the journal is
+    /// broken then, and the session is as it was.
     pub(crate) fn tool(&mut self, slot: u16, tool_length: Len) -> Result<Reply, Fault>
         requires whole { self.old.journal.broken ≡ false }
         requires alone { self.old.lines.ahead ≡ [] }

@@ -53,7 +53,8 @@ abbrev pub AllApart : {A : Type 0} → List (List (Call A)) → Type 0
 AllApart [] = Unit {0}
 AllApart (calls ∷ lists) = All (AreApart calls) lists × AllApart lists
 
--- Each call of a list stands in the history at its number, the numbers of a list rise, and no number stands in two lists.
+-- Each call of a list stands in the history at its number, the numbers of a list rise, and no number stands in two
+-- lists.
 pub record Agree {A : Type 0} (history : List (Call A)) (lists : List (List (Call A))) : Type 0 where
   pub stand : All (All (StandsIn history)) lists
   pub rise : All (RiseFrom 0) lists

@@ -17,8 +17,9 @@ use std::marker::Model;
 use std::sync::ledger;
 use std::sync::ledger::Share;
 
-/// A controller and the history of all that it was given (own). Contracts see a `Booked`. Replies and controller are always what `run`
-/// promises of the history's events, from the controller that the book was made of, each answered at the moment that the book keeps of it.
+/// A controller and the history of all that it was given (own). Contracts see a `Booked`. Replies and controller are
+/// always what `run` promises of the history's events, from the controller that the book was made of, each answered at
+/// the moment that the book keeps of it.
 pub struct Book<R: Rig, A: Allocator + Copy + Drop, O: Origin<R>> {
     alloc: A,
     controller: Controller<R, A>,
@@ -46,8 +47,8 @@ impl<R: Rig, A: Allocator + Copy + Drop, O: Origin<R>> Model for Book<R, A, O> {
 impl<R: Rig, A: Allocator + Copy + Drop, O: Origin<R>> Book<R, A, O> {
     /// An empty history at the controller where it starts, and a ledger of no call. It takes no memory.
     ///
-    /// A call of its own: `Desk::new` gives the controller at one place of its result or at another, and where LLVM sees both ways whole it
-    /// splits the one by the pieces of the other, thousands of times over.
+    /// A call of its own: `Desk::new` gives the controller at one place of its result or at another, and where LLVM
+    /// sees both ways whole it splits the one by the pieces of the other, thousands of times over.
     #[inline(never)]
     pub fn new(
         alloc: A,
@@ -70,12 +71,12 @@ impl<R: Rig, A: Allocator + Copy + Drop, O: Origin<R>> Book<R, A, O> {
         }
     }
 
-    /// Gives an event to the controller, and appends a call: the event, what was answered, and how many there were before as its number
-    /// (own). It answers a copy of that call, and the share counts it. In proofs it also keeps the moment at which the device then is.
+    /// Gives an event to the controller, and appends a call: the event, what was answered, and how many there were
+    /// before as its number (own). It answers a copy of that call, and the share counts it. In proofs it also keeps the
+    /// moment at which the device then is.
     ///
-    /// M1 where there isn't enough memory for the history or for a copy of the event's text: the event isn't given then, and nothing is
-    /// changed.
-    /// Every other refusal is the call's reply.
+    /// M1 where there isn't enough memory for the history or for a copy of the event's text: the event isn't given
+    /// then, and nothing is changed. Every other refusal is the call's reply.
     pub fn give(&mut self, event: &Event<A>, mine: &mut Share<O>) -> Result<Call<A>, Fault>
         requires { 0 < mine.old.parts }
         ensures call { IfOk result (λ call. (call.number ≡ length self.old.history) × (call.event ≡ event.now)) }

@@ -36,7 +36,8 @@ fn retell<O: Ledger>(seat: &mut Seat<Global, O>, reply: Reply)
     }
 }
 
-/// A desk with two seats, each of which ticks once, where the second one's call then tells this reply: what the close answers.
+/// A desk with two seats, each of which ticks once, where the second one's call then tells this reply: what the close
+/// answers.
 fn closed_at<R: Rig + Drop, O: Origin<R>, W: Wait>(
     rt: &W,
     alloc: Global,

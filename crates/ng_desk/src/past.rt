@@ -4,8 +4,8 @@ ghost use Rattle.std.specs.Borrow.{ftrue};
 
 use std::marker::{Model, PhantomData};
 
-/// Values as they were, one after the other (own), which only proofs read as `values`. It takes no memory, and its methods do nothing at
-/// run time.
+/// Values as they were, one after the other (own), which only proofs read as `values`. It takes no memory, and its
+/// methods do nothing at run time.
 #[derive(Drop)]
 pub(crate) struct Past<T> {
     of: PhantomData<T>,

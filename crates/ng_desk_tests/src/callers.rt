@@ -1,4 +1,5 @@
-//! Callers in threads, each in a seat of its own: some tick, some ask for the status, and one loads a program, starts it and holds it.
+//! Callers in threads, each in a seat of its own: some tick, some ask for the status, and one loads a program, starts
+//! it and holds it.
 ghost use Rattle.std.specs.Prelude.{◌≡◌, ◌≤◌, Some, All, false, length};
 
 use crate::devices::started;
@@ -149,8 +150,8 @@ fn work_all<R: Rig + Drop + Send, O: Origin<R> + Send + Sync, W: Threads + Wait 
     );
 }
 
-/// Whether a caller was answered as its work has it: held at the end. One that commands first loaded and started the program, and saw a
-/// half-done block right before it held: the others had their turns before it was through.
+/// Whether a caller was answered as its work has it: held at the end. One that commands first loaded and started the
+/// program, and saw a half-done block right before it held: the others had their turns before it was through.
 fn is_answered(role: Role, calls: &[Call<Global>]) -> bool {
     let Some(last) = calls.last() else {
         return false;
@@ -227,7 +228,8 @@ fn runs_alike(alloc: Global, history: Vec<Call<Global>>) -> Result<bool, Fault> 
     Ok(answers?.as_slice() == replies.as_slice())
 }
 
-/// So many callers at a desk over a new device: the first that was answered otherwise, and whether `run` answers as they were answered.
+/// So many callers at a desk over a new device: the first that was answered otherwise, and whether `run` answers as
+/// they were answered.
 fn day_at_a_fresh_desk<W: Threads + Wait + Sync>(
     rt: &W,
     alloc: Global,
@@ -246,10 +248,12 @@ fn day_at_a_fresh_desk<W: Threads + Wait + Sync>(
     Ok((astray, runs_alike(alloc, history)?))
 }
 
-/// How many days there are at most: where the system lets a caller stand for long, another one may have made all its calls before.
+/// How many days there are at most: where the system lets a caller stand for long, another one may have made all its
+/// calls before.
 const MOST_DAYS: u32 = 10;
 
-/// The first day on which each caller was answered as its work has it, or on which `run` answers otherwise; else the last one.
+/// The first day on which each caller was answered as its work has it, or on which `run` answers otherwise; else the
+/// last one.
 fn best_day<W: Threads + Wait + Sync>(
     rt: &W,
     alloc: Global,

@@ -32,7 +32,8 @@ enum Outcome {
     Loaded,
 }
 
-/// Makes a desk, gives an event from its last seat, and closes it: the controller, and what was answered or why there was no desk.
+/// Makes a desk, gives an event from its last seat, and closes it: the controller, and what was answered or why there
+/// was no desk.
 fn call_once<R: Rig, A: Allocator + Copy + Drop, O: Origin<R>, W: Wait>(
     rt: &W,
     alloc: A,
@@ -94,9 +95,10 @@ fn came_of<A: Allocator + Copy + Drop, W: Wait>(
     Ok(outcome_of(called, before == after))
 }
 
-/// The bytes of a heap, and what comes of a desk there. Power on takes two tables of parameters of 43,192 bytes and 62,712 for the lines that
-/// are planned, the program 1,000, the seats 32 each; a call then grows the seat's list, grows the history, and copies the program three
-/// times, and each of these five is refused in turn; a load takes one more table.
+/// The bytes of a heap, and what comes of a desk there. Power on takes two tables of parameters of 43,192 bytes and
+/// 62,712 for the lines that are planned, the program 1,000, the seats 32 each; a call then grows the seat's list,
+/// grows the history, and copies the program three times, and each of these five is refused in turn; a load takes one
+/// more table.
 const HEAPS: &[(usize, Outcome)] = &[
     (150_712, Outcome::NoDesk),
     (152_512, Outcome::NoCall),

@@ -8,7 +8,8 @@ pub record Waiting : Type 0 where
   pub bytes : List ℕ
   pub ended : Bool
 
--- what is known of the text that is left, by what the reader has left: what waits and that, and nothing where the text has ended
+-- what is known of the text that is left, by what the reader has left: what waits and that, and nothing where the text
+-- has ended
 abbrev pub text_left : Waiting → Option (List ℕ) → Option (List ℕ)
 text_left w left = option_map (λ xs. if w.ended then [] else w.bytes ++ xs) left
 

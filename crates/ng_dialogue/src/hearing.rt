@@ -93,10 +93,10 @@ fn ask<R: Read, A: Allocator + Copy + Drop>(
 
 /// Takes the next line and what it asks. None at the end: the text's, or `quit`.
 ///
-/// The text ends where a read gives no byte, and that is final: from then on the reader isn't read, and None is all that is answered.
-/// A line that is no command is refused, U1, and so is a program that the end of the text cuts off; a program that finds no memory
-/// is refused, M1, and its bytes are passed over. `InputError` where the reader failed, or a line of the operator found no memory. Lines
-/// take no memory but those. Source: own.
+/// The text ends where a read gives no byte, and that is final: from then on the reader isn't read, and None is all
+/// that is answered. A line that is no command is refused, U1, and so is a program that the end of the text cuts off; a
+/// program that finds no memory is refused, M1, and its bytes are passed over. `InputError` where the reader failed, or
+/// a line of the operator found no memory. Lines take no memory but those. Source: own.
 pub fn next_order<R: Read, A: Allocator + Copy + Drop>(
     alloc: A,
     input: &mut Input,

@@ -16,7 +16,8 @@ const BUFFER: usize = 8192;
 #[derive(Clone, Copy, Debug, PartialEq, Eq)]
 pub struct ReadError;
 
-/// The bytes that were read and not taken yet, and whether the text has ended: a read gave no byte. Contracts see a `Waiting`.
+/// The bytes that were read and not taken yet, and whether the text has ended: a read gave no byte. Contracts see a
+/// `Waiting`.
 #[derive(Drop)]
 pub struct Input {
     buffer: [u8; BUFFER],
@@ -66,8 +67,8 @@ impl Input {
         self.start += count;
     }
 
-    /// Reads where nothing waits. False at the end of the text, where a read gives no byte; that is final, and the reader isn't read
-    /// again. `ReadError` where the read failed, or one read too many was needed: nothing waits then.
+    /// Reads where nothing waits. False at the end of the text, where a read gives no byte; that is final, and the
+    /// reader isn't read again. `ReadError` where the read failed, or one read too many was needed: nothing waits then.
     pub fn fill<R: Read>(&mut self, reader: &mut R) -> Result<bool, ReadError>
         ensures keeps { Keeps (text_left self.old (R.remaining reader.old)) (text_left self.new (R.remaining reader.new)) }
         ensures some { IfOk result (λ more. more ≡ true → (self.new.bytes ≢ []) × (self.new.ended ≡ false)) }

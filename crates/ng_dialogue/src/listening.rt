@@ -24,8 +24,8 @@ fn keep(line: &mut ArrayVec<u8, KEPT_COMMAND>, bytes: &[u8])
     };
 }
 
-/// Takes the next line, and keeps its first 301 bytes. False at the end of the text, where none follows; the last line may lack its
-/// newline. Where the text has ended the reader isn't read.
+/// Takes the next line, and keeps its first 301 bytes. False at the end of the text, where none follows; the last line
+/// may lack its newline. Where the text has ended the reader isn't read.
 pub fn next_line<R: Read>(
     input: &mut Input,
     reader: &mut R,

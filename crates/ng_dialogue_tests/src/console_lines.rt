@@ -1,5 +1,5 @@
-//! Lines of a console: tools' lengths, and a refusal that finds no memory. Which other lines are commands, and how replies read, is said by
-//! the cases of `ngc_cases`.
+//! Lines of a console: tools' lengths, and a refusal that finds no memory. Which other lines are commands, and how
+//! replies read, is said by the cases of `ngc_cases`.
 use linked_list_allocator::LocalHeap;
 use ng_commands::{ConsoleCommand, command_of, push_refusal};
 use ng_num::{Fault, Len};

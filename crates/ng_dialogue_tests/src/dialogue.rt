@@ -126,7 +126,8 @@ const TEXTS: &[(&str, &str)] = &[
     ("load 00000002\nhold\n", "U1 BadCommand|hold|"),
 ];
 
-/// The first number of bytes at a read, of 1 to 9, with which a text asks something else, and why it ended before its end then.
+/// The first number of bytes at a read, of 1 to 9, with which a text asks something else, and why it ended before its
+/// end then.
 fn first_astray(
     alloc: Global,
     text: &str,
@@ -225,8 +226,8 @@ const FAILING: (&str, &str) = (
     "hold|load:M2\n|start|mdi:M3|",
 );
 
-/// That text, a byte at a read, where so many reads succeed: why it ended before its end, if it did, and whether all that it asks
-/// is heard, or a beginning where it ended before.
+/// That text, a byte at a read, where so many reads succeed: why it ended before its end, if it did, and whether all
+/// that it asks is heard, or a beginning where it ended before.
 fn heard_after(alloc: Global, reads_left: usize) -> Result<(Option<InputError>, bool), AllocError> {
     let (text, asked) = FAILING;
     let mut reader = Drip {
@@ -342,8 +343,8 @@ fn tell_all<W: Write>(alloc: Global, writer: &mut W) -> Result<(), OutputError> 
 /// What is told of those answers.
 const ANSWERS: &str = "begun\ndone 7\nticks 12\nrefused K1 Busy\n";
 
-/// Tells them to a writer of which so many calls succeed: how that ends, whether all is written, or a beginning where it ends in an
-/// error, and how many calls are left.
+/// Tells them to a writer of which so many calls succeed: how that ends, whether all is written, or a beginning where
+/// it ends in an error, and how many calls are left.
 fn told_after(
     alloc: Global,
     calls_left: usize,

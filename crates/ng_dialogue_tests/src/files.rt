@@ -1,5 +1,5 @@
-//! Devices over bytes of a storage: which bytes a sector is, the lines of what is handed out, and what a storage or a writer that
-//! fails leaves.
+//! Devices over bytes of a storage: which bytes a sector is, the lines of what is handed out, and what a storage or a
+//! writer that fails leaves.
 use linked_list_allocator::LocalHeap;
 use ng_canon::{AxisStep, Item, Outputs, Pulse, Spindle};
 use ng_file::{FileRig, OpenedFile, Storage};
@@ -115,8 +115,8 @@ fn a_device_has_the_whole_sectors(rt: HostRuntime) -> Result<(), Fail> {
     Ok(())
 }
 
-/// Writes the second and the third sector and syncs: which writes succeed, which of three sectors hold what they should, and
-/// whether the sync succeeds.
+/// Writes the second and the third sector and syncs: which writes succeed, which of three sectors hold what they
+/// should, and whether the sync succeeds.
 fn two_sectors<R: Rig>(rig: &mut R) -> ([bool; 2], [bool; 3], bool) {
     let written = [fill(rig, 1, 7).is_ok(), fill(rig, 2, 9).is_ok()];
     let held = [holds(rig, 0, 0), holds(rig, 1, 7), holds(rig, 2, 9)];
@@ -159,8 +159,8 @@ fn a_full_disk_fails_and_keeps_what_it_has(rt: HostRuntime) -> Result<(), Fail> 
     Ok(())
 }
 
-/// Writes the last of three sectors and reads it, and does both again, with how many failures are counted after each; and
-/// the device's size between them.
+/// Writes the last of three sectors and reads it, and does both again, with how many failures are counted after each;
+/// and the device's size between them.
 fn last_sector_twice<R: Rig>(rig: &mut R) -> ([bool; 2], [(bool, u64); 2], usize) {
     let whole = [fill(rig, 2, 7).is_ok(), holds(rig, 2, 7)];
     let written = (fill(rig, 2, 8).is_ok(), rig.failures());
@@ -265,7 +265,8 @@ impl Write for Short {
     }
 }
 
-/// Calls of a writer that succeed and the bytes that it takes at each, the items of three that are handed out then, and what is written.
+/// Calls of a writer that succeed and the bytes that it takes at each, the items of three that are handed out then, and
+/// what is written.
 const CALLS: &[(usize, usize, usize, &str)] = &[
     (0, 9, 0, ""),
     (1, 9, 0, "D 5\n"),
@@ -292,8 +293,8 @@ fn hand_out_three<R: Rig>(rig: &mut R) -> usize {
     good
 }
 
-/// Hands out three items over a writer of which so many calls succeed, with so many bytes each: how many are, how many failures are
-/// counted, and what is written.
+/// Hands out three items over a writer of which so many calls succeed, with so many bytes each: how many are, how many
+/// failures are counted, and what is written.
 fn three_over_short(
     alloc: Global,
     calls_left: usize,

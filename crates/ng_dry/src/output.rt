@@ -37,8 +37,8 @@ pub fn write_out<W: Write>(writer: &mut W, bytes: &[u8]) -> Result<(), DryFault>
 /// The text that waits is written once it has so many bytes.
 const FULL: usize = 8192;
 
-/// Room for all text that ever waits: what isn't long yet, and after it the text of a command or of a refusal, of which a comment's
-/// is the longest, with fewer than 300 bytes. So a run that has this room takes no memory for its text.
+/// Room for all text that ever waits: what isn't long yet, and after it the text of a command or of a refusal, of which
+/// a comment's is the longest, with fewer than 300 bytes. So a run that has this room takes no memory for its text.
 pub const ROOM: usize = FULL + 512;
 
 /// Writes the text that waits.

@@ -48,8 +48,8 @@ fn is_end(stop: ProgramFlow) -> bool
 }
 
 impl<'a, A: Allocator + Copy + Drop> DryRun<'a, A> {
-    /// A run from the fresh state, before the first line, with room for the text that waits: no line takes memory. `AllocError` where
-    /// the state or that room found none.
+    /// A run from the fresh state, before the first line, with room for the text that waits: no line takes memory.
+    /// `AllocError` where the state or that room found none.
     pub fn new(alloc: A, terms: Terms<'a>) -> Result<DryRun<'a, A>, AllocError>
         ensures { IfOk result (λ r. r ≡ begun terms.entry) }
     {
@@ -93,7 +93,8 @@ impl<'a, A: Allocator + Copy + Drop> DryRun<'a, A> {
         Ok(Ended::Refused(number, fault))
     }
 
-    /// Executes the next line, and writes what it gives. Within the loop over the lines: a call of its own costs each line 22 instructions.
+    /// Executes the next line, and writes what it gives. Within the loop over the lines: a call of its own costs each
+    /// line 22 instructions.
     #[inline(always)]
     pub fn execute<W: Write>(
         &mut self,

@@ -16,14 +16,15 @@ use std::rt::Files;
 pub enum NoDevice {
     /// It isn't there, or the system doesn't let it be read and written.
     Unopened,
-    /// It is a directory, or another process holds it, or a new one can't be made as long as it has to be, or can't be made to last.
+    /// It is a directory, or another process holds it, or a new one can't be made as long as it has to be, or can't be
+    /// made to last.
     Unusable,
 }
 
 /// Opens the file of a device and holds it for this process alone (own).
 ///
-/// `Unopened` where it isn't there or may not be read and written; `Unusable` where it is a directory or can't be held, as where
-/// another process holds it. Nothing is changed then.
+/// `Unopened` where it isn't there or may not be read and written; `Unusable` where it is a directory or can't be held,
+/// as where another process holds it. Nothing is changed then.
 pub fn open_device<R: Files>(rt: &R, path: &str) -> Result<OpenedFile<R::File>, NoDevice>
 where
     R::File: Hold,
@@ -38,11 +39,11 @@ where
     held(file)
 }
 
-/// Opens the file of a device and holds it for this process alone; where there is none makes one of so many sectors, each written in
-/// full with zeros, and makes it and the directory in which it stands last over a loss of power (own).
+/// Opens the file of a device and holds it for this process alone; where there is none makes one of so many sectors,
+/// each written in full with zeros, and makes it and the directory in which it stands last over a loss of power (own).
 ///
-/// `Unopened` where it can't be made, or is there and may not be read and written; `Unusable` as for `open_device`, or where a new file
-/// can't be written so long or can't be made to last: it stays then, perhaps too short.
+/// `Unopened` where it can't be made, or is there and may not be read and written; `Unusable` as for `open_device`, or
+/// where a new file can't be written so long or can't be made to last: it stays then, perhaps too short.
 pub fn make_device<R: Files>(
     rt: &R,
     path: &str,

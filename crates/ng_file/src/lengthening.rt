@@ -6,10 +6,11 @@ ghost use Rattle.ng_file.specs.Bytes.{Lengthened, LengthenedInPart};
 use crate::storage::{Append, SECTOR};
 use std::io;
 
-/// Appends zeros to a file until it has so many bytes, and makes all of it last (own). One that has as many or more gains none.
+/// Appends zeros to a file until it has so many bytes, and makes all of it last (own). One that has as many or more
+/// gains none.
 ///
-/// The zeros are written, so that there is room for them on the disk. After an error the file may have any number of them, up to those
-/// that it lacked, and may not last.
+/// The zeros are written, so that there is room for them on the disk. After an error the file may have any number of
+/// them, up to those that it lacked, and may not last.
 pub fn lengthen<S: Append>(file: &mut S, bytes: u64) -> io::Result<()>
     ensures lasts { OnOk result (IfSome (S.lasting file.new) (λ kept. S.content file.new ≡ Some kept)) }
     ensures whole { OnOk result (Lengthened bytes (S.content file.old) (S.content file.new)) }

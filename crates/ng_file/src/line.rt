@@ -97,8 +97,8 @@ fn push_switch<A: Allocator + Copy + Drop>(
     text.extend_from_slice(b"\n")
 }
 
-/// Appends the line of an item: `P x y z period`, `D microseconds` or `S spindle speed mist flood selected slot`. After an
-/// error a part of it may have been appended. Source: own.
+/// Appends the line of an item: `P x y z period`, `D microseconds` or `S spindle speed mist flood selected slot`. After
+/// an error a part of it may have been appended. Source: own.
 pub(crate) fn push_item<A: Allocator + Copy + Drop>(
     text: &mut Vec<u8, A>,
     item: Item,

@@ -15,8 +15,8 @@ const LINE: usize = 64;
 
 /// A device whose sectors are those of a file, and whose hand-outs are lines after those that a writer has.
 ///
-/// It has as many sectors as were whole when it was made. A call fails where the file or the writer fails, and a write also
-/// where the file has become shorter than its sector.
+/// It has as many sectors as were whole when it was made. A call fails where the file or the writer fails, and a write
+/// also where the file has become shorter than its sector.
 #[derive(Drop)]
 pub struct FileRig<S, W, A: Allocator> {
     file: S,
@@ -35,8 +35,8 @@ impl<S: Storage + Drop, W: Write + Drop, A: Allocator + Copy + Drop> FileRig<S, 
     ghost use Rattle.ng_file.specs.FileRig.{failure_count, outlet, sector_count, storage};
     ghost use Rattle.ng_file.specs.Lines.{item_line};
 
-    /// The device in a file, which hands out to a writer. Fails where the file can't say its length, or there isn't enough memory
-    /// for a line.
+    /// The device in a file, which hands out to a writer. Fails where the file can't say its length, or there isn't
+    /// enough memory for a line.
     pub fn over(alloc: A, mut file: S, out: W) -> io::Result<Self>
         ensures size { IfOk result (λ rig. IfSome (S.content file) (λ held. sector_count rig ≡ length held / 512)) }
         ensures bytes { IfOk result (λ rig. S.content (storage rig) ≡ S.content file) }
@@ -173,7 +173,8 @@ impl<S: Storage + Drop, W: Write + Drop, A: Allocator + Copy + Drop> Rig for Fil
         self.counted(synced)
     }
 
-    /// Appends the item's line and flushes the writer. Takes no memory. After a failure a beginning of the line may stand there.
+    /// Appends the item's line and flushes the writer. Takes no memory. After a failure a beginning of the line may
+    /// stand there.
     fn hand_out(&mut self, item: Item) -> Result<(), Failed>
         ensures line { OnOk result (Appends (W.contents (outlet self.old)) (W.contents (outlet self.new)) (item_line item)) }
         ensures part { OnErr result (AppendsBeginning (W.contents (outlet self.old)) (W.contents (outlet self.new)) (item_line item)) }

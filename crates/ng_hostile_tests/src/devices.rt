@@ -1,7 +1,7 @@
 //! Devices, what is made of them, and what is found on them.
 //!
-//! The calls that these tests are of stand here, each in a function without a contract: so what a test is proved with is not all that they
-//! promise.
+//! The calls that these tests are of stand here, each in a function without a contract: so what a test is proved with
+//! is not all that they promise.
 ghost use Rattle.std.specs.Prelude.{◌≡◌, ◌≤◌, false};
 
 use crate::standing::Found;
@@ -96,7 +96,8 @@ pub fn rig_of<R: Rig, A: Allocator + Copy + Drop>(controller: Controller<R, A>) 
     controller.into_rig()
 }
 
-/// What is stored on a device, which is powered on by its journal alone, and the device then; or why it isn't, and the device.
+/// What is stored on a device, which is powered on by its journal alone, and the device then; or why it isn't, and the
+/// device.
 pub fn recovered(alloc: Global, rig: Device) -> Result<(Stored<Global>, Device), (Fault, Device)> {
     let (journal, stored) = recover(alloc, rig, &Settings::standard().tools)?;
     Ok((stored, journal.into_rig()))
@@ -138,7 +139,8 @@ fn lines<R: Rig>(
 /// What is read of a program, where its lines can be read.
 type Lines = Result<[Option<ProgramLine>; 2], Fault>;
 
-/// What is stored on a device, which is powered on by its journal alone, with lines of its program, and the device then.
+/// What is stored on a device, which is powered on by its journal alone, with lines of its program, and the device
+/// then.
 pub fn read_again(alloc: Global, rig: Device) -> Result<(Stored<Global>, Lines, Device), Fault> {
     match recover(alloc, rig, &Settings::standard().tools) {
         Ok((mut journal, stored)) => {

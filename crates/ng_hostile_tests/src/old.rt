@@ -11,7 +11,8 @@ use std::alloc::Global;
 /// The blank lines that fill the log up to its last sector.
 pub const FILLING: usize = 1_021;
 
-/// A line of the operator whose first segment is open. It takes the length of a tool, which a device of format 1 has in its settings alone.
+/// A line of the operator whose first segment is open. It takes the length of a tool, which a device of format 1 has in
+/// its settings alone.
 pub const OPENED: &str = "G43 H1 G0 X0.005";
 
 /// Sets a parameter, which takes a record of two parts.
@@ -26,8 +27,8 @@ fn header(epoch: u64) -> [u8; 512] {
     sector
 }
 
-/// Puts the state field of a fresh controller after so many entries into a sector, from this byte on: G80, G17, G90, G94, G21, G98, the
-/// first system, G64, M48, and the place known.
+/// Puts the state field of a fresh controller after so many entries into a sector, from this byte on: G80, G17, G90,
+/// G94, G21, G98, the first system, G64, M48, and the place known.
 fn put_state(sector: &mut [u8; 512], at: usize, entries: u64) {
     put(sector, at, 8, entries);
     let codes = [80, 17, 90, 94, 21, 98, 1, 2];
@@ -95,8 +96,8 @@ fn opened(record: u64) -> [u8; 512] {
     sector
 }
 
-/// A device of format 1 under epoch 2, and what it stands for beside settings without tools. Its log has so many blank lines, from sector
-/// 686 on, then a line that sets a parameter, in two sectors, and a line that is open.
+/// A device of format 1 under epoch 2, and what it stands for beside settings without tools. Its log has so many blank
+/// lines, from sector 686 on, then a line that sets a parameter, in two sectors, and a line that is open.
 pub fn of_format_1(alloc: Global, blanks: usize) -> Result<(Device, Standing), Fault> {
     of_format_1_with(alloc, 1_710, blanks)
 }

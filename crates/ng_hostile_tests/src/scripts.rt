@@ -34,8 +34,8 @@ pub const STORED_THREE_TIMES: &[Row] = &[
 /// Of 35 bytes: its lines begin at bytes 0, 10, 16, 26 and 32.
 const LINES: &str = "G0 X0.001\nG0 X0\nG0 X0.001\nG0 X0\nM2\n";
 
-/// A program of five lines is stored and run to its end. The tick that begins its first line reads the two after it too, the one that
-/// begins the second reads the last two, and the others read nothing.
+/// A program of five lines is stored and run to its end. The tick that begins its first line reads the two after it
+/// too, the one that begins the second reads the last two, and the others read nothing.
 pub const READ_AHEAD: &[Row] = &[
     (Order::Load(LINES), Does::Loads(LINES), 93),
     (Order::Start, Does::Goes, 0),
@@ -71,8 +71,9 @@ pub const BEFORE_A_CUT_OF_A_PROGRAM: &[Row] = &[
     FORWARD,
 ];
 
-/// After the cut the machine stands where that pulse brought it: the approach goes back by one, the line comes whole, and then the
-/// program goes on. The resume reads the line, and the tick that begins the next one reads what comes before it and the line itself.
+/// After the cut the machine stands where that pulse brought it: the approach goes back by one, the line comes whole,
+/// and then the program goes on. The resume reads the line, and the tick that begins the next one reads what comes
+/// before it and the line itself.
 pub const AFTER_A_CUT_OF_A_PROGRAM: &[Row] = &[
     (Order::Reference(1_000), Does::Stands(1_000), 2),
     (Order::Resume, Does::Goes, 0),
@@ -104,7 +105,8 @@ pub const BEFORE_A_CUT: &[Row] = &[
     FORWARD,
 ];
 
-/// After the cut the machine is told to stand where the line begins: the approach is the switch alone, and then the line comes whole.
+/// After the cut the machine is told to stand where the line begins: the approach is the switch alone, and then the
+/// line comes whole.
 pub const AFTER_A_CUT: &[Row] = &[
     (Order::Resume, Does::Refuses(Fault::PlaceUnknown), 0),
     (Order::Tool(1, 0), Does::Refuses(Fault::Busy), 0),
@@ -134,8 +136,8 @@ const TAKES: &str = "G43 H1";
 
 const RISES: &str = "G0 Z0.001";
 
-/// Lines of the operator, and tools' lengths between them. The length that a line took stays in force when its slot takes another: the
-/// machine goes up by six steps.
+/// Lines of the operator, and tools' lengths between them. The length that a line took stays in force when its slot
+/// takes another: the machine goes up by six steps.
 pub const TOOLS: &[Row] = &[
     (Order::Tool(1, 5_000), Does::Puts(1, 5_000), 2),
     (Order::Tool(3, 1_000_000), Does::Refuses(Fault::BadSlot), 0),
@@ -161,8 +163,8 @@ const TAKES_AND_RISES: &str = "G43 H1 G0 Z0";
 /// Of 29 bytes: its lines begin at bytes 0, 10, 13 and 26.
 const STOPPING: &str = "G0 X0.001\nM0\nG43 H1 G0 Z0\nM2\n";
 
-/// A tool's length is given at rest, as a program runs, is held and has stopped. The line after the stop was read ahead before; what its
-/// slot took at the stop is what it takes: three steps of Z.
+/// A tool's length is given at rest, as a program runs, is held and has stopped. The line after the stop was read ahead
+/// before; what its slot took at the stop is what it takes: three steps of Z.
 pub const TOOLS_OF_A_PROGRAM: &[Row] = &[
     (Order::Tool(0, 0), Does::Refuses(Fault::BadSlot), 0),
     (Order::Tool(2, -1), Does::Refuses(Fault::BadSlot), 0),
@@ -254,8 +256,8 @@ const FEED: &[Row] = &[
     (Order::Tick, Does::Executes("F100", 0), 2),
 ];
 
-/// An entry in sector 686, and 510 moves there and back by turns. The last of them is opened in sector 1705, the log's last, so that its
-/// entry takes 90 writes and 3 syncs.
+/// An entry in sector 686, and 510 moves there and back by turns. The last of them is opened in sector 1705, the log's
+/// last, so that its entry takes 90 writes and 3 syncs.
 pub fn filling_the_log(alloc: Global) -> Result<Vec<Row>, AllocError> {
     let mut rows = Vec::new(alloc);
     rows.extend_from_slice(FEED)?;

@@ -1,5 +1,5 @@
--- What each call writes, and where: a checkpoint what is stored under the next epoch, a load the text besides, a format a fresh controller
--- among zeros.
+-- What each call writes, and where: a checkpoint what is stored under the next epoch, a load the text besides, a format
+-- a fresh controller among zeros.
 use Rattle.std.proofs.Common.{◌≡◌, ◌≢◌, ◌⊎◌, inl, inr, ⊎_elim, ℕ, ◌+◌, ◌-◌, ◌*◌, ◌%◌, ◌<◌, ◌≤◌, List, [], ℤ, length, replicate, Result, Ok, Err, refl, sym, ◌∙◌, ap, subst, arith}
 use Rattle.std.proofs.lemmas.Bool.{cases_eq}
 use Rattle.std.proofs.lemmas.Bool.Decides.{nat_tests}

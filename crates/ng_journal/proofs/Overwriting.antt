@@ -1,4 +1,5 @@
--- A load: the program's text written to the area that isn't in force, a sync, a checkpoint whose header names that area.
+-- A load: the program's text written to the area that isn't in force, a sync, a checkpoint whose header names that
+-- area.
 use Rattle.std.proofs.Common.{◌≡◌, ◌≢◌, inl, inr, ⊎_elim, ℕ, zero, suc, ◌+◌, ◌*◌, ◌<◌, ◌≤◌, nat_lt, Bool, true, false, List, Result, Ok, Err, length, sym, ◌∙◌, refl, ap, subst, arith}
 use Rattle.std.proofs.lemmas.Bool.Decides.{nat_tests}
 use Rattle.std.specs.Prelude.{OnOk}

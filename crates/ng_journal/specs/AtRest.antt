@@ -37,11 +37,13 @@ IsOfAreas header n = IsAmong (snapshot_first header.epoch) snapshot_size n ⊎ (
 abbrev pub IsOfEpoch : Header → ℕ → Type 0
 IsOfEpoch header n = IsOfAreas header n ⊎ (n ≡ header.epoch % 2)
 
--- These bytes belong in sector n of the areas where this is stored under a header: a part of the snapshot, in format 2 of the tool table.
+-- These bytes belong in sector n of the areas where this is stored under a header: a part of the snapshot, in format 2
+-- of the tool table.
 abbrev pub BelongsToAreas : Header → StoredModel → ℕ → List ℕ → Type 0
 BelongsToAreas header saved n bytes = BelongsIn (snapshot_first header.epoch) snapshot_size (HoldsPart saved) n bytes ⊎ ((header.format ≡ Two) × BelongsIn (tools_first header.epoch) tools_size (HoldsToolPart saved) n bytes)
 
--- These bytes belong in sector n where this is stored under a header: a part of it in its areas, the header in its sector.
+-- These bytes belong in sector n where this is stored under a header: a part of it in its areas, the header in its
+-- sector.
 abbrev pub BelongsTo : Header → StoredModel → ℕ → List ℕ → Type 0
 BelongsTo header saved n bytes = BelongsToAreas header saved n bytes ⊎ ((n ≡ header.epoch % 2) × HoldsHeader header bytes)
 

@@ -25,14 +25,16 @@ pub record JournalModel (R : Type 0) : Type 0 where
   pub saved : StoredModel
   pub broken : Bool
 
--- The header is of format 2 and names a program of this length; its log ends here, within its sectors, of which each record has one at least.
+-- The header is of format 2 and names a program of this length; its log ends here, within its sectors, of which each
+-- record has one at least.
 pub record IsTip (length : ℕ) (header : Header) (end : LogEnd) : Type 0 where
   pub long : length ≡ header.length
   pub format : header.format ≡ Two
   pub within : end.sector ≤ log_size_of header
   pub number : end.number ≤ end.sector
 
--- What holds of every journal, whatever its device does: its header is valid on a device of so many sectors, and its room is theirs.
+-- What holds of every journal, whatever its device does: its header is valid on a device of so many sectors, and its
+-- room is theirs.
 pub record IsSteady (sectors : ℕ) (header : Header) (end : LogEnd) (saved : StoredModel) : Type 0 where
   pub room : least_size ≤ sectors
   pub valid : IsValidHeader (is_large_size sectors) header

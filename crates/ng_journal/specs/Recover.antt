@@ -18,8 +18,8 @@ abbrev pub recover_rig : {R : Type 0} → RecoverResult R → R
 recover_rig (Ok x) = x.0.rig
 recover_rig (Err e) = e.1
 
--- what may keep a device of any content from being recovered: memory is wanting, the device failed, it isn't formatted, it is damaged, or its
--- epochs are used up
+-- what may keep a device of any content from being recovered: memory is wanting, the device failed, it isn't formatted,
+-- it is damaged, or its epochs are used up
 abbrev pub IsRecoveryFault : Fault → Type 0
 IsRecoveryFault fault = (fault ≡ OutOfMemory) ⊎ ((fault ≡ DeviceFailed) ⊎ ((fault ≡ NotFormatted) ⊎ ((fault ≡ Damaged) ⊎ (fault ≡ CountersUsed))))
 
@@ -52,8 +52,8 @@ pub record JournalKeepsAll {R : Type 0} (tools : List ℤ) (result : RecoverResu
   pub stops : IsContinuation old new (IsEitherBeside tools (stands_beside tools (reads old)) (recovered_of (stands_beside tools (reads old))) (items old))
   pub ready : IfOk result (λ x. IsJournalRecovered tools x.0 old new)
 
--- What is found, or why nothing is, and what is written, over any image: after Ok what was found stands there under the journal's header and nothing
--- is unsynced. What stops leave over an image that only this journal wrote.
+-- What is found, or why nothing is, and what is written, over any image: after Ok what was found stands there under the
+-- journal's header and nothing is unsynced. What stops leave over an image that only this journal wrote.
 pub record RecoverSpec {R : Type 0} (tools : List ℤ) (result : RecoverResult R) (old new : Trace) : Type 0 where
   pub finds : FoundByRecover tools result (reads old)
   pub refused : LeavesAlone result old new

@@ -49,7 +49,8 @@ pub record IsNextEpoch (header : Header) (image : Image) : Type 0 where
   pub force : in_force image ≡ Some before
   pub is : header ≡ record before { format = Two; epoch = before.epoch + epochs_for before.format }
 
--- These bytes belong in sector n where this is stored under the epoch after a header, and over format 1 with a table in format 2 under the one after that.
+-- These bytes belong in sector n where this is stored under the epoch after a header, and over format 1 with a table in
+-- format 2 under the one after that.
 abbrev pub BelongsToRenewal : List ℤ → Header → StoredModel → ℕ → List ℕ → Type 0
 BelongsToRenewal tools header saved n bytes =
     let next = next_header header header.area saved.length in
@@ -67,7 +68,8 @@ pub record BelongsToNext (tools : List ℤ) (image : Image) (n : ℕ) (bytes : L
 abbrev pub Renews : List ℤ → Trace → Trace → Type 0
 Renews tools old new = WritesOnly (BelongsToNext tools (reads old)) old new
 
--- An image stands for one of the two beside the table of the settings, and has no record of an epoch to come; nothing was handed out.
+-- An image stands for one of the two beside the table of the settings, and has no record of an epoch to come; nothing
+-- was handed out.
 pub record IsEitherBeside (tools : List ℤ) (before after : Result DurableState Fault) (given : List Item) (image : Image) (handed : List Item) : Type 0 where
   pub state : (stands_beside tools image ≡ before) ⊎ (stands_beside tools image ≡ after)
   pub written : IsWritten image

@@ -110,10 +110,11 @@ fn make_fresh<R: Rig>(rig: &mut R) -> Result<(), Failed>
     rig.sync()
 }
 
-/// Formats a device (own): after Ok it has one image, which stands for a fresh controller with no program, under epoch 1.
+/// Formats a device (own): after Ok it has one image, which stands for a fresh controller with no program, under epoch
+/// 1.
 ///
-/// J2 for fewer than 1,710 sectors, with no call of the device. J1 where the device failed; nothing is said of what
-/// it stands for then, nor of a stop before Ok: it is formatted again. Only the headers' sectors, the log's and the first
+/// J2 for fewer than 1,710 sectors, with no call of the device. J1 where the device failed; nothing is said of what it
+/// stands for then, nor of a stop before Ok: it is formatted again. Only the headers' sectors, the log's and the first
 /// epoch's snapshot's are written. Nothing is handed out. It takes no memory.
 pub fn format<R: Rig>(rig: &mut R) -> Result<(), Fault>
     ensures formats { let room = program_room (is_large_size (R.sectors rig.old)) in least_size ≤ R.sectors rig.old

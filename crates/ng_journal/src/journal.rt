@@ -51,7 +51,8 @@ impl<R: Rig, A: Allocator + Copy + Drop> Model for Journal<R, A> {
 
 /// Powers on (own): finds what the device stands for, and writes it again under the next epoch with nothing open.
 ///
-/// What stands is the snapshot of the header in force with the complete records after it. The log ends at its beginning then.
+/// What stands is the snapshot of the header in force with the complete records after it. The log ends at its beginning
+/// then.
 ///
 /// A device of format 1 is given the table, and is of format 2 then; of any other the table isn't looked at.
 ///
@@ -134,12 +135,13 @@ impl<R: Rig, A: Allocator + Copy + Drop> Journal<R, A> {
         self.broken
     }
 
-    /// Stores an entry (own): what is stored from now on, beside the same program. It is written as a record after the log's end, one
-    /// write a part and one sync. Where the log has no room for it, what stood is written under the next epoch before.
+    /// Stores an entry (own): what is stored from now on, beside the same program. It is written as a record after the
+    /// log's end, one write a part and one sync. Where the log has no room for it, what stood is written under the next
+    /// epoch before.
     ///
-    /// J4 where the entry count would be beyond its limit, or where the next epoch is needed and would be; then nothing is
-    /// changed. J1 where the device failed: the journal is broken then, and the device stands for what stood before or for
-    /// the new. It takes no memory.
+    /// J4 where the entry count would be beyond its limit, or where the next epoch is needed and would be; then nothing
+    /// is changed. J1 where the device failed: the journal is broken then, and the device stands for what stood before
+    /// or for the new. It takes no memory.
     #[tactic(auto, unfolding(crate::specs::Storing::UsesUp))]
     pub fn commit(&mut self, stored: &Stored<A>) -> Result<(), Fault>
         requires whole { self.old.broken ≡ false }
@@ -180,11 +182,11 @@ impl<R: Rig, A: Allocator + Copy + Drop> Journal<R, A> {
         }
     }
 
-    /// Stores that a segment or an approach of a half-done block is open (own); the entry count stays. It is written as a record with no
-    /// changes, as for `commit`.
+    /// Stores that a segment or an approach of a half-done block is open (own); the entry count stays. It is written as
+    /// a record with no changes, as for `commit`.
     ///
-    /// J4 where the next epoch is needed and would be beyond its limit; then nothing is changed. J1 as for `commit`. It takes no
-    /// memory.
+    /// J4 where the next epoch is needed and would be beyond its limit; then nothing is changed. J1 as for `commit`. It
+    /// takes no memory.
     #[tactic(auto, unfolding(crate::specs::Storing::UsesUp))]
     pub fn open_segment(&mut self, half: &Half) -> Result<(), Fault>
         requires whole { self.old.broken ≡ false }
@@ -222,14 +224,16 @@ impl<R: Rig, A: Allocator + Copy + Drop> Journal<R, A> {
         }
     }
 
-    /// Stores a program and what goes with it (own): the text takes the place of the program in force, and the log begins anew.
+    /// Stores a program and what goes with it (own): the text takes the place of the program in force, and the log
+    /// begins anew.
     ///
     /// It is written to program area 1 where area 0 is in force, else to 0; on a large device to area 3 where 2 is in
     /// force, else to 2.
     ///
-    /// J5 for more bytes than the device has room for: 131,072, or 1,048,576 on a large device; J4 where the entry count
-    /// or the epoch would be beyond its limit; then nothing is changed, and the device isn't called. J1 where the device
-    /// failed: the journal is broken then, and the device stands for what stood before or for the new. It takes no memory.
+    /// J5 for more bytes than the device has room for: 131,072, or 1,048,576 on a large device; J4 where the entry
+    /// count or the epoch would be beyond its limit; then nothing is changed, and the device isn't called. J1 where the
+    /// device failed: the journal is broken then, and the device stands for what stood before or for the new. It takes
+    /// no memory.
     #[tactic(auto, unfolding(crate::specs::Storing::UsesUp))]
     pub fn load_program(&mut self, text: &[u8], stored: &Stored<A>) -> Result<(), Fault>
         requires whole { self.old.broken ≡ false }

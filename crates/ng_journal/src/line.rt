@@ -91,8 +91,8 @@ fn drop_return(text: &mut ArrayVec<u8, KEPT_LINE>)
     }
 }
 
-/// Reads the line at a place of the program in an area up to its newline, and keeps its bytes; after how many of them the
-/// newline stands, where there is one.
+/// Reads the line at a place of the program in an area up to its newline, and keeps its bytes; after how many of them
+/// the newline stands, where there is one.
 fn find_end<R: Rig>(
     rig: &mut R,
     area: u64,

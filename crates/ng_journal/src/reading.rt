@@ -76,7 +76,8 @@ fn decoded_state_of_snapshot(sector: &[u8; SECTOR_BYTES], length: u64) -> Option
     StateField::read(sector).report(length)
 }
 
-/// Takes over the tool table of a header, by the first sector of its snapshot; false where that is damaged. In format 1 there is none.
+/// Takes over the tool table of a header, by the first sector of its snapshot; false where that is damaged. In format 1
+/// there is none.
 fn read_tools<R: Rig>(
     rig: &mut R,
     header: Header,

@@ -1,5 +1,5 @@
-//! Power on: what the device holds, written again under the next epoch with nothing open, and over format 1 under one more
-//! epoch in format 2.
+//! Power on: what the device holds, written again under the next epoch with nothing open, and over format 1 under one
+//! more epoch in format 2.
 ghost use Rattle.std.specs.Prelude.{Bool, ◌≡◌, ◌≤◌, ◌<◌, ◌+◌, ℤ, List, [], length, IfOk, IfErr, OnOk};
 ghost use Rattle.ng_rig.specs.Calls.{IfHonest, FailureCountSpec};
 ghost use Rattle.ng_layout.specs.Limits.{greatest_count};
@@ -64,7 +64,8 @@ fn found<R: Rig, A: Allocator + Copy + Drop>(
     }
 }
 
-/// Stores in format 2, with a tool table, what stands under a header of format 1 whose log has no record; of format 2 nothing is written.
+/// Stores in format 2, with a tool table, what stands under a header of format 1 whose log has no record; of format 2
+/// nothing is written.
 fn modernize<R: Rig, A: Allocator + Copy + Drop>(
     rig: &mut R,
     header: Header,
@@ -119,9 +120,9 @@ fn epochs_for(format: Format) -> u64
     }
 }
 
-/// Writes again, under the next epoch and with nothing open, what the device stands for, and over format 1 under the one
-/// after that in format 2 with the table of the settings. `Err` where the device failed; else the new header, or why
-/// nothing was recovered: before any write.
+/// Writes again, under the next epoch and with nothing open, what the device stands for, and over format 1 under the
+/// one after that in format 2 with the table of the settings. `Err` where the device failed; else the new header, or
+/// why nothing was recovered: before any write.
 pub(crate) fn restore<R: Rig, A: Allocator + Copy + Drop>(
     rig: &mut R,
     large: bool,

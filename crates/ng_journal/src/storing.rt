@@ -71,8 +71,8 @@ pub(crate) fn slot_between<A: Allocator + Copy + Drop>(
     old.tools.change_to(&stored.tools)
 }
 
-/// Makes what is stored equal to another, from which its table differs in so many parameters: with none, the table stays. It takes no
-/// memory.
+/// Makes what is stored equal to another, from which its table differs in so many parameters: with none, the table
+/// stays. It takes no memory.
 pub(crate) fn take_changed<A: Allocator + Copy + Drop>(
     stored: &mut Stored<A>,
     other: &Stored<A>,
@@ -170,8 +170,8 @@ fn append_to<R: Rig, A: Allocator + Copy + Drop>(
     })
 }
 
-/// Writes what is stored as a record after the end of the log, or of the next epoch's where this one has no room. The count is that
-/// of the changes that make it of the old. It takes no memory.
+/// Writes what is stored as a record after the end of the log, or of the next epoch's where this one has no room. The
+/// count is that of the changes that make it of the old. It takes no memory.
 pub(crate) fn store<R: Rig, A: Allocator + Copy + Drop>(
     rig: &mut R,
     tip: Tip,

@@ -1,5 +1,6 @@
--- What lies where on a device: sectors 0 and 1 hold headers, then come two snapshot areas, two program areas, the log; in format 2 the log
--- is shorter, and two tool areas come after it. A large device has two larger program areas at its end (own).
+-- What lies where on a device: sectors 0 and 1 hold headers, then come two snapshot areas, two program areas, the log;
+-- in format 2 the log is shorter, and two tool areas come after it. A large device has two larger program areas at its
+-- end (own).
 use Rattle.std.specs.Prelude.{ℕ, ◌+◌, ◌-◌, ◌*◌, ◌%◌, ◌==◌, Bool, true, false, nat_le, if◌then◌else◌}
 use Rattle.ng_layout.specs.declared.header.Format.{Format}
 use Rattle.ng_layout.specs.declared.header.Format.TheVariants.{One, Two}

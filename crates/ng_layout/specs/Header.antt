@@ -27,7 +27,8 @@ program_room large = longest_in (greatest_area large)
 abbrev pub is_valid_header : Bool → Header → Bool
 is_valid_header large h = nat_le 1 h.epoch && nat_le h.epoch greatest_count && nat_le h.area (greatest_area large) && nat_le h.length (longest_in h.area)
 
--- this header, where the sector begins with that text, each of its numbers is within its limits, and it stands in the sector of its epoch
+-- this header, where the sector begins with that text, each of its numbers is within its limits, and it stands in the
+-- sector of its epoch
 abbrev pub header_by : Bool → ℕ → List ℕ → Header → Option Header
 header_by large k sector h = if is_marked sector && is_valid_header large h && h.epoch % 2 == k then Some h else None
 
@@ -42,7 +43,8 @@ pub record IsValidHeader (large : Bool) (h : Header) : Type 0 where
   pub area : h.area ≤ greatest_area large
   pub length : h.length ≤ longest_in h.area
 
--- The sector is written with this header: its text, its format, its fields, and 0 in each byte that none of these names.
+-- The sector is written with this header: its text, its format, its fields, and 0 in each byte that none of these
+-- names.
 pub record HoldsHeader (h : Header) (sector : List ℕ) : Type 0 where
   pub marked : is_marked sector ≡ true
   pub format : number_at 4 8 sector ≡ code_of_format h.format

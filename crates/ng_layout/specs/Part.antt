@@ -43,7 +43,8 @@ abbrev pub slot_length : Option SlotChange → ℤ
 slot_length None = pos 0
 slot_length (Some change) = change.length
 
--- Its content is the state field of what is stored, which says that again, and the slot that changes, with 0 in each byte that none of these names.
+-- Its content is the state field of what is stored, which says that again, and the slot that changes, with 0 in each
+-- byte that none of these names.
 pub record HoldsState (saved : StoredModel) (change : Option SlotChange) (sector : List ℕ) : Type 0 where
   pub field : HoldsDecodedState (decoded_state_in saved) (drop content_first sector)
   pub report : decoded_state_of saved.length (field_at (drop content_first sector)) ≡ Some (decoded_state_in saved)
@@ -57,7 +58,8 @@ pub record HoldsChanges (changes : List Change) (sector : List ℕ) : Type 0 whe
   pub made : changes_in sector (length changes) ≡ Some changes
   pub rest : AreZero (content_size - change_size * length changes) (content_first + change_size * length changes) sector
 
--- The sector is written with this part of a record: the state field in the first one, its piece of all changes in each other.
+-- The sector is written with this part of a record: the state field in the first one, its piece of all changes in each
+-- other.
 pub record HoldsRecordPart (l : PartHeader) (saved : StoredModel) (all : List Change) (change : Option SlotChange) (sector : List ℕ) : Type 0 where
   pub label : HoldsLabel l sector
   pub state : l.part ≡ 0 → HoldsState saved change sector

@@ -17,7 +17,8 @@ pub record HoldsDecodedState (report : DecodedStateModel) (bytes : List ℕ) : T
   pub numbers : field_at bytes ≡ field_of report
   pub gap : AreZero 1 free_byte bytes
 
--- The sector is written with this part of the snapshot: the state field and the number of slots first, then the parameters.
+-- The sector is written with this part of the snapshot: the state field and the number of slots first, then the
+-- parameters.
 pub record HoldsPart (saved : StoredModel) (part : ℕ) (sector : List ℕ) : Type 0 where
   pub field : part ≡ 0 → HoldsDecodedState (decoded_state_in saved) sector
   pub slots : part ≡ 0 → number_at 2 slots_at sector ≡ length saved.tools

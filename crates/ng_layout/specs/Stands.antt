@@ -100,7 +100,8 @@ pub record IsModern (image : ℕ → List ℕ) : Type 0 where
   pub force : in_force image ≡ Some header
   pub format : header.format ≡ Two
 
--- No part in the sectors that are the log's in each format is of an epoch that is still to come. Each image that the journal leaves is such.
+-- No part in the sectors that are the log's in each format is of an epoch that is still to come. Each image that the
+-- journal leaves is such.
 pub record IsWritten (image : ℕ → List ℕ) : Type 0 where
   pub past : (m : ℕ) → m < shortest_log → number_at 8 0 (image (log_first + m)) ≤ epoch_in_force (in_force image)
 

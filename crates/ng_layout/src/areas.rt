@@ -1,5 +1,5 @@
-//! What lies where on a device: two headers, two snapshot areas, two program areas, the log, which in format 2 is shorter
-//! and has two tool areas after it; on a large device two larger program areas come last.
+//! What lies where on a device: two headers, two snapshot areas, two program areas, the log, which in format 2 is
+//! shorter and has two tool areas after it; on a large device two larger program areas come last.
 ghost use Rattle.std.specs.Prelude.{true, false, ◌≡◌, ◌≢◌, ◌≤◌, ◌+◌};
 ghost use Rattle.ng_layout.specs.Areas.{least_size, large_size, snapshot_size, snapshot_first, greatest_area};
 ghost use Rattle.ng_layout.specs.Areas.{program_size, program_first, spare_area, tools_size, tools_first};

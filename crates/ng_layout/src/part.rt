@@ -63,7 +63,8 @@ pub struct PartLabel {
 }
 
 impl PartLabel {
-    /// What a sector says of itself where it is a part; whether it is one, and of which record, has to be seen from that.
+    /// What a sector says of itself where it is a part; whether it is one, and of which record, has to be seen from
+    /// that.
     pub fn read(sector: &[u8; SECTOR_BYTES]) -> PartLabel
         ensures { result ≡ label_at sector.now }
     {
@@ -112,8 +113,8 @@ pub fn parts_for(changes: usize) -> usize
     1 + (changes + PART_CHANGES - 1) / PART_CHANGES
 }
 
-/// The first part of a record of what is stored, and of the slot that changes with it, in which what no field names is 0; its label says
-/// part 0. It takes no memory.
+/// The first part of a record of what is stored, and of the slot that changes with it, in which what no field names is
+/// 0; its label says part 0. It takes no memory.
 pub fn first_part<A: Allocator + Copy + Drop>(
     label: PartLabel,
     stored: &Stored<A>,
@@ -165,8 +166,8 @@ fn put_content(sector: &mut [u8; SECTOR_BYTES], field: &StateField)
     field.write(&mut sector[CONTENT..]);
 }
 
-/// What the state field of a record's first part says beside a program of this length, in bytes; none where a number of it is out of
-/// its range.
+/// What the state field of a record's first part says beside a program of this length, in bytes; none where a number of
+/// it is out of its range.
 pub fn decoded_state_of_part(sector: &[u8; SECTOR_BYTES], length: u64) -> Option<DecodedState>
     ensures value { result ≡ decoded_state_of length (field_at (drop content_first sector.now)) }
     ensures sound { IfSome result (IsSound length) }

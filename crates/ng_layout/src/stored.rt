@@ -52,7 +52,8 @@ impl<A: Allocator + Copy + Drop> Stored<A> {
     ghost use Rattle.ng_layout.specs.Stored.{fresh_stored, with_decoded_state};
     ghost use Rattle.ng_layout.specs.Stands.{closed};
 
-    /// Of a fresh controller with no program, on a device with this room for one. `AllocError` where the table found no memory.
+    /// Of a fresh controller with no program, on a device with this room for one. `AllocError` where the table found no
+    /// memory.
     pub fn fresh(alloc: A, room: u64) -> Result<Stored<A>, AllocError>
         ensures value { IfOk result (λ s. s ≡ fresh_stored room) }
         ensures table { IfOk result (λ s. length s.setup.params ≡ parameter_count) }
@@ -148,7 +149,8 @@ impl<A: Allocator + Copy + Drop> Stored<A> {
         )
     }
 
-    /// The sector of a snapshot that holds this part of it: the state field first, then the parameters. What no field names is 0.
+    /// The sector of a snapshot that holds this part of it: the state field first, then the parameters. What no field
+    /// names is 0.
     pub fn sector(&self, part: usize) -> [u8; SECTOR_BYTES]
         requires part { part < snapshot_size }
         requires count { self.now.entries ≤ greatest_count }

@@ -59,7 +59,8 @@ pub(crate) fn lengths_sector(tools: &Tools, first: usize) -> [u8; SECTOR_BYTES]
     sector
 }
 
-/// Adds so many lengths of a sector of a tool area to the table; false where one is out of its range, and those before it were added.
+/// Adds so many lengths of a sector of a tool area to the table; false where one is out of its range, and those before
+/// it were added.
 fn take_lengths(tools: &mut Tools, part: usize, sector: &[u8; SECTOR_BYTES], count: usize) -> bool
     requires count { count ≤ sector_lengths }
     requires room { sector_lengths * part + count ≤ SLOTS }
@@ -102,7 +103,8 @@ fn slot_change(sector: &[u8; SECTOR_BYTES], slots: usize) -> Option<Option<SlotC
     }))
 }
 
-/// Makes in a tool table what the first part of a record changes of it; false where that is out of its range. In format 1 there is none.
+/// Makes in a tool table what the first part of a record changes of it; false where that is out of its range. In format
+/// 1 there is none.
 pub fn take_slot(format: Format, tools: &mut Tools, sector: &[u8; SECTOR_BYTES]) -> bool
     ensures makes { MatchBool result (tools_after format sector.now tools.old ≡ Some tools.new)
         (tools_after format sector.now tools.old ≡ None) }
@@ -130,7 +132,8 @@ fn slots_of(sector: &[u8; SECTOR_BYTES]) -> Option<usize>
     if slots <= SLOTS { Some(slots) } else { None }
 }
 
-/// Takes over the tool table of a snapshot with this first sector, by the two sectors of its tool area; false where that is damaged.
+/// Takes over the tool table of a snapshot with this first sector, by the two sectors of its tool area; false where
+/// that is damaged.
 pub fn take_area(
     tools: &mut Tools,
     first: &[u8; SECTOR_BYTES],

@@ -30,7 +30,8 @@ no_records = record { sector = 0; number = 0 }
 abbrev pub end_after : LogEnd → ℕ → LogEnd
 end_after end changes = record { sector = end.sector + parts_for changes; number = end.number + 1 }
 
--- The image stands under this header, of format 2, for this; its log ends here and has no part of the epoch after, nor any of an epoch to come.
+-- The image stands under this header, of format 2, for this; its log ends here and has no part of the epoch after, nor
+-- any of an epoch to come.
 pub record EndsIn (image : Image) (header : Header) (standing : DurableState) (end : LogEnd) : Type 0 where
   pub force : in_force image ≡ Some header
   pub format : header.format ≡ Two

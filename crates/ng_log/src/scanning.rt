@@ -1,6 +1,7 @@
 //! The longest run of complete records, read in the memory of one state.
 //!
-//! Of a record the labels of all its parts are read first, and then what they hold: one that isn't complete leaves what is stored alone.
+//! Of a record the labels of all its parts are read first, and then what they hold: one that isn't complete leaves what
+//! is stored alone.
 ghost use Rattle.std.specs.Prelude.{◌≡◌, ◌≤◌, ◌<◌, ◌+◌, length, IfOk, IfSome};
 ghost use Rattle.std.specs.Bool.{OnTrue};
 ghost use Rattle.ng_rig.specs.Calls.{IfHonest, FailureCountSpec};
@@ -35,8 +36,8 @@ pub(crate) enum Next {
     After(LogEnd),
 }
 
-/// Whether a part with this label begins a record at the end of a log: the next of its epoch, with as many parts as its changes need, and
-/// all of them within the log.
+/// Whether a part with this label begins a record at the end of a log: the next of its epoch, with as many parts as its
+/// changes need, and all of them within the log.
 fn begins_record(first: PartLabel, header: Header, end: LogEnd) -> bool
     requires { end.sector ≤ log_size_of header }
     ensures { result ≡ begins (label_of first) header end }
@@ -95,7 +96,8 @@ fn take_all_changes<R: Rig, A: Allocator + Copy + Drop>(
     Ok(true)
 }
 
-/// Takes over what a record says that begins at a sector of the log, whose content was read as `first`; false where it is damaged.
+/// Takes over what a record says that begins at a sector of the log, whose content was read as `first`; false where it
+/// is damaged.
 fn take_record<R: Rig, A: Allocator + Copy + Drop>(
     rig: &mut R,
     first: &[u8; SECTOR_BYTES],
@@ -192,11 +194,11 @@ fn next_record<R: Rig, A: Allocator + Copy + Drop>(
     }))
 }
 
-/// Takes over the longest run of complete records of a log, beside the snapshot of its header; where it ends, or none where what is
-/// found is damaged. It takes no memory (own).
+/// Takes over the longest run of complete records of a log, beside the snapshot of its header; where it ends, or none
+/// where what is found is damaged. It takes no memory (own).
 ///
-/// Before the call `stored` is what the snapshot says. Fails where a read fails. Then, and where what is found is damaged, `stored` may
-/// hold parts of several records.
+/// Before the call `stored` is what the snapshot says. Fails where a read fails. Then, and where what is found is
+/// damaged, `stored` may hold parts of several records.
 pub fn read_log<R: Rig, A: Allocator + Copy + Drop>(
     rig: &mut R,
     header: Header,

@@ -83,12 +83,13 @@ fn write_parts<R: Rig, A: Allocator + Copy + Drop>(
     Ok(())
 }
 
-/// Writes what is stored as a record after the end of a log, syncs it, and gives the log's end after it. It takes no memory (own).
+/// Writes what is stored as a record after the end of a log, syncs it, and gives the log's end after it. It takes no
+/// memory (own).
 ///
-/// `old` is the table that stands, and `count` says in how many parameters that of `stored` differs from it (`difference_count`); `slot`
-/// what changes of the tool table that stands. Records are written in format 2 alone.
-/// Fails where a write or the sync fails. Then some of the record's parts may have been written, and a stop leaves what stood or the whole
-/// record.
+/// `old` is the table that stands, and `count` says in how many parameters that of `stored` differs from it
+/// (`difference_count`); `slot` what changes of the tool table that stands. Records are written in format 2 alone.
+/// Fails where a write or the sync fails. Then some of the record's parts may have been written, and a stop leaves what
+/// stood or the whole record.
 pub fn append<R: Rig, A: Allocator + Copy + Drop>(
     rig: &mut R,
     header: Header,

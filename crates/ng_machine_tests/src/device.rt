@@ -145,8 +145,9 @@ fn four_calls<R: Rig>(rig: &mut R, byte: u8) -> Four {
     (succeed, read == [byte; 512], rig.size(), rig.failures())
 }
 
-/// What four calls make of a device, of a fuse around it that passes nine, of a device around that which fails the fifth, and of
-/// that once more; and the calls that the inmost one has after the first four and after all, with its failures.
+/// What four calls make of a device, of a fuse around it that passes nine, of a device around that which fails the
+/// fifth, and of that once more; and the calls that the inmost one has after the first four and after all, with its
+/// failures.
 fn four_calls_each(alloc: Global) -> Result<([Four; 4], [usize; 2], u64), AllocError> {
     let mut plain = MemoryRig::new(alloc, 1)?;
     let first = four_calls(&mut plain, 8);
@@ -184,8 +185,8 @@ fn eight_calls<R: Rig>(rig: &mut R) -> Eight {
     ([first, second], [before, after])
 }
 
-/// How many calls a fuse passes, which of four calls then succeed, how many of them fail, and how many writes, syncs and
-/// hand-outs are made.
+/// How many calls a fuse passes, which of four calls then succeed, how many of them fail, and how many writes, syncs
+/// and hand-outs are made.
 const FUSES: &[(u64, [bool; 4], u64, usize)] = &[
     (0, [false, false, false, false], 4, 0),
     (1, [true, false, false, false], 3, 1),

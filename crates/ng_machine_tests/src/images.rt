@@ -9,8 +9,8 @@ use std::test::Fail;
 mod records;
 mod sizes;
 
-/// A device before one of its numbers is changed, of format 2 where it isn't said. Its program has 131,072 bytes, and all that isn't named
-/// is as in a fresh state.
+/// A device before one of its numbers is changed, of format 2 where it isn't said. Its program has 131,072 bytes, and
+/// all that isn't named is as in a fresh state.
 #[derive(Clone, Copy, Debug, PartialEq, Eq)]
 enum Base {
     /// Epoch 1: the header in sector 1, its snapshot in sectors 88 to 173.
@@ -18,7 +18,8 @@ enum Base {
     /// Epoch 2: the header in sector 0, its snapshot in sectors 2 to 87; 128 slots, whose lengths stand in sectors 1706
     /// and 1707.
     Even,
-    /// Epoch 1, with all words of a cycle kept and a half-done block of 256 bytes; it is known where the machine stands.
+    /// Epoch 1, with all words of a cycle kept and a half-done block of 256 bytes; it is known where the machine
+    /// stands.
     Full,
     /// Epoch 1, with a half-done block of 3 bytes; it isn't known where the machine stands.
     Lost,
@@ -33,7 +34,8 @@ enum Base {
 enum Answer {
     /// It stands, and the same number is written again.
     Same,
-    /// The same, while other numbers of the half-done block don't last: there is none, or it isn't known where the machine stands.
+    /// The same, while other numbers of the half-done block don't last: there is none, or it isn't known where the
+    /// machine stands.
     Alone,
     /// It stands, and the next number is written.
     Next,
@@ -100,8 +102,8 @@ type Case = (
     Answer,
 );
 
-/// Each field at its limits and past them: its name, the device, its sector, byte and width, what stands there, and what
-/// power on makes of each such device. -1 is the greatest number of its width where that has no sign.
+/// Each field at its limits and past them: its name, the device, its sector, byte and width, what stands there, and
+/// what power on makes of each such device. -1 is the greatest number of its width where that has no sign.
 const CASES: &[Case] = &[
     ("text", Base::Odd, 1, 0, 8, &[MARK], SAME),
     (
@@ -473,8 +475,8 @@ pub fn powered<A: Allocator + Copy + Drop, R: Rig>(alloc: A, rig: R) -> (Option<
     }
 }
 
-/// How many calls power on makes: 89 writes (86 of a snapshot, 2 of a tool area, a header) and 3 syncs; over format 1 before them
-/// another 87 writes and 2 syncs, without a tool area.
+/// How many calls power on makes: 89 writes (86 of a snapshot, 2 of a tool area, a header) and 3 syncs; over format 1
+/// before them another 87 writes and 2 syncs, without a tool area.
 fn calls(base: Base) -> usize {
     match base {
         Base::Odd | Base::Even | Base::Full | Base::Lost => 92,
@@ -495,8 +497,8 @@ fn wanted(case: &Case, number: i64) -> (Option<Fault>, i64, usize) {
     }
 }
 
-/// Whether power on makes of a device with a number changed what a row says: its answer, its calls, and what stands in the
-/// number's place afterwards.
+/// Whether power on makes of a device with a number changed what a row says: its answer, its calls, and what stands in
+/// the number's place afterwards.
 fn answers<A: Allocator + Copy + Drop>(
     alloc: A,
     case: &Case,

@@ -160,8 +160,8 @@ pub fn entries_found<A: Allocator + Copy + Drop, R: Rig + Drop>(
     }
 }
 
-/// The two headers: the entries of the area in force (7 in area 0, 8 in area 1), or why there is none, and the epoch that power on ends
-/// in: the next one, or after format 1 the one after that.
+/// The two headers: the entries of the area in force (7 in area 0, 8 in area 1), or why there is none, and the epoch
+/// that power on ends in: the next one, or after format 1 the one after that.
 const HEADERS: &[(Head, Head, Result<u64, Fault>, i64)] = &[
     ((2, 0), (2, 0), Err(Fault::NotFormatted), 0),
     ((2, 2), (2, 0), Ok(7), 3),
@@ -253,8 +253,8 @@ fn tool_length(nm: i64) -> Option<Len>
     }
 }
 
-/// The change of a table of so many slots by which this one, or the one after its last, is so long; none where there is no such slot or
-/// length.
+/// The change of a table of so many slots by which this one, or the one after its last, is so long; none where there is
+/// no such slot or length.
 fn slot_change(slots: usize, slot: u8, nm: i64) -> Option<SlotChange>
     requires { slots ≤ SLOTS }
     ensures slot { IfSome result (λ change. (1 ≤ change.slot) × (change.slot ≤ slots + 1) × (change.slot ≤ SLOTS)) }
@@ -279,7 +279,8 @@ fn change_slot(tools: &mut Tools, slot: u8, nm: i64)
     }
 }
 
-/// A slot of a table becomes this long, or the one after its last is added; nothing changes where there is no such slot or length.
+/// A slot of a table becomes this long, or the one after its last is added; nothing changes where there is no such slot
+/// or length.
 pub fn set_slot(tools: &mut Tools, slot: u8, nm: i64)
     ensures one { IsOneSlotFrom tools.old tools.new }
     ensures are { AreTools tools.new }
@@ -414,7 +415,8 @@ fn content(holds: Holds) -> [u8; 512] {
     }
 }
 
-/// How many writes and syncs power on makes and then each deed, the header that is then in force, and what a sector holds.
+/// How many writes and syncs power on makes and then each deed, the header that is then in force, and what a sector
+/// holds.
 type Row = (Deed, u64, u64, (i64, i64, i64), usize, Holds);
 
 const DEEDS: &[Row] = &[
@@ -439,8 +441,8 @@ fn counted<A: Allocator + Copy + Drop>(
     Ok(((done, is_broken, writes, syncs), rig))
 }
 
-/// What the deed of a row answers, whether the journal is broken then, the writes and syncs, and whether the row's header is in force and
-/// its sector holds what it says.
+/// What the deed of a row answers, whether the journal is broken then, the writes and syncs, and whether the row's
+/// header is in force and its sector holds what it says.
 fn deed_of(
     alloc: Global,
     row: &Row,
@@ -514,8 +516,8 @@ fn failing<A: Allocator + Copy + Drop>(
     Ok((done, standing(alloc, rig.into_inner())))
 }
 
-/// The deeds that call the device, how many calls each makes, and what stands after it. Only the last sync can fail with the
-/// new state in place.
+/// The deeds that call the device, how many calls each makes, and what stands after it. Only the last sync can fail
+/// with the new state in place.
 const FAILED: &[(Deed, u64, Standing)] = &[
     (Deed::Commit, 3, COMMITTED),
     (Deed::Tool, 2, Ok((1, 0, 0, None, Some(5_000)))),
@@ -524,8 +526,8 @@ const FAILED: &[(Deed, u64, Standing)] = &[
     (Deed::Load, 93, Ok((1, 0, 13, None, None))),
 ];
 
-/// The calls of power on (183) that fail, by how many there are before: the first sync, two headers, 86 sectors of a snapshot, two of a tool
-/// area and one of the log are read, then 88 are written; a sync, a header and a sync.
+/// The calls of power on (183) that fail, by how many there are before: the first sync, two headers, 86 sectors of a
+/// snapshot, two of a tool area and one of the log are read, then 88 are written; a sync, a header and a sync.
 const CALLS_OF_POWER_ON: &[u64] = &[
     0, 1, 2, 3, 4, 88, 89, 90, 91, 92, 177, 178, 179, 180, 181, 182,
 ];
@@ -544,8 +546,8 @@ fn each_call_of_power_on_fails_once(rt: HostRuntime) -> Result<(), Fail> {
 /// The calls of a deed that fail, by how many of its own there are before.
 const CALLS_OF_DEEDS: &[u64] = &[0, 1, 2, 43, 87, 88, 89, 90, 91, 92];
 
-/// The first of those calls of a deed, which makes so many and leaves what stands after them, whose failure isn't answered
-/// and counted once, doesn't break the journal or leaves something else; and what is found there.
+/// The first of those calls of a deed, which makes so many and leaves what stands after them, whose failure isn't
+/// answered and counted once, doesn't break the journal or leaves something else; and what is found there.
 fn first_unlike_failure<A: Allocator + Copy + Drop>(
     alloc: A,
     (deed, calls, new): (Deed, u64, Standing),
@@ -612,8 +614,9 @@ fn a_cut_leaves_the_old_or_the_new(rt: HostRuntime) -> Result<(), Fail> {
 
 const USED_UP: Result<(), Fault> = Err(Fault::CountersUsed);
 
-/// The epoch in force before power on, a deed and its entry: what is answered, and how many calls there are. Where the epoch or the
-/// entry count is used up nothing is called, and the journal isn't broken. A record takes no epoch while the log has room.
+/// The epoch in force before power on, a deed and its entry: what is answered, and how many calls there are. Where the
+/// epoch or the entry count is used up nothing is called, and the journal isn't broken. A record takes no epoch while
+/// the log has room.
 const LIMITS: &[(i64, Deed, u64, Result<(), Fault>, usize)] = &[
     (999_999_999_997, Deed::Commit, 1_000_000_000_000, Ok(()), 3),
     (999_999_999_997, Deed::Commit, 1_000_000_000_001, USED_UP, 0),
@@ -629,8 +632,8 @@ const LIMITS: &[(i64, Deed, u64, Result<(), Fault>, usize)] = &[
     (999_999_999_999, Deed::HandOut, 1, Ok(()), 1),
 ];
 
-/// What a deed with an entry of this number answers where this epoch is in force, whether the journal is broken then, and
-/// how many calls the deed makes.
+/// What a deed with an entry of this number answers where this epoch is in force, whether the journal is broken then,
+/// and how many calls the deed makes.
 fn limited<A: Allocator + Copy + Drop>(
     alloc: A,
     epoch: i64,
@@ -659,7 +662,8 @@ fn deeds_past_a_limit(rt: HostRuntime) -> Result<(), Fail> {
     Ok(())
 }
 
-/// A line as it is read: how many bytes there are, the last of them (0 where there is none), and where the next line begins.
+/// A line as it is read: how many bytes there are, the last of them (0 where there is none), and where the next line
+/// begins.
 type Read = Result<Option<(usize, u8, u64)>, Fault>;
 
 /// So many bytes `x` of one line as a program: how many of them are read, the last of them, and where the next line
@@ -747,7 +751,8 @@ fn program() -> [u8; 1_100] {
     text
 }
 
-/// Its lines, by the places at which they begin: how many bytes there are, the last of them, and where the next one begins.
+/// Its lines, by the places at which they begin: how many bytes there are, the last of them, and where the next one
+/// begins.
 const LINES: &[(u64, Option<(usize, u8, u64)>)] = &[
     (0, Some((9, b'x', 10))),
     (4, Some((5, b'x', 10))),

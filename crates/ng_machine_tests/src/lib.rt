@@ -1,8 +1,8 @@
-//! Tests of what moves a machine and keeps its state, through public calls: stepping, devices, the journal. No program stands on
-//! this crate.
+//! Tests of what moves a machine and keeps its state, through public calls: stepping, devices, the journal. No program
+//! stands on this crate.
 //!
-//! Expected values are worked out by hand or by other means from the formats and the language, never taken from what the crates
-//! answer.
+//! Expected values are worked out by hand or by other means from the formats and the language, never taken from what
+//! the crates answer.
 #![tactic(auto)]
 
 #[cfg(test)]

@@ -1,4 +1,5 @@
-//! Power on over a device of format 1: it writes what stands once more in format 1, then in format 2 with the tools of the settings.
+//! Power on over a device of format 1: it writes what stands once more in format 1, then in format 2 with the tools of
+//! the settings.
 use crate::images::{FRESH, put, sector_of, sector_with, store};
 use crate::journal::counting::Counting;
 use crate::journal::{header, header_of, lay_state, set_slot};
@@ -48,8 +49,8 @@ fn one_entry(slots: i64) -> [u8; 512] {
     sector
 }
 
-/// Makes a device of format 1 and epoch 2 with one entry in its log, by which parameter 1 became 5. Bytes of its snapshot and its record
-/// that format 1 doesn't name are these.
+/// Makes a device of format 1 and epoch 2 with one entry in its log, by which parameter 1 became 5. Bytes of its
+/// snapshot and its record that format 1 doesn't name are these.
 fn lay_old<R: Rig>(rig: &mut R, unnamed: i64) -> bool {
     let [_, first_system] = parameter_sectors();
     let mut state = sector_with(&FRESH);
@@ -78,8 +79,8 @@ fn lengths(first: i64, last: i64, first_nm: i64) -> [u8; 512] {
     sector
 }
 
-/// Writes over it what power on writes with a table of so many slots, of which slot n is n times as long as the first: epoch 3 in format 1, and
-/// epoch 4 in format 2.
+/// Writes over it what power on writes with a table of so many slots, of which slot n is n times as long as the first:
+/// epoch 3 in format 1, and epoch 4 in format 2.
 fn lay_migrated<R: Rig>(rig: &mut R, slots: i64, first_nm: i64) -> bool {
     let [five, first_system] = parameter_sectors();
     let sectors = [
@@ -171,7 +172,8 @@ fn powered(
     (standing, [writes, syncs], unlike)
 }
 
-/// The settings' number of slots, the length of the first, what stands in bytes that format 1 doesn't name, and the length of slot 1 then.
+/// The settings' number of slots, the length of the first, what stands in bytes that format 1 doesn't name, and the
+/// length of slot 1 then.
 const MIGRATIONS: &[(u8, i64, i64, Option<i64>)] = &[
     (1, 50_000_000, 0, Some(50_000_000)),
     (1, 50_000_000, -1, Some(50_000_000)),
@@ -227,7 +229,8 @@ fn a_migrated_device_keeps_its_tools(rt: HostRuntime) -> Result<(), Fail> {
     Ok(())
 }
 
-/// A device of format 1 and epoch 1 whose log is full: 1,022 records of one part and one of two, which ends in sector 1709. It has no calls.
+/// A device of format 1 and epoch 1 whose log is full: 1,022 records of one part and one of two, which ends in sector
+/// 1709. It has no calls.
 fn full(alloc: Global) -> Result<MemoryRig<Global>, Fail> {
     let mut rig = MemoryRig::new(alloc, 1_710)?;
     if store(&mut rig, 1, &header_of(1, 1, 0, 0))
@@ -251,12 +254,12 @@ fn full_migrated(alloc: Global) -> Result<MemoryRig<Global>, Fail> {
     }
 }
 
-/// Which unsynced writes a stop keeps, by how many of each sector: none, or all; and how many calls a stop is after at least where the header
-/// of format 2 is there. It is written by the call before the last.
+/// Which unsynced writes a stop keeps, by how many of each sector: none, or all; and how many calls a stop is after at
+/// least where the header of format 2 is there. It is written by the call before the last.
 const KEPT: &[(&[usize], usize)] = &[(&[], 181), (&[1; 1_710], 180)];
 
-/// The first stop of the migration that stands for anything else. A power on after a stop has a tool of 8 nm in the settings: that is the table's
-/// until the header of format 2 is there.
+/// The first stop of the migration that stands for anything else. A power on after a stop has a tool of 8 nm in the
+/// settings: that is the table's until the header of format 2 is there.
 fn first_bad_stop(alloc: Global, keep: &[usize], first: usize) -> Result<Option<usize>, Fail> {
     let rig = full_migrated(alloc)?;
     for calls in 0..182 {
@@ -286,8 +289,8 @@ fn calls_of_migration(alloc: Global) -> Result<u64, Fail> {
     Ok(reads.saturating_add(writes).saturating_add(syncs))
 }
 
-/// What a migration answers of which one call after so many fails, how many failures there are, and what stands at the next power on, which has
-/// a tool of 8 nm in the settings in place of one of 7.
+/// What a migration answers of which one call after so many fails, how many failures there are, and what stands at the
+/// next power on, which has a tool of 8 nm in the settings in place of one of 7.
 fn failing(
     alloc: Global,
     calls: u64,

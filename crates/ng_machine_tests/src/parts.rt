@@ -1,8 +1,8 @@
 //! Parts of records, made by hand.
 use crate::images::{put, sector_with};
 
-/// What a part says of itself: its epoch, the number of its record in that, its own number in the record, and how many parts and how
-/// many changes the record has.
+/// What a part says of itself: its epoch, the number of its record in that, its own number in the record, and how many
+/// parts and how many changes the record has.
 pub type Label = (i64, i64, i64, i64, i64);
 
 /// A part with this label, whose content holds these numbers, each at its byte of the content.

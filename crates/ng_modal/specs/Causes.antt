@@ -100,8 +100,8 @@ has_unused_offset b plane =
     || (is_unused_word b.values.j (is_arc b.motion && is_along_y plane)
     || is_unused_word b.values.k (is_arc b.motion && is_along_z plane))
 
--- B12: a word that nothing takes: H but with G43, I, J, K but as offsets of an arc in its plane, L but with G10 or a cycle, P but
--- with G4, G10, G82, G86 or G89, Q but with G83, R but with a cycle or an arc
+-- B12: a word that nothing takes: H but with G43, I, J, K but as offsets of an arc in its plane, L but with G10 or a
+-- cycle, P but with G4, G10, G82, G86 or G89, Q but with G83, R but with a cycle or an arc
 abbrev pub leaves_word_unused : Block → Modes → Bool
 leaves_word_unused b m =
     is_unused_word b.values.h (is_of_slot b.g.tool_length)

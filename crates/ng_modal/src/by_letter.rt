@@ -9,8 +9,8 @@ use crate::place::put;
 use ng_num::Num;
 use ng_words::Letter;
 
-/// The values of a line's words other than G and M, by letter (NISTIR 6556, table 3). Of an accepted block A, B, C and D
-/// are none.
+/// The values of a line's words other than G and M, by letter (NISTIR 6556, table 3). Of an accepted block A, B, C and
+/// D are none.
 #[derive(Clone, Copy)]
 pub struct ByLetter {
     pub a: Option<Num>,

@@ -14,8 +14,8 @@ use ng_state::Modes;
 impl Sorted {
     ghost use Rattle.ng_modal.specs.Sorted.{sorted_in, is_plain};
 
-    /// Whether words ask for a straight move and for nothing else that may be refused. Most lines are such, so this is looked
-    /// at before the causes by themselves.
+    /// Whether words ask for a straight move and for nothing else that may be refused. Most lines are such, so this is
+    /// looked at before the causes by themselves.
     #[inline(never)]
     fn is_plain(&self) -> bool
         ensures { result ≡ is_plain self.now }
@@ -91,8 +91,8 @@ impl Sorted {
     }
 
     /// Finds what a line asks for in the modes that it meets, with this many slots of tools, in the places kept; else
-    /// the least of B1 to B19 whose cause holds (NISTIR 6556, 3.3 to 3.7; numbers own). After an error the block is of no
-    /// use.
+    /// the least of B1 to B19 whose cause holds (NISTIR 6556, 3.3 to 3.7; numbers own). After an error the block is of
+    /// no use.
     pub fn check(&mut self, values: &Values, modes: &Modes, slots: u8) -> Result<(), Fault>
         ensures value { MatchResult result (λ _. checked values.now.words.items modes.now slots ≡ Ok self.new.block) (λ fault. checked values.now.words.items modes.now slots ≡ Err fault) }
         ensures least { MatchResult result (λ _. NoneHolds (faults values.now.words.items modes.now slots)) (λ fault. IsFirstFault (faults values.now.words.items modes.now slots) fault) }
@@ -102,8 +102,8 @@ impl Sorted {
     }
 }
 
-/// What a line asks for in the modes that it meets, with this many slots of tools; else the least of B1 to B19 whose cause
-/// holds (NISTIR 6556, 3.3 to 3.7; numbers own).
+/// What a line asks for in the modes that it meets, with this many slots of tools; else the least of B1 to B19 whose
+/// cause holds (NISTIR 6556, 3.3 to 3.7; numbers own).
 pub fn check(values: &Values, modes: &Modes, slots: u8) -> Result<Block, Fault>
     ensures value { result ≡ checked values.now.words.items modes.now slots }
     ensures least { MatchResult result (λ _. NoneHolds (faults values.now.words.items modes.now slots)) (λ fault. IsFirstFault (faults values.now.words.items modes.now slots) fault) }

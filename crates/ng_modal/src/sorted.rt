@@ -14,8 +14,8 @@ use ng_expr::Word;
 use ng_num::Num;
 use ng_words::Letter;
 
-/// Places for what the words of a line say together. They serve any number of lines, one after the other; what is kept beside
-/// the block is of use within a pass alone.
+/// Places for what the words of a line say together. They serve any number of lines, one after the other; what is kept
+/// beside the block is of use within a pass alone.
 #[derive(Clone, Copy)]
 pub struct Sorted {
     /// What the line asks for.
@@ -130,8 +130,8 @@ impl Sorted {
         self.left_out = is_left_out_letter(letter) | self.left_out;
     }
 
-    /// Takes the word in front of those taken. A call of its own, so that the places stay in memory: kept in registers over the
-    /// pass they would be put aside and fetched again at each word.
+    /// Takes the word in front of those taken. A call of its own, so that the places stay in memory: kept in registers
+    /// over the pass they would be put aside and fetched again at each word.
     #[inline(never)]
     fn take(&mut self, word: &Word)
         ghost ws: { List TheWord }

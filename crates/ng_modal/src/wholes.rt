@@ -71,8 +71,8 @@ impl Block {
         slot_on(self.values.t)
     }
 
-    /// The slot whose length G43 takes by H, 0 for none; of an accepted block none only without H, and at most the number
-    /// of slots (NISTIR 6556, 3.5.11).
+    /// The slot whose length G43 takes by H, 0 for none; of an accepted block none only without H, and at most the
+    /// number of slots (NISTIR 6556, 3.5.11).
     #[inline]
     pub fn length_slot(&self) -> Option<u8>
         ensures { result ≡ slot_on self.now.values.h }
@@ -91,8 +91,8 @@ impl Block {
         }
     }
 
-    /// How often a cycle is done: L, or once without it; at least once, and at most 10,000,000 times, which is what an L of
-    /// 9,999,999.9999 counts as (NISTIR 6556, 3.5.16).
+    /// How often a cycle is done: L, or once without it; at least once, and at most 10,000,000 times, which is what an
+    /// L of 9,999,999.9999 counts as (NISTIR 6556, 3.5.16).
     #[inline]
     pub fn repeats(&self) -> u32
         ensures value { result ≡ repeats_on self.now.values.l }

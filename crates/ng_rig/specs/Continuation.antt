@@ -3,7 +3,8 @@ use Rattle.std.specs.Prelude.{◌≡◌, ◌⊎◌, ℕ, ◌≤◌, List, [], �
 use Rattle.ng_canon.specs.declared.item.Item.{Item}
 use Rattle.ng_rig.specs.Trace.{Image, Trace, MayHold, reads, items, moment, trace_at, StopSince}
 
--- Each stop since old is one that old might have had, or has P; and the new trace is the old one, or was it at its moment.
+-- Each stop since old is one that old might have had, or has P; and the new trace is the old one, or was it at its
+-- moment.
 pub record IsContinuation (old new : Trace) (P : Image → List Item → Type 0) : Type 0 where
   pub later : moment old ≤ moment new
   pub was : (new ≡ old) ⊎ (trace_at (moment old) new ≡ old)

@@ -53,15 +53,16 @@ pub record AnswerSpec {A R T : Type 0} (honest : R → Type 0) (trace : R → Tr
 
 -- ---- the text
 
--- How a conversation ends, with this rest of its text, and with an answer of which this is written, if one is broken off.
+-- How a conversation ends, with this rest of its text, and with an answer of which this is written, if one is broken
+-- off.
 abbrev pub EndsConversation : {A : Type 0} → Result ConsoleEnd ConsoleAbort → Bool → Option (List ℕ) → List (Exchange A) → List ℕ → Type 0
 EndsConversation (Ok ended) broken rest begun written = (ended ≡ ended_by broken) × IfSome rest EndsText × (begun ≡ []) × (written ≡ [])
 EndsConversation (Err Input) broken rest begun written = (begun ≡ []) × (written ≡ [])
 EndsConversation {A} (Err Output) broken rest begun written = (last : Exchange A) × (begun ≡ last ∷ []) × IsBegun last written
 
--- A text is heard and answered in turn: the events that it asks are given, and the words of the answers are written. Over an honest
--- device each stop leaves what stands after those that came of the events answered by then, or after the one under way too, and the items
--- handed out are the session's.
+-- A text is heard and answered in turn: the events that it asks are given, and the words of the answers are written.
+-- Over an honest device each stop leaves what stands after those that came of the events answered by then, or after the
+-- one under way too, and the items handed out are the session's.
 pub record Conversation {R : Type 0} (A : Type 0) (honest : R → Type 0) (trace : R → Trace) (failed sectors : R → ℕ) (ended : Result ConsoleEnd ConsoleAbort) (text old new : Option (List ℕ)) (before after : ControllerModel R) : Type 0 where
   pub answered : List (Exchange A)
   pub begun : List (Exchange A)

@@ -30,7 +30,8 @@ pub(crate) fn answer<W: Write, R: Rig, A: Allocator + Copy + Drop>(
     }
 }
 
-/// Gives the controller ticks, up to so many or until one ends them, and writes the line of each before the next. The number of ticks.
+/// Gives the controller ticks, up to so many or until one ends them, and writes the line of each before the next. The
+/// number of ticks.
 fn tick_on<W: Write, R: Rig, A: Allocator + Copy + Drop>(
     alloc: A,
     writer: &mut W,

@@ -16,8 +16,8 @@ pub enum ConsoleEnd {
 /// Why a console breaks off (own).
 #[derive(Clone, Copy)]
 pub enum ConsoleAbort {
-    /// A read failed, or one more than can be made was needed, or a line of the operator found no memory: what was asked before is
-    /// answered.
+    /// A read failed, or one more than can be made was needed, or a line of the operator found no memory: what was
+    /// asked before is answered.
     Input,
     /// A write or a flush failed, or an answer's line found no memory: a beginning of the answer is written.
     Output,

@@ -12,14 +12,15 @@ use ng_settings::Settings;
 use std::alloc::Allocator;
 use std::io::{Read, Write};
 
-/// Powers on over a device, answers an operator's lines until they end or one asks to quit, and gives the exit status and the device
-/// (own).
+/// Powers on over a device, answers an operator's lines until they end or one asks to quit, and gives the exit status
+/// and the device (own).
 ///
-/// A line that is no command is refused, and so is what the controller refuses: the console goes on. 0: all is answered. 2: all is
-/// answered, and a call of the device failed meanwhile; or power on is refused, and that is told; or the reader or the writer failed,
-/// or there wasn't enough memory for a line of the operator or of an answer, and a beginning of the answers is written. Each line is flushed.
-/// No tick is made after one whose line can't be written. A tick reads nothing. It takes memory for its line, and where it begins a line
-/// of the program: it is refused by M1 where that finds none.
+/// A line that is no command is refused, and so is what the controller refuses: the console goes on. 0: all is
+/// answered. 2: all is answered, and a call of the device failed meanwhile; or power on is refused, and that is told;
+/// or the reader or the writer failed, or there wasn't enough memory for a line of the operator or of an answer, and a
+/// beginning of the answers is written. Each line is flushed. No tick is made after one whose line can't be written. A
+/// tick reads nothing. It takes memory for its line, and where it begins a line of the program: it is refused by M1
+/// where that finds none.
 pub fn console<I: Read, W: Write, R: Rig, A: Allocator + Copy + Drop>(
     alloc: A,
     reader: &mut I,

@@ -1,4 +1,5 @@
--- What a session refuses, it refuses for its own causes: its replies tell neither of memory nor of a counter or a failed device.
+-- What a session refuses, it refuses for its own causes: its replies tell neither of memory nor of a counter or a
+-- failed device.
 use Rattle.std.proofs.Common.{◌≡◌, ◌==◌, ℕ, ℤ, Bool, true, false, not, ◌||◌, if◌then◌else◌, nat_lt, List, length, Option, Some, None, Result, Ok, Err, refl}
 use Rattle.std.specs.Option.{is_some, is_none}
 use Rattle.ng_num.specs.declared.fault.Fault.{Fault}

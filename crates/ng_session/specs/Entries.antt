@@ -29,8 +29,9 @@ use Rattle.ng_session.specs.declared.stage.Approach.{Approach}
 pub record Equipment : Type 0 where
   pub geometry : Geometry
 
--- what is committed: a line of the program or of the operator, begun with block delete on or off; a program; the point at which the machine
--- stands; the way back to where a half-done block goes on; that such a block is given up; a tool's length, in a slot of the table
+-- what is committed: a line of the program or of the operator, begun with block delete on or off; a program; the point
+-- at which the machine stands; the way back to where a half-done block goes on; that such a block is given up; a tool's
+-- length, in a slot of the table
 pub data Entry : Type 0 where
   Block : Source → List ℕ → Bool → Entry
   Loaded : List ℕ → Entry
@@ -42,16 +43,19 @@ pub data Entry : Type 0 where
 abbrev pub terms_of : Equipment → List ℤ → Bool → TermsModel
 terms_of equipment tools block_delete = record { block_delete = block_delete; tools = tools; geometry = equipment.geometry }
 
--- what a line does with the tool table that stands, or why it is refused: a line of the program is one after those before its place
+-- what a line does with the tool table that stands, or why it is refused: a line of the program is one after those
+-- before its place
 unfoldable pub done_of : Equipment → List ℕ → StoredModel → Source → List ℕ → Bool → Result Done Fault
 done_of equipment program x Program text block_delete = executed_in_program (terms_of equipment x.tools block_delete) (lines_before program x.place) x.setup text
 done_of equipment program x Mdi text block_delete = executed_unless_deleted (terms_of equipment x.tools block_delete) x.setup text
 
--- what a half-done block does from its beginning, or why it is refused: none is deleted and none is a percent line, since it had a segment
+-- what a half-done block does from its beginning, or why it is refused: none is deleted and none is a percent line,
+-- since it had a segment
 unfoldable pub done_again : Equipment → StoredModel → List ℕ → Result Done Fault
 done_again equipment x text = executed x.setup x.tools equipment.geometry text
 
--- where the program goes on after a block: a line of the program goes on at the next one, and the program's end at its beginning
+-- where the program goes on after a block: a line of the program goes on at the next one, and the program's end at its
+-- beginning
 abbrev pub place_by : ℕ → ℕ → Source → ℕ
 place_by next place Program = next
 place_by next place Mdi = place

@@ -33,7 +33,8 @@ first_to_do (Some half) = half.index
 abbrev pub still_to_do : DurableState → Done → List Segment
 still_to_do x done = drop (first_to_do x.saved.half) done.segments
 
--- the approach that the half-done block needs, from where its machine stands; none where that isn't known, or its text is refused
+-- the approach that the half-done block needs, from where its machine stands; none where that isn't known, or its text
+-- is refused
 abbrev pub approach_from : StoredModel → HalfModel → Option Point → Result Done Fault → Option Approach
 approach_from x half None done = None
 approach_from x half (Some from) (Err fault) = None
@@ -110,8 +111,8 @@ abbrev pub IsGiven : List (List ℕ) → DurableState → Source → List ℕ �
 IsGiven lines x source.Program text = IsLineAt (program_line_at x.program x.saved.place) text
 IsGiven lines x source.Mdi text = Contains lines text
 
--- the text is the half-done block's own, which goes on where its machine stands; else the line of the program at its place, or one that the
--- operator gave
+-- the text is the half-done block's own, which goes on where its machine stands; else the line of the program at its
+-- place, or one that the operator gave
 abbrev pub IsTextOf : List (List ℕ) → DurableState → Option HalfModel → Source → List ℕ → Bool → Done → Type 0
 IsTextOf lines x None source text block_delete done = IsGiven lines x source text
 IsTextOf lines x (Some half) source text block_delete done = (source ≡ half.source) × (block_delete ≡ false) × ResumesHalf x.saved half text done

@@ -19,8 +19,8 @@ use Rattle.ng_session.specs.declared.reply.Reply.{Reply}
 use Rattle.ng_session.specs.declared.stage.Stage.{Stage}
 use Rattle.ng_session.specs.declared.stage.Stage.TheVariants as stage
 
--- a line that was read ahead: the places at which it and the next one begin, the kind of the first line before it that isn't blank, and its
--- block, as it will be begun
+-- a line that was read ahead: the places at which it and the next one begin, the kind of the first line before it that
+-- isn't blank, and its block, as it will be begun
 pub record PlannedModel : Type 0 where
   pub place : ℕ
   pub first : LineKind
@@ -44,7 +44,8 @@ AreLinesOf program (p ∷ ps) = IsLineOf program p × AreLinesOf program ps
 abbrev pub IsKnownOf : List ℕ → KnownModel → Type 0
 IsKnownOf program known = IsTrueOf program known.before × AreLinesOf program known.ahead
 
--- what is planned doesn't come any more after such an event: another line comes first, or another program, or the lines do something else
+-- what is planned doesn't come any more after such an event: another line comes first, or another program, or the lines
+-- do something else
 abbrev pub drops_plan : {A : Type 0} → Event A → Bool
 drops_plan (event.Load text) = true
 drops_plan event.Start = false
@@ -102,7 +103,8 @@ abbrev pub ends_at_end : Bool → List PlannedModel → Bool
 ends_at_end ends [] = ends
 ends_at_end ends (p ∷ ps) = ends_at_end (is_end p.prepared.block.stop) ps
 
--- The line at the place that will be stored is lawful then, and its block is what it does then; no line is before the program's beginning.
+-- The line at the place that will be stored is lawful then, and its block is what it does then; no line is before the
+-- program's beginning.
 pub record IsPlannedOn (equipment : Equipment) (base : Base) (p : PlannedModel) : Type 0 where
   pub place : p.place ≡ base.stored.place
   pub beginning : p.place ≡ 0 → p.first ≡ Blank

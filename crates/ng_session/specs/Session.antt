@@ -215,7 +215,8 @@ abandon_unless program s None = commits program Abandoned (record s { stored = a
 abbrev pub abandon : List ℕ → SessionModel → Transition
 abandon program s = abandon_unless program s (abandon_refusal s)
 
--- The half-done block from its index on, and before that the approach, from a point. What it leaves is what the whole block leaves.
+-- The half-done block from its index on, and before that the approach, from a point. What it leaves is what the whole
+-- block leaves.
 abbrev pub begun_again : StoredModel → HalfModel → Point → ℕ → Done → CurrentBlockModel
 begun_again x half from next done = record {
   source = half.source;
@@ -253,7 +254,8 @@ abbrev pub waiting_refusal : Equipment → StoredModel → Option HalfModel → 
 waiting_refusal equipment x None = Some fault.NothingHalfDone
 waiting_refusal equipment x (Some half) = half_refusal equipment x half half.at
 
--- why no half-done block goes on: the session isn't at rest, none is half-done, it isn't known where its machine stands, or its line is refused
+-- why no half-done block goes on: the session isn't at rest, none is half-done, it isn't known where its machine
+-- stands, or its line is refused
 abbrev pub resume_refusal : Equipment → SessionModel → Option Fault
 resume_refusal equipment s = if not (is_at_rest s) then Some fault.Busy else waiting_refusal equipment s.stored s.stored.half
 
@@ -277,7 +279,8 @@ resume equipment program s = if not (is_at_rest s) then refuses program fault.Bu
 
 -- ---- the tool table
 
--- why a tool's length isn't taken: the session isn't at rest or a block is half-done, there is no such slot, or the length isn't a tool's
+-- why a tool's length isn't taken: the session isn't at rest or a block is half-done, there is no such slot, or the
+-- length isn't a tool's
 abbrev pub tool_refusal : SessionModel → ℕ → ℤ → Option Fault
 tool_refusal s slot nm =
     if not (accepts_load s) then Some fault.Busy
@@ -345,7 +348,8 @@ handed s = record s { current = option_map handed_on s.current }
 abbrev pub hand_out : List ℕ → SessionModel → Item → Transition
 hand_out program s item = record { reply = reply.Moved; items = item ∷ []; entries = []; program = program; next = handed s }
 
--- 2. the approach or a segment that is left is opened: its block is stored as half-done. Indices are counted up to the greatest of 64 bits
+-- 2. the approach or a segment that is left is opened: its block is stored as half-done. Indices are counted up to the
+-- greatest of 64 bits
 abbrev pub greatest_index : ℕ
 greatest_index = 18_446_744_073_709_551_615
 
@@ -388,9 +392,10 @@ opening_reply index (Some open_part.Approach) = reply.Approaching
 abbrev pub open_part_of : Equipment → List ℕ → SessionModel → HalfModel → Transition
 open_part_of equipment program s half = answers program (opening_reply half.index half.opened) (opened equipment.geometry s half)
 
--- 3. an approach of which nothing is left is committed: the half-done block's machine stands where the approach ends. So is a block of
--- which nothing is left. Optional stop is looked at here. M2, M30 and the closing percent line end the program, M0, M1 and M60 stop it;
--- by the operator the last three do nothing
+-- 3. an approach of which nothing is left is committed: the half-done block's machine stands where the approach ends.
+-- So is a block of
+-- which nothing is left. Optional stop is looked at here. M2, M30 and the closing percent line end the program, M0, M1
+-- and M60 stop it; by the operator the last three do nothing
 abbrev pub stopped_by : Source → Bool → Activity → Activity
 stopped_by source.Program wanted before = if wanted then activity.Stopped else before
 stopped_by source.Mdi wanted before = before
@@ -514,8 +519,8 @@ IsProgramsLine (Some half) = half.source ≡ source.Program
 
 -- Each event by its own line.
 
--- What takes memory: a program that is loaded, a line of the operator that is tried, a half-done block that goes on, a Tick between two
--- lines of a program that runs.
+-- What takes memory: a program that is loaded, a line of the operator that is tried, a half-done block that goes on, a
+-- Tick between two lines of a program that runs.
 abbrev pub TakesMemory : {A : Type 0} → Equipment → SessionModel → Event A → Type 0
 TakesMemory equipment s (event.Load text) = load_refusal s text ≡ None
 TakesMemory equipment s event.Start = ⊥
@@ -531,7 +536,8 @@ TakesMemory equipment s (event.BlockDelete on) = ⊥
 TakesMemory equipment s event.Status = ⊥
 TakesMemory equipment s event.Tick = (s.held ≡ false) × IsBetweenLines s
 
--- What asks something of the device: what is committed, a line of the program that goes on, a Tick that finds something to do.
+-- What asks something of the device: what is committed, a line of the program that goes on, a Tick that finds something
+-- to do.
 abbrev pub AsksDevice : {A : Type 0} → Equipment → SessionModel → Event A → Type 0
 AsksDevice equipment s (event.Load text) = load_refusal s text ≡ None
 AsksDevice equipment s event.Start = ⊥

@@ -13,8 +13,8 @@ pub enum Activity {
     Idle,
     /// Its lines are begun one after the other.
     Running,
-    /// It waits to go on: after a stop, before a line that was refused, at the end of a text without a program end, or since the
-    /// operator's own line ended a hold.
+    /// It waits to go on: after a stop, before a line that was refused, at the end of a text without a program end, or
+    /// since the operator's own line ended a hold.
     Stopped,
 }
 

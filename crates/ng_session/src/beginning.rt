@@ -48,8 +48,8 @@ fn execute_alone<'p, A: Allocator + Copy + Drop>(
     }
 }
 
-/// What a line of the program does, in places, or the first fault that refuses it; `first` is the kind of the first line
-/// before it that isn't blank.
+/// What a line of the program does, in places, or the first fault that refuses it; `first` is the kind of the first
+/// line before it that isn't blank.
 #[tactic(auto, unfolding(crate::specs::Entries::done_of))]
 pub(crate) fn execute_after_lines<'p, A: Allocator + Copy + Drop>(
     places: &'p mut Scratch,
@@ -84,10 +84,10 @@ pub(crate) fn execute_after_lines<'p, A: Allocator + Copy + Drop>(
 impl<A: Allocator + Copy + Drop> Session<A> {
     ghost use Rattle.ng_session.specs.Session.{mdi, begin, break_off, refuses_mdi};
 
-    /// Begins a line of the operator; where the session was held, that ends, and a program that ran waits. K1 where a block is
-    /// current or half-done, or the program runs and isn't held, K3 where it isn't known where the machine stands, then the
-    /// line's own faults; nothing is changed then. `AllocError` where the state after the line found no memory: nothing is
-    /// changed then either.
+    /// Begins a line of the operator; where the session was held, that ends, and a program that ran waits. K1 where a
+    /// block is current or half-done, or the program runs and isn't held, K3 where it isn't known where the machine
+    /// stands, then the line's own faults; nothing is changed then. `AllocError` where the state after the line found
+    /// no memory: nothing is changed then either.
     #[tactic(auto, using(crate::proofs::Keeping::kept_ready))]
     pub(crate) fn mdi(&mut self, text: &[u8], geometry: &Geometry) -> Result<Reply, AllocError>
         ensures reply { IfOk result (λ reply. (program : List ℕ) → reply ≡ (mdi (record { geometry = geometry.now }) program self.old text.now).reply) }
@@ -127,9 +127,9 @@ impl<A: Allocator + Copy + Drop> Session<A> {
         Ok(Reply::Begun)
     }
 
-    /// Begins the program's line at its place, where the next one begins at `next`; `first` is the kind of the first line before
-    /// it that isn't blank. A line that is refused, by its own faults, stops the program before it. `AllocError` where the state
-    /// after the line found no memory: nothing is changed then.
+    /// Begins the program's line at its place, where the next one begins at `next`; `first` is the kind of the first
+    /// line before it that isn't blank. A line that is refused, by its own faults, stops the program before it.
+    /// `AllocError` where the state after the line found no memory: nothing is changed then.
     pub fn begin(
         &mut self,
         text: &[u8],
@@ -172,8 +172,8 @@ impl<A: Allocator + Copy + Drop> Session<A> {
         Ok(Reply::Begun)
     }
 
-    /// Stops the program at the end of its text, which has no program end: X4 where a percent line is missing, else X3. `first` is
-    /// the kind of its first line that isn't blank.
+    /// Stops the program at the end of its text, which has no program end: X4 where a percent line is missing, else X3.
+    /// `first` is the kind of its first line that isn't blank.
     pub fn break_off(&mut self, first: LineKind) -> Reply
         ensures reply { (program : List ℕ) → first ≡ first_kind (lines_before program self.old.stored.place) → result ≡ (break_off program self.old).reply }
         ensures next { (program : List ℕ) → self.new ≡ (break_off program self.old).next }

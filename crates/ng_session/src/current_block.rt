@@ -21,7 +21,8 @@ use ng_step::Stepper;
 use std::alloc::{AllocError, Allocator};
 use std::marker::Model;
 
-/// The block that is worked, as it was begun, and what is left of it (own). Contracts see a `Prepared`, whose block is a `CurrentBlockModel`.
+/// The block that is worked, as it was begun, and what is left of it (own). Contracts see a `Prepared`, whose block is
+/// a `CurrentBlockModel`.
 #[derive(Drop)]
 pub struct CurrentBlock<A: Allocator> {
     pub source: Source,
@@ -61,8 +62,8 @@ impl<A: Allocator> Model for CurrentBlock<A> {
     } };
 }
 
-/// Where a block leaves the program, whose next line begins at `next`: at the program's end at the beginning, and a line of the
-/// operator leaves it where it is.
+/// Where a block leaves the program, whose next line begins at `next`: at the program's end at the beginning, and a
+/// line of the operator leaves it where it is.
 fn place_after(next: u64, place: u64, source: Source, stop: ProgramFlow) -> u64
     ensures { result ≡ place_after next place source stop }
 {
@@ -111,7 +112,8 @@ fn after_block<A: Allocator + Copy + Drop>(
     })
 }
 
-/// What is to be stored after the approach of a half-done block, which ends so. `AllocError` where its table found no memory.
+/// What is to be stored after the approach of a half-done block, which ends so. `AllocError` where its table found no
+/// memory.
 #[tactic(auto, using(crate::proofs::Standing::approach_storable))]
 fn after_approach<A: Allocator + Copy + Drop>(
     stored: &Stored<A>,
@@ -180,7 +182,8 @@ impl<A: Allocator + Copy + Drop> CurrentBlock<A> {
     ghost use Rattle.ng_session.specs.SessionInvariant.{IsReady, IsBeforeBlock};
     ghost use Rattle.ng_session.specs.Session.{begun, begun_again, first_of, rest_of, opening_on, opened_on};
 
-    /// The block of a line, before its first segment, by its effect. `AllocError` where the state after it found no memory.
+    /// The block of a line, before its first segment, by its effect. `AllocError` where the state after it found no
+    /// memory.
     pub fn begun(
         stored: &Stored<A>,
         source: Source,
@@ -216,8 +219,8 @@ impl<A: Allocator + Copy + Drop> CurrentBlock<A> {
         })
     }
 
-    /// The half-done block from its index on, before its approach from a point, by the effect of its whole line. `AllocError` where the
-    /// states after it and after the approach found no memory.
+    /// The half-done block from its index on, before its approach from a point, by the effect of its whole line.
+    /// `AllocError` where the states after it and after the approach found no memory.
     pub fn begun_again(
         stored: &Stored<A>,
         half: &Half,
@@ -279,7 +282,8 @@ impl<A: Allocator + Copy + Drop> CurrentBlock<A> {
         items.next()
     }
 
-    /// The half-done block that it is while its approach or its next segment is open; none where nothing is left to open.
+    /// The half-done block that it is while its approach or its next segment is open; none where nothing is left to
+    /// open.
     pub fn opening(&self) -> Option<Half>
         ensures half { result ≡ opening_on self.now.block self.now.block.stage }
         ensures waits { IfSome result IsStorableHalf }

@@ -54,8 +54,8 @@ pub enum Event<A: Allocator> {
     Resume,
     /// The half-done block is given up.
     Abandon,
-    /// A tool's length, for a slot of the table or the one after its last: another slot is refused with B14, a length below 0 or above 1 m
-    /// with E3.
+    /// A tool's length, for a slot of the table or the one after its last: another slot is refused with B14, a length
+    /// below 0 or above 1 m with E3.
     Tool(u16, Len),
     /// Whether the program stops at M1.
     OptionalStop(bool),
@@ -70,8 +70,8 @@ pub enum Event<A: Allocator> {
 impl<A: Allocator> Event<A> {
     ghost use Rattle.ng_session.specs.Planned.{drops_plan};
 
-    /// Whether lines that were read ahead don't come any more as they were planned: another line comes first, or another program, or
-    /// the lines do something else.
+    /// Whether lines that were read ahead don't come any more as they were planned: another line comes first, or
+    /// another program, or the lines do something else.
     pub(crate) fn drops_plan(&self) -> bool
         ensures { result ≡ drops_plan self.now }
     {

@@ -70,8 +70,8 @@ impl<A: Allocator + Copy + Drop> Session<A> {
     ghost use Rattle.ng_session.specs.Entries.{after_reference, after_abandon};
     ghost use Rattle.ng_session.specs.Session.{reference_refusal, abandon_refusal};
 
-    /// Why the machine's point, in nm of machine coordinates, isn't taken now: K1 where the session isn't at rest, X2 where the point lies
-    /// outside the travel.
+    /// Why the machine's point, in nm of machine coordinates, isn't taken now: K1 where the session isn't at rest, X2
+    /// where the point lies outside the travel.
     pub fn reference_refusal(&self, point: Point, geometry: &Geometry) -> Option<Fault>
         ensures { result ≡ reference_refusal geometry.now self.now point }
     {
@@ -84,8 +84,8 @@ impl<A: Allocator + Copy + Drop> Session<A> {
         None
     }
 
-    /// What is to be stored once the machine is known to stand at a point, in nm of machine coordinates: where a block is half-done that
-    /// one alone says it. The session stays as it is.
+    /// What is to be stored once the machine is known to stand at a point, in nm of machine coordinates: where a block
+    /// is half-done that one alone says it. The session stays as it is.
     #[tactic(auto, using(crate::proofs::Standing::reference_storable))]
     pub fn referenced(&self, point: Point) -> DecodedState
         requires { self.now.stored.entries < greatest_count }
@@ -133,8 +133,9 @@ impl<A: Allocator + Copy + Drop> Session<A> {
         None
     }
 
-    /// What is to be stored once the half-done block is given up: spindle stopped, coolant off, and the machine where that block says that
-    /// it stands, else no longer known; none where no block is half-done. The session stays as it is.
+    /// What is to be stored once the half-done block is given up: spindle stopped, coolant off, and the machine where
+    /// that block says that it stands, else no longer known; none where no block is half-done. The session stays as it
+    /// is.
     #[tactic(auto, using(crate::proofs::Standing::abandon_storable))]
     pub fn abandoned(&self) -> Option<DecodedState>
         requires { self.now.stored.entries < greatest_count }
@@ -158,8 +159,8 @@ impl<A: Allocator + Copy + Drop> Session<A> {
     ghost use Rattle.std.specs.Prelude.{IfSome, true};
     ghost use Rattle.ng_session.specs.Session.{next_place_after, resume, resume_refusal, IsProgramsLine};
 
-    /// Why no half-done block goes on now: K1 where the session isn't at rest, K4 where no block is half-done, K3 where it isn't known
-    /// where its machine stands, then its line's own faults. The session stays as it is.
+    /// Why no half-done block goes on now: K1 where the session isn't at rest, K4 where no block is half-done, K3 where
+    /// it isn't known where its machine stands, then its line's own faults. The session stays as it is.
     pub fn resume_refusal(&mut self, geometry: &Geometry) -> Option<Fault>
         ensures refusal { result ≡ resume_refusal (record { geometry = geometry.now }) self.old }
         ensures same { self.new ≡ self.old }
@@ -179,7 +180,8 @@ impl<A: Allocator + Copy + Drop> Session<A> {
         }
     }
 
-    /// Whether the half-done block is a line of the program: then, where it goes on, it is looked up where the next line begins.
+    /// Whether the half-done block is a line of the program: then, where it goes on, it is looked up where the next
+    /// line begins.
     pub fn is_programs_line(&self) -> bool
         ensures yes { result ≡ true → IsProgramsLine self.now.stored.half }
         ensures no { result ≡ false → IsProgramsLine self.now.stored.half → ⊥ }
@@ -201,7 +203,8 @@ impl<A: Allocator + Copy + Drop> Session<A> {
         !(self.stored.entries < GREATEST_COUNT)
     }
 
-    /// Puts a report in the place of what is stored of it, and gives that back: put in its place again, that takes the report back.
+    /// Puts a report in the place of what is stored of it, and gives that back: put in its place again, that takes the
+    /// report back.
     #[tactic(auto, using(crate::proofs::Keeping::kept_report))]
     pub fn exchange(&mut self, report: DecodedState) -> DecodedState
         requires free { self.old.current ≡ None }
@@ -233,10 +236,10 @@ impl<A: Allocator + Copy + Drop> Session<A> {
         }
     }
 
-    /// The half-done block goes on, by its approach, where the next line of the program begins at the byte `next`. K1 where the session
-    /// isn't at rest, K4 where no block is half-done, K3 where it isn't known where its machine stands, then its line's own faults;
-    /// nothing is changed then. `AllocError` where the states after it and after its approach found no memory: nothing is changed then
-    /// either.
+    /// The half-done block goes on, by its approach, where the next line of the program begins at the byte `next`. K1
+    /// where the session isn't at rest, K4 where no block is half-done, K3 where it isn't known where its machine
+    /// stands, then its line's own faults; nothing is changed then. `AllocError` where the states after it and after
+    /// its approach found no memory: nothing is changed then either.
     #[tactic(auto, using(crate::proofs::Keeping::kept_again))]
     pub fn resume(&mut self, next: u64, geometry: &Geometry) -> Result<Reply, AllocError>
         requires { next ≤ self.old.stored.length }

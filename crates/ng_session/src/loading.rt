@@ -37,8 +37,8 @@ impl<A: Allocator + Copy + Drop> Session<A> {
     ghost use Rattle.ng_session.specs.SessionInvariant.{IsSessionInvariant};
     ghost use Rattle.ng_session.specs.Session.{accepts_load, load, load_refusal, loaded};
 
-    /// Why a program of these bytes isn't loaded now: K1 where the session isn't at rest or a block is half-done, J5 where the
-    /// device has no room for them.
+    /// Why a program of these bytes isn't loaded now: K1 where the session isn't at rest or a block is half-done, J5
+    /// where the device has no room for them.
     pub fn load_refusal(&self, text: &[u8]) -> Option<Fault>
         ensures value { result ≡ load_refusal self.now text.now }
         ensures none { IfNone result ((accepts_load self.now ≡ true) × (length text.now ≤ self.now.stored.room)) }
@@ -52,8 +52,8 @@ impl<A: Allocator + Copy + Drop> Session<A> {
         None
     }
 
-    /// What is to be stored with a program of these bytes; it can be stored unless they are too many. The session stays as it is.
-    /// `AllocError` where its table found no memory.
+    /// What is to be stored with a program of these bytes; it can be stored unless they are too many. The session stays
+    /// as it is. `AllocError` where its table found no memory.
     #[tactic(auto, using(crate::proofs::Standing::load_storable))]
     pub fn loading(&self, text: &[u8]) -> Result<Stored<A>, AllocError>
         ensures value { IfOk result (λ x. x ≡ after_load self.now.stored (length text.now)) }

@@ -19,7 +19,8 @@ use ng_layout::{GREATEST_COUNT, Source, Stored};
 use ng_words::LineKind;
 use std::alloc::Allocator;
 
-/// The line at the place of what will be stored, as it will be begun then; none where it is refused or its state found no memory.
+/// The line at the place of what will be stored, as it will be begun then; none where it is refused or its state found
+/// no memory.
 fn plan_line<A: Allocator + Copy + Drop>(
     places: &mut Scratch,
     base: &Stored<A>,
@@ -94,8 +95,8 @@ impl<A: Allocator + Copy + Drop> Session<A> {
     ghost use Rattle.ng_session.specs.Entries.{Equipment};
     ghost use Rattle.ng_session.specs.Planned.{AreLinesOf, IsPlan, IsBegunAhead, base_of};
 
-    /// The byte of the program at which the next line begins that can be planned, by what is known of its lines: nothing is planned past
-    /// the program's end.
+    /// The byte of the program at which the next line begins that can be planned, by what is known of its lines:
+    /// nothing is planned past the program's end.
     pub fn place_ahead(&self, lines: &KnownLines<A>) -> Option<u64>
         requires { (equipment : Equipment) × IsPlan equipment (base_of self.now) lines.now.ahead }
         ensures place { IfSome result (λ place. place ≡ (base_at_end (base_of self.now) lines.now.ahead).stored.place) }
@@ -108,9 +109,9 @@ impl<A: Allocator + Copy + Drop> Session<A> {
         Some(stored_at_end(&self.stored, &self.current, lines).place)
     }
 
-    /// Plans the line at that place, where the next one begins at `next`; `first` is the kind of the first line before it that isn't blank.
-    /// Nothing is planned where the line is refused, or where the state after it found no memory: none shows of that. The session stays as
-    /// it is.
+    /// Plans the line at that place, where the next one begins at `next`; `first` is the kind of the first line before
+    /// it that isn't blank. Nothing is planned where the line is refused, or where the state after it found no memory:
+    /// none shows of that. The session stays as it is.
     pub fn plan(
         &mut self,
         lines: &mut KnownLines<A>,

@@ -33,8 +33,8 @@ pub struct Status {
     pub entries: u64,
     /// The byte of the program at which the next line begins.
     pub place: u64,
-    /// In nm of machine coordinates: where the half-done block says that the machine stands, if there is one and it says so; else the
-    /// stored point.
+    /// In nm of machine coordinates: where the half-done block says that the machine stands, if there is one and it
+    /// says so; else the stored point.
     pub point: Point,
     /// Whether the machine is known to stand there.
     pub point_known: bool,

@@ -85,7 +85,8 @@ impl<A: Allocator + Copy + Drop> Session<A> {
         self.is_at_rest() && self.stored.half.is_none()
     }
 
-    /// Whether a block is current or half-done, or the program runs and isn't held: then no line of the operator begins.
+    /// Whether a block is current or half-done, or the program runs and isn't held: then no line of the operator
+    /// begins.
     pub(crate) fn refuses_mdi(&self) -> bool
         ensures { result ≡ refuses_mdi self.now }
     {
@@ -109,8 +110,8 @@ impl<A: Allocator + Copy + Drop> Session<A> {
         self.stored.place
     }
 
-    /// The program is to run from its place on. K1 where the session isn't at rest or a block is half-done, K3 where it isn't
-    /// known where the machine stands, K2 where the program is empty; nothing is changed then.
+    /// The program is to run from its place on. K1 where the session isn't at rest or a block is half-done, K3 where it
+    /// isn't known where the machine stands, K2 where the program is empty; nothing is changed then.
     pub(crate) fn start(&mut self) -> Reply
         ensures reply { (program : List ℕ) → result ≡ (start program self.old).reply }
         ensures next { (program : List ℕ) → self.new ≡ (start program self.old).next }
@@ -128,8 +129,8 @@ impl<A: Allocator + Copy + Drop> Session<A> {
         Reply::Going
     }
 
-    /// Nothing more is to be handed out for now. The reply is Held where the program runs or a block is current; else it is Stopped
-    /// where the program waits to go on and Idle where it doesn't, and nothing is changed.
+    /// Nothing more is to be handed out for now. The reply is Held where the program runs or a block is current; else
+    /// it is Stopped where the program waits to go on and Idle where it doesn't, and nothing is changed.
     pub(crate) fn hold(&mut self) -> Reply
         ensures reply { (program : List ℕ) → result ≡ (hold program self.old).reply }
         ensures next { (program : List ℕ) → self.new ≡ (hold program self.old).next }
@@ -141,8 +142,8 @@ impl<A: Allocator + Copy + Drop> Session<A> {
         self.activity.idleness()
     }
 
-    /// What was held goes on, or the program that was stopped. Unless it is held, K1 where the program runs or a block is current, and
-    /// else K2 where it is Idle; nothing is changed then.
+    /// What was held goes on, or the program that was stopped. Unless it is held, K1 where the program runs or a block
+    /// is current, and else K2 where it is Idle; nothing is changed then.
     pub(crate) fn resume_held(&mut self) -> Reply
         ensures reply { (program : List ℕ) → result ≡ (resume_held program self.old).reply }
         ensures next { (program : List ℕ) → self.new ≡ (resume_held program self.old).next }
@@ -181,7 +182,8 @@ impl<A: Allocator + Copy + Drop> Session<A> {
         Reply::Taken
     }
 
-    /// What the status shows: what is stored, and what the session is about. A block with an open segment counts as half-done.
+    /// What the status shows: what is stored, and what the session is about. A block with an open segment counts as
+    /// half-done.
     pub fn status(&self) -> Status
         ensures { result ≡ session_status self.now }
     {

@@ -33,7 +33,8 @@ impl<A: Allocator + Copy + Drop> Session<A> {
         self.activity.is_running()
     }
 
-    /// Takes the next item of the open approach or segment, to be handed out; none where none is left: the session stays as it is then.
+    /// Takes the next item of the open approach or segment, to be handed out; none where none is left: the session
+    /// stays as it is then.
     pub fn next_item(&mut self) -> Option<Item>
         ensures item { result ≡ item_of self.old.current }
         ensures next { self.new ≡ handed self.old }
@@ -45,8 +46,8 @@ impl<A: Allocator + Copy + Drop> Session<A> {
         current.next_item()
     }
 
-    /// What is to be stored before the approach or the next segment is opened: its block, half-done; none where neither is left. The
-    /// session stays as it is.
+    /// What is to be stored before the approach or the next segment is opened: its block, half-done; none where neither
+    /// is left. The session stays as it is.
     pub fn opening(&self) -> Option<Half>
         ensures half { result ≡ opening_of self.now.current }
         ensures waits { IfSome result IsStorableHalf }
@@ -57,7 +58,8 @@ impl<A: Allocator + Copy + Drop> Session<A> {
         }
     }
 
-    /// Opens that approach or segment, once the half-done block is stored. The reply is Approaching, or Opened with the segment's number.
+    /// Opens that approach or segment, once the half-done block is stored. The reply is Approaching, or Opened with the
+    /// segment's number.
     #[tactic(auto, using(crate::proofs::Keeping::kept_open))]
     pub fn open(&mut self, half: Half, geometry: &Geometry) -> Reply
         requires { IsStorableHalf half }
@@ -76,8 +78,8 @@ impl<A: Allocator + Copy + Drop> Session<A> {
         }
     }
 
-    /// What is to be stored once nothing is left of the current block, or of its approach where that isn't committed; none where no
-    /// block is current. The session stays as it is.
+    /// What is to be stored once nothing is left of the current block, or of its approach where that isn't committed;
+    /// none where no block is current. The session stays as it is.
     pub fn after(&self) -> Option<&Stored<A>>
         ensures after { MatchOption result (self.now.current ≡ None) (λ stored. (c : CurrentBlockModel) × (self.now.current ≡ Some c) × (stored.now ≡ (committed self.now c).stored)) }
         ensures next { IfSome result (λ stored. IsNextEntry self.now.stored stored.now) }
@@ -88,8 +90,8 @@ impl<A: Allocator + Copy + Drop> Session<A> {
         }
     }
 
-    /// Goes on after the current block or its approach, once that is stored. Where no block is current the reply is that of a session
-    /// that has nothing to do, and the session stays as it is.
+    /// Goes on after the current block or its approach, once that is stored. Where no block is current the reply is
+    /// that of a session that has nothing to do, and the session stays as it is.
     pub fn commit(&mut self) -> Reply
         requires { IfSome self.old.current (λ c. self.old.stored.entries < greatest_count) }
         ensures reply { (c : CurrentBlockModel) → self.old.current ≡ Some c → result ≡ Reply.Done (committed self.old c).stored.entries }

@@ -26,8 +26,9 @@ impl<A: Allocator + Copy + Drop> Session<A> {
     ghost use Rattle.ng_layout.specs.Tools.{takes_slot};
     ghost use Rattle.ng_session.specs.Session.{accepts_load, tool_refusal};
 
-    /// Why a tool's length isn't taken for a slot now: K1 where the session isn't at rest or a block is half-done, B14 where the table has
-    /// no such slot and it isn't the one after its last, or past the greatest; E3 where it isn't from 0 to 1 m.
+    /// Why a tool's length isn't taken for a slot now: K1 where the session isn't at rest or a block is half-done, B14
+    /// where the table has no such slot and it isn't the one after its last, or past the greatest; E3 where it isn't
+    /// from 0 to 1 m.
     pub fn tool_refusal(&self, slot: u16, tool_length: Len) -> Option<Fault>
         ensures value { result ≡ tool_refusal self.now slot tool_length }
         ensures none { IfNone result ((accepts_load self.now ≡ true) × (takes_slot self.now.stored.tools slot ≡ true) × (is_tool_length tool_length ≡ true)) }
@@ -67,8 +68,8 @@ impl<A: Allocator + Copy + Drop> Session<A> {
         tools
     }
 
-    /// Replaces the stored tool table and number of entries, and gives the table that stood: with that one and the old number it is
-    /// undone. It takes no memory.
+    /// Replaces the stored tool table and number of entries, and gives the table that stood: with that one and the old
+    /// number it is undone. It takes no memory.
     #[tactic(auto, using(crate::proofs::Keeping::kept_tools))]
     pub fn exchange_tools(&mut self, tools: Tools, entries: u64) -> Tools
         requires free { self.old.current ≡ None }

@@ -69,7 +69,8 @@ fn asked_in(line: &str) -> Option<&str> {
     }
 }
 
-/// The part that these words begin: their first says what it says. Its text stands in the file that is named after a colon, if one is.
+/// The part that these words begin: their first says what it says. Its text stands in the file that is named after a
+/// colon, if one is.
 fn part_of<'a, R: Files + AllocGlobal>(rt: &R, folder: &str, words: &'a str) -> Result<Part<'a>> {
     let (said, file) = match words.split_once(": ") {
         Some((said, file)) => (said, Some(file)),

@@ -27,8 +27,8 @@ pub fn kind_of(name: &str) -> Option<Kind> {
     }
 }
 
-/// The names of the files of a folder that hold cases, in their order. Settings and folders may lie beside them; any other file is a
-/// mistake.
+/// The names of the files of a folder that hold cases, in their order. Settings and folders may lie beside them; any
+/// other file is a mistake.
 pub fn case_files<R: Files + AllocGlobal + Clone + Drop>(
     rt: &R,
     folder: &str,

@@ -1,6 +1,6 @@
-//! Runs the cases of data/ as `ngc` does, and compares what is written, answered, handed out and stored with what each case says.
-//! docs/CASES.md has the format. A file's name says what its cases are: `.dry` programs for a dry run, `.refused` lines that are refused
-//! alone, `.run` sessions of an operator, `.words` command lines.
+//! Runs the cases of data/ as `ngc` does, and compares what is written, answered, handed out and stored with what each
+//! case says. docs/CASES.md has the format. A file's name says what its cases are: `.dry` programs for a dry run,
+//! `.refused` lines that are refused alone, `.run` sessions of an operator, `.words` command lines.
 #![tactic(auto)]
 
 mod cases;

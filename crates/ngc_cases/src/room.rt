@@ -59,8 +59,8 @@ impl Room {
         Ok(fs::read(rt, path.as_str()).context(format_args!("{name}"))?)
     }
 
-    /// What is wrong of the program's answer to a line of words and this input, if something is. In the words `@` stands for the folder
-    /// of the case.
+    /// What is wrong of the program's answer to a line of words and this input, if something is. In the words `@`
+    /// stands for the folder of the case.
     pub fn wrong_of_call<R: Files + AllocGlobal>(
         &self,
         rt: &R,

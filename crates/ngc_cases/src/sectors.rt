@@ -55,7 +55,8 @@ fn first_other_byte(alloc: Global, wanted: &[u8], found: &[u8]) -> Result<Option
     Ok(None)
 }
 
-/// Where a device isn't as these rows have it, with zeros elsewhere and no more sectors than are needed, if it is so anywhere.
+/// Where a device isn't as these rows have it, with zeros elsewhere and no more sectors than are needed, if it is so
+/// anywhere.
 pub fn first_difference(alloc: Global, rows: &[u8], device: &[u8]) -> Result<Option<String>> {
     let mut wanted = vec![in alloc; 0u8; LEAST_DEVICE]?;
     put_rows(&mut wanted, rows)?;

@@ -213,7 +213,8 @@ where
     Ok(None)
 }
 
-/// Makes the files of a mill that an operator commands: its device, fresh, and its settings. What is wrong of that, if something is.
+/// Makes the files of a mill that an operator commands: its device, fresh, and its settings. What is wrong of that, if
+/// something is.
 pub fn wrong_of_mill<R: Files + AllocGlobal>(rt: &R, room: &Room) -> Result<Option<String>>
 where
     R::File: Hold,

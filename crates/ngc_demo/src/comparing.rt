@@ -85,7 +85,8 @@ fn compare_outputs<R: Print>(rt: &R, alloc: Global, cut: &Cut, resumed: &Resumed
     tell(rt, is_first, what.as_str())
 }
 
-/// Compares how many pulses there were with those of the first run, those of the segment that come again, and the way back.
+/// Compares how many pulses there were with those of the first run, those of the segment that come again, and the way
+/// back.
 fn compare_counts<R: Print>(
     rt: &R,
     alloc: Global,

@@ -2,7 +2,8 @@
 use anyhow::{Context, Result};
 use ng_num::{Fault, Len, Point};
 
-/// A pocket of 24 by 12 mm, 2 mm deep: an end mill of 8 mm goes once round. Parameter 1 is the depth, and parameter 2 counts the sides.
+/// A pocket of 24 by 12 mm, 2 mm deep: an end mill of 8 mm goes once round. Parameter 1 is the depth, and parameter 2
+/// counts the sides.
 pub const PROGRAM: &str = "\
 (POCKET 24 BY 12 MM, END MILL 8 MM)
 G21 G90 S8000 M3 #1=-2

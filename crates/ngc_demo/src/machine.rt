@@ -86,7 +86,8 @@ pub fn handed_out(device: &Device) -> Result<Vec<Item>> {
     Ok(device.handed(usize::MAX)?)
 }
 
-/// The device as a loss of power after its last call leaves it: of what wasn't synced, nothing is kept. Of a device without calls it is a copy.
+/// The device as a loss of power after its last call leaves it: of what wasn't synced, nothing is kept. Of a device
+/// without calls it is a copy.
 pub fn left_of(device: &Device) -> Result<Device> {
     Ok(device.stopped(usize::MAX, &[])?)
 }

@@ -1,10 +1,12 @@
 //! A loss of power in the midst of a pocket, and how the program goes on after it.
 //!
-//! The same program runs twice, each time on a new machine over a device in memory. The first run goes to the program's end. In the second
-//! one power is lost while a line's segment is handed out. Another controller powers on over what that left of the device, is told where the
-//! machine stands, resumes, and runs to the end. What the two runs handed out and what stands at their ends is compared.
+//! The same program runs twice, each time on a new machine over a device in memory. The first run goes to the program's
+//! end. In the second one power is lost while a line's segment is handed out. Another controller powers on over what
+//! that left of the device, is told where the machine stands, resumes, and runs to the end. What the two runs handed
+//! out and what stands at their ends is compared.
 //!
-//! Each step is told as it is done, with the answers that `ngc run` gives. The status is 1 where something isn't the same.
+//! Each step is told as it is done, with the answers that `ngc run` gives. The status is 1 where something isn't the
+//! same.
 #![tactic(auto)]
 
 mod comparing;

@@ -1,4 +1,5 @@
-//! Ticks, which do all the work: a tick begins a line, opens a segment, hands out an item, or makes an entry of what is done.
+//! Ticks, which do all the work: a tick begins a line, opens a segment, hands out an item, or makes an entry of what is
+//! done.
 use crate::machine::{Machine, give, status_of};
 use anyhow::{Result, bail};
 use ng_core::{Event, Reply};

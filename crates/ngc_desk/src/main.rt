@@ -1,10 +1,12 @@
 //! A desk at work: how callers in threads share one controller.
 //!
-//! A machine stands over a device in memory, and two callers have a seat each at its desk. In one thread the ticker moves the machine. In
-//! another the operator loads a program, starts it, asks for the status until a block is half-done, and holds it. Then the desk is
-//! closed, and the history of all that was given is run once more, over a device like the first.
+//! A machine stands over a device in memory, and two callers have a seat each at its desk. In one thread the ticker
+//! moves the machine. In another the operator loads a program, starts it, asks for the status until a block is
+//! half-done, and holds it. Then the desk is closed, and the history of all that was given is run once more, over a
+//! device like the first.
 //!
-//! What is printed is the same however the two threads take turns: of the history what was commanded, and what a tick is answered after it.
+//! What is printed is the same however the two threads take turns: of the history what was commanded, and what a tick
+//! is answered after it.
 #![tactic(auto)]
 
 ghost use Rattle.std.specs.Prelude.{◌≡◌, IfOk, false};

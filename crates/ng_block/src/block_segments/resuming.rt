@@ -1,5 +1,5 @@
-//! A block's course from one of its segments on, and how the machine stands before that. The segments of a cycle that are passed
-//! aren't walked, so it takes no time that grows with their number.
+//! A block's course from one of its segments on, and how the machine stands before that. The segments of a cycle that
+//! are passed aren't walked, so it takes no time that grows with their number.
 ghost use Rattle.std.specs.Prelude.{◌≡◌, ◌<◌, ◌-◌, ◌∷◌, ◌++◌, [], take, drop, length, IfSome, MatchOption};
 ghost use Rattle.ng_cycles.specs.Segments.{after_segments};
 ghost use Rattle.ng_block.specs.BlockSegments.{plan_of, rest_of};
@@ -112,9 +112,10 @@ impl Passing {
 }
 
 impl Effect {
-    /// Its segments from segment n on, counted from 0, kept without it, and how the machine stands before that one: where it begins,
-    /// and its outputs as the last switch before it left them. `start` is where the machine stands before the block. Where it has no
-    /// more than n segments, none is left, and the machine stands where the block leaves it. The time that it takes doesn't grow with n.
+    /// Its segments from segment n on, counted from 0, kept without it, and how the machine stands before that one:
+    /// where it begins, and its outputs as the last switch before it left them. `start` is where the machine stands
+    /// before the block. Where it has no more than n segments, none is left, and the machine stands where the block
+    /// leaves it. The time that it takes doesn't grow with n.
     pub fn block_segments_from(&self, start: Point, n: u64) -> Resumed
         ensures block_segments { result.block_segments ≡ drop n (segments_by self.now) }
         ensures standing { result.standing ≡ standing_at self.now start n }

@@ -12,7 +12,8 @@ use Rattle.ng_dry.specs.Dry.{Output, onto, refused, after_line}
 use Rattle.ng_dry.specs.declared.ending.Ended.{Ended}
 use Rattle.ng_dry.specs.declared.ending.DryFault.{DryFault}
 
--- a run between two lines: its terms, the kind of the first line that isn't blank, the state, the number of the next line, and the text not yet written
+-- a run between two lines: its terms, the kind of the first line that isn't blank, the state, the number of the next
+-- line, and the text not yet written
 pub record DryRunModel : Type 0 where
   pub terms : TermsModel
   pub first : LineKind

@@ -25,7 +25,8 @@ impl Read for Once<'_> {
     }
 }
 
-/// Texts, and what they are answered: whole, with a last line that lacks its newline, and with a program that the end cuts off.
+/// Texts, and what they are answered: whole, with a last line that lacks its newline, and with a program that the end
+/// cuts off.
 const TEXTS: &[(&str, &str)] = &[
     ("", ""),
     ("hold\n", "idle\n"),

@@ -47,7 +47,8 @@ fn power_on_is_refused(rt: HostRuntime) -> Result<(), Fail> {
 /// One move by hand, over a device that fails one call.
 const MOVE: &str = "mdi G0 X0.005\ntick 1\ntick 7\nstatus\n";
 
-/// What is written of it: power on is refused; the segment isn't opened; an item or the entry isn't given; all goes well.
+/// What is written of it: power on is refused; the segment isn't opened; an item or the entry isn't given; all goes
+/// well.
 const FAILING: &[&str] = &[
     "refused J1 DeviceFailed\n",
     "begun\nrefused J1 DeviceFailed\nticks 1\nrefused K5 Broken\nticks 1\nstatus entries 0 place 0 at 0.000000 0.000000 0.000000 known half none broken\n",
@@ -77,7 +78,8 @@ fn moved_over_failing(alloc: Global, calls: u64) -> Result<(usize, u8, u64), Fau
     Ok((place_of(FAILING, text.as_slice()), status, rig.failures()))
 }
 
-/// Each call of the device fails in turn: the answers are those above, in that order, and the status is 0 where none failed.
+/// Each call of the device fails in turn: the answers are those above, in that order, and the status is 0 where none
+/// failed.
 #[test]
 fn goes_on_over_a_device_that_failed(rt: HostRuntime) -> Result<(), Fail> {
     let whole = FAILING.len().saturating_sub(1);
@@ -206,7 +208,8 @@ fn told_in_room(alloc: Global, lines: &str, room: usize) -> Result<(u8, Vec<u8>,
     Ok((status, taken, rig))
 }
 
-/// That move over a writer with so much room: the status, whether a beginning is written, its length, and the items handed out.
+/// That move over a writer with so much room: the status, whether a beginning is written, its length, and the items
+/// handed out.
 fn moved_in_room(alloc: Global, room: usize) -> Result<(u8, bool, usize, usize), Fault> {
     let (status, text, rig) = told_in_room(alloc, "mdi G0 X0.002\ntick 9\nquit\n", room)?;
     let items = rig.handed(rig.calls())?;
@@ -245,8 +248,8 @@ const BEHIND_MOVES: &[&str] = &[
     "status entries 3 place 20 at 0.003000 0.000000 0.000000 known half none idle\n",
 ];
 
-/// That over a writer with so much room: the status, whether a beginning is written, its length, the items handed out, and the place
-/// of what the status tells once power is on again.
+/// That over a writer with so much room: the status, whether a beginning is written, its length, the items handed out,
+/// and the place of what the status tells once power is on again.
 fn two_moves_in_room(alloc: Global, room: usize) -> Result<(u8, bool, usize, usize, usize), Fault> {
     let (status, text, rig) = told_in_room(alloc, TWO_MOVES, room)?;
     let items = rig.handed(rig.calls())?;
@@ -260,7 +263,8 @@ fn two_moves_in_room(alloc: Global, room: usize) -> Result<(u8, bool, usize, usi
     ))
 }
 
-/// The writer fails in the line of a move that is done: no tick is made after it, so the machine stands after that move.
+/// The writer fails in the line of a move that is done: no tick is made after it, so the machine stands after that
+/// move.
 #[test]
 fn makes_no_tick_after_a_line_that_is_not_written(rt: HostRuntime) -> Result<(), Fail> {
     for room in 13..27 {

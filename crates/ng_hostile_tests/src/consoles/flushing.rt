@@ -56,8 +56,8 @@ impl Write for Counting<'_> {
 /// Commands that are answered in eight lines.
 const COMMANDS: &[u8] = b"status\nmdi G0 X0.001\nhold\ntick 1\ncontinue\ntick 9\nfly\nquit\n";
 
-/// The status of a console over a fresh device; how many reads came too early, how many bytes were never flushed, and how many flushes there
-/// were for a line.
+/// The status of a console over a fresh device; how many reads came too early, how many bytes were never flushed, and
+/// how many flushes there were for a line.
 fn counted(alloc: Global) -> Result<(u8, usize, usize, usize), Fault> {
     let unflushed = Cell::new(0);
     let mut reader = Patient {

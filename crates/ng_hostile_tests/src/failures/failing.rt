@@ -35,8 +35,9 @@ pub enum Astray {
     Standing,
 }
 
-/// A session over a device that failed a call: which event met the failure, from 1 on, 0 where it was power on, none where all went
-/// well; whether each event after it was refused and the status showed what stood before it; the failures; and the device.
+/// A session over a device that failed a call: which event met the failure, from 1 on, 0 where it was power on, none
+/// where all went well; whether each event after it was refused and the status showed what stood before it; the
+/// failures; and the device.
 #[derive(Drop)]
 struct Played {
     met: Option<usize>,
@@ -45,7 +46,8 @@ struct Played {
     rig: Device,
 }
 
-/// Gives events until one meets a failure of the device: the number of that event, from 1 on, and what the status showed before it.
+/// Gives events until one meets a failure of the device: the number of that event, from 1 on, and what the status
+/// showed before it.
 fn met<R: Rig>(
     alloc: Global,
     controller: &mut Controller<R, Global>,
@@ -67,7 +69,8 @@ fn met<R: Rig>(
     Ok(None)
 }
 
-/// Whether each kind of event is refused since the device failed, and the status shows what it showed before, and that it did.
+/// Whether each kind of event is refused since the device failed, and the status shows what it showed before, and that
+/// it did.
 fn is_broken<R: Rig>(
     alloc: Global,
     controller: &mut Controller<R, Global>,
@@ -86,7 +89,8 @@ fn is_broken<R: Rig>(
     Ok(shown(controller) == Some(broken))
 }
 
-/// Gives events until one meets a failure, and each kind of event after that: which one met it, and whether all was refused then.
+/// Gives events until one meets a failure, and each kind of event after that: which one met it, and whether all was
+/// refused then.
 fn meet<R: Rig>(
     alloc: Global,
     controller: &mut Controller<R, Global>,
@@ -156,7 +160,8 @@ impl<'a> Choice<'a> {
         })
     }
 
-    /// Of power on over a device of format 1 that stands for this: until that is over, its settings' tools aren't stored.
+    /// Of power on over a device of format 1 that stands for this: until that is over, its settings' tools aren't
+    /// stored.
     fn at_migration(rows: &'a [Row], before: Standing) -> Result<Choice<'a>, AllocError> {
         let mut choice = Choice::at_power_on(rows, before)?;
         choice.after.migrate();
@@ -186,14 +191,14 @@ impl<'a> Choice<'a> {
         Ok(())
     }
 
-    /// Whether a session ended in this event, by the calls that it made: all before it, and less than all of its own, or none where it
-    /// only reads.
+    /// Whether a session ended in this event, by the calls that it made: all before it, and less than all of its own,
+    /// or none where it only reads.
     fn has_calls(&self, made: usize) -> bool {
         made >= self.calls && made.saturating_sub(self.calls) < self.own.max(1)
     }
 
-    /// Whether a device that is powered on stands for one of the two; for what stood before where nothing is kept that wasn't synced, since
-    /// an event that stores something ends with its sync.
+    /// Whether a device that is powered on stands for one of the two; for what stood before where nothing is kept that
+    /// wasn't synced, since an event that stores something ends with its sync.
     fn is_standing(&self, alloc: Global, rig: Device) -> Result<bool, Fault> {
         let cut = found_on(alloc, cut(&rig)?)?;
         let found = found_on(alloc, rig)?;
@@ -242,8 +247,8 @@ fn each_from(first: u64) -> Sweep {
     }
 }
 
-/// What came of a sweep: how many calls a session makes that met no failure, none where each met one; or the first failure after which
-/// something is astray.
+/// What came of a sweep: how many calls a session makes that met no failure, none where each met one; or the first
+/// failure after which something is astray.
 type Swept = Result<Option<usize>, (u64, Astray)>;
 
 /// What comes of a sweep over this device.
@@ -283,8 +288,8 @@ fn swept_on(alloc: Global, sectors: usize, rows: &[Row], sweep: Sweep) -> Result
     swept(alloc, &formatted_of(alloc, sectors)?, &mut choice, sweep)
 }
 
-/// How many calls power on over a new device makes: besides its writes and syncs, it reads two headers, a snapshot's 86 sectors, two of tools
-/// and the log's first.
+/// How many calls power on over a new device makes: besides its writes and syncs, it reads two headers, a snapshot's 86
+/// sectors, two of tools and the log's first.
 const POWERED_ON: u64 = 91 + POWER_ON as u64;
 
 /// Sessions over a new device, the first call that fails, and how many writes, syncs and hand-outs each makes.
@@ -337,8 +342,8 @@ fn swept_after_a_cut(
     swept(alloc, &rig, &mut choice, sweep)
 }
 
-/// What opened a line, a session after the cut, the first call that fails, and how many writes, syncs and hand-outs the session makes. Power
-/// on makes one read more, since the log has a record.
+/// What opened a line, a session after the cut, the first call that fails, and how many writes, syncs and hand-outs the
+/// session makes. Power on makes one read more, since the log has a record.
 const SESSIONS_AFTER_A_CUT: &[(&[Row], &[Row], u64, usize)] = &[
     (BEFORE_A_CUT, AFTER_A_CUT, 0, 108),
     (BEFORE_A_CUT, GIVEN_UP, POWERED_ON + 1, 96),
@@ -374,7 +379,8 @@ fn each_call_of_a_migration(rt: HostRuntime) -> Result<(), Fail> {
     Ok(())
 }
 
-/// How many calls come before this of the moves that fill the log: those of power on, two of the entry before them, and five of each.
+/// How many calls come before this of the moves that fill the log: those of power on, two of the entry before them, and
+/// five of each.
 fn calls_before_move(number: u64) -> u64 {
     let moves = number.saturating_sub(1);
     POWERED_ON
@@ -422,14 +428,14 @@ fn each_call_from_move_444_on(rt: HostRuntime) -> Result<(), Fail> {
     Ok(())
 }
 
-/// What is found once an event met a failure: the items that were handed out before it; and once power is on anew, the entries, the place,
-/// whether it is known where the machine stands, and the half-done block.
+/// What is found once an event met a failure: the items that were handed out before it; and once power is on anew, the
+/// entries, the place, whether it is known where the machine stands, and the half-done block.
 type Shown = (usize, u64, u64, bool, Option<HalfShown>);
 
-/// Events, after how many calls one fails, the number of the event that meets it, and what is found then. Power on makes 183 calls. An
-/// item isn't handed out: the first of a line, which two calls open. A line isn't read: a load makes 93 calls, and the first tick after it
-/// reads three lines, of which the second or the third fails; five calls later the tick that begins the second line reads the fourth and
-/// the fifth, of which either fails.
+/// Events, after how many calls one fails, the number of the event that meets it, and what is found then. Power on
+/// makes 183 calls. An item isn't handed out: the first of a line, which two calls open. A line isn't read: a load
+/// makes 93 calls, and the first tick after it reads three lines, of which the second or the third fails; five calls
+/// later the tick that begins the second line reads the fourth and the fifth, of which either fails.
 const MET: &[(&[Row], u64, usize, Shown)] = &[
     (
         BEFORE_A_CUT,

@@ -27,7 +27,8 @@ fn blocks(alloc: Global, heap: &LocalHeap) -> Result<Vec<Vec<u8, &LocalHeap>>, A
     Ok(blocks)
 }
 
-/// What a load is answered once the heap is full, and again once it isn't; whether the first shows nowhere; and the calls after both.
+/// What a load is answered once the heap is full, and again once it isn't; whether the first shows nowhere; and the
+/// calls after both.
 fn answers<'h>(
     alloc: Global,
     heap: &'h LocalHeap,

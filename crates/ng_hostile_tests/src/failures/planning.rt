@@ -1,4 +1,5 @@
-//! Which events read lines of the program, and how many. A tick that begins a line reads two more at most, so that up to 16 wait.
+//! Which events read lines of the program, and how many. A tick that begins a line reads two more at most, so that up
+//! to 16 wait.
 use crate::devices::{Device, formatted, give, rig_of, started};
 use crate::failures::counting::Counting;
 use crate::failures::failing::half_done;
@@ -87,8 +88,8 @@ fn lines_are_read_before_they_are_begun(rt: HostRuntime) -> Result<(), Fail> {
     Ok(())
 }
 
-/// The reads of the ticks that begin 34 lines: the first reads three, the next 14 two each, until 16 lines wait; then each reads one, for
-/// the one that it takes, up to the program's end.
+/// The reads of the ticks that begin 34 lines: the first reads three, the next 14 two each, until 16 lines wait; then
+/// each reads one, for the one that it takes, up to the program's end.
 const OF_MANY_LINES: &[u64] = &[
     3, 2, 2, 2, 2, 2, 2, 2, 2, 2, 2, 2, 2, 2, 2, 1, 1, 1, 0, 0, 0, 0, 0, 0, 0, 0, 0, 0, 0, 0, 0, 0,
     0, 0,
@@ -113,7 +114,8 @@ fn reads_after_a_cut(alloc: Global) -> Result<Vec<u64>, Fault> {
     reads_over(alloc, rig, AFTER_A_CUT_OF_A_PROGRAM, standing.entries())
 }
 
-/// A half-done line that goes on is read, for where the next one begins. That one is read as it is begun, after what comes before it.
+/// A half-done line that goes on is read, for where the next one begins. That one is read as it is begun, after what
+/// comes before it.
 #[test]
 fn a_half_done_line_and_the_one_after_it_are_read(rt: HostRuntime) -> Result<(), Fail> {
     let Ok(reads) = reads_after_a_cut(rt.alloc()) else {

@@ -1,4 +1,5 @@
-//! Images that were changed by chance: bytes, numbers and whole sectors, swapped, doubled, lost, or as they were long before.
+//! Images that were changed by chance: bytes, numbers and whole sectors, swapped, doubled, lost, or as they were long
+//! before.
 use crate::devices::{Device, LARGE, copy_of};
 use crate::images::chance::Chance;
 use crate::images::generations::generations;
@@ -8,7 +9,8 @@ use ng_num::Fault;
 use std::alloc::Global;
 use std::test::Fail;
 
-/// The sectors that are changed: headers, parts of both snapshots, both programs, the log's first and its last, both tool tables.
+/// The sectors that are changed: headers, parts of both snapshots, both programs, the log's first and its last, both
+/// tool tables.
 const SECTORS: &[usize] = &[
     0, 1, 2, 2, 3, 4, 84, 87, 88, 88, 89, 90, 170, 173, 174, 430, 686, 687, 688, 689, 690, 691,
     692, 693, 694, 695, 696, 697, 698, 699, 700, 1_705, 1_706, 1_707, 1_708, 1_709,
@@ -129,8 +131,8 @@ fn change_sector(chance: &mut Chance, sector: &mut [u8; 512]) {
     }
 }
 
-/// Makes a change of an image: two sectors change places, or one is as it was on an older one there or elsewhere, or is a double of another,
-/// or a header or any sector is changed alone.
+/// Makes a change of an image: two sectors change places, or one is as it was on an older one there or elsewhere, or is
+/// a double of another, or a header or any sector is changed alone.
 fn change(chance: &mut Chance, rig: &mut Device, older: &mut Device) -> Result<(), Fault> {
     let here = any_sector(chance);
     let there = any_sector(chance);

@@ -1,4 +1,5 @@
-//! What a changed image stands for, by its headers alone, and whether power on answers so; what was found then is found again.
+//! What a changed image stands for, by its headers alone, and whether power on answers so; what was found then is found
+//! again.
 use crate::devices::{Device, LARGE, powered, recovered, rig_of, shown};
 use crate::sectors::{GREATEST, number_at, put, sector_of};
 use crate::standing::is_same_table;
@@ -18,8 +19,8 @@ pub enum Outcome {
     NotFormatted,
     Damaged,
     CountersUsed,
-    /// Recovered, though the log begins with a part of an epoch to come, which no device has that this controller formatted. Once that epoch
-    /// is in force the part counts, so what is found again may be another state.
+    /// Recovered, though the log begins with a part of an epoch to come, which no device has that this controller
+    /// formatted. Once that epoch is in force the part counts, so what is found again may be another state.
     Ahead,
     Astray(Astray),
 }
@@ -165,8 +166,8 @@ fn is_shown(alloc: Global, rig: Device, epoch: u64, stored: &Stored<Global>) -> 
     }
 }
 
-/// What isn't so of a device that was powered on, and so is of format 2 under this epoch: it gives this state again, under the next epoch
-/// and with the same program.
+/// What isn't so of a device that was powered on, and so is of format 2 under this epoch: it gives this state again,
+/// under the next epoch and with the same program.
 fn stands_not(
     alloc: Global,
     rig: Device,
@@ -216,7 +217,8 @@ fn refusal(fault: Fault, epoch: u64, format: u64) -> Outcome {
     }
 }
 
-/// Whether an image of this format, of which this is recovered, was given the tools that it should be: of format 1 those of the settings.
+/// Whether an image of this format, of which this is recovered, was given the tools that it should be: of format 1
+/// those of the settings.
 fn has_tools(format: u64, stored: &Stored<Global>) -> bool {
     format != 1 || is_same_table(&stored.tools, &Settings::standard().tools)
 }
@@ -248,7 +250,8 @@ fn unless_ahead(outcome: Outcome, is_ahead: bool) -> Outcome {
     }
 }
 
-/// What power on makes of an image. It makes one call where it refuses it, and refuses it again; and where it recovers it 92, of format 1 181.
+/// What power on makes of an image. It makes one call where it refuses it, and refuses it again; and where it recovers
+/// it 92, of format 1 181.
 pub fn outcome_of(alloc: Global, rig: Device) -> Result<Outcome, AllocError> {
     let mut rig = rig;
     let (epoch, format) = in_force(&mut rig);

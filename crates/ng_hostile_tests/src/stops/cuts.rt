@@ -98,8 +98,8 @@ impl Cuts {
     }
 }
 
-/// The stop after which something else stands: after how many calls, and what it keeps; and the same of a stop in the power on after that,
-/// if it is that one.
+/// The stop after which something else stands: after how many calls, and what it keeps; and the same of a stop in the
+/// power on after that, if it is that one.
 pub type Astray = Option<(usize, Kept, Option<usize>)>;
 
 /// A device with its calls, and the stops that are tried.
@@ -111,11 +111,11 @@ pub struct Played {
 }
 
 impl Played {
-    /// The first stop after so many calls, with which an event is over or not, that leaves something else: with all unsynced sectors lost,
-    /// with all kept, with each alone kept, with each alone lost.
+    /// The first stop after so many calls, with which an event is over or not, that leaves something else: with all
+    /// unsynced sectors lost, with all kept, with each alone kept, with each alone lost.
     ///
-    /// Power on is stopped too where the image is new. Where all are lost, it is that of an earlier stop with all kept; where all are kept
-    /// and the last call is no write, it is that of the stop before that call.
+    /// Power on is stopped too where the image is new. Where all are lost, it is that of an earlier stop with all kept;
+    /// where all are kept and the last call is no write, it is that of the stop before that call.
     fn first_astray_after(
         &self,
         alloc: Global,
@@ -137,7 +137,8 @@ impl Played {
         self.first_astray_alone(alloc, calls, choice, is_over)
     }
 
-    /// The first stop after so many calls that keeps one unsynced sector alone, or loses it alone, and leaves something else.
+    /// The first stop after so many calls that keeps one unsynced sector alone, or loses it alone, and leaves something
+    /// else.
     fn first_astray_alone(
         &self,
         alloc: Global,
@@ -157,7 +158,8 @@ impl Played {
         Ok(None)
     }
 
-    /// This stop, if it leaves something else; if not, and power on is to be stopped too, the first stop there that leaves something else.
+    /// This stop, if it leaves something else; if not, and power on is to be stopped too, the first stop there that
+    /// leaves something else.
     fn astray(
         &self,
         alloc: Global,
@@ -179,9 +181,11 @@ impl Played {
     }
 }
 
-/// The first stop in power on, which made these calls of this device, that leaves something else: after so many calls, with all kept.
+/// The first stop in power on, which made these calls of this device, that leaves something else: after so many calls,
+/// with all kept.
 ///
-/// A new image comes with each write alone: where all unsynced sectors are lost, it is that of an earlier stop with all kept.
+/// A new image comes with each write alone: where all unsynced sectors are lost, it is that of an earlier stop with all
+/// kept.
 fn first_astray_in_power_on(
     alloc: Global,
     rig: &Device,
@@ -198,8 +202,8 @@ fn first_astray_in_power_on(
     Ok(None)
 }
 
-/// The first stop that leaves something else, of those that are tried after `first` to `over` calls, with the last of which the event is
-/// over.
+/// The first stop that leaves something else, of those that are tried after `first` to `over` calls, with the last of
+/// which the event is over.
 pub fn first_astray_between(
     alloc: Global,
     played: &Played,
@@ -216,7 +220,8 @@ pub fn first_astray_between(
     Ok(None)
 }
 
-/// The first stop that leaves something else, where power on and these events come over a device that stands for what is wanted.
+/// The first stop that leaves something else, where power on and these events come over a device that stands for what
+/// is wanted.
 pub fn first_astray(
     alloc: Global,
     rig: Device,

@@ -91,7 +91,8 @@ fn cut_after(
     }
 }
 
-/// A power cycle: the device that is left, with all unsynced sectors kept or none, and what it stands for, if that is as it has to be.
+/// A power cycle: the device that is left, with all unsynced sectors kept or none, and what it stands for, if that is
+/// as it has to be.
 fn cycle(
     alloc: Global,
     rig: Device,
@@ -112,7 +113,8 @@ fn cycle(
     Ok((stopped(&rig, usize::MAX, kept)?, wanted))
 }
 
-/// The first of 64 power cycles, each cut a call later than the one before, that leaves something else; and the entries then.
+/// The first of 64 power cycles, each cut a call later than the one before, that leaves something else; and the entries
+/// then.
 fn first_astray(alloc: Global, first: u64) -> Result<(Option<u64>, u64), Fault> {
     let mut rig = formatted(alloc)?;
     let mut wanted = Standing::fresh(alloc)?;
@@ -128,7 +130,8 @@ fn first_astray(alloc: Global, first: u64) -> Result<(Option<u64>, u64), Fault> 
     Ok((None, wanted.entries()))
 }
 
-/// The first cycles end within power on, which makes 91 reads of a log that is empty, 89 writes and 3 syncs, and the last ones in work.
+/// The first cycles end within power on, which makes 91 reads of a log that is empty, 89 writes and 3 syncs, and the
+/// last ones in work.
 #[test]
 fn power_comes_and_goes(rt: HostRuntime) -> Result<(), Fail> {
     let Ok((astray, entries)) = first_astray(rt.alloc(), 154) else {

@@ -37,8 +37,8 @@ pub fn stopped(rig: &Device, calls: usize, kept: Kept) -> Result<Device, AllocEr
     rig.stopped(calls, &writes_kept(kept))
 }
 
-/// What is found on a device that is powered on with settings that have no tools, the calls of that, and the device then, which was read
-/// again after those calls.
+/// What is found on a device that is powered on with settings that have no tools, the calls of that, and the device
+/// then, which was read again after those calls.
 pub fn found(alloc: Global, rig: Device) -> Result<(Found, Notes, Device), Fault> {
     let mut controller = started_bare(alloc, Recorder::new(alloc, rig))?;
     let status = shown(&mut controller);

@@ -7,7 +7,8 @@ use ng_num::Fault;
 use std::alloc::Global;
 use std::test::Fail;
 
-/// How many calls come before the last entry: power on, the first entry, 509 moves, and what comes before the entry of the last.
+/// How many calls come before the last entry: power on, the first entry, 509 moves, and what comes before the entry of
+/// the last.
 const BEFORE: usize = 92 + 2 + 509 * 5 + 3;
 
 /// The first stop in the last entry that leaves something else, of those after so many of its calls.

@@ -76,7 +76,8 @@ fn powered_again(alloc: Global, rig: Recorder<Device>) -> Result<Played, Fault> 
     Ok(Played { rig, notes, cuts })
 }
 
-/// The first stop in that power on that leaves something else. Once its first sync is over, what was written before it stands.
+/// The first stop in that power on that leaves something else. Once its first sync is over, what was written before it
+/// stands.
 fn first_astray_again(
     alloc: Global,
     rig: Recorder<Device>,

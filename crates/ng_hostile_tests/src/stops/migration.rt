@@ -1,7 +1,7 @@
 //! Power on over a device of format 1 makes it one of format 2.
 //!
-//! The settings of the power on after a stop have no tools. So a stop leaves the device without tools until the header of format 2 is
-//! stored, and from then on with those of the settings under which it was written.
+//! The settings of the power on after a stop have no tools. So a stop leaves the device without tools until the header
+//! of format 2 is stored, and from then on with those of the settings under which it was written.
 use crate::old::of_format_1;
 use crate::scripts::AFTER_A_MIGRATION;
 use crate::stops::cuts::{Astray, Cuts, first_astray_in_migration};
@@ -10,7 +10,8 @@ use ng_num::Fault;
 use std::alloc::Global;
 use std::test::Fail;
 
-/// What the first power on over a device of format 1 makes, and the one after it: writes, syncs, hand-outs and calls that weren't noted.
+/// What the first power on over a device of format 1 makes, and the one after it: writes, syncs, hand-outs and calls
+/// that weren't noted.
 fn counts(alloc: Global) -> Result<[[usize; 4]; 2], Fault> {
     let (rig, wanted) = of_format_1(alloc, 0)?;
     let (rig, first) = played(alloc, rig, &[], wanted.entries())?;

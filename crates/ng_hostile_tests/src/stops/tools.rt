@@ -8,7 +8,8 @@ use ng_num::Fault;
 use std::alloc::Global;
 use std::test::Fail;
 
-/// Sessions, and how many calls come before the first stop: power on; and after it two tools' lengths, one of them twice, and a load.
+/// Sessions, and how many calls come before the first stop: power on; and after it two tools' lengths, one of them
+/// twice, and a load.
 const SESSIONS: &[(&[Row], usize)] = &[
     (TOOLS, POWER_ON),
     (TOOLS_OF_A_PROGRAM, POWER_ON + 3 * 2 + 93),

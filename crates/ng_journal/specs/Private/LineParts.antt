@@ -13,7 +13,8 @@ abbrev pub IsEnd : List ℕ → List ℕ → Option ℕ → Type 0
 IsEnd rest kept (Some n) = KeepsLineFront rest n kept × (n < length rest) × (slice_index rest n ≡ 10)
 IsEnd rest kept None = KeepsLineFront rest (length rest) kept
 
--- A part of a text from a place on: it begins where the bytes of a sector do, or at the place, and goes on to their end, or to the text's.
+-- A part of a text from a place on: it begins where the bytes of a sector do, or at the place, and goes on to their
+-- end, or to the text's.
 pub record IsPart (text : List ℕ) (place start : ℕ) (part : List ℕ) : Type 0 where
   pub is : part ≡ take (length part) (drop (start - place) (drop place text))
   pub whole : start - place + length part ≡ min (length text - place) (start + sector_size - place)

@@ -22,7 +22,8 @@ pub record WritesText {T E : Type 0} (result : Result T E) (area : ℕ) (text : 
   pub writes : WritesOnly (λ m bytes. BelongsToText text area m bytes) old new
   pub parts : OnOk result (IsTextAt area text (reads new))
 
--- Each stop since stands for what stood before or for the new with its program, after Ok for that alone, and its log has no record.
+-- Each stop since stands for what stood before or for the new with its program, after Ok for that alone, and its log
+-- has no record.
 pub record LoadSpec {T E : Type 0} (result : Result T E) (area : ℕ) (header : Header) (loaded : DurableState) (old new : Trace) : Type 0 where
   pub stops : IsContinuation old new (IsEither (stands (reads old)) (Ok loaded) (items old))
   pub items_are : items new ≡ items old

@@ -32,7 +32,8 @@ pub record IsRenewed (l : Ledger) (trace : Trace) : Type 0 where
   pub laid : IsLaidOut (renewed l).header l.saved (reads trace)
   pub synced : IsSynced trace
 
--- What is stored is written under the next epoch, where the log has no room for a record of so many changes, else nothing.
+-- What is stored is written under the next epoch, where the log has no room for a record of so many changes, else
+-- nothing.
 pub record StoresRoom {T E : Type 0} (result : Result T E) (l : Ledger) (changes : ℕ) (old new : Trace) : Type 0 where
   pub writes : WritesOnly (λ n bytes. IsFullFor l.header l.end changes × BelongsTo (renewed l).header l.saved n bytes) old new
   pub done : OnOk result (IsFullFor l.header l.end changes → IsRenewed l new)

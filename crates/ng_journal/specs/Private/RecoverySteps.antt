@@ -50,8 +50,8 @@ pub record KeepsStanding {E : Type 0} (tools : List ℤ) (result : Result (Resul
   pub stops : IsContinuation old new (IsEitherBeside tools (stands_beside tools (reads old)) (recovered_of (stands_beside tools (reads old))) (items old))
   pub ready : IfOk result (λ answer. IfOk answer (λ header. IsReady tools header saved old new))
 
--- What is found, or why nothing is, and what is written, over any image: nothing where there is a reason to recover nothing, else what was found,
--- all of it synced. What stops leave over an image that only this journal wrote.
+-- What is found, or why nothing is, and what is written, over any image: nothing where there is a reason to recover
+-- nothing, else what was found, all of it synced. What stops leave over an image that only this journal wrote.
 pub record RestoreSpec {E : Type 0} (tools : List ℤ) (result : Result (Result Header Fault) E) (saved : StoredModel) (old new : Trace) : Type 0 where
   pub outcome : IfOk result (λ answer. RecoveryOutcome tools answer saved (reads old))
   pub refused : IfOk result (λ answer. IfErr answer (λ fault. new ≡ Synced old))

@@ -22,8 +22,8 @@ use std::alloc::Allocator;
 impl<R: Rig, A: Allocator + Copy + Drop> Journal<R, A> {
     ghost use Rattle.ng_journal.specs.Journal.{IsDurablyAt, IsBrokenBy};
 
-    /// The kind of the first line before a place of the program in force that isn't blank; blank where all are (own). It reads no
-    /// further than to that line's end.
+    /// The kind of the first line before a place of the program in force that isn't blank; blank where all are (own).
+    /// It reads no further than to that line's end.
     ///
     /// J1 where the device failed: the journal is broken then. Nothing is written. It takes no memory.
     pub fn first_kind(&mut self, place: u64) -> Result<LineKind, Fault>

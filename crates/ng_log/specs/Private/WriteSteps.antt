@@ -5,7 +5,8 @@ use Rattle.ng_rig.specs.Only.{WritesOnly}
 use Rattle.ng_layout.specs.Areas.{log_first}
 use Rattle.ng_log.specs.Records.{LogRecord, size_of, IsPartOf, BelongsToRecord}
 
--- Only parts of the record are written, each to its sector, nothing is handed out, and after Ok a read of each sector gives its part.
+-- Only parts of the record are written, each to its sector, nothing is handed out, and after Ok a read of each sector
+-- gives its part.
 pub record WritesParts {T E : Type 0} (result : Result T E) (r : LogRecord) (old new : Trace) : Type 0 where
   pub writes : WritesOnly (BelongsToRecord r) old new
   pub parts : OnOk result ((j : ℕ) → j < size_of r → IsPartOf r (r.at + j) (reads new (log_first + (r.at + j))))

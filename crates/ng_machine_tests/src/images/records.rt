@@ -8,7 +8,8 @@ use ng_rig::{MemoryRig, Rig};
 use std::alloc::{AllocError, Allocator};
 use std::test::Fail;
 
-/// Makes a device of epoch 1 of this kind with a fresh state in the snapshot, and one record of one part with this state.
+/// Makes a device of epoch 1 of this kind with a fresh state in the snapshot, and one record of one part with this
+/// state.
 fn lay<R: Rig>(rig: &mut R, base: Base, state: &[u8; 512]) -> bool {
     let mut part = part_with((1, 0, 0, 1, 0), &[]);
     part[32..488].copy_from_slice(&state[..456]);
@@ -19,8 +20,8 @@ fn lay<R: Rig>(rig: &mut R, base: Base, state: &[u8; 512]) -> bool {
         && rig.sync().is_ok()
 }
 
-/// Whether power on makes of a record with a number changed what a row says: its answer, its calls, and the whole state that it writes,
-/// unless other numbers of that don't last.
+/// Whether power on makes of a record with a number changed what a row says: its answer, its calls, and the whole state
+/// that it writes, unless other numbers of that don't last.
 fn answers<A: Allocator + Copy + Drop>(
     alloc: A,
     case: &Case,

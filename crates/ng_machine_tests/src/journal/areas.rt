@@ -421,8 +421,8 @@ fn lines_of_a_large_program(rt: HostRuntime) -> Result<(), Fail> {
     Ok(())
 }
 
-/// The first of the lines with these numbers, 16 bytes each, that a journal reads otherwise, or after which it says that
-/// the next one begins elsewhere.
+/// The first of the lines with these numbers, 16 bytes each, that a journal reads otherwise, or after which it says
+/// that the next one begins elsewhere.
 fn first_unlike_line<R: Rig + Drop>(
     mill: Mill<R>,
     first: u64,

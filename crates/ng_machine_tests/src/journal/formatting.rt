@@ -67,7 +67,8 @@ fn old_device(alloc: Global) -> Result<MemoryRig<Global>, Fail> {
     }
 }
 
-/// What format answers for an old device, its writes and syncs, and the first sector that is then unlike one made by hand.
+/// What format answers for an old device, its writes and syncs, and the first sector that is then unlike one made by
+/// hand.
 fn format_old(alloc: Global) -> Result<(Result<(), Fault>, u64, u64, Option<usize>), Fail> {
     let mut wanted = device(alloc, 1_711, true)?;
     let mut counting = Counting::new(old_device(alloc)?);
@@ -86,11 +87,12 @@ fn format_leaves_a_fresh_controller(rt: HostRuntime) -> Result<(), Fail> {
     Ok(())
 }
 
-/// Which unsynced writes a stop keeps, by how many of each sector: none, all, that of the header of epoch 1 alone; and how many stops of a
-/// format leave that header then: the last, and the one before its sync where it is kept.
+/// Which unsynced writes a stop keeps, by how many of each sector: none, all, that of the header of epoch 1 alone; and
+/// how many stops of a format leave that header then: the last, and the one before its sync where it is kept.
 const KEPT: &[(&[usize], usize)] = &[(&[], 1), (&[1; 1_711], 2), (&[0, 1], 2)];
 
-/// The first sector of a device with the header of epoch 1 that is unlike one made by hand; none where the header isn't there.
+/// The first sector of a device with the header of epoch 1 that is unlike one made by hand; none where the header isn't
+/// there.
 fn unlike_beside_header(
     rig: &mut MemoryRig<Global>,
     wanted: &mut MemoryRig<Global>,
@@ -102,8 +104,8 @@ fn unlike_beside_header(
     }
 }
 
-/// How many stops of a format leave the header of epoch 1, and the first of them that leaves anything else unlike what is made by hand,
-/// with the sector.
+/// How many stops of a format leave the header of epoch 1, and the first of them that leaves anything else unlike what
+/// is made by hand, with the sector.
 fn stops_with_header(
     alloc: Global,
     keep: &[usize],
@@ -123,7 +125,8 @@ fn stops_with_header(
     Ok((stops, None))
 }
 
-/// A format that is stopped after any of its calls leaves the header of epoch 1 only where all else is as format leaves it.
+/// A format that is stopped after any of its calls leaves the header of epoch 1 only where all else is as format leaves
+/// it.
 #[test]
 fn a_stopped_format_leaves_no_header_too_early(rt: HostRuntime) -> Result<(), Fail> {
     for (keep, stops) in KEPT {

@@ -22,8 +22,8 @@ enum Last {
     HandOut,
 }
 
-/// A journal in whose log eight entries stand that change each parameter, 114 sectors each, so that 108 are left; and perhaps a ninth that
-/// changes so many. Before power on this odd epoch was in force.
+/// A journal in whose log eight entries stand that change each parameter, 114 sectors each, so that 108 are left; and
+/// perhaps a ninth that changes so many. Before power on this odd epoch was in force.
 fn filled(
     alloc: Global,
     epoch: i64,
@@ -69,8 +69,8 @@ fn end<R: Rig + Drop>(mill: Mill<R>, last: Last) -> (Result<(), Fault>, bool, R)
     (done, journal.broken(), journal.into_rig())
 }
 
-/// What the last answers, whether the journal is broken then, how many reads, writes and syncs there are from power on, and the header of
-/// sector 1 then.
+/// What the last answers, whether the journal is broken then, how many reads, writes and syncs there are from power on,
+/// and the header of sector 1 then.
 type Ended = (Result<(), Fault>, bool, [u64; 3], [u8; 512]);
 
 fn ended(alloc: Global, epoch: i64, ninth: Option<i64>, last: Last) -> Result<Ended, Fail> {
@@ -81,11 +81,11 @@ fn ended(alloc: Global, epoch: i64, ninth: Option<i64>, last: Last) -> Result<En
 
 const USED_UP: Result<(), Fault> = Err(Fault::CountersUsed);
 
-/// The odd epoch before power on, the changes of a ninth entry, and what comes last: what that answers, how many writes and syncs it
-/// makes, and the odd epoch in sector 1 afterwards.
+/// The odd epoch before power on, the changes of a ninth entry, and what comes last: what that answers, how many writes
+/// and syncs it makes, and the odd epoch in sector 1 afterwards.
 ///
-/// 108 sectors are left for the ninth, which a record of 5,136 changes takes, and one of 5,088 but for one. A checkpoint makes 89 writes
-/// and 2 syncs, and takes an epoch: the last one goes up to 1,000,000,000,000.
+/// 108 sectors are left for the ninth, which a record of 5,136 changes takes, and one of 5,088 but for one. A
+/// checkpoint makes 89 writes and 2 syncs, and takes an epoch: the last one goes up to 1,000,000,000,000.
 type Row = (i64, Option<i64>, Last, Result<(), Fault>, u64, u64, i64);
 
 const ROWS: &[Row] = &[

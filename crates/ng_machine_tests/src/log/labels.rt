@@ -21,8 +21,8 @@ fn parts_of(changes: i64) -> i64 {
     changes.saturating_add(47).div_euclid(48)
 }
 
-/// Another part of that record. Change n of the record makes a parameter n + 1 millionths: the first to the last in turn, and again from
-/// the first.
+/// Another part of that record. Change n of the record makes a parameter n + 1 millionths: the first to the last in
+/// turn, and again from the first.
 fn changes_part(part: i64, changes: i64) -> [u8; 512] {
     let mut sector = part_with(label(part, changes), &[]);
     let first = part.saturating_sub(1).saturating_mul(48);
@@ -40,8 +40,8 @@ fn changes_part(part: i64, changes: i64) -> [u8; 512] {
     sector
 }
 
-/// A device of this format under this odd epoch with 3 entries in its snapshot, and in its log this first part. It has two sectors more than
-/// it takes.
+/// A device of this format under this odd epoch with 3 entries in its snapshot, and in its log this first part. It has
+/// two sectors more than it takes.
 fn laid(
     alloc: Global,
     format: i64,
@@ -60,8 +60,8 @@ fn laid(
     }
 }
 
-/// A device of this format under epoch 1 with one record of so many changes and 7 entries, as much of it as its counts can say. It may go on
-/// in the sectors after the log.
+/// A device of this format under epoch 1 with one record of so many changes and 7 entries, as much of it as its counts
+/// can say. It may go on in the sectors after the log.
 fn with_changes(alloc: Global, format: i64, changes: i64) -> Result<MemoryRig<Global>, Fail> {
     let mut rig = laid(alloc, format, 1, &state_part(label(0, changes), 7))?;
     let mut is_laid = true;
@@ -96,7 +96,8 @@ fn first_unlike(params: &Params<Global>, changes: i64) -> Option<i64> {
     None
 }
 
-/// The entries that power on finds on a device, or why it is refused, and the first parameter that isn't what so many changes make it.
+/// The entries that power on finds on a device, or why it is refused, and the first parameter that isn't what so many
+/// changes make it.
 fn found(alloc: Global, rig: MemoryRig<Global>, changes: i64) -> (Result<u64, Fault>, Option<i64>) {
     match recover(alloc, rig, &Tools::new()) {
         Ok((journal, stored)) => {
@@ -108,8 +109,8 @@ fn found(alloc: Global, rig: MemoryRig<Global>, changes: i64) -> (Result<u64, Fa
     }
 }
 
-/// The format, and how many changes a record has; the entries that power on finds, and how many changes stand. A log of 1,020 sectors has room
-/// for 48,912 in the parts after the first, and one of 1,024, in format 1, for 49,104.
+/// The format, and how many changes a record has; the entries that power on finds, and how many changes stand. A log of
+/// 1,020 sectors has room for 48,912 in the parts after the first, and one of 1,024, in format 1, for 49,104.
 const CHANGES: &[(i64, i64, u64, i64)] = &[
     (2, 0, 7, 0),
     (2, 1, 7, 1),

@@ -28,8 +28,8 @@ fn ones(label: Label, first: i64, count: i64) -> [u8; 512] {
     sector
 }
 
-/// Lays two records into the log of a formatted device: one of one part, with 7 entries, and one of three parts, with 8 entries, in which
-/// parameters 1 to 49 are 1.
+/// Lays two records into the log of a formatted device: one of one part, with 7 entries, and one of three parts, with 8
+/// entries, in which parameters 1 to 49 are 1.
 fn lay_records<R: Rig>(rig: &mut R) -> bool {
     store(rig, 686, &state_part((1, 0, 0, 1, 0), 7))
         && store(rig, 687, &state_part((1, 1, 0, 3, 49), 8))
@@ -37,7 +37,8 @@ fn lay_records<R: Rig>(rig: &mut R) -> bool {
         && store(rig, 689, &ones((1, 1, 2, 3, 49), 49, 1))
 }
 
-/// The entries that power on finds and parameter 49, in millionths, or why it refuses the device; and how many calls it makes.
+/// The entries that power on finds and parameter 49, in millionths, or why it refuses the device; and how many calls it
+/// makes.
 type Found = (Result<(u64, i64), Fault>, usize);
 
 fn found(alloc: Global, rig: MemoryRig<Global>) -> Found {
@@ -190,7 +191,8 @@ fn records_with_a_number_changed(rt: HostRuntime) -> Result<(), Fail> {
     Ok(())
 }
 
-/// Lays so many records of one part, each of which counts an entry more, and after them one of two parts, by which parameter 49 is 1.
+/// Lays so many records of one part, each of which counts an entry more, and after them one of two parts, by which
+/// parameter 49 is 1.
 pub fn lay_to_the_end<R: Rig>(rig: &mut R, records: usize) -> bool {
     let mut is_laid = true;
     let mut number = 0;
@@ -222,8 +224,8 @@ fn found_to_the_end(alloc: Global, format: i64, records: usize) -> Result<Found,
     }
 }
 
-/// The format, and how many records of one part there are, and what power on finds with one of two parts after them: that counts where it
-/// ends within the log's last sector, 1705, or 1709 in format 1.
+/// The format, and how many records of one part there are, and what power on finds with one of two parts after them:
+/// that counts where it ends within the log's last sector, 1705, or 1709 in format 1.
 const ENDS: &[(i64, usize, Found)] = &[
     (2, 1_017, (Ok((1_017, 1_000_000)), 92)),
     (2, 1_018, (Ok((1_018, 1_000_000)), 92)),

@@ -69,7 +69,8 @@ fn laid(alloc: Global, slots: i64, changes: &[Change]) -> Result<MemoryRig<Globa
     }
 }
 
-/// How many slots a device has, and what its records change; how many slots there are then, or none where power on says that it is damaged.
+/// How many slots a device has, and what its records change; how many slots there are then, or none where power on says
+/// that it is damaged.
 type Row = (i64, &'static [Change], Option<i64>);
 
 const ROWS: &[Row] = &[
@@ -126,7 +127,8 @@ const ROWS: &[Row] = &[
     (1, &[(0, -1), (0, 0)], None),
 ];
 
-/// Whether power on makes of a device what its row says: it writes the whole table, or refuses the device before any write.
+/// Whether power on makes of a device what its row says: it writes the whole table, or refuses the device before any
+/// write.
 fn is_as_wanted(alloc: Global, row: &Row) -> Result<bool, Fail> {
     let rig = laid(alloc, row.0, row.1)?;
     let before = rig.calls();

@@ -1,4 +1,5 @@
-//! The journal beside a plain one, which writes a whole snapshot for each entry and each opened segment: what both devices stand for.
+//! The journal beside a plain one, which writes a whole snapshot for each entry and each opened segment: what both
+//! devices stand for.
 ghost use Rattle.std.specs.Prelude.{◌≡◌, ◌≤◌, IsSome, IsNone, IfSome};
 ghost use Rattle.std.proofs.Props.{props};
 ghost use Rattle.ng_layout.specs.Storable.{IsStorableHalf, IsStorable};
@@ -17,8 +18,8 @@ use std::test::Fail;
 /// What is stored next.
 #[derive(Clone, Copy)]
 enum Deed {
-    /// An entry: so many parameters from this one on become this value, the machine stands at X, the next line begins at this byte, and no
-    /// block is half-done.
+    /// An entry: so many parameters from this one on become this value, the machine stands at X, the next line begins
+    /// at this byte, and no block is half-done.
     Entry(i64, i64, i64, i64, u64),
     /// An entry: this slot is so many nanometres long.
     Tool(u8, i64),
@@ -327,7 +328,8 @@ fn snapshotted(
     Ok((rig, stored))
 }
 
-/// What a device stands for that power left with nothing unsynced, and the program's line at its place and at the beginning.
+/// What a device stands for that power left with nothing unsynced, and the program's line at its place and at the
+/// beginning.
 type Found = (Stored<Global>, [Option<ProgramLine>; 2]);
 
 /// What it stands for beside these tools in the settings.
@@ -429,7 +431,8 @@ fn a_journal_of_snapshots_stands_for_the_same(rt: HostRuntime) -> Result<(), Fai
     Ok(())
 }
 
-/// Whether a plain journal of format 1 stands for what is stored, with the settings' tools in place of its own, after these deeds.
+/// Whether a plain journal of format 1 stands for what is stored, with the settings' tools in place of its own, after
+/// these deeds.
 fn stands_beside_tools(alloc: Global, deeds: &[Deed]) -> Result<bool, Fail> {
     let mut tools = Tools::new();
     set_slot(&mut tools, 1, 50_000_000);

@@ -8,7 +8,8 @@ use ng_rig::MemoryRig;
 use std::alloc::Global;
 use std::test::Fail;
 
-/// How many parameters an entry changes, and how many parts its record has: one with the state, and one for each 48 changes.
+/// How many parameters an entry changes, and how many parts its record has: one with the state, and one for each 48
+/// changes.
 const ENTRIES: &[(i64, u64)] = &[
     (0, 1),
     (1, 2),
@@ -19,7 +20,8 @@ const ENTRIES: &[(i64, u64)] = &[
     (5_399, 114),
 ];
 
-/// How many reads, writes and syncs there are from power on to an entry that changes so many parameters, if one is made; and the device.
+/// How many reads, writes and syncs there are from power on to an entry that changes so many parameters, if one is
+/// made; and the device.
 fn counted(alloc: Global, changes: Option<i64>) -> Result<([u64; 3], MemoryRig<Global>), Fail> {
     let mut mill = Mill::on(alloc, Counting::new(formatted(alloc)?))?;
     if let Some(changes) = changes {
@@ -57,10 +59,12 @@ fn an_entry_is_a_write_a_part_and_a_sync(rt: HostRuntime) -> Result<(), Fail> {
     Ok(())
 }
 
-/// How many parameters each of seven entries changes, one after the other from the first on; each becomes the number of its entry.
+/// How many parameters each of seven entries changes, one after the other from the first on; each becomes the number of
+/// its entry.
 const GROUPS: &[i64] = &[49, 49, 42, 42, 42, 42, 34];
 
-/// The parts of their seven records, by their sectors: the first part holds the entry count, another so many parameters from this one on.
+/// The parts of their seven records, by their sectors: the first part holds the entry count, another so many parameters
+/// from this one on.
 const PARTS: &[(usize, Label, i64, i64)] = &[
     (686, (2, 0, 0, 3, 49), 0, 0),
     (687, (2, 0, 1, 3, 49), 1, 48),

@@ -137,7 +137,8 @@ fn cycles_run_in_flat_memory_and_begin_at_once(rt: HostRuntime) -> Result<(), Fa
 /// The bytes by which heaps are tried.
 const GRAIN: usize = 64;
 
-/// The least heap, in bytes, in which a program finds all memory that it wants, until so many bytes of its text are taken.
+/// The least heap, in bytes, in which a program finds all memory that it wants, until so many bytes of its text are
+/// taken.
 fn least_heap(alloc: Global, program: &str, at_most: usize) -> Result<usize, Fail> {
     let mut small: usize = 0;
     let mut large: usize = HEAP / GRAIN;

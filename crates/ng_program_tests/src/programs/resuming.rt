@@ -1,5 +1,5 @@
-//! Blocks that go on at one of their segments: where the machine stands then, how its spindle turns, and the segment that comes.
-//! Worked out by hand from the language.
+//! Blocks that go on at one of their segments: where the machine stands then, how its spindle turns, and the segment
+//! that comes. Worked out by hand from the language.
 use super::executed;
 use ng_block::Resumed;
 use ng_canon::{Pace, Segment, Spindle};
@@ -10,9 +10,9 @@ use std::test::Fail;
 
 type Text = Result<String<Global>, Fail>;
 
-/// A line, a number of segments that are done of it, and what holds after them: the machine point, the spindle, and the segment
-/// that comes with where it ends. Lengths are in nanometres, dwells in millionths of a second. The line begins 5 mm above the zero
-/// point, while the spindle turns clockwise.
+/// A line, a number of segments that are done of it, and what holds after them: the machine point, the spindle, and the
+/// segment that comes with where it ends. Lengths are in nanometres, dwells in millionths of a second. The line begins
+/// 5 mm above the zero point, while the spindle turns clockwise.
 const ROWS: &[(&str, u64, &str)] = &[
     // no segment at all
     ("", 0, "0 0 5000000 clockwise, nothing"),

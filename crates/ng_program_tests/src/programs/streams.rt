@@ -135,7 +135,8 @@ fn writes_a_beginning_where_its_second_write_fails(rt: HostRuntime) -> Result<()
     Ok(())
 }
 
-/// How many lines a program has, and how many bytes a read gives at most: 24,000 reads of a byte, and 110 of a whole buffer.
+/// How many lines a program has, and how many bytes a read gives at most: 24,000 reads of a byte, and 110 of a whole
+/// buffer.
 const READS: &[(usize, usize)] = &[(4_000, 1), (150_000, 8192)];
 
 #[test]
