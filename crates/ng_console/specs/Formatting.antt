@@ -10,6 +10,8 @@ use Rattle.ng_rig.specs.Calls.{IfHonest}
 use Rattle.ng_file.specs.FileRig.{failure_count, sector_count}
 use Rattle.ng_file.specs.declared.device.NoDevice.{NoDevice}
 use Rattle.ng_file.specs.declared.rig.FileRig.{FileRig}
+use Rattle.ng_layout.specs.Areas.{is_large_size}
+use Rattle.ng_layout.specs.Header.{program_room}
 use Rattle.ng_journal.specs.Formats.{FormatSpec}
 use Rattle.ng_journal.specs.Journal.{CountsFailure}
 use Rattle.ng_console.specs.Devices.{IsOver}
@@ -23,7 +25,7 @@ pub record FormatsRig {R : Type 0} (large : Bool) (sectors failed : R → ℕ) (
   pub small : IsErrOf formatted NotFormatted ↔ (sectors rig_old < wanted_size large)
   pub unchanged : IsErrOf formatted NotFormatted → rig_new ≡ rig_old
   pub faults : IfErr formatted (λ fault. (fault ≡ NotFormatted) ⊎ (fault ≡ DeviceFailed))
-  pub formats : wanted_size large ≤ sectors rig_old → IfHonest (honest rig_old) (honest rig_new) (FormatSpec formatted (trace rig_old) (trace rig_new))
+  pub formats : wanted_size large ≤ sectors rig_old → IfHonest (honest rig_old) (honest rig_new) (FormatSpec formatted (program_room (is_large_size (sectors rig_old))) (trace rig_old) (trace rig_new))
   pub tells : CountsFailure formatted (failed rig_old) (failed rig_new)
 
 -- The same of the device in a file; or none can be made of its bytes: they can't say how many they are, or there isn't enough memory.

@@ -24,7 +24,7 @@ const DEVICE_ENDINGS: &str =
 
 /// What stands below that of `grow`.
 const GROWTH_ENDINGS: &str =
-    "What the device holds stays. A program still has at most 131072 bytes: nothing uses\nthe new sectors yet.\n\nExit status:\n  0  the device has 5806 sectors or more\n  2  the words are wrong, or ask for help; or the file can't be opened, is no device,\n     is a directory, is held by another process, or fails\n\nA file that can't be opened prints nothing; the others print why. After a failure,\nor where it was ended, the device is as good as before: grow it again.";
+    "What the device holds stays, and a program may have up to 1048576 bytes from then on,\nin place of 131072.\n\nExit status:\n  0  the device has 5806 sectors or more\n  2  the words are wrong, or ask for help; or the file can't be opened, is no device,\n     is a directory, is held by another process, or fails\n\nA file that can't be opened prints nothing; the others print why. After a failure,\nor where it was ended, the device is as good as before: grow it again.";
 
 /// What stands below that of `run`: the commands of its console, and how it ends.
 const RUN_COMMANDS_AND_ENDINGS: &str =

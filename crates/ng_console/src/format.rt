@@ -2,6 +2,8 @@
 ghost use Rattle.std.specs.Prelude.{◌≡◌, ◌<◌, ◌≤◌, ◌↔◌, ◌⊎◌, IfErr, IfOk, IsErrOf};
 ghost use Rattle.ng_num.specs.declared.fault.Fault.TheVariants.{DeviceFailed, NotFormatted};
 ghost use Rattle.ng_rig.specs.Calls.{IfHonest};
+ghost use Rattle.ng_layout.specs.Areas.{is_large_size};
+ghost use Rattle.ng_layout.specs.Header.{program_room};
 ghost use Rattle.ng_journal.specs.Formats.{FormatSpec};
 ghost use Rattle.ng_journal.specs.Journal.{CountsFailure};
 ghost use Rattle.ng_console.specs.Formatting.{FormatsDevice, FormatsOpened, FormatsRig};
@@ -106,8 +108,8 @@ pub fn format_rig<R: Rig, W: Write>(rig: &mut R, large: bool, writer: &mut W) ->
 
 /// Makes a device fresh that has the sectors of a large one, or of any. J2 where it has fewer, and then it isn't called.
 fn format_wanted<R: Rig>(rig: &mut R, large: bool) -> Result<(), Fault>
-    ensures formats { wanted_size large ≤ R.sectors rig.old
-        → IfHonest (R.honest rig.old) (R.honest rig.new) (FormatSpec result (R.trace rig.old) (R.trace rig.new)) }
+    ensures formats { let room = program_room (is_large_size (R.sectors rig.old)) in wanted_size large ≤ R.sectors rig.old
+        → IfHonest (R.honest rig.old) (R.honest rig.new) (FormatSpec result room (R.trace rig.old) (R.trace rig.new)) }
     ensures small { IsErrOf result NotFormatted ↔ (R.sectors rig.old < wanted_size large) }
     ensures unchanged { IsErrOf result NotFormatted → rig.new ≡ rig.old }
     ensures errors { IfErr result (λ e. (e ≡ NotFormatted) ⊎ (e ≡ DeviceFailed)) }

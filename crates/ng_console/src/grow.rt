@@ -8,9 +8,8 @@ ghost use Rattle.ng_console.specs.Growing.{GrowsFile, GrowsInPart, GrowsOpened, 
 
 use crate::format::refuse_device;
 use crate::program::refuse;
-use crate::size::LARGE_SIZE;
 use ng_file::{Append, NoDevice, Storage, lengthen};
-use ng_layout::{Header, LEAST_SIZE, SECTOR_BYTES};
+use ng_layout::{Header, LARGE_SIZE, LEAST_SIZE, SECTOR_BYTES};
 use ng_num::Fault;
 use ng_run::{DONE, FAILED};
 use std::io;
@@ -91,23 +90,25 @@ fn is_device<S: Storage>(file: &mut S) -> io::Result<bool>
     ensures value { IfOk result (λ truth. IfSome (S.content file.old) (λ held. truth ≡ is_device held)) }
     ensures stays { S.content file.new ≡ S.content file.old }
 {
-    if file.length()? < LEAST_BYTES {
+    let length = file.length()?;
+    if length < LEAST_BYTES {
         return Ok(false);
     }
-    let even = read_header(file, 0)?;
-    let odd = read_header(file, 1)?;
+    let is_large = length >= LARGE_BYTES;
+    let even = read_header(file, is_large, 0)?;
+    let odd = read_header(file, is_large, 1)?;
     Ok(is_either(even, odd))
 }
 
-/// The header that a sector, 0 or 1, holds, if it is valid.
-fn read_header<S: Storage>(file: &mut S, sector: u64) -> io::Result<Option<Header>>
+/// The header that a sector, 0 or 1, holds, if it is valid on a large device or on any other.
+fn read_header<S: Storage>(file: &mut S, is_large: bool, sector: u64) -> io::Result<Option<Header>>
     requires { sector ≤ 1 }
-    ensures value { IfOk result (λ header. IfSome (S.content file.old) (λ held. header ≡ header_in sector (sector_of sector held))) }
+    ensures value { IfOk result (λ header. IfSome (S.content file.old) (λ held. header ≡ header_in is_large sector (sector_of sector held))) }
     ensures stays { S.content file.new ≡ S.content file.old }
 {
     let mut bytes = [0; SECTOR_BYTES];
     file.read_at(sector * SECTOR_BYTES as u64, &mut bytes)?;
-    Ok(Header::read(sector, &bytes))
+    Ok(Header::read(is_large, sector, &bytes))
 }
 
 /// Whether there is one of these headers.
