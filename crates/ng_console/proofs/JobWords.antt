@@ -1,5 +1,5 @@
--- Where clap finds no fault in a command line of `ngc`, it has met one of the subcommands, with a value of each of its files and its
--- flags on or off.
+-- Where clap finds no fault in a command line of `ngc`, it has met one of the subcommands, with a value of each of its
+-- files and its flags on or off.
 use Rattle.std.proofs.Common.{drop, get_or, ◌≡◌, ◌∙◌, refl, sym, ap, subst, Bool, true, false, List, [], ◌∷◌, ℕ, Option, Some, None, is_some, codes, arith}
 use Rattle.std.specs.Prelude.{◌&&◌, ◌||◌, not, if◌then◌else◌, option_map, unwrap_or, Box}
 use Rattle.std.specs.Option.{option_map_or}
@@ -242,7 +242,8 @@ name_met words app matches is_ngc has = sym (first (out-ArgMatches matches).subc
 one_met : (words : List Text) (app : App) → app ≡ ngc_app → (is_simple_and_free app ≡ true → fault_of app words ≡ []) → IsOneNamed (subcommand_of ngc_app words)
 one_met words app is_ngc kinds = names_one words (ap (λ a. fault_of a words) (sym is_ngc) ∙ kinds (ap is_simple_and_free is_ngc ∙ is_plain))
 
--- where clap found no fault and the matches name a subcommand, those below are what the words name, with its files and its flags
+-- where clap found no fault and the matches name a subcommand, those below are what the words name, with its files and
+-- its flags
 pub found_of : (s : Subcommand) (words : List Text) (app : App) (matches : ArgMatches) (found : List Row) → app ≡ ngc_app
     → (is_simple_and_free app ≡ true → fault_of app words ≡ []) → HasMatchesOf app words matches → option_map (λ p. p.1) (subcommand_rows_of matches) ≡ Some found
     → subcommand_name_of matches ≡ Some (name_of s) → IsNamed s (subcommand_of ngc_app words) found

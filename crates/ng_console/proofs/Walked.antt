@@ -1,5 +1,5 @@
--- What any words leave in the rows of a command of one level: the row of a positional has a value, since nothing but a word becomes a
--- value of it, and the row of a flag says on or off.
+-- What any words leave in the rows of a command of one level: the row of a positional has a value, since nothing but a
+-- word becomes a value of it, and the row of a flag says on or off.
 use Rattle.std.proofs.Common.{ℕ, zero, suc, ◌<◌, ◌==◌, ◌≡◌, ◌++◌, Bool, true, false, List, [], ◌∷◌, length, Option, Some, None, is_some, drop, cond, refl, sym, ap, ◌∙◌, arith, find, fold, slice_get, option_map, option_and_then, encode_utf8, bytes_eq, chars}
 use Rattle.std.specs.Prelude.{◌&&◌, ◌||◌, not, nat_lt, if◌then◌else◌, ⊤}
 use Rattle.std.specs.List.{list_any}

@@ -10,23 +10,27 @@ use Rattle.ng_rig.specs.Calls.{IfHonest}
 use Rattle.ng_file.specs.FileRig.{failure_count, sector_count}
 use Rattle.ng_file.specs.declared.device.NoDevice.{NoDevice}
 use Rattle.ng_file.specs.declared.rig.FileRig.{FileRig}
+use Rattle.ng_layout.specs.Areas.{is_large_size}
+use Rattle.ng_layout.specs.Header.{program_room}
 use Rattle.ng_journal.specs.Formats.{FormatSpec}
 use Rattle.ng_journal.specs.Journal.{CountsFailure}
 use Rattle.ng_console.specs.Devices.{IsOver}
 use Rattle.ng_console.specs.Refusals.{FaultStatus, RefusesDevice, RefusesStorage}
 use Rattle.ng_console.specs.Sizes.{wanted_size}
 
--- The answer is that of formatting the device, which the journal defines. One that has too few sectors is refused as such, no other is, and it stays as it was.
+-- The answer is that of formatting the device, which the journal defines. One that has too few sectors is refused as
+-- such, no other is, and it stays as it was.
 pub record FormatsRig {R : Type 0} (large : Bool) (sectors failed : R → ℕ) (honest : R → Type 0) (trace : R → Trace) (rig_old rig_new : R) (old new : Option (List ℕ)) (status : ℕ) : Type 0 where
   pub formatted : Result (Unit {0}) Fault
   pub answers : FaultStatus formatted old new status
   pub small : IsErrOf formatted NotFormatted ↔ (sectors rig_old < wanted_size large)
   pub unchanged : IsErrOf formatted NotFormatted → rig_new ≡ rig_old
   pub faults : IfErr formatted (λ fault. (fault ≡ NotFormatted) ⊎ (fault ≡ DeviceFailed))
-  pub formats : wanted_size large ≤ sectors rig_old → IfHonest (honest rig_old) (honest rig_new) (FormatSpec formatted (trace rig_old) (trace rig_new))
+  pub formats : wanted_size large ≤ sectors rig_old → IfHonest (honest rig_old) (honest rig_new) (FormatSpec formatted (program_room (is_large_size (sectors rig_old))) (trace rig_old) (trace rig_new))
   pub tells : CountsFailure formatted (failed rig_old) (failed rig_new)
 
--- The same of the device in a file; or none can be made of its bytes: they can't say how many they are, or there isn't enough memory.
+-- The same of the device in a file; or none can be made of its bytes: they can't say how many they are, or there isn't
+-- enough memory.
 abbrev pub FormatsDevice : {S : Type 0} → (S → Option (List ℕ)) → Bool → S → Option (List ℕ) → Option (List ℕ) → ℕ → Type 0
 FormatsDevice {S} content large file old new status =
     ((rig : FileRig S Sink Global) × (left : FileRig S Sink Global) × (out : Sink) × IsOver content file out rig

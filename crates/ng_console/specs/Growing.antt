@@ -4,22 +4,26 @@ use Rattle.ng_num.specs.declared.fault.Fault.{Fault}
 use Rattle.ng_num.specs.declared.fault.Fault.TheVariants.{DeviceFailed, NotFormatted}
 use Rattle.ng_file.specs.Bytes.{Lengthened, LengthenedInPart, sector_of}
 use Rattle.ng_file.specs.declared.device.NoDevice.{NoDevice}
-use Rattle.ng_layout.specs.Areas.{least_size}
-use Rattle.ng_layout.specs.Stands.{in_force}
+use Rattle.ng_layout.specs.Areas.{large_size, least_size}
+use Rattle.ng_layout.specs.Header.{header_in}
+use Rattle.ng_layout.specs.Stands.{newer}
 use Rattle.ng_console.specs.Refusals.{FaultStatus, RefusesDevice}
-use Rattle.ng_console.specs.Sizes.{large_size}
-
--- one of the two headers is valid
-abbrev pub has_header : List ℕ → Bool
-has_header held = is_some (in_force (λ n. sector_of n held))
-
--- these bytes are a device's: there are the sectors of one, and a valid header
-abbrev pub is_device : List ℕ → Bool
-is_device held = nat_le (512 * least_size) (length held) && has_header held
 
 -- how many bytes a large device has
 abbrev pub large_bytes : ℕ
 large_bytes = 512 * large_size
+
+-- these bytes are as many as those of a large device
+abbrev pub is_large : List ℕ → Bool
+is_large held = nat_le large_bytes (length held)
+
+-- one of the two headers is valid on a device of so many bytes
+abbrev pub has_header : List ℕ → Bool
+has_header held = is_some (newer (header_in (is_large held) 0 (sector_of 0 held)) (header_in (is_large held) 1 (sector_of 1 held)))
+
+-- these bytes are a device's: there are the sectors of one, and a valid header
+abbrev pub is_device : List ℕ → Bool
+is_device held = nat_le (512 * least_size) (length held) && has_header held
 
 -- nothing is changed, or the bytes are a device's and some of the zeros stand after them
 abbrev pub GrowsInPart : {S : Type 0} → (S → Option (List ℕ)) → S → S → Type 0
@@ -27,8 +31,9 @@ GrowsInPart content old new =
     (content new ≡ content old)
     ⊎ (IfSome (content old) (λ held. is_device held ≡ true) × LengthenedInPart large_bytes (content old) (content new))
 
--- A file that is a device gets the length of a large one, by zeros after what it held, and lasts. One that is none is refused as such, and stays as it was. Where the
--- file fails nothing is changed, or it is a device and has some of the zeros.
+-- A file that is a device gets the length of a large one, by zeros after what it held, and lasts. One that is none is
+-- refused as such, and stays as it was. Where the file fails nothing is changed, or it is a device and has some of the
+-- zeros.
 pub record GrowsFile {S : Type 0} (content lasting : S → Option (List ℕ)) (file_old file_new : S) (old new : Option (List ℕ)) (status : ℕ) : Type 0 where
   pub grown : Result (Unit {0}) Fault
   pub answers : FaultStatus grown old new status

@@ -1,4 +1,5 @@
--- What the job `run` does (own): an operator commands a controller over a device in a file, and what it hands out is appended to another.
+-- What the job `run` does (own): an operator commands a controller over a device in a file, and what it hands out is
+-- appended to another.
 use Rattle.std.specs.Prelude.{ℕ, ◌⊎◌, List, [], Option, Some, None, Result, Ok, Err}
 use Rattle.std.specs.declared.io.Error.{Error}
 use Rattle.std.specs.declared.alloc.Global.{Global}
@@ -14,7 +15,8 @@ use Rattle.ng_console.specs.Devices.{IsOver}
 use Rattle.ng_console.specs.Refusals.{IsSilent, RefusesDevice, RefusesSettings, RefusesStorage}
 use Rattle.ng_console.specs.declared.settings_file.NoSettings.{NoSettings}
 
--- the console's conversation over that device; or none can be made of these bytes: they can't say how many they are, or there isn't enough memory
+-- the console's conversation over that device; or none can be made of these bytes: they can't say how many they are, or
+-- there isn't enough memory
 abbrev pub OperatesDevice : {S O : Type 0} → (S → Option (List ℕ)) → Settings → S → O → Option (List ℕ) → Option (List ℕ) → Option (List ℕ) → ℕ → Type 0
 OperatesDevice {S} {O} content settings device out text old new status =
     ((rig : FileRig S O Global) × (left : FileRig S O Global) × IsOver content device out rig

@@ -1,10 +1,6 @@
 -- How many sectors a device has (own).
-use Rattle.std.specs.Prelude.{ℕ, ◌+◌, ◌*◌, Bool, true, false}
-use Rattle.ng_layout.specs.Areas.{least_size}
-
--- a large device: the sectors of any, and two areas of 2,048
-abbrev pub large_size : ℕ
-large_size = least_size + 2 * 2048
+use Rattle.std.specs.Prelude.{ℕ, Bool, true, false}
+use Rattle.ng_layout.specs.Areas.{large_size, least_size}
 
 -- what `format` asks for, of a large device or of any
 abbrev pub wanted_size : Bool → ℕ

@@ -1,5 +1,5 @@
--- How `ngc` ends (own): 0 done, 1 a refused program of a dry run, 2 anything that kept it from its work. Faults of status 2 are
--- looked for in the order words, one file given twice, settings file, other files, the run.
+-- How `ngc` ends (own): 0 done, 1 a refused program of a dry run, 2 anything that kept it from its work. Faults of
+-- status 2 are looked for in the order words, one file given twice, settings file, other files, the run.
 use Rattle.std.specs.Prelude.{ℕ, ◌≡◌, Bool, List, Option, None, Result, Ok, Err, IfSome, is_some}
 use Rattle.std.specs.declared.io.Error.{Error}
 use Rattle.ng_settings.specs.declared.standard.Settings.{Settings}

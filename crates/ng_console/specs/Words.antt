@@ -53,7 +53,8 @@ run_app = with_rule (with_rule (with_rule (new_app (codes "run")) device_rule) s
 abbrev pub only_by_subcommands : App → App
 only_by_subcommands app = record app { top = record app.top { has_version = true; subcommand_required = true; arg_required_else_help = true } }
 
--- ngc dry PROGRAM [--settings FILE] [--block-delete], ngc format DEVICE [--large], ngc grow DEVICE, or ngc run DEVICE SETTINGS OUT
+-- ngc dry PROGRAM [--settings FILE] [--block-delete], ngc format DEVICE [--large], ngc grow DEVICE, or ngc run DEVICE
+-- SETTINGS OUT
 abbrev pub ngc_app : App
 ngc_app = with_subcommand (with_subcommand (with_subcommand (with_subcommand (only_by_subcommands (new_app (codes "ngc"))) dry_app.top) format_app.top) grow_app.top) run_app.top
 

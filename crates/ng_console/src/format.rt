@@ -2,6 +2,8 @@
 ghost use Rattle.std.specs.Prelude.{◌≡◌, ◌<◌, ◌≤◌, ◌↔◌, ◌⊎◌, IfErr, IfOk, IsErrOf};
 ghost use Rattle.ng_num.specs.declared.fault.Fault.TheVariants.{DeviceFailed, NotFormatted};
 ghost use Rattle.ng_rig.specs.Calls.{IfHonest};
+ghost use Rattle.ng_layout.specs.Areas.{is_large_size};
+ghost use Rattle.ng_layout.specs.Header.{program_room};
 ghost use Rattle.ng_journal.specs.Formats.{FormatSpec};
 ghost use Rattle.ng_journal.specs.Journal.{CountsFailure};
 ghost use Rattle.ng_console.specs.Formatting.{FormatsDevice, FormatsOpened, FormatsRig};
@@ -19,9 +21,9 @@ use std::alloc::Global;
 use std::io;
 use std::io::{ErrorKind, Write};
 
-/// Makes the device in a file that was opened fresh, a large one or any, and gives the exit status: 0 where that is done. Where the file
-/// couldn't be opened nothing is written; where it can't be used, is too short or fails, or there isn't enough memory, the line of the
-/// fault is. The error is that of the writer.
+/// Makes the device in a file that was opened fresh, a large one or any, and gives the exit status: 0 where that is
+/// done. Where the file couldn't be opened nothing is written; where it can't be used, is too short or fails, or there
+/// isn't enough memory, the line of the fault is. The error is that of the writer.
 pub(crate) fn format_opened<S: Storage + Drop, W: Write>(
     alloc: Global,
     opened: Result<S, NoDevice>,
@@ -37,8 +39,8 @@ pub(crate) fn format_opened<S: Storage + Drop, W: Write>(
     }
 }
 
-/// Says why there is no device, and gives the exit status: of a file that couldn't be opened nothing is written, of one that can't
-/// be used the line of the fault. The error is that of the writer.
+/// Says why there is no device, and gives the exit status: of a file that couldn't be opened nothing is written, of one
+/// that can't be used the line of the fault. The error is that of the writer.
 pub(crate) fn refuse_device<W: Write>(writer: &mut W, why: NoDevice) -> io::Result<u8>
     ensures run { IfOk result (RefusesDevice why (W.contents writer.old) (W.contents writer.new)) }
     ensures range { IfOk result (λ status. status ≤ 2) }
@@ -68,8 +70,8 @@ fn format_storage<S: Storage + Drop, W: Write>(
     }
 }
 
-/// Says why no device can be made of a file that was opened, and gives the exit status: the line of the fault is written. The
-/// error is that of the writer.
+/// Says why no device can be made of a file that was opened, and gives the exit status: the line of the fault is
+/// written. The error is that of the writer.
 pub(crate) fn refuse_storage<W: Write>(writer: &mut W, why: io::Error) -> io::Result<u8>
     ensures run { IfOk result (RefusesStorage why (W.contents writer.old) (W.contents writer.new)) }
     ensures range { IfOk result (λ status. status ≤ 2) }
@@ -89,8 +91,8 @@ fn fault_of(error: &io::Error) -> Fault
     }
 }
 
-/// Makes a device fresh, a large one or any, and gives the exit status: 0 where that is done, else 2, and the line of the fault is
-/// written. The error is that of the writer.
+/// Makes a device fresh, a large one or any, and gives the exit status: 0 where that is done, else 2, and the line of
+/// the fault is written. The error is that of the writer.
 pub fn format_rig<R: Rig, W: Write>(rig: &mut R, large: bool, writer: &mut W) -> io::Result<u8>
     ensures range { IfOk result (λ status. status ≤ 2) }
     ensures run { IfOk result (FormatsRig large R.sectors R.failed R.honest R.trace rig.old rig.new (W.contents writer.old) (W.contents writer.new)) }
@@ -104,10 +106,11 @@ pub fn format_rig<R: Rig, W: Write>(rig: &mut R, large: bool, writer: &mut W) ->
     }
 }
 
-/// Makes a device fresh that has the sectors of a large one, or of any. J2 where it has fewer, and then it isn't called.
+/// Makes a device fresh that has the sectors of a large one, or of any. J2 where it has fewer, and then it isn't
+/// called.
 fn format_wanted<R: Rig>(rig: &mut R, large: bool) -> Result<(), Fault>
-    ensures formats { wanted_size large ≤ R.sectors rig.old
-        → IfHonest (R.honest rig.old) (R.honest rig.new) (FormatSpec result (R.trace rig.old) (R.trace rig.new)) }
+    ensures formats { let room = program_room (is_large_size (R.sectors rig.old)) in wanted_size large ≤ R.sectors rig.old
+        → IfHonest (R.honest rig.old) (R.honest rig.new) (FormatSpec result room (R.trace rig.old) (R.trace rig.new)) }
     ensures small { IsErrOf result NotFormatted ↔ (R.sectors rig.old < wanted_size large) }
     ensures unchanged { IsErrOf result NotFormatted → rig.new ≡ rig.old }
     ensures errors { IfErr result (λ e. (e ≡ NotFormatted) ⊎ (e ≡ DeviceFailed)) }

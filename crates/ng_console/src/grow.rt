@@ -8,9 +8,8 @@ ghost use Rattle.ng_console.specs.Growing.{GrowsFile, GrowsInPart, GrowsOpened, 
 
 use crate::format::refuse_device;
 use crate::program::refuse;
-use crate::size::LARGE_SIZE;
 use ng_file::{Append, NoDevice, Storage, lengthen};
-use ng_layout::{Header, LEAST_SIZE, SECTOR_BYTES};
+use ng_layout::{Header, LARGE_SIZE, LEAST_SIZE, SECTOR_BYTES};
 use ng_num::Fault;
 use ng_run::{DONE, FAILED};
 use std::io;
@@ -22,9 +21,9 @@ const LEAST_BYTES: u64 = (LEAST_SIZE * SECTOR_BYTES) as u64;
 /// The bytes of a large device.
 const LARGE_BYTES: u64 = (LARGE_SIZE * SECTOR_BYTES) as u64;
 
-/// Lengthens the device in a file that was opened, and gives the exit status: 0 where that is done, also where it is as long already.
-/// Where the file couldn't be opened nothing is written; where it can't be used, is no device or fails, the line of the fault is. The
-/// error is that of the writer.
+/// Lengthens the device in a file that was opened, and gives the exit status: 0 where that is done, also where it is as
+/// long already. Where the file couldn't be opened nothing is written; where it can't be used, is no device or fails,
+/// the line of the fault is. The error is that of the writer.
 pub(crate) fn grow_opened<S: Append + Drop, W: Write>(
     opened: Result<S, NoDevice>,
     writer: &mut W,
@@ -38,8 +37,8 @@ pub(crate) fn grow_opened<S: Append + Drop, W: Write>(
     }
 }
 
-/// Lengthens the device in a file, and gives the exit status: 0 where that is done, else 2, and the line of the fault is written. The
-/// error is that of the writer.
+/// Lengthens the device in a file, and gives the exit status: 0 where that is done, else 2, and the line of the fault
+/// is written. The error is that of the writer.
 pub fn grow_file<S: Append, W: Write>(file: &mut S, writer: &mut W) -> io::Result<u8>
     ensures range { IfOk result (λ status. status ≤ 2) }
     ensures run { IfOk result (GrowsFile S.content S.lasting file.old file.new (W.contents writer.old) (W.contents writer.new)) }
@@ -53,11 +52,11 @@ pub fn grow_file<S: Append, W: Write>(file: &mut S, writer: &mut W) -> io::Resul
     }
 }
 
-/// Lengthens the device in a file to a large one, and makes it last. One that is as long or longer keeps its length, and is made to last
-/// too, since it may have been lengthened by a process that was ended before it had done so.
+/// Lengthens the device in a file to a large one, and makes it last. One that is as long or longer keeps its length,
+/// and is made to last too, since it may have been lengthened by a process that was ended before it had done so.
 ///
-/// J2 where the file isn't a device, and then nothing is changed. J1 where the file fails: then nothing is changed, or zeros stand after
-/// what the device held. It takes no memory.
+/// J2 where the file isn't a device, and then nothing is changed. J1 where the file fails: then nothing is changed, or
+/// zeros stand after what the device held. It takes no memory.
 fn grow<S: Append>(file: &mut S) -> Result<(), Fault>
     ensures device { OnOk result (IfSome (S.content file.old) (λ held. is_device held ≡ true)) }
     ensures lengthened { OnOk result (Lengthened large_bytes (S.content file.old) (S.content file.new)) }
@@ -91,23 +90,25 @@ fn is_device<S: Storage>(file: &mut S) -> io::Result<bool>
     ensures value { IfOk result (λ truth. IfSome (S.content file.old) (λ held. truth ≡ is_device held)) }
     ensures stays { S.content file.new ≡ S.content file.old }
 {
-    if file.length()? < LEAST_BYTES {
+    let length = file.length()?;
+    if length < LEAST_BYTES {
         return Ok(false);
     }
-    let even = read_header(file, 0)?;
-    let odd = read_header(file, 1)?;
+    let is_large = length >= LARGE_BYTES;
+    let even = read_header(file, is_large, 0)?;
+    let odd = read_header(file, is_large, 1)?;
     Ok(is_either(even, odd))
 }
 
-/// The header that a sector, 0 or 1, holds, if it is valid.
-fn read_header<S: Storage>(file: &mut S, sector: u64) -> io::Result<Option<Header>>
+/// The header that a sector, 0 or 1, holds, if it is valid on a large device or on any other.
+fn read_header<S: Storage>(file: &mut S, is_large: bool, sector: u64) -> io::Result<Option<Header>>
     requires { sector ≤ 1 }
-    ensures value { IfOk result (λ header. IfSome (S.content file.old) (λ held. header ≡ header_in sector (sector_of sector held))) }
+    ensures value { IfOk result (λ header. IfSome (S.content file.old) (λ held. header ≡ header_in is_large sector (sector_of sector held))) }
     ensures stays { S.content file.new ≡ S.content file.old }
 {
     let mut bytes = [0; SECTOR_BYTES];
     file.read_at(sector * SECTOR_BYTES as u64, &mut bytes)?;
-    Ok(Header::read(sector, &bytes))
+    Ok(Header::read(is_large, sector, &bytes))
 }
 
 /// Whether there is one of these headers.

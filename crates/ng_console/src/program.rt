@@ -25,11 +25,11 @@ use std::{env, fs, io};
 /// The program that was to be run is refused.
 const REFUSED: u8 = 1;
 
-/// Does what the words that the process was started with ask for, and gives the exit status. A standard stream that is closed at the start
-/// is `/dev/null` to the end.
+/// Does what the words that the process was started with ask for, and gives the exit status. A standard stream that is
+/// closed at the start is `/dev/null` to the end.
 ///
-/// Where `/dev/null` can't be opened, and where the words are not text or there is no memory for them, nothing is printed and the status
-/// is 2; for the rest see `ngc`. Source: own.
+/// Where `/dev/null` can't be opened, and where the words are not text or there is no memory for them, nothing is
+/// printed and the status is 2; for the rest see `ngc`. Source: own.
 pub fn start<R: Env + Files + AllocGlobal, I: Read, W: Write>(
     rt: &R,
     reader: &mut I,
@@ -56,8 +56,8 @@ where
     ngc(rt, texts.as_slice(), reader, writer)
 }
 
-/// Opens `/dev/null` three times. A file that is opened takes the least descriptor that is free, so those of the standard streams, 0 to 2,
-/// are then open, and no other file is taken for one of them.
+/// Opens `/dev/null` three times. A file that is opened takes the least descriptor that is free, so those of the
+/// standard streams, 0 to 2, are then open, and no other file is taken for one of them.
 fn open_streams<R: Files>(rt: &R) -> io::Result<(R::File, R::File, R::File)> {
     Ok((open_null(rt)?, open_null(rt)?, open_null(rt)?))
 }
@@ -75,15 +75,16 @@ fn given_words<R: Env + AllocGlobal>(rt: &R) -> io::Result<Vec<String>> {
     Ok(env::args(rt)?.collect(rt.alloc())?)
 }
 
-/// Does what a line of words asks for, writes what that prints, and gives the exit status. The reader is an operator's, whom
-/// `run` alone hears.
+/// Does what a line of words asks for, writes what that prints, and gives the exit status. The reader is an operator's,
+/// whom `run` alone hears.
 ///
-/// 0: the program ran to its end, the device is fresh or large, or all that the operator asked is answered. 1: the program of a dry run is
-/// refused, and the last line written says where and why. 2, for the first of these that holds: the words ask for nothing that
-/// `ngc` does, or for help, and clap's text is written; two of the three files of `run` are one, and nothing is written or made;
-/// the settings file can't be opened or read, and nothing is written, or it is refused, and one line with its fault is written;
-/// another file can't be opened or read, or the one to which is handed out can't be held, and nothing is written, or a device can't be
-/// used, and one line with its fault is written; the device, the reader or the writer fails, or there isn't enough memory.
+/// 0: the program ran to its end, the device is fresh or large, or all that the operator asked is answered. 1: the
+/// program of a dry run is refused, and the last line written says where and why. 2, for the first of these that holds:
+/// the words ask for nothing that `ngc` does, or for help, and clap's text is written; two of the three files of `run`
+/// are one, and nothing is written or made; the settings file can't be opened or read, and nothing is written, or it is
+/// refused, and one line with its fault is written; another file can't be opened or read, or the one to which is handed
+/// out can't be held, and nothing is written, or a device can't be used, and one line with its fault is written; the
+/// device, the reader or the writer fails, or there isn't enough memory.
 /// Source: own.
 pub fn ngc<R: Files + AllocGlobal, I: Read, W: Write>(
     rt: &R,
@@ -157,8 +158,8 @@ where
 }
 
 /// Runs the program of a file that was opened with the settings that were found, and gives the exit status. Where there
-/// are none the program's file isn't looked at, and the fault of settings that are refused is written. The error is that
-/// of the writer of that fault.
+/// are none the program's file isn't looked at, and the fault of settings that are refused is written. The error is
+/// that of the writer of that fault.
 fn run_chosen<R: Read + Drop, W: Write, A: Allocator + Copy + Drop>(
     alloc: A,
     chosen: Result<Settings, NoSettings>,
@@ -175,8 +176,8 @@ fn run_chosen<R: Read + Drop, W: Write, A: Allocator + Copy + Drop>(
     }
 }
 
-/// Says why there are no settings, and gives the exit status: of a file that can't be read nothing is written, of a text that is
-/// refused the line of its fault. The error is that of the writer.
+/// Says why there are no settings, and gives the exit status: of a file that can't be read nothing is written, of a
+/// text that is refused the line of its fault. The error is that of the writer.
 pub(crate) fn refuse_settings<W: Write>(writer: &mut W, why: NoSettings) -> io::Result<u8>
     ensures run { IfOk result (RefusesSettings why (W.contents writer.old) (W.contents writer.new)) }
     ensures range { IfOk result (λ status. status ≤ 2) }
@@ -218,8 +219,8 @@ fn run_file<R: Read + Drop, W: Write, A: Allocator + Copy + Drop>(
 }
 
 /// Runs a program with settings and without a machine, writes its canonical text, and gives the exit status: 0 at the
-/// program's end, 1 where it is refused, 2 where the reader or the writer fails or there isn't enough memory. Lines that begin
-/// with a slash are deleted where `block_delete` is set.
+/// program's end, 1 where it is refused, 2 where the reader or the writer fails or there isn't enough memory. Lines
+/// that begin with a slash are deleted where `block_delete` is set.
 pub fn run_dry<R: Read, W: Write, A: Allocator + Copy + Drop>(
     alloc: A,
     settings: &Settings,

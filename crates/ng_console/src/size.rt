@@ -3,10 +3,7 @@ ghost use Rattle.std.specs.Prelude.{◌≡◌, ◌≤◌};
 ghost use Rattle.ng_layout.specs.Areas.{least_size};
 ghost use Rattle.ng_console.specs.Sizes.{wanted_size};
 
-use ng_layout::LEAST_SIZE;
-
-/// The sectors of a large device: those of any device, and two areas of 2,048 for longer programs.
-pub(crate) const LARGE_SIZE: usize = LEAST_SIZE + 2 * 2_048;
+use ng_layout::{LARGE_SIZE, LEAST_SIZE};
 
 /// How many sectors `format` asks for, of a large device or of any.
 pub(crate) fn wanted_size(large: bool) -> usize
