@@ -216,7 +216,7 @@ fn format_command<'a>(alloc: Global) -> Result<Command<'a>, AllocError>
     let large = Arg::new(alloc, "large")
         .long("large")
         .help(
-            "Make a large device, of 5806 sectors in place of 1710, which takes programs of up to 1048576 bytes in place of 131072; a file that is there and has fewer sectors is refused",
+            "Make a large device, of 5806 sectors in place of 1710; a file that is there and has fewer is refused",
         )
         .action(ArgAction::SetTrue);
     Command::new(alloc, "format")
