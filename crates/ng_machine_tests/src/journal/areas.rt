@@ -146,13 +146,16 @@ fn place_of(alloc: Global, row: &Place) -> Result<Result<u64, Fault>, Fail> {
     if !store(&mut rig, 88, &state) || !store(&mut rig, 1, &header(1, area, length)) {
         return Err(Fail::from("a device isn't laid"));
     }
-    Ok(match recover(alloc, rig, &Tools::new()) {
+    match recover(alloc, rig, &Tools::new()) {
         Ok((journal, stored)) => {
             drop(journal.into_rig());
-            Ok(stored.place)
+            Ok(Ok(stored.place))
         }
-        Err((fault, _)) => Err(fault),
-    })
+        Err((fault, rig)) => {
+            drop(rig);
+            Ok(Err(fault))
+        }
+    }
 }
 
 #[test]
