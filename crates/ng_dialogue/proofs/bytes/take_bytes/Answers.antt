@@ -7,7 +7,7 @@ use Rattle.ng_dialogue.proofs.Taking.{ended_for_good, ended_still, holds_on, lef
 use Rattle.ng_dialogue.proofs.bytes.take_bytes.Goals as goal
 
 pub loop-left-init : goal.loop-left-init
-loop-left-init g c = ([], Consumes-nil _, omega arith, λ e. c.requires, λ h. h, λ e. (refl, refl))
+loop-left-init g c = ([], Consumes-nil _, omega arith, λ e. c.reserve_exact.ensures.items ∙ c.requires, λ h. h, λ e. (refl, refl))
 
 pub loop-left-preserved : goal.loop-left-preserved
 loop-left-preserved g c =
