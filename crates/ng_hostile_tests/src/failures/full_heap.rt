@@ -57,13 +57,18 @@ fn answered(alloc: Global, sectors: usize) -> Result<([Reply; 2], bool, [u64; 2]
     answers
 }
 
-/// Power on makes 91 reads and 92 other calls, the load that is refused none, and the same load once more 93.
+/// What has to be answered. Power on makes 91 reads and 92 other calls, the load that is refused none, and the same load
+/// once more 93.
+fn wanted() -> ([Reply; 2], bool, [u64; 2]) {
+    let replies = [Reply::Refused(Fault::OutOfMemory), Reply::Done(1)];
+    (replies, true, [91, 185])
+}
+
 #[test]
 fn a_load_without_memory_makes_no_call(rt: HostRuntime) -> Result<(), Fail> {
-    let replies = [Reply::Refused(Fault::OutOfMemory), Reply::Done(1)];
     for sectors in [1_710, 5_806] {
         let found = answered(rt.alloc(), sectors);
-        assert_eq!(rt; found, Ok((replies, true, [91, 185])), "{sectors}");
+        assert_eq!(rt; found, Ok(wanted()), "{sectors}");
     }
     Ok(())
 }
