@@ -96,18 +96,18 @@ fn came_of<A: Allocator + Copy + Drop, W: Wait>(
 }
 
 /// The bytes of a heap, and what comes of a desk there. Power on takes two tables of parameters of 43,192 bytes and
-/// 62,712 for the lines that are planned, the program 1,000, the seats 32 each; a call then grows the seat's list,
+/// 79,352 for the lines that are planned, the program 1,000, the seats 32 each; a call then grows the seat's list,
 /// grows the history, and copies the program three times, and each of these five is refused in turn; a load takes one
 /// more table.
 const HEAPS: &[(usize, Outcome)] = &[
-    (150_712, Outcome::NoDesk),
-    (152_512, Outcome::NoCall),
-    (153_012, Outcome::NoCall),
-    (153_712, Outcome::NoCall),
-    (154_712, Outcome::NoCall),
-    (155_712, Outcome::NoCall),
-    (157_712, Outcome::NoProgram),
-    (212_712, Outcome::Loaded),
+    (167_352, Outcome::NoDesk),
+    (169_152, Outcome::NoCall),
+    (169_652, Outcome::NoCall),
+    (170_352, Outcome::NoCall),
+    (171_352, Outcome::NoCall),
+    (172_352, Outcome::NoCall),
+    (174_352, Outcome::NoProgram),
+    (229_352, Outcome::Loaded),
 ];
 
 #[test]
