@@ -1,10 +1,10 @@
--- Texts appended one after another, each by a call that says what it appended. The last call's result is r.
+-- Texts appended one after another, by calls each of which says what it appended. The last call's result is r.
 use Rattle.std.proofs.Common.{◌≡◌, ◌∙◌, ap, sym, ℕ, List, [], ◌++◌, append_assoc, Result, Ok, Err, is_ok, if◌then◌else◌, OnOk, OnErr}
 use Rattle.std.proofs.lemmas.List.{append-nil}
 use Rattle.std.proofs.lemmas.Result.{on_ok_weaker, on_err_weaker}
 use Rattle.ng_canon.specs.Text.{StaysWithin}
 
--- two appended texts are their join, appended
+-- two texts appended one after the other are their concatenation, appended
 joined : (old a b mid new : List ℕ) → mid ≡ old ++ a → new ≡ mid ++ b → new ≡ old ++ (a ++ b)
 joined old a b mid new h e = e ∙ ap (λ l. l ++ b) h ∙ append_assoc old a b
 
@@ -31,7 +31,7 @@ pub by_pairs : {T E : Type 0} (r : Result T E) (old a b c d e f mid two new : Li
 by_pairs r old a b c d e f mid two new h k =
     on_ok_weaker r (λ i. joined old (a ++ b ++ (c ++ d)) (e ++ f) two new (joined old (a ++ b) (c ++ d) mid two h k) i ∙ ap (λ l. old ++ l) (simp append_assoc))
 
--- the last of three stayed within the first two
+-- the last of three stays within the first two
 pub last_within : {T E : Type 0} (r : Result T E) (old a b mid two new : List ℕ) → mid ≡ old ++ a → two ≡ mid ++ b
     → OnErr r (StaysWithin two new) → OnErr r (StaysWithin old new)
 last_within r old a b mid two new h k =

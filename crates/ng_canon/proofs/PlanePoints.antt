@@ -1,4 +1,4 @@
--- Points seen from a centre.
+-- Points relative to a centre.
 use Rattle.std.proofs.Common.{◌∙◌, ◌<◌, ◌^◌, ◌≤◌, arith, ◌≡◌, refl, ℤ, ◌+ℤ◌, ◌-ℤ◌, ◌*ℤ◌, unsigned_abs, to_z, of_z}
 use mir.Syntax.{w64, w128}
 use Rattle.std.proofs.lemmas.Int.{ints, unsigned_abs-mul, fits_signed_from_abs}
@@ -10,7 +10,7 @@ use Rattle.ng_canon.specs.declared.segment.Arc.{Arc}
 use Rattle.ng_canon.specs.declared.plane_point.PlanePoint.{PlanePoint}
 use Rattle.ng_canon.specs.Planes.{pick_a, pick_b, from_centre, AreBelowInSize, cross, dot}
 
--- a stored difference is the difference
+-- a difference of machine integers is the difference
 stored_difference : (p c : ℤ) → IsCount p → IsCount c → to_z w64 (of_z w64 (to_z w64 (of_z w64 p) -ℤ to_z w64 (of_z w64 c))) ≡ p -ℤ c
 stored_difference p c h k = omega (arith, ints)
 
@@ -30,11 +30,11 @@ from_centre_is arc at n m k l p q hp hc hq hd en em ek el ep eq =
 stored_wide : (x : ℤ) → unsigned_abs x ≤ 2 ^ 102 → to_z w128 (of_z w128 x) ≡ x
 stored_wide x h = omega (arith, ints)
 
--- a stored length is the length
+-- a length as a machine integer is the length
 pub stored : (x : ℤ) → unsigned_abs x < 2 ^ 50 → to_z w64 (of_z w64 x) ≡ x
 stored x h = omega (arith, ints)
 
--- a length made wide is the length
+-- a length in a wide machine integer is the length
 widened : (x : ℤ) → unsigned_abs x < 2 ^ 50 → to_z w128 (of_z w128 (to_z w64 (of_z w64 x))) ≡ x
 widened x h = rw (stored x h) (stored_wide x (omega (arith, h)))
 

@@ -1,4 +1,4 @@
--- Outputs before anything was switched (NISTIR 6556, 3.6: M5, M9; own).
+-- The outputs before anything was switched (NISTIR 6556, 3.6: M5, M9; own).
 use Rattle.std.specs.Prelude.{pos, false}
 use Rattle.ng_canon.specs.declared.outputs.Outputs.{Outputs}
 use Rattle.ng_canon.specs.declared.outputs.Spindle.TheVariants.{Stopped}

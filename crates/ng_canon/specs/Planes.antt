@@ -8,19 +8,19 @@ use Rattle.ng_canon.specs.declared.plane.Plane.TheVariants.{Xy, Xz, Yz}
 use Rattle.ng_canon.specs.declared.plane_point.PlanePoint.{PlanePoint}
 use Rattle.ng_canon.specs.declared.segment.Arc.{Arc}
 
--- of what belongs to X, Y and Z: what belongs to the plane's axis a
+-- of three values for X, Y and Z: the one for the plane's axis a
 abbrev pub pick_a : {A : Type 0} → Plane → A → A → A → A
 pick_a Xy x y z = x
 pick_a Xz x y z = z
 pick_a Yz x y z = y
 
--- to its axis b
+-- the one for its axis b
 abbrev pub pick_b : {A : Type 0} → Plane → A → A → A → A
 pick_b Xy x y z = y
 pick_b Xz x y z = x
 pick_b Yz x y z = z
 
--- a point as it is seen from an arc's centre, in its plane
+-- a point relative to an arc's centre, in the arc's plane
 abbrev pub from_centre : Arc → Point → PlanePoint
 from_centre arc p = record {
   a = pick_a arc.plane p.x p.y p.z -ℤ arc.centre_a;
@@ -31,7 +31,7 @@ from_centre arc p = record {
 abbrev pub square_of : PlanePoint → ℕ
 square_of p = unsigned_abs p.a * unsigned_abs p.a + unsigned_abs p.b * unsigned_abs p.b
 
--- both coordinates are below this in size
+-- both coordinates are below this in absolute value
 pub record AreBelowInSize (p : PlanePoint) (most : ℕ) : Type 0 where
   pub a : unsigned_abs p.a < most
   pub b : unsigned_abs p.b < most

@@ -1,4 +1,4 @@
--- The quadrants round a centre (own), counterclockwise.
+-- The quadrants around a centre (own), counterclockwise.
 use Rattle.std.specs.Prelude.{ℕ, ◌+◌, ◌-◌, ◌%◌, pos, int_lt, int_le, Bool, true, false, ◌&&◌, if◌then◌else◌}
 use Rattle.ng_canon.specs.declared.plane.ArcDirection.{ArcDirection}
 use Rattle.ng_canon.specs.declared.plane.ArcDirection.TheVariants.{Clockwise, Counterclockwise}
@@ -7,7 +7,7 @@ use Rattle.ng_canon.specs.declared.quadrant.Quadrant.{Quadrant}
 use Rattle.ng_canon.specs.declared.quadrant.Quadrant.TheVariants.{First, Second, Third, Fourth}
 use Rattle.ng_canon.specs.Planes.{cross}
 
--- the first quadrant has a > 0 and b >= 0, the second a <= 0 and b > 0, and so on round
+-- the first quadrant has a > 0 and b >= 0, the second a <= 0 and b > 0, and so on
 unfoldable pub quadrant : PlanePoint → Quadrant
 quadrant p =
     if int_lt (pos 0) p.a && int_le (pos 0) p.b then First
@@ -21,7 +21,7 @@ quadrant_number Second = 1
 quadrant_number Third = 2
 quadrant_number Fourth = 3
 
--- the next one round
+-- the next quadrant
 abbrev pub quadrant_after : Quadrant → Quadrant
 quadrant_after First = Second
 quadrant_after Second = Third
@@ -35,7 +35,7 @@ same_quadrant Third Third = true
 same_quadrant Fourth Fourth = true
 same_quadrant _ _ = false
 
--- the quadrant that begins at the same direction, seen with b negated for a clockwise arc
+-- the quadrant with the same start, seen with b negated if the arc is clockwise
 abbrev pub mirror_quadrant : ArcDirection → Quadrant → Quadrant
 mirror_quadrant Counterclockwise q = q
 mirror_quadrant Clockwise First = First
@@ -43,7 +43,8 @@ mirror_quadrant Clockwise Second = Fourth
 mirror_quadrant Clockwise Third = Third
 mirror_quadrant Clockwise Fourth = Second
 
--- how often an arc comes into another quadrant: where start and end lie in one, none if the end is ahead, else all four
+-- how often an arc enters another quadrant; if start and end are in the same quadrant: not at all if the end is ahead,
+-- else four times
 abbrev pub quadrant_changes : PlanePoint → PlanePoint → ℕ
 quadrant_changes s e =
     if same_quadrant (quadrant s) (quadrant e) then (if int_lt (pos 0) (cross s e) then 0 else 4)

@@ -27,7 +27,7 @@ abbrev pub turn_text : ArcDirection → List ℕ
 turn_text Clockwise = codes "CW"
 turn_text Counterclockwise = codes "CCW"
 
--- the centre on the plane's axes, the way round
+-- the centre on the plane's axes, and the direction
 abbrev pub round_text : Arc → List ℕ
 round_text arc = number_text arc.centre_a ++ codes ", " ++ number_text arc.centre_b ++ codes ", " ++ turn_text arc.turn
 
@@ -58,7 +58,7 @@ command_text OptionalStop = codes "OPTIONAL_PROGRAM_STOP()\n"
 command_text PalletShuttle = codes "PALLET_SHUTTLE()\n"
 command_text ProgramEnd = codes "PROGRAM_END()\n"
 
--- a canonical command, wherever its words lie
+-- a canonical command, wherever its text is stored
 pub data CanonModel : Type 0 where
   comment : List ℕ → CanonModel
   message : List ℕ → CanonModel
@@ -74,6 +74,6 @@ canonical_text (comment words) = codes "COMMENT(" ++ words ++ codes ")\n"
 canonical_text (message words) = codes "MESSAGE(" ++ words ++ codes ")\n"
 canonical_text (numeric command) = command_text command
 
--- the text was not shortened: what it was is how it begins
+-- the text was not shortened: it still begins with the old text
 abbrev pub StaysWithin : List ℕ → List ℕ → Type 0
 StaysWithin old new = (more : List ℕ) × (new ≡ old ++ more)

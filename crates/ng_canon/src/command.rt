@@ -58,7 +58,7 @@ impl Default for CanonicalCommand {
     }
 }
 
-/// A canonical command. Comments and messages lie in the line that wrote them.
+/// A canonical command. The text of comments and messages is borrowed from the line.
 #[derive(Clone, Copy, Debug)]
 pub enum Canon<'a> {
     /// COMMENT: the bytes between the parentheses.

@@ -21,7 +21,7 @@ pub struct Axis {
 impl Axis {
     ghost use Rattle.ng_canon.specs.Inside.{IsStandardAxis, is_on};
 
-    /// An axis of a step and a travel; none where one of them is beyond its limits.
+    /// An axis with a step and a travel. `None` if one of them is outside its limits.
     pub fn new(step_nm: u32, low: Len, high: Len) -> Option<Axis>
         ensures when { IsSome result ↔ IsAxis step_nm low high }
         ensures step { IfSome result (λ axis. axis.step_nm ≡ step_nm) }
@@ -49,7 +49,7 @@ impl Axis {
         }
     }
 
-    /// Whether a machine coordinate lies within the travel, its ends included.
+    /// Whether a machine coordinate is within the travel, ends included.
     pub fn contains(&self, coordinate: Len) -> bool
         ensures { result ≡ is_on self.now coordinate }
     {
@@ -74,7 +74,7 @@ pub struct Geometry {
 impl Geometry {
     ghost use Rattle.ng_canon.specs.Inside.{IsStandard, is_inside};
 
-    /// A machine of three axes; none where its traverse rate or least period is beyond its limits.
+    /// A machine with three axes. `None` if its traverse rate or its least period is outside its limits.
     pub fn new(x: Axis, y: Axis, z: Axis, traverse: Rate, least_period_us: u32) -> Option<Geometry>
         ensures when { IsSome result ↔ IsPacing traverse least_period_us }
         ensures axes { IfSome result (λ machine. (machine.x ≡ x) × (machine.y ≡ y) × (machine.z ≡ z)) }
@@ -96,8 +96,8 @@ impl Geometry {
         }
     }
 
-    /// The default settings: each axis of a step of 1,000 nm and a travel of 1,000,000,000 nm to either side,
-    /// traverses of 6,000,000,000 nm a minute, a least period of 50 us.
+    /// The default settings: each axis has a step of 1,000 nm and a travel of 1,000,000,000 nm to either side; the
+    /// traverse rate is 6,000,000,000 nm a minute; the least period is 50 us.
     pub fn standard() -> Geometry
         ensures { IsStandard result }
     {
@@ -111,7 +111,7 @@ impl Geometry {
         }
     }
 
-    /// Whether a machine point lies within the travel of all three axes, its ends included.
+    /// Whether a machine point is within the travel of all three axes, ends included.
     pub fn contains(&self, point: Point) -> bool
         ensures { result ≡ is_inside self.now point }
     {

@@ -1,6 +1,6 @@
 use crate::outputs::Outputs;
 
-/// What a pulse moves an axis by.
+/// How a pulse moves one axis.
 #[derive(Clone, Copy, Debug, PartialEq, Eq)]
 pub enum AxisStep {
     Backward,
@@ -17,12 +17,12 @@ pub struct Pulse {
     pub period_us: u64,
 }
 
-/// What is handed out, one at a time (own).
+/// An item that is handed out, one at a time (own).
 #[derive(Clone, Copy, Debug, PartialEq, Eq)]
 pub enum Item {
     Pulse(Pulse),
-    /// A wait.
+    /// A dwell.
     Dwell { us: u64 },
-    /// All outputs as they are from now on.
+    /// The state of all outputs from now on.
     Switch(Outputs),
 }

@@ -1,12 +1,13 @@
-//! What blocks are turned into: canonical commands and their text, segments, and items handed out.
+//! What blocks are turned into: canonical commands and their text, segments, and the items that are handed out.
 //!
-//! `print` appends the text of a command, exact to the byte, and is the only call that takes memory. `Axis` and
-//! `Geometry` are within their limits by their types, and say what lies within the travel.
+//! `print` appends the text of a command, exact to the byte; only the printing functions allocate. The types `Axis` and
+//! `Geometry` guarantee that their values are within the limits, and they say what is within the travel.
 //!
-//! A `PlanePoint` is a point of an arc's plane, seen from its centre, in a `Quadrant` round it.
+//! A `PlanePoint` is a point of an arc's plane, relative to the arc's centre. It lies in one `Quadrant` around the
+//! centre.
 //!
-//! The plain types stand here once, for the interpreter above and for the stepper, the device and the
-//! controller beside it. The crate stands on `ng_num` alone.
+//! The plain types are defined here once, for the interpreter, the stepper, the device and the controller. The crate
+//! depends on `ng_num` alone.
 #![tactic(auto)]
 
 mod command;

@@ -11,17 +11,18 @@ pub enum Spindle {
     Counterclockwise,
 }
 
-/// All that is switched: what a switch carries and a program changes by S, T and M words (NISTIR 6556, 3.6, 3.7).
+/// The state of all outputs: what a switch carries, and what a program changes by S, T and M words (NISTIR 6556, 3.6,
+/// 3.7).
 #[derive(Clone, Copy, Debug, PartialEq, Eq)]
 pub struct Outputs {
     pub spindle: Spindle,
-    /// As S wrote it, in revolutions a minute; not below 0.
+    /// The S word, in revolutions a minute; not below 0.
     pub speed: Num,
     pub mist: bool,
     pub flood: bool,
-    /// The slot that T selected, 0 for none; at most 64.
+    /// The slot that T selected, 0 for none; at most 128.
     pub selected_slot: u8,
-    /// The slot whose tool is in the spindle, 0 for none; at most 64.
+    /// The slot whose tool is in the spindle, 0 for none; at most 128.
     pub spindle_slot: u8,
 }
 
@@ -29,7 +30,7 @@ impl Outputs {
     ghost use Rattle.std.specs.Prelude.{◌≡◌};
     ghost use Rattle.ng_canon.specs.Fresh.{fresh_outputs};
 
-    /// Everything off: the spindle stopped, speed 0, no coolant, no slots.
+    /// Everything off: spindle stopped, speed 0, no coolant, no slots.
     pub fn fresh() -> Outputs
         ensures { result ≡ fresh_outputs }
     {

@@ -3,7 +3,8 @@ ghost use Rattle.std.specs.Prelude.{◌≡◌, ◌<◌, ◌≤◌};
 use ng_num::{Len, Num};
 use std::marker::Model;
 
-/// What F sets under feed a minute (NISTIR 6556, 3.5.1): nanometres a minute, in size at most 9,999,999,999,999, 0 too.
+/// What F sets under feed per minute (NISTIR 6556, 3.5.1), in nanometres a minute: at most 9,999,999,999,999 in
+/// absolute value; 0 is allowed.
 #[derive(Clone, Copy, Debug, PartialEq, Eq)]
 pub struct Feed {
     per_min: Len,
@@ -26,7 +27,7 @@ impl Feed {
     ghost use Rattle.std.specs.Prelude.{pos};
     ghost use Rattle.ng_num.specs.Range.{IsCount};
 
-    /// The feed of a length a minute.
+    /// The feed of a length per minute.
     #[inline]
     pub fn of(per_min: Len) -> Feed
         ensures { result ≡ per_min }
@@ -34,7 +35,7 @@ impl Feed {
         Feed { per_min }
     }
 
-    /// No feed, that of the fresh state.
+    /// The feed 0, as in the fresh state.
     #[inline]
     pub fn zero() -> Feed
         ensures { result ≡ pos 0 }
@@ -44,7 +45,7 @@ impl Feed {
         }
     }
 
-    /// The length that it goes in a minute.
+    /// The length per minute.
     #[inline]
     pub fn per_min(self) -> Len
         ensures { result ≡ self }
@@ -85,7 +86,7 @@ impl Rate {
     ghost use Rattle.ng_num.specs.Range.{greatest};
     ghost use Rattle.ng_canon.specs.Rates.{above_zero};
 
-    /// The rate of a feed; none where it isn't above 0.
+    /// The rate of a feed. `None` if the feed isn't above 0.
     pub fn of(feed: Feed) -> Option<Rate>
         ensures { result ≡ above_zero feed }
     {
@@ -133,7 +134,7 @@ impl InverseTime {
     ghost use Rattle.ng_num.specs.Range.{greatest};
     ghost use Rattle.ng_canon.specs.Rates.{above_zero};
 
-    /// That of a number; none where it isn't above 0.
+    /// The inverse time of a number. `None` if the number isn't above 0.
     pub fn of(number: Num) -> Option<InverseTime>
         ensures { result ≡ above_zero number }
     {
@@ -162,7 +163,7 @@ impl InverseTime {
 pub enum Pace {
     /// At the machine's traverse rate.
     Traverse,
-    /// At a feed.
+    /// At a feed rate.
     Feed(Rate),
     /// In a time.
     InverseTime(InverseTime),

@@ -1,4 +1,4 @@
-//! The axes of an arc's plane, and the way round it.
+//! The axes of an arc's plane, and the direction of an arc.
 ghost use Rattle.std.specs.Prelude.{◌≡◌};
 ghost use Rattle.ng_canon.specs.Planes.{pick_a, pick_b};
 
@@ -13,7 +13,7 @@ pub enum Plane {
     Yz,
 }
 
-/// The way round an arc, seen from the positive end of the axis across its plane (NISTIR 6556, 3.5.3).
+/// The direction of an arc, seen from the positive end of the axis perpendicular to its plane (NISTIR 6556, 3.5.3).
 #[derive(Clone, Copy, Debug, PartialEq, Eq)]
 pub enum ArcDirection {
     /// G2.
@@ -22,7 +22,7 @@ pub enum ArcDirection {
     Counterclockwise,
 }
 
-/// What belongs to the plane's axis a, of what belongs to X, Y and Z.
+/// Of three values for X, Y and Z: the one for the plane's axis a.
 pub fn pick_a<T: Copy>(plane: Plane, x: T, y: T, z: T) -> T
     ensures { result ≡ pick_a plane x y z }
 {
@@ -33,7 +33,7 @@ pub fn pick_a<T: Copy>(plane: Plane, x: T, y: T, z: T) -> T
     }
 }
 
-/// What belongs to the plane's axis b.
+/// Of three values for X, Y and Z: the one for the plane's axis b.
 pub fn pick_b<T: Copy>(plane: Plane, x: T, y: T, z: T) -> T
     ensures { result ≡ pick_b plane x y z }
 {

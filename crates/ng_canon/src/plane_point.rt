@@ -1,4 +1,4 @@
-//! Points of an arc's plane, seen from its centre.
+//! Points of an arc's plane, relative to the arc's centre.
 ghost use Rattle.std.specs.Prelude.{◌≡◌, ◌^◌, ◌<◌, ◌≤◌, ◌*ℤ◌, unsigned_abs};
 ghost use Rattle.ng_canon.specs.Planes.{from_centre, square_of, cross, dot, mirror, AreBelowInSize};
 ghost use Rattle.ng_canon.specs.Quadrants.{quadrant, quadrant_changes};
@@ -8,7 +8,7 @@ use crate::quadrant::Quadrant;
 use crate::segment::Arc;
 use ng_num::{Len, Point};
 
-/// An offset from an arc's centre in nanometres, on the axes of its plane.
+/// An offset from an arc's centre in nanometres, along the two axes of its plane.
 #[derive(Clone, Copy, Debug)]
 pub struct PlanePoint {
     pub a: i64,
@@ -16,7 +16,7 @@ pub struct PlanePoint {
 }
 
 impl PlanePoint {
-    /// A machine point, seen from an arc's centre.
+    /// A machine point, relative to an arc's centre.
     pub fn from_centre(arc: &Arc, point: &Point) -> PlanePoint
         ensures value { result ≡ from_centre arc.now point.now }
         ensures size { AreBelowInSize result (2 ^ 45) }
@@ -39,7 +39,7 @@ impl PlanePoint {
         a * a + b * b
     }
 
-    /// The same with b negated for a clockwise arc.
+    /// The point, with b negated if the arc is clockwise.
     pub fn mirrored(self, direction: ArcDirection) -> PlanePoint
         requires { AreBelowInSize self (2 ^ 45) }
         ensures value { result ≡ mirror direction self }
@@ -54,7 +54,7 @@ impl PlanePoint {
         }
     }
 
-    /// The cross product: above 0 where the other lies less than half a turn counterclockwise.
+    /// The cross product. It is above 0 if the other point is less than half a turn away counterclockwise.
     pub fn cross(self, other: PlanePoint) -> i128
         requires first { AreBelowInSize self (2 ^ 50) }
         requires second { AreBelowInSize other (2 ^ 50) }
@@ -63,7 +63,7 @@ impl PlanePoint {
         product(self.a, other.b) - product(self.b, other.a)
     }
 
-    /// The dot product: above 0 where the other lies less than a quarter turn away, either way.
+    /// The dot product. It is above 0 if the other point is less than a quarter turn away in either direction.
     pub fn dot(self, other: PlanePoint) -> i128
         requires first { AreBelowInSize self (2 ^ 50) }
         requires second { AreBelowInSize other (2 ^ 50) }
@@ -72,7 +72,7 @@ impl PlanePoint {
         product(self.a, other.a) + product(self.b, other.b)
     }
 
-    /// The quadrant that it lies in.
+    /// The quadrant that the point is in.
     #[tactic(auto, unfolding(crate::specs::Quadrants::quadrant))]
     pub fn quadrant(self) -> Quadrant
         ensures { result ≡ quadrant self }
@@ -88,7 +88,7 @@ impl PlanePoint {
         }
     }
 
-    /// How often a counterclockwise arc from here to an end comes into the next quadrant.
+    /// How often a counterclockwise arc from here to an end enters the next quadrant.
     pub fn quadrant_changes(self, end: PlanePoint) -> u8
         requires start { AreBelowInSize self (2 ^ 50) }
         requires end { AreBelowInSize end (2 ^ 50) }

@@ -1,4 +1,4 @@
-//! The canonical text of commands. A refused growth leaves the text as it was.
+//! The canonical text of commands. If the text can't grow, it is left as it was.
 ghost use Rattle.std.specs.Prelude.{◌≡◌, ◌++◌, OnOk, OnErr, codes};
 ghost use Rattle.std.specs.Fmt.{decimal};
 ghost use Rattle.ng_num.specs.Text.{number_text, point_text};
@@ -91,7 +91,7 @@ fn push_unit<A: Allocator + Copy + Drop>(
     }
 }
 
-/// Appends the way round an arc, and the end of its line.
+/// Appends an arc's direction and the end of its line.
 fn push_turn<A: Allocator + Copy + Drop>(
     text: &mut Vec<u8, A>,
     turn: ArcDirection,
@@ -105,7 +105,7 @@ fn push_turn<A: Allocator + Copy + Drop>(
     }
 }
 
-/// Appends an arc's centre and way round, and the end of its line.
+/// Appends an arc's centre, its direction and the end of its line.
 fn push_round<A: Allocator + Copy + Drop>(
     text: &mut Vec<u8, A>,
     arc: ArcFeed,
@@ -131,7 +131,7 @@ fn push_arc<A: Allocator + Copy + Drop>(
     push_round(text, arc)
 }
 
-/// Appends a command with the words of a comment.
+/// Appends a command with the text of a comment.
 fn push_words<A: Allocator + Copy + Drop>(
     text: &mut Vec<u8, A>,
     name: &[u8],
@@ -206,8 +206,8 @@ fn push_canon<A: Allocator + Copy + Drop>(
     }
 }
 
-/// Appends a command's canonical text, a line with its end: its name and its arguments in parentheses, lengths in
-/// millimetres, machine coordinates (own, after NISTIR 6556, 4.3). A refused growth leaves the text as it was.
+/// Appends a command's canonical text and the end of its line: the name, and the arguments in parentheses. Lengths are
+/// in millimetres, in machine coordinates (own, after NISTIR 6556, 4.3). If the text can't grow, it is left as it was.
 pub fn print<A: Allocator + Copy + Drop>(
     text: &mut Vec<u8, A>,
     canon: &Canon<'_>,
@@ -225,8 +225,8 @@ pub fn print<A: Allocator + Copy + Drop>(
     }
 }
 
-/// Appends the canonical text of a command whose arguments are numbers, as `print` does, without a copy of it. A
-/// refused growth leaves the text as it was.
+/// Appends the canonical text of a command whose arguments are numbers. It does what `print` does, without a copy of
+/// the command. If the text can't grow, it is left as it was.
 pub fn print_command<A: Allocator + Copy + Drop>(
     text: &mut Vec<u8, A>,
     command: &CanonicalCommand,
@@ -244,7 +244,7 @@ pub fn print_command<A: Allocator + Copy + Drop>(
     }
 }
 
-/// Appends a command with a point, likewise.
+/// Appends a command with a point. If the text can't grow, it is left as it was.
 #[inline]
 fn print_at<A: Allocator + Copy + Drop>(
     text: &mut Vec<u8, A>,
@@ -264,8 +264,8 @@ fn print_at<A: Allocator + Copy + Drop>(
     }
 }
 
-/// Appends the canonical text of a straight traverse to a point, as `print_command` does, without a command of it. A
-/// refused growth leaves the text as it was.
+/// Appends the canonical text of a straight traverse to a point. It does what `print_command` does, without building a
+/// command. If the text can't grow, it is left as it was.
 #[tactic(auto, unfolding(crate::specs::Text::command_text))]
 pub fn print_traverse<A: Allocator + Copy + Drop>(
     text: &mut Vec<u8, A>,
@@ -277,7 +277,8 @@ pub fn print_traverse<A: Allocator + Copy + Drop>(
     print_at(text, b"STRAIGHT_TRAVERSE(", end)
 }
 
-/// The same of a straight move at a feed.
+/// Appends the canonical text of a straight feed move to a point. It does what `print_command` does, without building a
+/// command. If the text can't grow, it is left as it was.
 #[tactic(auto, unfolding(crate::specs::Text::command_text))]
 pub fn print_feed<A: Allocator + Copy + Drop>(
     text: &mut Vec<u8, A>,

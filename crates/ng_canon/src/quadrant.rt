@@ -1,10 +1,11 @@
-//! Quadrants round an arc's centre.
+//! Quadrants around an arc's centre.
 ghost use Rattle.std.specs.Prelude.{◌≡◌, ◌<◌};
 ghost use Rattle.ng_canon.specs.Quadrants.{quadrant_number, quadrant_after, same_quadrant, mirror_quadrant};
 
 use crate::plane::ArcDirection;
 
-/// A quadrant round an arc's centre, half open: it begins at an axis, counterclockwise.
+/// A quadrant around an arc's centre. Each is half open: it includes the half axis at which it starts, going
+/// counterclockwise.
 #[derive(Clone, Copy, Debug)]
 pub enum Quadrant {
     First,
@@ -34,7 +35,7 @@ impl Quadrant {
         self.number() == other.number()
     }
 
-    /// The next one counterclockwise.
+    /// The next quadrant counterclockwise.
     pub fn next(self) -> Quadrant
         ensures { result ≡ quadrant_after self }
     {
@@ -46,7 +47,7 @@ impl Quadrant {
         }
     }
 
-    /// The quadrant that begins at the same direction, seen with b negated for a clockwise arc.
+    /// The quadrant with the same start, seen with b negated if the arc is clockwise.
     pub fn mirrored(self, direction: ArcDirection) -> Quadrant
         ensures { result ≡ mirror_quadrant direction self }
     {

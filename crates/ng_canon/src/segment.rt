@@ -3,7 +3,7 @@ use crate::pace::Pace;
 use crate::plane::{ArcDirection, Plane};
 use ng_num::{Len, Num, Point};
 
-/// A straight move between two machine points, perhaps of no length.
+/// A straight move between two machine points, which may be the same point.
 #[derive(Clone, Copy, Debug, PartialEq, Eq)]
 pub struct StraightMove {
     pub start: Point,
@@ -11,7 +11,7 @@ pub struct StraightMove {
     pub pace: Pace,
 }
 
-/// An arc, perhaps a helix, between two machine points. An end equal to the start is one full turn (own).
+/// An arc or a helix between two machine points. If the end is the start, it is one full turn (own).
 #[derive(Clone, Copy, Debug, PartialEq, Eq)]
 pub struct Arc {
     pub plane: Plane,
@@ -32,7 +32,7 @@ pub enum Segment {
     Arc(Arc),
     /// Seconds.
     Dwell(Num),
-    /// All outputs as they then are.
+    /// The state of all outputs from then on.
     Switch(Outputs),
 }
 

@@ -1,4 +1,4 @@
--- The first fault whose cause holds: none before it holds. And the first of two lists, one after the other.
+-- The first fault whose cause holds: no cause before it holds. And the first fault of two lists, one after the other.
 use Rattle.std.proofs.Common.{◌≡◌, Bool, true, false, List, [], ◌∷◌, ◌++◌, Option, Some, None, Ok, Err, refl, ap}
 use Rattle.std.specs.Prelude.{MatchResult}
 use Rattle.ng_num.specs.declared.fault.Fault.{Fault}
@@ -31,13 +31,13 @@ is_first ((true, f) ∷ fs) fault e =
     ([], fs, ap (λ (g : Fault). (true, g) ∷ fs) same, tt)
 is_first ((false, f) ∷ fs) fault e = holds_later false f fault fs refl (is_first fs fault e)
 
--- of what is answered unless there is a fault
+-- the value, if there is no fault
 pub first_of : {X : Type 0} (fs : List (Bool × Fault)) (x : X) (found : Option Fault) → first_fault fs ≡ found →
     MatchResult (unless found x) (λ _. NoneHolds fs) (λ fault. IsFirstFault fs fault)
 first_of fs x None e = none_holds fs e
 first_of fs x (Some fault) e = is_first fs fault e
 
--- ---- what is asked for, unless there is a fault
+-- ---- a value, unless there is a fault
 
 pub unless_err : {X : Type 0} (found : Option Fault) (x : X) (fault : Fault) → unless found x ≡ Err fault → found ≡ Some fault
 unless_err (Some f) x fault e = cc e

@@ -1,4 +1,4 @@
--- The length that a number writes is the one that is computed, and no other.
+-- The length of a number is the one that is computed, and no other.
 use Rattle.std.proofs.Common.{◌≡◌, ℤ, pos, ◌*ℤ◌, Result, refl, arith}
 use Rattle.ng_num.specs.Lengths.{IsLength, nm_of}
 use Rattle.ng_num.specs.Range.{IsOnlyAnswer, in_range}

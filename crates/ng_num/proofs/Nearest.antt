@@ -92,7 +92,7 @@ neg-times : (k d : ℕ) → neg_ℤ (pos k) *ℤ pos d ≡ neg_ℤ (pos (k * d))
 neg-times zero d = rw (zero-mul d) refl
 neg-times (suc k) d = refl
 
--- ---- the sentence, for sizes a and x and the size e of their difference
+-- ---- the statement, for sizes a and x and the size e of their difference
 record IsHalf (a x e d : ℕ) : Type 0 where
   half : 2 * e ≤ d
   tie : 2 * e ≡ d → a < x
@@ -117,7 +117,7 @@ nearest_by_half : (a k e d : ℕ) → 0 < d → (e + k * d ≡ a) ⊎ (e + a ≡
 nearest_by_half a k e d some s is =
     nearest_from_IsNearestSize a d k (record { low = low_from_half a (k * d) e d some s is; high = high_from_half a (k * d) e d some s is })
 
--- what is on the other side of zero is nearest only where it is zero
+-- a number on the other side of zero is nearest only if it is zero
 nearest_across : (a k e d : ℕ) → 0 < d → e ≡ a + k * d → IsHalf a (k * d) e d → (k ≡ 0) × (nearest a d ≡ 0)
 nearest_across a zero e d some s is =
     let z : 0 * d ≡ 0 = zero-mul d in

@@ -1,4 +1,4 @@
--- Products and quotients: what is computed from sizes and signs is the definition.
+-- Products and quotients: computing from sizes and signs gives what the definition says.
 use Rattle.std.proofs.Common.{◌≡◌, ℕ, zero, suc, ◌*◌, ◌^◌, ◌<◌, ◌≤◌, Bool, true, false, ℤ, ◌*ℤ◌, unsigned_abs, Result, Err, refl, sym, ap, ◌∙◌, arith}
 use Rattle.std.proofs.lemmas.Bool.Decides.{nat_tests}
 use Rattle.ng_num.specs.Range.{IsOnlyAnswer, greatest, in_range}

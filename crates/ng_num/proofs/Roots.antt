@@ -1,4 +1,4 @@
--- The root by counts is the greatest number whose square isn't above.
+-- The root of a count is the greatest number whose square isn't above it.
 use Rattle.std.proofs.Common.{◌≡◌, ℕ, zero, suc, ◌+◌, ◌*◌, ◌<◌, ◌≤◌, ℤ, pos, negsuc, ◌*ℤ◌, ◌≤ℤ◌, ◌<ℤ◌, unsigned_abs, Result, Ok, Err, refl, ap, ◌∙◌, arith, inl, inr}
 use Rattle.std.proofs.lemmas.Int.{ints}
 use Rattle.std.proofs.lemmas.Nat.{mul-le}
@@ -47,7 +47,7 @@ pub root_of_size : (n s : ℕ) → IsRootSize (n * 1_000_000) s → root_of (pos
 unfolding root_of
 root_of_size n s is = ap (λ k. Ok (pos k)) (root_up_to-IsRootSize (n * 1_000_000) (n * 1_000_000) s (root_under (n * 1_000_000) s is) is)
 
--- ---- the sentence
+-- ---- the statement
 root_bound : (n s : ℕ) (v : ℤ) → IsRootSize (n * 1_000_000) s → pos 0 ≤ℤ v → (v *ℤ v) ≤ℤ (pos n *ℤ million) → v ≤ℤ pos s
 root_bound n s (pos t) is from under = let up = no_greater (n * 1_000_000) s t is (omega (arith, ints, under)) in omega (arith, ints)
 root_bound n s (negsuc t) is from under = omega (arith, ints)

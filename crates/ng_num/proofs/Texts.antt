@@ -1,11 +1,11 @@
--- A number's text, written from its end to its front.
+-- A number's text, written from its end to its start.
 use Rattle.std.proofs.Common.{ℕ, ◌/◌, ◌≡◌, List, [], ◌∷◌, ◌++◌, drop, ℤ, unsigned_abs, codes, ap, sym, ◌∙◌}
 use Rattle.std.proofs.lemmas.List.{append_assoc, append-nil}
 use Rattle.std.specs.Fmt.{decimal}
 use Rattle.ng_num.specs.declared.point.Point.{Point}
 use Rattle.ng_num.specs.Text.{minus, number_text, point_text, six_digits}
 
--- what stands right after a number's text stands right after its decimals
+-- what comes right after a number's text comes right after its decimals
 number_then : (z : ℤ) (after : List ℕ)
     → number_text z ++ after ≡ minus z ++ (decimal (unsigned_abs z / 1_000_000) ++ (46 ∷ (six_digits (unsigned_abs z) ++ after)))
 unfolding number_text
@@ -14,7 +14,7 @@ number_then z after =
     let decimals = 46 ∷ six_digits (unsigned_abs z) in
     append_assoc (minus z) (whole ++ decimals) after ∙ ap (λ l. minus z ++ l) (append_assoc whole decimals after)
 
--- the decimals before what stands after them, the whole part before them, and the minus before that
+-- the decimals before what follows them, the whole part before the decimals, and the minus before that
 pub written_then : (z : ℤ) (size point whole start end : ℕ) (after filled decimals digits text : List ℕ) → size ≡ unsigned_abs z
     → drop end filled ≡ after
     → drop point decimals ≡ 46 ∷ (six_digits size ++ drop end filled)

@@ -1,4 +1,5 @@
--- FIX, FUP, ROUND and closeness to a whole number: what is computed is what the sentences say, and nothing else.
+-- FIX, FUP, ROUND and closeness to a whole number: the computed value is the one that the statements allow, and no
+-- other.
 use Rattle.std.proofs.Common.{◌≡◌, ◌<◌, ℤ, neg_ℤ, ◌+ℤ◌, ◌-ℤ◌, ◌*ℤ◌, ◌≤ℤ◌, unsigned_abs, Result, Some, None, refl, ap, ◌∙◌, arith}
 use Rattle.std.proofs.lemmas.Int.{ints}
 use Rattle.std.proofs.lemmas.Bool.Decides.{nat_tests}
@@ -13,7 +14,7 @@ use Rattle.ng_num.proofs.Nearest.{near_by-IsNearest, near_by_from_IsNearest}
 use Rattle.ng_num.proofs.Remainders.{int_rem_euclid-IsRemainder}
 
 -- ---- FIX and FUP
--- a whole number not above another and a rest below 1 is not above the other
+-- if a whole number isn't above another plus a remainder below 1, it isn't above the other
 under_rest : (j k r : ℤ) → (j *ℤ million) ≤ℤ (k *ℤ million +ℤ r) → unsigned_abs r < 1_000_000 → (j *ℤ million) ≤ℤ (k *ℤ million)
 under_rest j k r h below = omega (arith, ints)
 

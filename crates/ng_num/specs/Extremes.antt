@@ -1,4 +1,4 @@
--- The greatest and the least number of which something holds.
+-- The greatest and the least number with a property.
 use Rattle.std.specs.Prelude.{ℤ, ◌≤ℤ◌}
 
 pub record IsGreatest (P : ℤ → Type 0) (w : ℤ) : Type 0 where

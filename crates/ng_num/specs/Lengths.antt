@@ -9,7 +9,7 @@ abbrev pub nm_of : ℤ → LengthUnit → ℤ
 nm_of count Inches = near (count *ℤ pos 254) 10
 nm_of count Millimetres = count
 
--- nm is the length that a number writes in a unit, rounded half away from zero
+-- nm is the length that a number stands for in a unit, rounded half away from zero
 abbrev pub IsLength : ℤ → LengthUnit → ℤ → Type 0
 IsLength count Inches nm = IsNearest (count *ℤ pos 254) (pos 10) nm
 IsLength count Millimetres nm = nm ≡ count

@@ -6,12 +6,12 @@ use Rattle.ng_num.specs.Whole.{IsClose, whole_of}
 use Rattle.ng_num.specs.declared.fault.Fault.{Fault}
 use Rattle.ng_num.specs.declared.fault.Fault.TheVariants.{BadArithmetic}
 
--- a power times x, where there is a power
+-- a power times x, if there is a power
 abbrev pub times : ℤ → Result ℤ Fault → Result ℤ Fault
 times x (Ok power) = in_range (product power x)
 times x (Err fault) = Err fault
 
--- x to the n: 1, and then times x once and again, each product rounded
+-- x to the n: 1, multiplied by x n times, each product rounded
 unfoldable pub power : ℤ → ℕ → Result ℤ Fault
 power x zero = Ok million
 power x (suc n) = times x (power x n)
@@ -20,7 +20,7 @@ power x (suc n) = times x (power x n)
 abbrev pub IsExponent : ℤ → ℕ → Type 0
 IsExponent y n = (n ≤ 32) × IsClose y (pos n)
 
--- the form that computes
+-- the exponent that a number counts as, given the whole number that it counts as
 abbrev pub exponent_of : Option ℤ → Option ℕ
 exponent_of None = None
 exponent_of (Some (pos n)) = if nat_le n 32 then Some n else None

@@ -5,7 +5,7 @@ use Rattle.ng_num.specs.Extremes.{IsGreatest}
 use Rattle.ng_num.specs.declared.fault.Fault.{Fault}
 use Rattle.ng_num.specs.declared.fault.Fault.TheVariants.{BadArithmetic}
 
--- s is SQRT of z: the greatest number not below 0 whose square isn't above it
+-- s is SQRT of z: the greatest non-negative number whose square isn't above z
 abbrev pub IsRoot : ℤ → ℤ → Type 0
 IsRoot z s = IsGreatest (λ v. (pos 0 ≤ℤ v) × ((v *ℤ v) ≤ℤ (z *ℤ million))) s
 
@@ -14,7 +14,7 @@ abbrev pub root_up_to : ℕ → ℕ → ℕ
 root_up_to zero n = 0
 root_up_to (suc k) n = if nat_le (suc k * suc k) n then suc k else root_up_to k n
 
--- the form that computes
+-- SQRT of z, as a function
 unfoldable pub root_of : ℤ → Result ℤ Fault
 root_of (pos n) = Ok (pos (root_up_to (n * 1_000_000) (n * 1_000_000)))
 root_of (negsuc n) = Err BadArithmetic

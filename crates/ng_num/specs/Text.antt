@@ -3,7 +3,7 @@ use Rattle.std.specs.Prelude.{ℕ, ◌+◌, ◌/◌, ◌%◌, List, [], ◌∷�
 use Rattle.std.specs.Fmt.{decimal}
 use Rattle.ng_num.specs.declared.point.Point.{Point}
 
--- the digit of n worth unit
+-- the digit of n at the place worth unit
 abbrev pub digit_at : ℕ → ℕ → ℕ
 digit_at unit n = 48 + n / unit % 10
 
@@ -15,7 +15,7 @@ abbrev pub minus : ℤ → List ℕ
 minus (pos n) = []
 minus (negsuc n) = 45 ∷ []
 
--- a count of millionths as a number
+-- a count of millionths, printed as a number
 unfoldable pub number_text : ℤ → List ℕ
 number_text z = minus z ++ (decimal (unsigned_abs z / 1_000_000) ++ (46 ∷ six_digits (unsigned_abs z)))
 

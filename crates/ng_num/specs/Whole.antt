@@ -1,4 +1,4 @@
--- Whole numbers beside a count of millionths (NISTIR 6556, 3.3.2.4; ties of ROUND and closeness own).
+-- Whole numbers near a count of millionths (NISTIR 6556, 3.3.2.4; ties of ROUND and closeness own).
 use Rattle.std.specs.Prelude.{◌≡◌, ◌≤◌, ℤ, neg_ℤ, ◌-ℤ◌, ◌*ℤ◌, ◌≤ℤ◌, unsigned_abs, Option, Some, None, nat_le, if◌then◌else◌}
 use Rattle.std.specs.Int.{int_rem_euclid}
 use Rattle.ng_num.specs.Arithmetic.{million}
@@ -17,11 +17,11 @@ IsFix z w = IsGreatest (λ v. IsWhole v × (v ≤ℤ z)) w
 abbrev pub IsFup : ℤ → ℤ → Type 0
 IsFup z w = IsLeast (λ v. IsWhole v × (z ≤ℤ v)) w
 
--- w is ROUND of z: the whole number nearest to it, of two as near the one farther from zero
+-- w is ROUND of z: the whole number nearest to it, of two equally near the one farther from zero
 abbrev pub IsRound : ℤ → ℤ → Type 0
 IsRound z w = (k : ℤ) × (w ≡ k *ℤ million) × IsNearest z million k
 
--- the forms that compute
+-- FIX, FUP and ROUND as functions
 abbrev pub fix : ℤ → ℤ
 fix z = z -ℤ int_rem_euclid z million
 

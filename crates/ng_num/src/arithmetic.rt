@@ -9,34 +9,34 @@ use crate::num::Num;
 use crate::rounding::{MILLION, nearest_size};
 
 impl Num {
-    /// The sum; E3 beyond the range (NISTIR 6556, 3.3.2.3).
+    /// The sum. E3 if it is out of range (NISTIR 6556, 3.3.2.3).
     pub fn add(self, other: Num) -> Result<Num, Fault>
         ensures { result ≡ in_range (self +ℤ other) }
     {
         Num::of_i64(self.count() + other.count())
     }
 
-    /// The difference; E3 beyond the range (NISTIR 6556, 3.3.2.3).
+    /// The difference. E3 if it is out of range (NISTIR 6556, 3.3.2.3).
     pub fn sub(self, other: Num) -> Result<Num, Fault>
         ensures { result ≡ in_range (self -ℤ other) }
     {
         Num::of_i64(self.count() - other.count())
     }
 
-    /// The product, rounded half away from zero; E3 beyond the range (NISTIR 6556, 3.3.2.3; rounding own).
+    /// The product, rounded half away from zero. E3 if it is out of range (NISTIR 6556, 3.3.2.3; rounding own).
     pub fn mul(self, other: Num) -> Result<Num, Fault>
         ensures value { result ≡ in_range (product self other) }
         ensures nearest { IsOnlyAnswer (IsNearest (self *ℤ other) million) result }
     {
         match self.size().checked_mul(other.size()) {
             Some(size) => Num::of_size(self.is_unlike(other), nearest_size(size, MILLION)),
-            // A product of 2^64 or more is past the range by far.
+            // A product of 2^64 or more is far out of range.
             None => Err(Fault::OutOfRange),
         }
     }
 
-    /// The quotient, rounded half away from zero; E5 where the divisor is 0, else E3 beyond the range
-    /// (NISTIR 6556, 3.3.2.3; rounding own).
+    /// The quotient, rounded half away from zero. E5 if the divisor is 0, else E3 if it is out of range (NISTIR 6556,
+    /// 3.3.2.3; rounding own).
     pub fn div(self, divisor: Num) -> Result<Num, Fault>
         ensures value { result ≡ quotient_of self divisor }
         ensures by_zero { divisor ≡ pos 0 → result ≡ Err Fault.BadArithmetic }
@@ -51,8 +51,8 @@ impl Num {
         )
     }
 
-    /// What is left of the number by the divisor, from 0 to below the size of the divisor; E5 where that is 0
-    /// (NISTIR 6556, 3.3.2.3; the sign of the result own).
+    /// The remainder of a division, from 0 to below the absolute value of the divisor. E5 if the divisor is 0 (NISTIR
+    /// 6556, 3.3.2.3; the sign of the result own).
     pub fn modulo(self, divisor: Num) -> Result<Num, Fault>
         ensures value { result ≡ remainder_of self divisor }
         ensures by_zero { divisor ≡ pos 0 → result ≡ Err Fault.BadArithmetic }
@@ -64,7 +64,7 @@ impl Num {
         Num::of_i64(self.count().rem_euclid(divisor.count()))
     }
 
-    /// The size of the number (NISTIR 6556, 3.3.2.4).
+    /// The absolute value (NISTIR 6556, 3.3.2.4).
     pub fn abs(self) -> Num
         ensures { result ≡ pos (unsigned_abs self) }
     {

@@ -1,10 +1,10 @@
-//! The first of some faults whose cause holds.
+//! The first fault in a list whose cause holds.
 ghost use Rattle.std.specs.Prelude.{◌≡◌, MatchOption};
 ghost use Rattle.ng_num.specs.Causes.{first_fault, NoneHolds, IsFirstFault};
 
 use crate::fault::Fault;
 
-/// The first fault whose cause holds, of faults each of which has its cause before it.
+/// The first fault whose cause holds, in a list of pairs of a cause and its fault.
 #[inline]
 pub fn first_fault(faults: &[(bool, Fault)]) -> Option<Fault>
     ensures value { result ≡ first_fault faults.now }

@@ -2,23 +2,23 @@ use std::alloc::{AllocError, AllocFailed};
 
 /// Why a line, a device, an event, a setting or a command is refused.
 ///
-/// The order is that in which they are looked for, but for E2, which comes before E1. Numbers and names are
-/// this project's own; docs/LANGUAGE.md lists the causes.
+/// The variants are in the order in which their causes are checked, except that E2 is checked before E1. Numbers and
+/// names are this project's own; docs/LANGUAGE.md lists the causes.
 #[derive(Clone, Copy, Debug, PartialEq, Eq)]
 pub enum Fault {
     /// The line isn't in the grammar.
     Unreadable,
     /// The line has over 256 bytes.
     LineTooLong,
-    /// A value, length or offset is beyond the range of numbers.
+    /// A value, a length or an offset is out of range.
     OutOfRange,
-    /// A parameter index isn't whole, or isn't 1 to 5399.
+    /// A parameter index isn't a whole number from 1 to 5399.
     BadIndex,
-    /// A divisor is 0, a root's argument negative, or an exponent isn't whole from 0 to 32.
+    /// A divisor is 0, a root's argument is negative, or an exponent isn't a whole number from 0 to 32.
     BadArithmetic,
-    /// A letter other than G and M stands twice.
+    /// A letter other than G and M appears twice.
     RepeatedLetter,
-    /// A G or M value is no code of the language.
+    /// A G or M value isn't a code of the language.
     UnknownCode,
     /// A code or a letter that this controller leaves out.
     LeftOutCode,
@@ -26,27 +26,27 @@ pub enum Fault {
     GroupTwice,
     /// More than four M words.
     TooManyM,
-    /// A motion word other than G80 beside G10, G28, G30 or G92.
+    /// A motion word other than G80 on a line with G10, G28, G30 or G92.
     AxisTakenTwice,
-    /// X, Y or Z where nothing takes them.
+    /// X, Y or Z on a line where nothing uses them.
     AxisUnused,
     /// G0 or G1 without X, Y, Z.
     NoAxis,
     /// G92 without X, Y, Z.
     NothingToSet,
-    /// G53 where the motion mode after the line isn't G0 or G1.
+    /// G53 when the motion mode after the line isn't G0 or G1.
     BadG53,
     /// R on a line whose motion is an arc.
     RadiusArc,
-    /// A word that nothing on the line takes.
+    /// A word that nothing on the line uses.
     UnusedWord,
-    /// F, S, or P of G4 below 0.
+    /// F, S, or P of G4 is negative.
     Negative,
     /// T or H isn't a whole slot number from 0 to the number of slots.
     BadSlot,
-    /// L of G10 missing or not 2, or L of a cycle not whole or below 1.
+    /// L of G10 is missing or isn't 2, or L of a cycle isn't whole or is below 1.
     BadL,
-    /// P of G10 missing, or not whole from 1 to 9.
+    /// P of G10 is missing, or isn't a whole number from 1 to 9.
     BadSystem,
     /// G4 without P.
     NoDwell,
@@ -56,11 +56,11 @@ pub enum Fault {
     CyclePlane,
     /// An arc without an end coordinate in its plane.
     NoEnd,
-    /// An arc without an offset of its plane.
+    /// An arc without a centre offset in its plane.
     NoCentre,
-    /// An arc's start and end differ too much in their distance from the centre.
+    /// An arc's start and end are at too different distances from the centre.
     RadiiDiffer,
-    /// An arc's start or end is its centre.
+    /// An arc's start or end is at its centre.
     ZeroRadius,
     /// A cycle word without X, Y, Z.
     CycleNoAxis,
@@ -68,13 +68,13 @@ pub enum Fault {
     NoZ,
     /// A cycle with no R given or kept.
     NoR,
-    /// A cycle's R below its Z.
+    /// A cycle's R is below its Z.
     RBelowZ,
     /// A cycle under inverse time feed.
     InverseTime,
-    /// A cycle's P below 0.
+    /// A cycle's P is negative.
     NegativeP,
-    /// G83 with no Q given or kept, or Q not above 0.
+    /// G83 with no Q given or kept, or with a Q that isn't above 0.
     BadQ,
     /// G86 while the spindle doesn't turn.
     SpindleStopped,
@@ -86,43 +86,43 @@ pub enum Fault {
     NoProgramEnd,
     /// The text of a percent program ended before its closing percent sign.
     MissingPercent,
-    /// The device failed in that call.
+    /// The device failed during the call.
     DeviceFailed,
     /// The device is too small, or has no valid header.
     NotFormatted,
-    /// What the device holds has a field out of its range.
+    /// A field on the device is out of its range.
     Damaged,
-    /// The call needs an epoch or entry count beyond its limit.
+    /// The call needs an epoch or an entry count beyond its limit.
     CountersUsed,
     /// The program is longer than the device's program area.
     ProgramTooLong,
     /// The controller isn't at rest.
     Busy,
-    /// No program is loaded, or none runs.
+    /// No program is loaded, or none is running.
     NoProgram,
-    /// Where the machine stands isn't known.
+    /// The machine's position isn't known.
     PlaceUnknown,
     /// There is no half-done block.
     NothingHalfDone,
-    /// The device failed earlier: power on anew.
+    /// The device failed earlier; power on again.
     Broken,
-    /// The seats' lists aren't those of the history.
+    /// The seats' lists don't match the history.
     SeatsDisagree,
     /// The settings text isn't TOML.
     NotToml,
     /// A key of the settings is missing.
     MissingKey,
-    /// A key that the settings don't have.
+    /// A key that the settings don't know.
     UnknownKey,
-    /// A setting of another type.
+    /// A setting of the wrong type.
     WrongType,
-    /// A setting beyond its limits.
+    /// A setting is outside its limits.
     OutOfLimits,
-    /// More than 64 tool lengths.
+    /// More than 128 tool lengths.
     TooManyTools,
-    /// A console line that is no command.
+    /// A console line that isn't a command.
     BadCommand,
-    /// A growth was refused.
+    /// Memory couldn't be allocated.
     OutOfMemory,
 }
 

@@ -8,7 +8,7 @@ use crate::rounding::inches_to_nm;
 use crate::unit::Unit;
 use std::marker::Model;
 
-/// A length: a whole count of nanometres, in size at most 9,999,999,999,999 (own).
+/// A length: a whole number of nanometres, at most 9,999,999,999,999 in absolute value (own).
 #[derive(Clone, Copy, Debug, PartialEq, Eq, PartialOrd, Ord)]
 pub struct Len {
     nm: i64,
@@ -28,7 +28,7 @@ impl Model for Len {
 }
 
 impl Len {
-    /// The length of a count of nanometres; E3 where the count is beyond the range.
+    /// The length of a number of nanometres. E3 if it is out of range.
     pub fn of_nm(nm: i128) -> Result<Len, Fault>
         ensures { result ≡ in_range nm }
     {
@@ -39,7 +39,7 @@ impl Len {
         }
     }
 
-    /// The same of a count that fits 64 bits.
+    /// `of_nm` for a count that fits 64 bits.
     #[inline(always)]
     pub(crate) fn of_i64(nm: i64) -> Result<Len, Fault>
         ensures { result ≡ in_range nm }
@@ -51,7 +51,7 @@ impl Len {
         }
     }
 
-    /// Its count of nanometres.
+    /// Its nanometres.
     pub fn nm(self) -> i64
         ensures value { result ≡ self }
         ensures range { IsCount self }
@@ -59,28 +59,28 @@ impl Len {
         self.nm
     }
 
-    /// The sum; E3 beyond the range (own).
+    /// The sum. E3 if it is out of range (own).
     pub fn add(self, other: Len) -> Result<Len, Fault>
         ensures { result ≡ in_range (self +ℤ other) }
     {
         Len::of_i64(self.nm + other.nm)
     }
 
-    /// The difference; E3 beyond the range (own).
+    /// The difference. E3 if it is out of range (own).
     pub fn sub(self, other: Len) -> Result<Len, Fault>
         ensures { result ≡ in_range (self -ℤ other) }
     {
         Len::of_i64(self.nm - other.nm)
     }
 
-    /// The length of the same size and the other sign.
+    /// The length with its sign reversed.
     pub fn neg(self) -> Len
         ensures { result ≡ neg_ℤ self }
     {
         Len { nm: -self.nm }
     }
 
-    /// No length.
+    /// The length 0.
     pub fn zero() -> Len
         ensures { result ≡ pos 0 }
     {
@@ -98,9 +98,9 @@ impl Default for Len {
     }
 }
 
-/// The length that a number writes in a unit: its count of millionths as nanometres under millimetres, 25.4
-/// times as many under inches, rounded half away from zero (NISTIR 6556, 3.5.7; rounding own). E3 where that is
-/// beyond the range.
+/// The length that a number stands for in a unit (NISTIR 6556, 3.5.7; rounding own). In millimetres its count of
+/// millionths is the count of nanometres. In inches it is multiplied by 25.4 and rounded half away from zero. E3 if the
+/// length is out of range.
 pub fn nm_of(number: Num, unit: Unit) -> Result<Len, Fault>
     ensures value { result ≡ in_range (nm_of number unit) }
     ensures length { IsOnlyAnswer (IsLength number unit) result }

@@ -1,9 +1,8 @@
-//! Numbers, lengths and faults: the leaf that every crate stands on.
+//! Numbers, lengths and faults: the base of every other crate.
 //!
-//! A `Num` is a whole count of millionths, a `Len` a whole count of nanometres, in one range. Each operation
-//! answers the mathematical value of its definition in `specs/`, rounded half away from zero at that operation,
-//! or the fault that says why there is none. Nothing here takes memory but the printing of a number's text,
-//! which grows the caller's text.
+//! A `Num` is a whole number of millionths and a `Len` a whole number of nanometres; both have the same range. Each
+//! operation returns the mathematical value that its definition in `specs/` gives, rounded half away from zero, or the
+//! fault that says why there is no value. Only the functions that print a number allocate: they grow the caller's text.
 #![tactic(auto)]
 
 mod arithmetic;

@@ -5,10 +5,10 @@ ghost use Rattle.ng_num.specs.Rounding.{is_unlike, signed};
 use crate::fault::Fault;
 use std::marker::Model;
 
-/// The greatest size of a count, of millionths or of nanometres.
+/// The greatest absolute value of a count, of millionths or of nanometres.
 pub(crate) const GREATEST: u64 = 9_999_999_999_999;
 
-/// A number: a whole count of millionths, in size at most 9,999,999.999999 (own; NISTIR 6556, 3.3.2.1 leaves
+/// A number: a whole count of millionths, at most 9,999,999.999999 in absolute value (own; NISTIR 6556, 3.3.2.1 leaves
 /// range and precision to the implementation).
 #[derive(Clone, Copy, Debug, PartialEq, Eq, PartialOrd, Ord)]
 pub struct Num {
@@ -29,7 +29,7 @@ impl Model for Num {
 }
 
 impl Num {
-    /// The number of a count of millionths; E3 where the count is beyond the range.
+    /// The number of a count of millionths. E3 if the count is out of range.
     pub fn of(count: i128) -> Result<Num, Fault>
         ensures { result ≡ in_range count }
     {
@@ -42,7 +42,7 @@ impl Num {
         }
     }
 
-    /// The same of a count that fits 64 bits.
+    /// `of` for a count that fits 64 bits.
     #[inline(always)]
     pub(crate) fn of_i64(count: i64) -> Result<Num, Fault>
         ensures { result ≡ in_range count }
@@ -63,7 +63,7 @@ impl Num {
         Num { count }
     }
 
-    /// The number of a size and a sign; E3 where the size is beyond the range.
+    /// The number with an absolute value and a sign. E3 if the absolute value is out of range.
     #[inline(always)]
     pub(crate) fn of_size(is_negative: bool, size: u64) -> Result<Num, Fault>
         ensures { result ≡ in_range (signed is_negative size) }
@@ -85,7 +85,7 @@ impl Num {
         self.count
     }
 
-    /// Its size in millionths.
+    /// Its absolute value in millionths.
     #[inline(always)]
     pub(crate) fn size(self) -> u64
         ensures value { result ≡ unsigned_abs self }
@@ -94,7 +94,7 @@ impl Num {
         self.count.unsigned_abs()
     }
 
-    /// Whether one of two is below zero and the other isn't.
+    /// Whether exactly one of the two numbers is negative.
     #[inline(always)]
     pub(crate) fn is_unlike(self, other: Num) -> bool
         ensures { result ≡ is_unlike self other }

@@ -10,9 +10,9 @@ use crate::num::Num;
 const GREATEST_EXPONENT: i64 = 32;
 
 impl Num {
-    /// The number to an exponent that counts as a whole number from 0 to 32: 1, and then times the number once
-    /// and again, each product rounded half away from zero. E5 for another exponent, else E3 where a product is
-    /// beyond the range (NISTIR 6556, 3.3.2.3; exponents, rounding and order own). `0 ** 0` is 1.
+    /// The number raised to an exponent, which must count as a whole number from 0 to 32. It is 1, multiplied by the
+    /// number again and again; each product is rounded half away from zero. E5 for any other exponent, else E3 if a
+    /// product is out of range (NISTIR 6556, 3.3.2.3; exponents, rounding and order own). `0 ** 0` is 1.
     pub fn power(self, exponent: Num) -> Result<Num, Fault>
         ensures value { result ≡ power_of self exponent }
         ensures whole { (n : ℕ) → IsExponent exponent n → result ≡ power self n }
@@ -34,7 +34,7 @@ impl Num {
         }
     }
 
-    /// 1 times the number, that many times.
+    /// 1 multiplied by the number this many times.
     fn multiplied(self, times: u32) -> Result<Num, Fault>
         ensures { result ≡ power self times }
     {

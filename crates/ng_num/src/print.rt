@@ -1,5 +1,5 @@
-//! The canonical text of numbers. Each is made on the stack, with what stands right after it, and appended at once,
-//! so a refused growth leaves the text as it was.
+//! The canonical text of numbers. Each text is built on the stack, with the two bytes that follow it, and appended at
+//! once. So if the caller's text can't grow, it is left as it was.
 ghost use Rattle.std.specs.Prelude.{◌≡◌, ◌+◌, ◌++◌, ◌∷◌, ◌<◌, ◌≤◌, ◌^◌, ◌/◌, ◌%◌, drop, length, OnOk, OnErr, unsigned_abs};
 ghost use Rattle.std.specs.Fmt.{decimal};
 ghost use Rattle.ng_num.specs.Text.{minus, number_text, point_text, six_digits};
@@ -14,10 +14,10 @@ use std::alloc::{AllocError, Allocator};
 /// The room for a number and the two bytes after it.
 const NUMBER: usize = 17;
 
-/// The room for three of them.
+/// The room for three numbers, each with two bytes after it.
 const POINT: usize = 51;
 
-/// Puts a byte into its place.
+/// Stores a byte at a place.
 #[inline(always)]
 fn put(byte: u8, buffer: &mut [u8], at: usize)
     requires { at < length buffer.old }
@@ -26,7 +26,7 @@ fn put(byte: u8, buffer: &mut [u8], at: usize)
     buffer[at] = byte;
 }
 
-/// Puts what stands after a number into its places.
+/// Stores the two bytes that follow a number.
 #[inline(always)]
 fn put_after(after: [u8; 2], buffer: &mut [u8], at: usize)
     requires { at + 2 ≤ length buffer.old }
@@ -36,7 +36,7 @@ fn put_after(after: [u8; 2], buffer: &mut [u8], at: usize)
     put(after[0], buffer, at);
 }
 
-/// Puts the two digits of a number below 100 into their places.
+/// Stores the two digits of a number below 100.
 #[inline(always)]
 fn put_pair(pair: u32, buffer: &mut [u8], at: usize)
     requires small { pair < 100 }
@@ -47,7 +47,8 @@ fn put_pair(pair: u32, buffer: &mut [u8], at: usize)
     put(b'0' + (pair / 10) as u8, buffer, at);
 }
 
-/// Writes the point and the six decimals of a size in millionths, which end at `end`; answers where the point stands.
+/// Writes the decimal point and six decimals of a size in millionths, so that they end at `end`. Returns where the
+/// point is.
 #[inline(always)]
 fn write_decimals(size: u64, buffer: &mut [u8], end: usize) -> usize
     requires { (7 ≤ end) × (end ≤ length buffer.old) }
@@ -62,7 +63,7 @@ fn write_decimals(size: u64, buffer: &mut [u8], end: usize) -> usize
     end - 7
 }
 
-/// Writes a size's whole part, which ends at `end`; answers where it begins.
+/// Writes a size's whole part, so that it ends at `end`. Returns where it starts.
 #[inline(always)]
 fn write_whole_part(size: u64, buffer: &mut [u8], end: usize) -> usize
     requires range { size ≤ greatest }
@@ -73,8 +74,8 @@ fn write_whole_part(size: u64, buffer: &mut [u8], end: usize) -> usize
     write_digits(size / 1_000_000, buffer, end)
 }
 
-/// Puts a minus before a text that begins at `start`, and answers where the text of the count begins. The minus is
-/// always written, so that no branch hangs on the sign.
+/// Writes a minus in front of a text that starts at `start`. Returns where the text of the count starts. The minus is
+/// always written, so that there is no branch on the sign.
 #[inline(always)]
 fn write_minus(count: i64, buffer: &mut [u8], start: usize) -> usize
     requires { (1 ≤ start) × (start ≤ length buffer.old) }
@@ -85,7 +86,8 @@ fn write_minus(count: i64, buffer: &mut [u8], start: usize) -> usize
     if count < 0 { start - 1 } else { start }
 }
 
-/// Writes the text of a count of millionths and the two bytes after it, which end at `end`; answers where it begins.
+/// Writes the text of a count of millionths and the two bytes after it, so that they end at `end`. Returns where the
+/// text starts.
 #[inline(always)]
 fn write_count(count: i64, after: [u8; 2], buffer: &mut [u8], end: usize) -> usize
     requires range { IsCount count }
@@ -115,8 +117,8 @@ fn print_count<A: Allocator + Copy + Drop>(
     text.extend_from_slice(&buffer[start..])
 }
 
-/// Appends a number and the two bytes after it: a minus where it is below 0, its whole part without leading zeros, a
-/// point and six decimals (own). A refused growth leaves the text as it was.
+/// Appends a number and the two bytes after it: a minus if it is negative, its whole part without leading zeros, a
+/// point and six decimals (own). If the text can't grow, it is left as it was.
 pub fn print_number<A: Allocator + Copy + Drop>(
     text: &mut Vec<u8, A>,
     number: Num,
@@ -128,8 +130,8 @@ pub fn print_number<A: Allocator + Copy + Drop>(
     print_count(text, number.count(), after)
 }
 
-/// Appends a length in millimetres and the two bytes after it, as `print_number` does a number (own). A refused
-/// growth leaves the text as it was.
+/// Appends a length in millimetres and the two bytes after it, in the form of `print_number` (own). If the text can't
+/// grow, it is left as it was.
 pub fn print_length<A: Allocator + Copy + Drop>(
     text: &mut Vec<u8, A>,
     length: Len,
@@ -142,7 +144,7 @@ pub fn print_length<A: Allocator + Copy + Drop>(
 }
 
 /// Writes the three coordinates of a point in millimetres, with a comma and a blank between them, and the two bytes
-/// after them at a buffer's end; answers where they begin.
+/// after them, at the end of a buffer. Returns where they start.
 #[inline(always)]
 fn write_point(point: Point, after: [u8; 2], buffer: &mut [u8; POINT]) -> usize
     ensures within { result ≤ 51 }
@@ -153,8 +155,8 @@ fn write_point(point: Point, after: [u8; 2], buffer: &mut [u8; POINT]) -> usize
     write_count(point.x.nm(), *b", ", buffer, y)
 }
 
-/// Appends the three coordinates of a point in millimetres, each as `print_length` does a length, with a comma and a
-/// blank between them, and the two bytes after them (own). A refused growth leaves the text as it was.
+/// Appends the three coordinates of a point in millimetres, each in the form of `print_length`, with a comma and a
+/// blank between them, and the two bytes after them (own). If the text can't grow, it is left as it was.
 pub fn print_point<A: Allocator + Copy + Drop>(
     text: &mut Vec<u8, A>,
     point: Point,
@@ -168,7 +170,7 @@ pub fn print_point<A: Allocator + Copy + Drop>(
     text.extend_from_slice(&buffer[start..])
 }
 
-/// Appends a whole number without leading zeros (own). A refused growth leaves the text as it was.
+/// Appends a whole number without leading zeros (own). If the text can't grow, it is left as it was.
 pub fn print_whole<A: Allocator + Copy + Drop>(
     text: &mut Vec<u8, A>,
     n: u64,

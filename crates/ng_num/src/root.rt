@@ -8,8 +8,8 @@ use crate::num::Num;
 use crate::rounding::MILLION;
 
 impl Num {
-    /// The greatest number not below 0 whose square isn't above the number; E5 below 0 (NISTIR 6556, 3.3.2.4;
-    /// rounding own).
+    /// The greatest non-negative number whose square isn't above the number. E5 for a negative number (NISTIR 6556,
+    /// 3.3.2.4; rounding own).
     pub fn sqrt(self) -> Result<Num, Fault>
         ensures value { result ≡ root_of self }
         ensures negative { self <ℤ pos 0 → result ≡ Err Fault.BadArithmetic }
@@ -18,7 +18,7 @@ impl Num {
         if self.count() < 0 {
             return Err(Fault::BadArithmetic);
         }
-        // A count times a million is below 2^64, its root below 2^32.
+        // A count times a million is below 2^64, and its root below 2^32.
         let root = (self.size() * MILLION).isqrt();
         Ok(Num::of_count(root as i64))
     }

@@ -1,5 +1,5 @@
-//! Rounding of quotients of sizes. All fits 64 bits: the greatest dividend is a count times a million, below
-//! 2^64, so no 128-bit division runs.
+//! Rounding of quotients of sizes. Everything fits 64 bits: the greatest dividend is a count times a million, which is
+//! below 2^64. So no 128-bit division is needed.
 ghost use Rattle.std.specs.Prelude.{◌≡◌, ◌+◌, ◌/◌, ◌^◌, ◌<◌, ◌*ℤ◌, pos};
 ghost use Rattle.ng_num.specs.Rounding.{near, nearest};
 ghost use Rattle.ng_num.specs.Range.{IsCount};

@@ -1,4 +1,4 @@
-//! Whole numbers beside a number.
+//! Whole numbers near a number.
 ghost use Rattle.std.specs.Prelude.{◌≡◌, ◌≤◌, ◌*◌, ℤ, pos, neg_ℤ, ◌*ℤ◌, unsigned_abs, IfSome, IfNone};
 ghost use Rattle.ng_num.specs.Range.{IsOnlyAnswer, greatest, in_range};
 ghost use Rattle.ng_num.specs.Rounding.{near};
@@ -11,11 +11,11 @@ use crate::rounding::{MILLION, nearest_size};
 /// The count of the number 1, with a sign.
 const ONE: i64 = 1_000_000;
 
-/// How far from a whole number a count still counts as it.
+/// How far a count may be from a whole number and still count as it.
 const CLOSE: u64 = 100;
 
 impl Num {
-    /// The greatest whole number not above the number; E3 beyond the range (NISTIR 6556, 3.3.2.4).
+    /// The greatest whole number not above the number. E3 if it is out of range (NISTIR 6556, 3.3.2.4).
     pub fn fix(self) -> Result<Num, Fault>
         ensures value { result ≡ in_range (fix self) }
         ensures greatest { IsOnlyAnswer (IsFix self) result }
@@ -23,7 +23,7 @@ impl Num {
         Num::of_i64(self.whole_below())
     }
 
-    /// The least whole number not below the number; E3 beyond the range (NISTIR 6556, 3.3.2.4).
+    /// The least whole number not below the number. E3 if it is out of range (NISTIR 6556, 3.3.2.4).
     pub fn fup(self) -> Result<Num, Fault>
         ensures value { result ≡ in_range (fup self) }
         ensures least { IsOnlyAnswer (IsFup self) result }
@@ -31,7 +31,7 @@ impl Num {
         Num::of_i64(-self.minus().whole_below())
     }
 
-    /// The whole number nearest to the number, halves away from zero; E3 beyond the range (NISTIR 6556, 3.3.2.4;
+    /// The whole number nearest to the number, halves away from zero. E3 if it is out of range (NISTIR 6556, 3.3.2.4;
     /// halves own).
     pub fn round(self) -> Result<Num, Fault>
         ensures value { result ≡ in_range (round self) }
@@ -40,7 +40,7 @@ impl Num {
         Num::of_i64(nearest_whole(self.count()) * ONE)
     }
 
-    /// The whole number that the number counts as: the one within 0.0001 of it, exactly 0.0001 too (own).
+    /// The whole number that the number counts as: the one at most 0.0001 away (own).
     #[inline]
     pub fn whole(self) -> Option<i64>
         ensures value { result ≡ whole_of self }
@@ -51,9 +51,8 @@ impl Num {
         close_whole(self.count())
     }
 
-    /// The whole number of tenths that the number counts as: the one within 0.0001 of ten times the number, exactly
-    /// 0.0001 too (own). Ten times a number may be beyond the range of numbers; what is found is at most 100,000,000
-    /// in size.
+    /// The whole number of tenths that the number counts as: the one at most 0.0001 away from ten times the number
+    /// (own). Ten times a number may be out of range; the result is at most 100,000,000 in absolute value.
     #[inline]
     pub fn whole_tenths(self) -> Option<i64>
         ensures value { result ≡ whole_of (self *ℤ pos 10) }
@@ -73,7 +72,7 @@ impl Num {
         self.count() - self.count().rem_euclid(ONE)
     }
 
-    /// The number of the same size and the other sign.
+    /// The number with its sign reversed.
     fn minus(self) -> Num
         ensures { result ≡ neg_ℤ self }
     {
@@ -92,7 +91,7 @@ fn nearest_whole(count: i64) -> i64
     if count < 0 { -size } else { size }
 }
 
-/// The whole number within 0.0001 of a count of millionths.
+/// The whole number at most 0.0001 away from a count of millionths.
 #[inline]
 fn close_whole(count: i64) -> Option<i64>
     requires { unsigned_abs count ≤ 10 * greatest }

@@ -7,7 +7,7 @@ use Rattle.ng_num.specs.Range.{IsCount, in_range}
 use Rattle.ng_num.specs.declared.fault.Fault.{Fault}
 use Rattle.ng_offsets.proofs.WantedLemmas.{itself}
 
--- as small as a shift
+-- at most as large as a shift
 abbrev IsSmall : ℤ → Type 0
 IsSmall n = unsigned_abs n ≤ 29_999_999_999_997
 
@@ -16,7 +16,7 @@ small n a h e =
     let k : unsigned_abs n ≤ 29_999_999_999_997 = omega arith in
     rw e k
 
--- a stored sum is the sum, and a stored difference the difference
+-- a sum of machine integers is the sum, and a difference the difference
 pub stored_sum : (n m a b : ℤ) → IsSmall a → IsSmall b → a ≡ n → b ≡ m → to_z w64 (of_z w64 (to_z w64 (of_z w64 a) +ℤ to_z w64 (of_z w64 b))) ≡ n +ℤ m
 stored_sum n m a b h k e f = omega (arith, ints)
 
@@ -28,7 +28,7 @@ pub stored_less : (n m a b : ℤ) → IsSmall a → IsSmall b → a ≡ n → b 
     → to_z w128 (of_z w128 (to_z w64 (of_z w64 (to_z w64 (of_z w64 a) -ℤ to_z w64 (of_z w64 b))))) ≡ n -ℤ m
 stored_less n m a b h k e f = omega (arith, ints)
 
--- ---- back again
+-- ---- and back
 
 counted : (n : ℤ) → IsCount n → in_range n ≡ Ok n
 counted n h = grind (arith, nat_tests)

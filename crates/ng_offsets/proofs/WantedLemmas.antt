@@ -13,7 +13,7 @@ by_bounds : (within : Bool) (n m : ℤ) → answered within n ≡ Ok m → m ≡
 by_bounds true n m e = sym (cc e)
 by_bounds false n m e = absurd (cc e)
 
--- what is in range is itself
+-- a value in range is itself
 pub itself : (n m : ℤ) → in_range n ≡ Ok m → m ≡ n
 itself n m e = by_bounds (nat_le (unsigned_abs n) greatest) n m e
 
@@ -34,12 +34,12 @@ stands (Some wanted) old shift machine offset h = by_current wanted old shift ma
 moved : (wanted : Option ℤ) (machine a b : ℤ) → a ≡ b → IfSome wanted (λ program. machine ≡ program +ℤ a) → IfSome wanted (λ program. machine ≡ program +ℤ b)
 moved wanted machine a b e h = subst (λ (n : ℤ). IfSome wanted (λ program. machine ≡ program +ℤ n)) e h
 
--- of an axis whose shift is its origin and its G92 offset
+-- an axis whose shift is its origin plus its G92 offset
 pub stands_on : (wanted : Option ℤ) (origin old machine offset : ℤ) → Ok offset ≡ offset_for wanted old (origin +ℤ old) machine → IfSome wanted (λ program. machine ≡ program +ℤ (origin +ℤ offset))
 stands_on wanted origin old machine offset h =
     moved wanted machine (((origin +ℤ old) -ℤ old) +ℤ offset) (origin +ℤ offset) (omega (arith, ints)) (stands wanted old (origin +ℤ old) machine offset (sym h))
 
--- the same with a tool length
+-- an axis whose shift includes a tool length
 pub stands_on_z : (wanted : Option ℤ) (origin old tool machine offset : ℤ) → Ok offset ≡ offset_for wanted old ((origin +ℤ old) +ℤ tool) machine → IfSome wanted (λ program. machine ≡ program +ℤ ((origin +ℤ offset) +ℤ tool))
 stands_on_z wanted origin old tool machine offset h =
     moved wanted machine ((((origin +ℤ old) +ℤ tool) -ℤ old) +ℤ offset) ((origin +ℤ offset) +ℤ tool) (omega (arith, ints)) (stands wanted old ((origin +ℤ old) +ℤ tool) machine offset (sym h))

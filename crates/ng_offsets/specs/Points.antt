@@ -1,5 +1,5 @@
--- Program and machine coordinates: machine = program + origin + G92 offset + tool length on Z (NISTIR 6556, 3.2.2, 3.5.11,
--- 3.5.18).
+-- Program and machine coordinates: machine = program + origin + G92 offset + tool length on Z (NISTIR 6556, 3.2.2,
+-- 3.5.11, 3.5.18).
 use Rattle.std.specs.Prelude.{ℤ, ◌+ℤ◌, ◌-ℤ◌, pos, Result, Ok}
 use Rattle.ng_num.specs.Points.{zero_point}
 use Rattle.ng_num.specs.Range.{in_range}
@@ -11,7 +11,7 @@ use Rattle.ng_offsets.specs.declared.offsets.Offsets.{Offsets}
 abbrev pub no_offsets : Offsets
 no_offsets = record { origin = zero_point; g92 = zero_point; tool_length = pos 0 }
 
--- what stands between the program and the machine coordinate of each axis
+-- the difference between the program and the machine coordinate of each axis
 abbrev pub shift_x : Offsets → ℤ
 shift_x o = o.origin.x +ℤ o.g92.x
 
@@ -21,7 +21,7 @@ shift_y o = o.origin.y +ℤ o.g92.y
 abbrev pub shift_z : Offsets → ℤ
 shift_z o = o.origin.z +ℤ o.g92.z +ℤ o.tool_length
 
--- the point of three coordinates, where each is in range
+-- the point with three coordinates, if each is in range
 abbrev pub point_of : ℤ → ℤ → ℤ → Result Point Fault
 point_of x y z =
     and_then (in_range x) (λ x'.

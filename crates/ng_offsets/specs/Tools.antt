@@ -4,7 +4,7 @@ use Rattle.std.specs.Ordering.{int_eq}
 use Rattle.std.specs.List.{All}
 use Rattle.ng_offsets.specs.declared.tools.SlotChange.{SlotChange}
 
--- the greatest length of a tool, 1 m; the least is 0
+-- the greatest tool length, 1 m; the least is 0
 abbrev pub longest_tool : ℤ
 longest_tool = pos 1_000_000_000
 
@@ -21,11 +21,11 @@ pub record AreTools (lengths : List ℤ) : Type 0 where
   pub few : length lengths ≤ 128
   pub each : All IsToolLength lengths
 
--- the length of a slot: slot 0 is no tool and has none (NISTIR 6556, 3.5.11)
+-- the length of a slot; slot 0 is no tool, and its length is 0 (NISTIR 6556, 3.5.11)
 abbrev pub length_of_slot : List ℤ → ℕ → ℤ
 length_of_slot lengths slot = get_or (pos 0 ∷ lengths) slot (pos 0)
 
--- the table in which a slot has another length; the one after the last is added
+-- the table with another length in a slot; if the slot is the one after the last, it is added
 abbrev pub with_slot : SlotChange → List ℤ → List ℤ
 with_slot change lengths = if change.slot == length lengths + 1 then lengths ++ change.length ∷ [] else set lengths (change.slot - 1) change.length
 
@@ -33,18 +33,18 @@ abbrev pub with_change : Option SlotChange → List ℤ → List ℤ
 with_change None lengths = lengths
 with_change (Some change) lengths = with_slot change lengths
 
--- the slot is one of the table, or the one after the last
+-- the slot is in the table, or is the one after its last
 pub record IsSlotChange (lengths : List ℤ) (change : SlotChange) : Type 0 where
   pub from : 1 ≤ change.slot
   pub to : change.slot ≤ length lengths + 1
 
--- at most one slot is changed, or one added at the end
+-- at most one slot is changed, or one is added at the end
 pub record IsOneSlotFrom (old new : List ℤ) : Type 0 where
   pub change : Option SlotChange
   pub lawful : IfSome change (IsSlotChange old)
   pub is : new ≡ with_change change old
 
--- the first slot, counted from this one on, that the new table has and the old one hasn't, or with another length
+-- the first slot, from this one on, that the new table has and the old one doesn't, or that has another length there
 abbrev pub change_from : ℕ → List ℤ → List ℤ → Option SlotChange
 change_from slot old [] = None
 change_from slot [] (b ∷ new) = Some (record { slot = slot; length = b })

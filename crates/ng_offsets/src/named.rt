@@ -4,7 +4,7 @@ ghost use Rattle.ng_offsets.specs.Named.{length_by, named_by, put};
 
 use ng_num::{Fault, Len, Num, Point, Unit, nm_of};
 
-/// The axes that a line names, each with the length that its word writes.
+/// The axes that a line names, each with the length of its word.
 #[derive(Clone, Copy)]
 pub struct Named {
     pub x: Option<Len>,
@@ -12,7 +12,7 @@ pub struct Named {
     pub z: Option<Len>,
 }
 
-/// The length of a word in a unit.
+/// The length of a word, in a unit.
 fn length_by(word: Option<Num>, unit: Unit) -> Result<Option<Len>, Fault>
     ensures { result ≡ length_by word unit }
 {
@@ -23,7 +23,7 @@ fn length_by(word: Option<Num>, unit: Unit) -> Result<Option<Len>, Fault>
 }
 
 impl Named {
-    /// The axes that words name, in a unit; E3 where a length is beyond the range (NISTIR 6556, 3.5.7).
+    /// The axes that words name, in a unit. E3 if a length is out of range (NISTIR 6556, 3.5.7).
     pub fn of(x: Option<Num>, y: Option<Num>, z: Option<Num>, unit: Unit) -> Result<Named, Fault>
         ensures { result ≡ named_by x y z unit }
     {
@@ -33,7 +33,7 @@ impl Named {
         Ok(Named { x, y, z })
     }
 
-    /// The point in which the named axes have their lengths, and the others what they had.
+    /// The point with the named lengths on the named axes. Its other coordinates stay.
     pub fn put(&self, point: Point) -> Point
         ensures { result ≡ put self.now point }
     {

@@ -1,11 +1,11 @@
-//! The offsets in force, and the points of program and machine.
+//! The offsets in force, and the conversion between program and machine points.
 ghost use Rattle.std.specs.Prelude.{◌≡◌, IfOk, Ok};
 
 use crate::shift::Shift;
 use ng_num::{Fault, Len, Point};
 
-/// What stands between program and machine coordinates:
-/// machine = program + origin + G92 offset + tool length on Z (NISTIR 6556, 3.2.2, 3.5.11, 3.5.18).
+/// The offsets between program and machine coordinates: machine = program + origin + G92 offset + tool length on Z
+/// (NISTIR 6556, 3.2.2, 3.5.11, 3.5.18).
 #[derive(Clone, Copy, Debug, PartialEq, Eq)]
 pub struct Offsets {
     /// The origin in force.
@@ -28,7 +28,7 @@ impl Offsets {
         }
     }
 
-    /// What stands between program and machine on X.
+    /// The difference between program and machine coordinates on X.
     #[inline]
     pub fn x(&self) -> Shift
         ensures { result ≡ shift_x self.now }
@@ -36,7 +36,7 @@ impl Offsets {
         Shift::of(self.origin.x, self.g92.x)
     }
 
-    /// What stands between program and machine on Y.
+    /// The difference between program and machine coordinates on Y.
     #[inline]
     pub fn y(&self) -> Shift
         ensures { result ≡ shift_y self.now }
@@ -44,7 +44,7 @@ impl Offsets {
         Shift::of(self.origin.y, self.g92.y)
     }
 
-    /// What stands between program and machine on Z, the tool length too.
+    /// The difference between program and machine coordinates on Z, including the tool length.
     #[inline]
     pub fn z(&self) -> Shift
         ensures { result ≡ shift_z self.now }
@@ -52,8 +52,8 @@ impl Offsets {
         Shift::of_three(self.origin.z, self.g92.z, self.tool_length)
     }
 
-    /// The machine point of a program point; E3 where a coordinate of it is beyond the range (NISTIR 6556, 3.2.2). `to_program`
-    /// undoes it.
+    /// The machine point of a program point. E3 if one of its coordinates is out of range (NISTIR 6556, 3.2.2).
+    /// `to_program` is its inverse.
     pub fn to_machine(&self, program: Point) -> Result<Point, Fault>
         ensures value { result ≡ to_machine self.now program }
         ensures undone { IfOk result (λ machine. to_program self.now machine ≡ Ok program) }
@@ -64,8 +64,8 @@ impl Offsets {
         Ok(Point { x, y, z })
     }
 
-    /// The program point of a machine point; E3 where a coordinate of it is beyond the range (NISTIR 6556, 3.2.2). `to_machine`
-    /// undoes it.
+    /// The program point of a machine point. E3 if one of its coordinates is out of range (NISTIR 6556, 3.2.2).
+    /// `to_machine` is its inverse.
     pub fn to_program(&self, machine: Point) -> Result<Point, Fault>
         ensures value { result ≡ to_program self.now machine }
         ensures undone { IfOk result (λ program. to_machine self.now program ≡ Ok machine) }

@@ -1,6 +1,7 @@
 //! What words do to the offsets and to the parameters that store them. None of them moves the machine.
 //!
-//! A parameter table is given as it was before the line, with the changes that the line has made so far.
+//! Functions that read parameters get the table as it was before the line, and the changes that the line has made so
+//! far.
 ghost use Rattle.std.specs.Prelude.{◌≡◌, ◌≤◌, length, IfOk};
 ghost use Rattle.ng_num.specs.Points.{zero_point};
 ghost use Rattle.ng_params.specs.Changes.{with_changes};
@@ -43,7 +44,7 @@ fn stored_after<A: Allocator + Copy + Drop>(table: &Params<A>, changes: &[Change
     }
 }
 
-/// The G92 offset of an axis that a program coordinate is wanted of.
+/// The G92 offset that gives an axis the wanted program coordinate, if one is wanted.
 fn offset_for(wanted: Option<Len>, old: Len, shift: Shift, machine: Len) -> Result<Len, Fault>
     ensures { result ≡ offset_for wanted old shift machine }
 {
@@ -71,7 +72,7 @@ impl Offsets {
         })
     }
 
-    /// The G92 offset under which the machine point has the wanted program coordinates.
+    /// The G92 offset that gives the machine point the wanted program coordinates.
     fn offsets_for(&self, wanted: &Named, machine: Point) -> Result<Point, Fault>
         ensures value { result ≡ offsets_for self.now wanted.now machine }
         ensures wanted { IfOk result (λ g92. HasCoordinates (record self.now { g92 = g92 }) wanted.now machine) }
@@ -82,8 +83,8 @@ impl Offsets {
         Ok(Point { x, y, z })
     }
 
-    /// G54 to G59.3: takes the origin of a system from the table, and stores that it is in force (NISTIR 6556, 3.5.13). E3 where
-    /// a sum that is printed is beyond the range.
+    /// G54 to G59.3: takes the origin of a system from the table, and stores that this system is in force (NISTIR 6556,
+    /// 3.5.13). E3 if a sum that is printed is out of range.
     pub fn select<A: Allocator + Copy + Drop>(
         &self,
         system: System,
@@ -100,8 +101,9 @@ impl Offsets {
         Ok((offsets.printed()?, [system.selection()]))
     }
 
-    /// G10 L2: gives the origin of a system the named coordinates, absolute under G91 too (NISTIR 6556, 3.5.5). If the system is
-    /// the one in force, its origin is taken anew, all three axes. E3 where a sum that is then printed is beyond the range.
+    /// G10 L2: sets the named coordinates of a system's origin. They are absolute, even under G91 (NISTIR 6556, 3.5.5).
+    /// If the system is the one in force, its new origin takes effect at once, on all three axes. E3 if a sum that is
+    /// then printed is out of range.
     pub fn g10<A: Allocator + Copy + Drop>(
         &self,
         system: System,
@@ -126,8 +128,9 @@ impl Offsets {
         }
     }
 
-    /// G92: gives the machine point the wanted program coordinates by the G92 offset, and stores the offset (NISTIR 6556,
-    /// 3.5.18). E3 where a named axis's current program coordinate, its new offset or a sum that is printed is beyond the range.
+    /// G92: sets and stores the G92 offset that gives the machine point the wanted program coordinates (NISTIR 6556,
+    /// 3.5.18). E3 if the current program coordinate of a named axis, its new offset, or a sum that is printed is out
+    /// of range.
     pub fn g92(&self, wanted: &Named, machine: Point) -> Result<(NewOffsets, [Change; 3]), Fault>
         ensures value { result ≡ set_offset self.now wanted.now machine }
         ensures wanted { IfOk result (λ done. HasCoordinates done.0.offsets wanted.now machine) }
@@ -141,14 +144,14 @@ impl Offsets {
         Ok((offsets.printed()?, g92_changes(g92)))
     }
 
-    /// G92.1: clears the G92 offset and the stored one (NISTIR 6556, 3.5.18).
+    /// G92.1: clears the G92 offset, in force and stored (NISTIR 6556, 3.5.18).
     pub fn g92_1(&self) -> (NewOffsets, [Change; 3])
         ensures { result ≡ (dropped self.now, g92_changes zero_point) }
     {
         (self.g92_2(), g92_changes(Point::zero()))
     }
 
-    /// G92.2: clears the G92 offset, and leaves the stored one (NISTIR 6556, 3.5.18).
+    /// G92.2: clears the G92 offset in force, but not the stored one (NISTIR 6556, 3.5.18).
     pub fn g92_2(&self) -> NewOffsets
         ensures { result ≡ dropped self.now }
     {
@@ -162,7 +165,7 @@ impl Offsets {
         }
     }
 
-    /// G92.3: takes the G92 offset from the table (NISTIR 6556, 3.5.18). E3 where a sum that is printed is beyond the range.
+    /// G92.3: takes the G92 offset from the table (NISTIR 6556, 3.5.18). E3 if a sum that is printed is out of range.
     pub fn g92_3<A: Allocator + Copy + Drop>(
         &self,
         table: &Params<A>,
@@ -178,8 +181,8 @@ impl Offsets {
         offsets.printed()
     }
 
-    /// G43 and G49: takes the tool length of a slot, of slot 0 none (NISTIR 6556, 3.5.11). The caller sees to it that the table
-    /// has the slot.
+    /// G43 and G49: takes the tool length of a slot; that of slot 0 is 0 (NISTIR 6556, 3.5.11). The caller ensures that
+    /// the table has the slot.
     pub fn tool_length(&self, slot: u8, tools: &Tools) -> Offsets
         requires { slot ≤ length tools.now }
         ensures { result ≡ with_tool self.now slot tools.now }

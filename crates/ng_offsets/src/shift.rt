@@ -4,8 +4,8 @@ ghost use Rattle.ng_num.specs.Range.{in_range};
 use ng_num::{Fault, Len};
 use std::marker::Model;
 
-/// What stands between the program and the machine coordinate of an axis: a sum of two or three lengths, in nanometres. The
-/// sum itself may be beyond the range of lengths (own).
+/// The difference between the program and the machine coordinate of an axis: a sum of two or three lengths, in
+/// nanometres. The sum itself may be out of the range of lengths (own).
 #[derive(Clone, Copy)]
 pub struct Shift {
     nm: i64,
@@ -44,14 +44,14 @@ impl Shift {
         }
     }
 
-    /// What it is above a length; E3 where that is beyond the range.
+    /// The shift minus a length. E3 if the result is out of range.
     pub(crate) fn less(self, length: Len) -> Result<Len, Fault>
         ensures { result ≡ in_range (self -ℤ length) }
     {
         Len::of_nm((self.nm - length.nm()) as i128)
     }
 
-    /// The machine coordinate of a program coordinate; E3 where it is beyond the range.
+    /// The machine coordinate of a program coordinate. E3 if it is out of range.
     #[inline]
     pub fn to_machine(self, program: Len) -> Result<Len, Fault>
         ensures value { result ≡ in_range (program +ℤ self) }
@@ -60,7 +60,7 @@ impl Shift {
         Len::of_nm((program.nm() + self.nm) as i128)
     }
 
-    /// The program coordinate of a machine coordinate; E3 where it is beyond the range.
+    /// The program coordinate of a machine coordinate. E3 if it is out of range.
     #[inline]
     pub fn to_program(self, machine: Len) -> Result<Len, Fault>
         ensures value { result ≡ in_range (machine -ℤ self) }

@@ -5,19 +5,19 @@ use arrayvec::ArrayVec;
 use ng_num::Len;
 use std::marker::Model;
 
-/// The most slots that a tool table has.
+/// The most slots that a tool table can have.
 pub const SLOTS: usize = 128;
 
-/// A tool length for a slot, which a table has or has next.
+/// A tool length for a slot. The slot is in the table, or is the one after its last.
 #[derive(Clone, Copy, Debug, PartialEq, Eq)]
 pub struct SlotChange {
-    /// From 1.
+    /// The slot's number, from 1.
     pub slot: u8,
     pub length: Len,
 }
 
-/// The tool table: the tool lengths of slots 1, 2 and so on (NISTIR 6556, 3.2.3, in this project's profile).
-/// Contracts see the list of their nanometres.
+/// The tool table: the tool lengths of slots 1, 2 and so on (NISTIR 6556, 3.2.3, in this project's profile). In
+/// contracts it is the list of their nanometres.
 #[derive(Drop)]
 pub struct Tools {
     lengths: ArrayVec<Len, SLOTS>,
@@ -53,7 +53,7 @@ impl Tools {
         self.lengths.len()
     }
 
-    /// The tool length of a slot, none for slot 0. The caller sees to it that the table has the slot.
+    /// The tool length of a slot; that of slot 0 is 0. The caller ensures that the table has the slot.
     pub fn length(&self, slot: u8) -> Len
         requires { slot ≤ length self.now }
         ensures { result ≡ length_of_slot self.now slot }
@@ -65,7 +65,8 @@ impl Tools {
         }
     }
 
-    /// Adds the next slot. The caller sees to it that there are fewer than 128, and that it is a tool's length.
+    /// Adds the next slot. The caller ensures that there are fewer than 128, and that the length is within the limits
+    /// of a tool length.
     pub fn push(&mut self, tool_length: Len)
         requires room { length self.old < SLOTS }
         requires tool { IsToolLength tool_length }
@@ -74,7 +75,7 @@ impl Tools {
         self.lengths.push(tool_length);
     }
 
-    /// A slot takes a length; the one after the last is added.
+    /// Gives a slot a length. If the slot is the one after the last, it is added.
     pub fn set(&mut self, change: SlotChange)
         requires slot { IsSlotChange self.old change }
         requires room { change.slot ≤ SLOTS }
@@ -100,7 +101,8 @@ impl Tools {
         copy
     }
 
-    /// The first slot that another table has and this one hasn't, or with another length; none where there is no such slot.
+    /// The first slot that another table has and this one doesn't, or that has another length there. `None` if there
+    /// isn't one.
     pub fn change_to(&self, other: &Tools) -> Option<SlotChange>
         ensures { result ≡ first_change self.now other.now }
     {

@@ -1,4 +1,4 @@
--- The value of one parameter while changes are made, one after the other.
+-- The value of one parameter while changes are made in order.
 use Rattle.std.proofs.Common.{◌≡◌, ◌≢◌, ℕ, ◌-◌, ◌≤◌, List, [], ◌∷◌, length, ℤ, pos, get_or, refl, sym, ap, ◌∙◌, arith}
 use Rattle.std.proofs.lemmas.List.{get_or-set_other, get_or_read, length-set}
 use Rattle.std.proofs.lemmas.Grind.{get_or-set_at}
@@ -6,7 +6,8 @@ use Rattle.ng_params.specs.Table.{at, with_value}
 use Rattle.ng_params.specs.Changes.{with_changes}
 use Rattle.ng_params.specs.declared.change.Change.{Change}
 
--- a table between the old and the new one, in which the parameter has the value; the rest of the changes leads to the new one
+-- a table between the old and the new one, in which the parameter has the value; the remaining changes lead to the new
+-- one
 pub record IsAhead (old : List ℤ) (index : ℕ) (changes : List Change) (value : ℤ) (rest : List Change) : Type 0 where
   pub table : List ℤ
   pub long : length table ≡ 5399
@@ -32,7 +33,7 @@ ahead_same old index changes value change rest low high same h = record {
   leads = h.leads;
 }
 
--- a change of another
+-- a change of another parameter
 pub ahead_other : (old : List ℤ) (index : ℕ) (changes : List Change) (value : ℤ) (change : Change) (rest : List Change)
     → 1 ≤ index → 1 ≤ change.index → change.index ≢ index → IsAhead old index changes value (change ∷ rest) → IsAhead old index changes value rest
 ahead_other old index changes value change rest low some other h = record {

@@ -1,4 +1,4 @@
--- The changes between two tables, found one parameter after the other.
+-- The changes between two tables, found parameter by parameter.
 use Rattle.std.proofs.Common.{◌≡◌, ◌≢◌, ℕ, ◌+◌, ◌-◌, ◌<◌, ◌≤◌, Bool, true, false, not, List, [], ◌∷◌, ◌++◌, length, get_or, set, map, ℤ, pos, ap, sym, subst, refl, inl, inr, ◌∙◌, arith, append_assoc, drop, take, int_eq}
 use Rattle.std.specs.List.{Contains}
 use Rattle.std.specs.List.Sorted.{IsStrictlyIncreasing}
@@ -37,7 +37,7 @@ apart_from a b test e =
     let never : false ≡ true = sym (ap not equal) ∙ test in
     cc
 
--- ---- one change more
+-- ---- one more change
 
 with_changes-push : (table : List ℤ) (changes : List Change) (last : Change)
     → with_changes table (changes ++ last ∷ []) ≡ with_value (with_changes table changes) last.index last.value
@@ -154,11 +154,11 @@ changes_same k old new changes in_old in_new same h = record {
   below = λ j within. omega (arith, h.below j within);
 }
 
--- what was read at k
+-- the value read at k
 read : (k : ℕ) (table : List ℤ) (value : ℤ) → k < 5399 → length table ≡ 5399 → value ≡ get_or table k value → value ≡ get_or table k (pos 0)
 read k table value within whole is = get_or_read table k value (omega arith) is (pos 0)
 
--- a loop's step, where the values that were read are not the same
+-- a step of the loop, if the two values differ
 pub step_push : (k : ℕ) (old new : List ℤ) (changes more : List Change) (index : ℕ) (value was : ℤ) (test : Bool)
     → k < 5399 → length old ≡ 5399 → length new ≡ 5399 → value ≡ get_or new k value → was ≡ get_or old k was
     → test ≡ not (int_eq value was) → test ≡ true → index ≡ k + 1
@@ -173,7 +173,7 @@ step_push k old new changes more index value was test within whole_old whole_new
     subst (AreChangesTo (k + 1) old new) (sym (is_more ∙ ap (λ (c : Change). changes ++ c ∷ []) last))
     (changes_push k old new changes (omega arith) (omega arith) apart h)
 
--- a loop's step, where they are
+-- a step of the loop, if they are equal
 pub step_same : (k : ℕ) (old new : List ℤ) (changes more : List Change) (value was : ℤ) (test : Bool)
     → k < 5399 → length old ≡ 5399 → length new ≡ 5399 → value ≡ get_or new k value → was ≡ get_or old k was
     → test ≡ not (int_eq value was) → test ≡ false → more ≡ changes → AreChangesTo k old new changes → AreChangesTo (k + 1) old new more
@@ -200,7 +200,7 @@ changes_restore k old new changes all_old all_new h =
     ∙ ap (λ (l : List ℤ). new ++ l) (drop_all k old all_old)
     ∙ append-nil new
 
--- a difference is at a parameter that there is
+-- a difference is at an existing parameter
 is_within : (k : ℕ) (old new : List ℤ) (change : Change) → length old ≤ k → length new ≤ k → IsDifference old new change → change.index ≤ k
 is_within k old new change all_old all_new d =
     elim (cases_lt k change.index) [

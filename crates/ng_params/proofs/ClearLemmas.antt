@@ -1,4 +1,4 @@
--- A table that is cleared one parameter after the other.
+-- A table that is cleared parameter by parameter.
 use Rattle.std.proofs.Common.{◌≡◌, ℕ, ◌+◌, ◌<◌, ◌≤◌, true, false, cond, List, length, get_or, set, ℤ, pos, ap, sym, subst, inl, inr, ◌∙◌, arith}
 use Rattle.std.specs.List.{enumerate_from}
 use Rattle.std.proofs.lemmas.List.{length-set, length-map, get_or-set_same, get_or-set_other, get_or-map, ext_get_or}
@@ -6,7 +6,7 @@ use Rattle.std.proofs.lemmas.List.FromFn.{length-enumerate_from, get_or-enumerat
 use Rattle.std.proofs.lemmas.Bool.{cases_lt}
 use Rattle.ng_params.specs.Lasting.{lasts, cleared}
 
--- what becomes of parameter j + 1
+-- the new value of parameter j + 1
 abbrev pub cleared_at : List ℤ → ℕ → ℤ
 cleared_at old j = cond (lasts (j + 1)) (get_or old j (pos 0)) (pos 0)
 
@@ -48,7 +48,7 @@ cleared_get old i within =
     ∙ ap (λ (x : ℕ × ℤ). cond (lasts x.0) x.1 (pos 0)) (get_or-enumerate_from 1 old i (0, pos 0) within)
     ∙ ap (λ p. cond (lasts p) (get_or old i (pos 0)) (pos 0)) number
 
--- a table of which all is cleared is the cleared one
+-- a table that is cleared to its end is the cleared table
 pub cleared_whole : (old new : List ℤ) (k : ℕ) → 5399 ≤ k → length old ≡ 5399 → IsClearedTo k old new → new ≡ cleared old
 cleared_whole old new k all whole h =
     let same : length (cleared old) ≡ length old = length-map (enumerate_from 1 old) _ ∙ length-enumerate_from 1 old in

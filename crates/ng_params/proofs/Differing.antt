@@ -1,4 +1,4 @@
--- The differences of two tables, one parameter after the other.
+-- The differences of two tables, parameter by parameter.
 use Rattle.std.proofs.Common.{◌≡◌, ◌⊎◌, inl, inr, ℕ, zero, suc, ◌+◌, ◌-◌, ◌<◌, ◌≤◌, Bool, true, false, not, if◌then◌else◌, List, [], ◌∷◌, ◌++◌, length, get_or, ℤ, pos, int_eq, refl, sym, ◌∙◌, ap, subst, arith, add-one, append_assoc, append-nil}
 use Rattle.std.proofs.lemmas.Bool.Decides.{Decides-int_eq}
 use Rattle.std.proofs.lemmas.List.{length_push}
@@ -28,7 +28,7 @@ yes_not : (t : Bool) → not t ≡ true → t ≡ false
 yes_not false e = refl
 yes_not true e = absurd (cc)
 
--- the parameter after the first n, where its values were compared
+-- the parameter after the first n, once its values were compared
 module _ (n p : ℕ) (old new : List ℤ) (value was : ℤ) (p_is : p ≡ n + 1) (value_is : value ≡ at new p) (was_is : was ≡ at old p) where
   p_suc : p ≡ suc n
   p_suc = omega arith
@@ -48,7 +48,7 @@ by_test : (t : Bool) → (t ≡ true) ⊎ (t ≡ false)
 by_test true = inl refl
 by_test false = inr refl
 
--- fewer of them begin more of them
+-- the differences among fewer parameters are a prefix of those among more
 pub differences-begin : (m n : ℕ) (old new : List ℤ) → (rest : List Change) × (differences_to (m + n) old new ≡ differences_to m old new ++ rest)
 differences-begin m zero old new = ([], ap (λ (k : ℕ). differences_to k old new) (let e : m + 0 ≡ m = omega arith in e) ∙ sym (append-nil (differences_to m old new)))
 differences-begin m (suc n) old new =
@@ -65,7 +65,7 @@ one_counted xs ys last n m is count more = more ∙ omega (arith, count, length_
 pub one_taken : (all from taken more : List Change) (last : Change) (next : List Change) → next ≡ all ++ last ∷ [] → all ≡ from ++ taken → more ≡ taken ++ last ∷ [] → next ≡ from ++ more
 one_taken all from taken more last next is on push = is ∙ ap (λ (l : List Change). l ++ last ∷ []) on ∙ append_assoc from taken (last ∷ []) ∙ ap (λ (l : List Change). from ++ l) (sym push)
 
--- there are no more of them than parameters
+-- there are at most as many as parameters
 pub differences-few : (n : ℕ) (old new : List ℤ) → length (differences_to n old new) ≤ n
 differences-few zero old new = omega (arith, ap length (none_yet old new))
 differences-few (suc n) old new = elim (by_test (int_eq (at new (suc n)) (at old (suc n)))) [
@@ -95,7 +95,7 @@ are_to (suc n) old new le all_old all_new =
       | inr other ↦ step_push n old new (differences_to n old new) (differences_to (suc n) old new) (suc n) value was (not (int_eq value was)) (omega arith) all_old all_new v w refl (ap not other) (sym e) (suc_other n old new other) before
     ])
 
--- with them the old table is the new one
+-- applied to the old table, they give the new one
 pub differences-restore : (old new : List ℤ) → length old ≡ 5399 → length new ≡ 5399 → with_changes old (differences old new) ≡ new
 unfolding differences
 differences-restore old new all_old all_new = changes_restore 5399 old new (differences_to 5399 old new) (omega arith) (omega arith) (are_to 5399 old new (omega arith) all_old all_new)
@@ -116,7 +116,7 @@ pub differences-none : (table : List ℤ) → differences table table ≡ []
 unfolding differences
 differences-none table = none_to 5399 table
 
--- and tables that don't differ are the same
+-- tables that don't differ are the same
 no_changes : (changes : List Change) → length changes ≡ 0 → changes ≡ []
 no_changes [] none = refl
 no_changes (change ∷ changes) none = absurd (omega (arith, none))

@@ -5,20 +5,21 @@ use Rattle.ng_params.specs.Numbers.{parameter_count}
 use Rattle.ng_params.specs.Table.{at}
 use Rattle.ng_params.specs.declared.change.Change.{Change}
 
--- the new value of a parameter
+-- the change of a parameter to its new value
 abbrev pub change_to : List ℤ → ℕ → Change
 change_to new p = record { index = p; value = at new p }
 
--- those of the first n parameters whose values differ, with their new values, by rising index
+-- the differences among the first n parameters, with their new values, in rising order
 unfoldable pub differences_to : ℕ → List ℤ → List ℤ → List Change
 differences_to zero old new = []
 differences_to (suc n) old new = if int_eq (at new (suc n)) (at old (suc n)) then differences_to n old new else differences_to n old new ++ change_to new (suc n) ∷ []
 
--- all of them
+-- all differences
 unfoldable pub differences : List ℤ → List ℤ → List Change
 differences old new = differences_to parameter_count old new
 
--- These differences are those after the first so many parameters: as many as there is room for, or all that are left.
+-- These are the differences among the parameters after the first `from` ones, up to the first `next` ones: as many as
+-- there is room for, or all that are left.
 pub record TakesDifferences (room : ℕ) (old new : List ℤ) (from next : ℕ) (taken : List Change) : Type 0 where
   pub on : differences_to next old new ≡ differences_to from old new ++ taken
   pub within : next ≤ parameter_count

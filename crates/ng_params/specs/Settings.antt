@@ -1,15 +1,16 @@
--- What settings leave of a table (NISTIR 6556, 3.3.3): of those of one parameter the last counts, and all others stay.
+-- The effect of settings on a table (NISTIR 6556, 3.3.3): the last setting of a parameter counts, and all other
+-- parameters stay.
 use Rattle.std.specs.Prelude.{◌≡◌, ◌≢◌, ◌≤◌, ℕ, List, [], ◌∷◌, ◌++◌, ℤ, length}
 use Rattle.ng_params.specs.Changes.{with_changes}
 use Rattle.ng_params.specs.Table.{at}
 use Rattle.ng_params.specs.declared.change.Change.{Change}
 
--- none of these settings is of parameter p
+-- none of these settings sets parameter p
 abbrev pub AreOthers : ℕ → List Change → Type 0
 AreOthers p [] = Unit {0}
 AreOthers p (c ∷ changes) = (1 ≤ c.index) × (c.index ≢ p) × AreOthers p changes
 
--- the table after settings has the value of the last that a parameter has
+-- after settings, a parameter has the value of its last setting
 abbrev pub TheLastCounts : Type 0
 TheLastCounts = (table : List ℤ) (before others : List Change) (c : Change) → 1 ≤ c.index → c.index ≤ length table → AreOthers c.index others
     → at (with_changes table (before ++ c ∷ others)) c.index ≡ c.value

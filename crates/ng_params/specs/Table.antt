@@ -1,4 +1,4 @@
--- A table of parameters: the list of the values of 1, 2, 3 and so on (NISTIR 6556, 3.2.1).
+-- A table of parameters: the list of the values of parameters 1, 2, 3 and so on (NISTIR 6556, 3.2.1).
 use Rattle.std.specs.Prelude.{ℕ, ◌-◌, List, ℤ, pos, replicate, set, get_or}
 use Rattle.ng_params.specs.Numbers.{parameter_count, system_in_force}
 

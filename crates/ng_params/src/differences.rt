@@ -1,4 +1,4 @@
-//! How two tables of parameters differ, found with no memory.
+//! How two tables of parameters differ, found without allocating.
 ghost use Rattle.std.specs.Prelude.{◌≡◌, ◌≤◌, length};
 ghost use Rattle.ng_params.specs.Differences.{differences, TakesDifferences};
 ghost use Rattle.ng_params.specs.Numbers.{parameter_count};
@@ -9,7 +9,7 @@ use crate::params::Params;
 use arrayvec::ArrayVec;
 use std::alloc::Allocator;
 
-/// How many parameters have other values in a table than in an older one, 0 to 5399 (own).
+/// The number of parameters whose value in a table differs from that in an older one, 0 to 5399 (own).
 pub fn difference_count<A: Allocator + Copy + Drop>(old: &Params<A>, new: &Params<A>) -> usize
     ensures count { result ≡ length (differences old.now new.now) }
     ensures few { result ≤ parameter_count }
@@ -24,7 +24,8 @@ pub fn difference_count<A: Allocator + Copy + Drop>(old: &Params<A>, new: &Param
     count
 }
 
-/// The differences after the first parameters, the first `N` of them or all that are left, and how many parameters were looked at then (own).
+/// The differences among the parameters after the first `from` ones: at most `N` of them, or all that are left. Also
+/// returns how many parameters, counted from the first one, have been compared (own).
 pub fn next_differences<A: Allocator + Copy + Drop, const N: usize>(
     old: &Params<A>,
     new: &Params<A>,

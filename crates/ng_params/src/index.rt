@@ -3,7 +3,7 @@ ghost use Rattle.ng_params.specs.Numbers.{index_of, parameter_count};
 
 use std::marker::Model;
 
-/// How many parameters there are.
+/// The number of parameters.
 pub const PARAMETER_COUNT: usize = 5399;
 
 /// The number of a parameter: 1 to 5399 (NISTIR 6556, 3.3.2.2).
@@ -26,7 +26,7 @@ impl Model for Index {
 }
 
 impl Index {
-    /// The parameter of a whole number; none where the number isn't 1 to 5399.
+    /// The parameter with a whole number. `None` if the number isn't 1 to 5399.
     pub fn of(number: i64) -> Option<Index>
         ensures { result ≡ index_of number }
     {
@@ -39,7 +39,7 @@ impl Index {
         }
     }
 
-    /// The parameter of a number that is in range.
+    /// The parameter with a number that is in range.
     pub fn known(number: u16) -> Index
         requires low { 1 ≤ number }
         requires high { number ≤ parameter_count }

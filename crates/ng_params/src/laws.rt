@@ -1,8 +1,8 @@
-//! Laws of settings, for proofs above this crate to cite: the call does nothing, and its contract is the law.
+//! Laws of settings, for proofs in the crates above to cite. A call does nothing; its contract is the law.
 ghost use Rattle.ng_params.specs.Settings.{TheLastCounts, TheOthersStay};
 
-/// Of the settings of one parameter the last counts, and a parameter that isn't set keeps its value (NISTIR 6556,
-/// 3.3.3).
+/// If a parameter is set several times, the last setting counts. A parameter that isn't set keeps its value (NISTIR
+/// 6556, 3.3.3).
 pub fn settings()
     ensures last { TheLastCounts }
     ensures others { TheOthersStay }

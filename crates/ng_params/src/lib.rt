@@ -1,10 +1,11 @@
 //! The numbered parameters of the language (NISTIR 6556, 3.2.1), 1 to 5399: a table of numbers.
 //!
-//! `Params` is a list of 5399 numbers to whoever reads a contract; `Index` and `System` are numbers that are in
-//! range, so that reading and setting never fail. Points are stored as three neighbours, in millimetres, whatever
-//! unit a program writes. `changes_from` says how a table differs from an older one, and `apply` puts such changes
-//! into the older one; `difference_count` and `next_differences` say it with no memory. The crate stands on `ng_num`; which word sets which parameter, and when an offset acts, is
-//! for the crates above, which are given the changes to make. Memory is taken by `new`, `copy` and `changes_from` alone.
+//! In contracts, `Params` is a list of 5399 numbers. `Index` and `System` are numbers that are in range, so reading and
+//! setting never fail. A point is stored as three consecutive parameters, in millimetres, whatever the unit of the
+//! program. `changes_from` lists how a table differs from an older one, and `apply` makes such changes in the older
+//! one. `difference_count` and `next_differences` find the differences without allocating. Only `new`, `copy` and
+//! `changes_from` allocate. The crate depends on `ng_num`. The crates above decide which word sets which parameter, and
+//! when an offset takes effect; this crate gets the changes to make.
 #![tactic(auto)]
 
 mod change;

@@ -18,7 +18,7 @@ fn one() -> Num
     Num::of(1_000_000).unwrap()
 }
 
-/// The table of parameters: a list of 5399 numbers, the first of them parameter 1.
+/// The table of parameters: a list of 5399 numbers, starting with parameter 1.
 #[derive(Drop)]
 pub struct Params<A: Allocator> {
     values: Vec<Num, A>,
@@ -36,8 +36,8 @@ impl<A: Allocator> Model for Params<A> {
 }
 
 impl<A: Allocator + Copy + Drop> Params<A> {
-    /// All defaults: the number of the system in force, parameter 5220, is 1, all else 0 (NISTIR 6556, 3.2.1).
-    /// Refused growth is its only error.
+    /// The default table: the number of the system in force, parameter 5220, is 1; all other parameters are 0 (NISTIR
+    /// 6556, 3.2.1). Fails only if memory runs out.
     pub fn new(alloc: A) -> Result<Self, AllocError>
         ensures { IfOk result (λ p. p ≡ defaults) }
     {
@@ -61,7 +61,7 @@ impl<A: Allocator + Copy + Drop> Params<A> {
         self.values[place] = value;
     }
 
-    /// Makes changes, in their order: of two for one parameter the last counts.
+    /// Makes changes in order. Of two changes of one parameter the last counts.
     pub fn apply(&mut self, changes: &[Change])
         ensures { self.new ≡ with_changes self.old changes.now }
     {
@@ -70,7 +70,7 @@ impl<A: Allocator + Copy + Drop> Params<A> {
         }
     }
 
-    /// The value that a parameter will have once changes are made, in their order.
+    /// The value that a parameter will have after changes, made in order.
     pub fn get_after(&self, index: Index, changes: &[Change]) -> Num
         ensures { result ≡ at (with_changes self.now changes.now) index }
     {
@@ -84,8 +84,8 @@ impl<A: Allocator + Copy + Drop> Params<A> {
         value
     }
 
-    /// Makes all 0 but what outlives a program: the homes, the G92 offset, the number of the system in force and
-    /// the origins (own).
+    /// Sets all parameters to 0 except those that survive the end of a program: the homes, the G92 offset, the number
+    /// of the system in force and the origins (own).
     pub fn clear_passing(&mut self)
         ensures { self.new ≡ cleared self.old }
     {
@@ -96,8 +96,8 @@ impl<A: Allocator + Copy + Drop> Params<A> {
         }
     }
 
-    /// The parameters whose values differ from those of an older table, by rising index. Refused growth is its
-    /// only error.
+    /// The parameters whose values differ from those of an older table, in rising order of index. Fails only if memory
+    /// runs out.
     pub fn changes_from(&self, old: &Params<A>) -> Result<Vec<Change, A>, AllocError>
         ensures restores { IfOk result (λ changes. with_changes old.now changes.items ≡ self.now) }
         ensures differ { IfOk result (λ changes. AreDifferences old.now self.now changes.items) }
@@ -116,7 +116,7 @@ impl<A: Allocator + Copy + Drop> Params<A> {
         Ok(changes)
     }
 
-    /// A table of the same values. Refused growth is its only error.
+    /// A copy of the table. Fails only if memory runs out.
     pub fn copy(&self) -> Result<Self, AllocError>
         ensures { IfOk result (λ p. p ≡ self.now) }
     {

@@ -1,4 +1,4 @@
-//! The points among the parameters: homes, the stored G92 offset and origins, as lengths.
+//! The points among the parameters, as lengths: homes, the stored G92 offset and origins.
 ghost use Rattle.std.specs.Prelude.{◌≡◌, ◌≤◌};
 ghost use Rattle.ng_params.specs.Changes.{with_changes};
 ghost use Rattle.ng_params.specs.Numbers.{first_of_origin};
@@ -11,14 +11,14 @@ use crate::system::System;
 use ng_num::{Len, Num, Point};
 use std::alloc::Allocator;
 
-/// The length of a number of millimetres: a millionth of a millimetre is a nanometre.
+/// The length of a number of millimetres. A millionth of a millimetre is a nanometre.
 fn length_of(millimetres: Num) -> Len
     ensures { result ≡ millimetres }
 {
     Len::of_nm(millimetres.count() as i128).unwrap()
 }
 
-/// The number of a length's millimetres.
+/// A length in millimetres, as a number.
 fn millimetres_of(length: Len) -> Num
     ensures { result ≡ length }
 {
@@ -76,7 +76,7 @@ impl<A: Allocator + Copy + Drop> Params<A> {
         self.point_at(first_of_origin(system))
     }
 
-    /// The origin that a system will have once changes are made, in their order.
+    /// The origin that a system will have after changes, made in order.
     pub fn origin_after(&self, system: System, changes: &[Change]) -> Point
         ensures { result ≡ origin_of (with_changes self.now changes.now) system }
     {
@@ -119,7 +119,7 @@ pub fn g92_changes(offset: Point) -> [Change; 3]
 }
 
 impl System {
-    /// The changes of parameters that give it an origin (NISTIR 6556, 3.5.5: G10).
+    /// The changes of parameters that set its origin (NISTIR 6556, 3.5.5: G10).
     pub fn origin_changes(self, origin: Point) -> [Change; 3]
         ensures { result ≡ origin_changes self origin }
     {

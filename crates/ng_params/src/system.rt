@@ -26,7 +26,7 @@ impl Model for System {
 }
 
 impl System {
-    /// The system of a whole number; none where the number isn't 1 to 9.
+    /// The system with a whole number. `None` if the number isn't 1 to 9.
     pub fn of(number: i64) -> Option<System>
         ensures { result ≡ system_of number }
     {

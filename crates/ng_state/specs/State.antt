@@ -1,4 +1,4 @@
--- The state of the interpreter, wherever its table lies (own).
+-- The state of the interpreter, wherever its table is stored (own).
 use Rattle.std.specs.Prelude.{ℤ, List}
 use Rattle.ng_params.specs.declared.change.Change.{Change}
 use Rattle.ng_params.specs.Table.{defaults}
@@ -14,6 +14,6 @@ pub record StateModel : Type 0 where
 abbrev pub fresh : StateModel
 fresh = record { params = defaults; machine = fresh_machine }
 
--- another machine, and changes of parameters
+-- another machine, and the table after changes
 abbrev pub changed : StateModel → Machine → List Change → StateModel
 changed s machine changes = record { params = with_changes s.params changes; machine = machine }

@@ -3,7 +3,7 @@ ghost use Rattle.std.specs.Prelude.{◌≡◌};
 
 use ng_num::{Len, Num};
 
-/// The words that a cycle keeps from line to line, as the lengths and times that they gave (NISTIR 6556, 3.5.16).
+/// The words that a cycle keeps from line to line, as lengths and times (NISTIR 6556, 3.5.16).
 #[derive(Clone, Copy, Debug, PartialEq, Eq)]
 pub struct KeptWords {
     pub r: Option<Len>,
@@ -16,7 +16,7 @@ pub struct KeptWords {
 impl KeptWords {
     ghost use Rattle.ng_state.specs.KeptWords.{no_words, in_force};
 
-    /// None kept.
+    /// No words.
     pub fn none() -> KeptWords
         ensures { result ≡ no_words }
     {
@@ -28,8 +28,8 @@ impl KeptWords {
         }
     }
 
-    /// The words in force where these are a line's own: these, and the kept ones where the line has none. A cycle's line keeps
-    /// them (NISTIR 6556, 3.5.16).
+    /// The words in force when these are a line's own: each word of the line or, if the line doesn't have it, the kept
+    /// one. A cycle's line keeps the result (NISTIR 6556, 3.5.16).
     pub fn over(&self, kept: &KeptWords) -> KeptWords
         ensures { result ≡ in_force self.now kept.now }
     {

@@ -1,4 +1,4 @@
-//! The machine as a block finds it: all of the state but the parameter table.
+//! The machine as a block finds it: all of the state except the parameter table.
 ghost use Rattle.std.specs.Prelude.{◌≡◌};
 
 use crate::kept_words::KeptWords;
@@ -7,18 +7,18 @@ use ng_canon::{Feed, Outputs};
 use ng_num::Point;
 use ng_offsets::Offsets;
 
-/// All that a block can read or change but the parameter table.
+/// Everything that a block can read or change, except the parameter table.
 #[derive(Clone, Copy, Debug, PartialEq, Eq)]
 pub struct Machine {
     pub modes: Modes,
     pub feed_per_min: Feed,
     pub outputs: Outputs,
     pub offsets: Offsets,
-    /// The words that the cycle of the motion mode keeps.
+    /// The words that the current cycle keeps.
     pub kept: KeptWords,
-    /// Where the machine stands, in machine coordinates.
+    /// The machine's position, in machine coordinates.
     pub point: Point,
-    /// Whether it is known that the machine stands there.
+    /// Whether the position is known.
     pub point_known: bool,
 }
 

@@ -59,7 +59,7 @@ pub enum Retract {
     ToR,
 }
 
-/// The path mode, group 13 (NISTIR 6556, 3.5.14). Recorded only (own).
+/// The path mode, group 13 (NISTIR 6556, 3.5.14). It is only recorded (own).
 #[derive(Clone, Copy, Debug, PartialEq, Eq)]
 pub enum PathMode {
     /// G61.
@@ -82,14 +82,14 @@ pub struct Modes {
     /// Group 12 (NISTIR 6556, 3.5.13).
     pub system: System,
     pub path: PathMode,
-    /// Whether the operator's overrides are allowed: M48 (NISTIR 6556, 3.6.5). Recorded only (own).
+    /// Whether the operator's overrides are allowed: M48 (NISTIR 6556, 3.6.5). It is only recorded (own).
     pub overrides: bool,
 }
 
 impl Modes {
     ghost use Rattle.ng_state.specs.Fresh.{fresh_modes};
 
-    /// Those of the fresh state: G80 G17 G90 G94 G21 G98 G54 G64 M48 (own).
+    /// The fresh modes: G80 G17 G90 G94 G21 G98 G54 G64 M48 (own).
     pub fn fresh() -> Modes
         ensures { result ≡ fresh_modes }
     {

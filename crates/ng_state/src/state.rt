@@ -6,7 +6,7 @@ use ng_params::{Change, Params};
 use std::alloc::{AllocError, Allocator};
 use std::marker::Model;
 
-/// All that a block can read or change: the parameter table and the machine. Contracts see a `StateModel`.
+/// Everything that a block can read or change: the parameter table and the machine. In contracts it is a `StateModel`.
 #[derive(Drop)]
 pub struct State<A: Allocator> {
     pub params: Params<A>,
@@ -24,8 +24,8 @@ impl<A: Allocator> Model for State<A> {
 impl<A: Allocator + Copy + Drop> State<A> {
     ghost use Rattle.ng_state.specs.State.{fresh, changed};
 
-    /// The fresh state (own): all parameters at their defaults, the fresh machine. `AllocError` where the table
-    /// found no memory.
+    /// The fresh state (own): the default parameter table and the fresh machine. `AllocError` if there is no memory for
+    /// the table.
     pub fn fresh(alloc: A) -> Result<State<A>, AllocError>
         ensures { IfOk result (λ s. s ≡ fresh) }
     {
@@ -35,7 +35,7 @@ impl<A: Allocator + Copy + Drop> State<A> {
         })
     }
 
-    /// A state equal to this one, with a table of its own. `AllocError` where that found no memory.
+    /// A copy of this state, with a table of its own. `AllocError` if there is no memory for the table.
     pub fn copy(&self) -> Result<State<A>, AllocError>
         ensures { IfOk result (λ s. s ≡ self.now) }
     {
@@ -45,7 +45,7 @@ impl<A: Allocator + Copy + Drop> State<A> {
         })
     }
 
-    /// Takes over another machine, and changes of parameters in their order, in place. It takes no memory.
+    /// Replaces the machine and makes changes of parameters in order, in place. It doesn't allocate.
     #[inline]
     pub fn take_over(&mut self, machine: &Machine, changes: &[Change])
         ensures { self.new ≡ changed self.old machine.now changes.now }

@@ -1,4 +1,4 @@
--- What a beginning of a text decides of its first line, a byte at a time.
+-- What a beginning of a text decides about its first line, byte by byte.
 use Rattle.std.proofs.Common.{◌≡◌, ◌≢◌, ◌⊎◌, inl, inr, ℕ, suc, ◌+◌, ◌-◌, ◌==◌, Bool, true, false, cond, List, [], ◌∷◌, ◌++◌, length, take, drop, get_or, refl, sym, ◌∙◌, ap, subst, arith, append_assoc, append-nil, take-append-drop, ◌&&◌, ◌≤◌, ◌<◌, nat_le}
 use Rattle.std.proofs.lemmas.Bool.Decides.{nat_tests}
 use Rattle.std.proofs.lemmas.List.{take_all}
@@ -42,7 +42,7 @@ kind_in-alone b f plain = ap first_kind (lines-alone b f plain) ∙ kind_before-
 kind_in-newline : (raw rest : List ℕ) → HasNoNewline raw → kind_in (raw ++ (10 ∷ rest)) ≡ kind_before (kind_of (strip_carriage_return raw)) (kind_in rest)
 kind_in-newline raw rest plain = ap first_kind (lines-newline raw rest plain)
 
--- Where a line begins so, whatever follows on it, it is of this kind.
+-- A line that begins so has this kind, whatever follows on it.
 abbrev Begins : List ℕ → LineKind → Type 0
 Begins f k = ((x : List ℕ) → kind_of (f ++ x) ≡ k) × (kind_of (strip_carriage_return f) ≡ k)
 
@@ -93,7 +93,7 @@ kind_of-sign_blank b x e = rw e refl
 strip_last : (b : ℕ) → b ≢ 13 → (b == 13) ≡ false
 strip_last b other = grind (arith, nat_tests)
 
--- ---- a byte more
+-- ---- one more byte
 
 pub newline_more : (more : List ℕ) → kind_in (10 ∷ more) ≡ kind_in more
 newline_more more = kind_in-newline [] more tt
@@ -192,7 +192,7 @@ undecided now (inr (inl is)) kind = undecided_as seen.Return [] (10 ∷ []) kind
 undecided now (inr (inr (inl is))) kind = undecided_as seen.Sign [] (48 ∷ []) kind (λ e. cc e) now is
 undecided now (inr (inr (inr is))) kind = undecided_as seen.SignReturn [] (10 ∷ []) kind (λ e. cc e) now is
 
--- ---- what a byte more decides
+-- ---- what one more byte decides
 
 abbrev byte_is : (front : List ℕ) (b n : ℕ) → b ≡ n → (more : List ℕ) → kind_in (front ++ (b ∷ more)) ≡ kind_in (front ++ (n ∷ more))
 byte_is front b n is more = ap (λ (x : ℕ). kind_in (front ++ (x ∷ more))) is
@@ -256,7 +256,7 @@ percent_decided b more = sign_newline (b ∷ more) ∙ sym (sign_newline more)
 pub other_decided : (b : ℕ) → DecidesFirstLine (48 ∷ (b ∷ [])) seen.Other
 other_decided b more = known_other (b ∷ more) ∙ sym (known_other more)
 
--- a beginning, and then a part
+-- a beginning, and then another part
 pub decides_more : (front part : List ℕ) (old new : FirstLine) → DecidesFirstLine front old → DecidesFirstLine (shortest old ++ part) new → DecidesFirstLine (front ++ part) new
 decides_more front part old new first then_part more =
     ap kind_in (append_assoc front part more) ∙ first (part ++ more) ∙ sym (ap kind_in (append_assoc (shortest old) part more)) ∙ then_part more

@@ -1,4 +1,4 @@
--- The lines of bytes, a newline at a time.
+-- The lines of bytes, newline by newline.
 use Rattle.std.proofs.Common.{arith, ◌≡◌, ◌≢◌, ◌⊎◌, inl, inr, ℕ, zero, suc, ◌+◌, ◌-◌, ◌<◌, ◌≤◌, List, [], ◌∷◌, ◌++◌, length, take, drop, map, Bool, true, false, cond, ◌==◌, get_or, refl, sym, ap, ◌∙◌, length-append, length-take, append-nil}
 use Rattle.std.proofs.lemmas.Bool.Decides.{nat_tests}
 use Rattle.std.specs.List.{slice_split, onto_first}
@@ -68,7 +68,7 @@ first_long [] xs h = absurd (omega arith)
 first_long (b ∷ x) [] h = (b ∷ x, [], rw (some_length (length x)) refl, omega arith)
 first_long (b ∷ x) (y ∷ ys) h = (strip_carriage_return (b ∷ x), lines_of_parts (y ∷ ys), refl, let shorter = length-strip (b ∷ x) in omega arith)
 
--- where the first 258 bytes and more have no newline, the first line is too long, whatever comes
+-- if the first 258 bytes have no newline, the first line is too long, whatever follows
 pub lines-long : (front more : List ℕ) → HasNoNewline front → 257 < length front
     → (l : List ℕ) × (ls : List (List ℕ)) × (lines (front ++ more) ≡ l ∷ ls) × (256 < length l)
 lines-long front more h full =
@@ -78,7 +78,7 @@ lines-long front more h full =
     let found = first_long (front ++ tail.0) tail.1 long in
     (found.0, found.1, ap lines_of_parts whole ∙ found.2, found.3)
 
--- ---- lines on both sides of a newline
+-- ---- lines before and after a newline
 
 lines_of-append : (xs : List (List ℕ)) (y : List ℕ) (ys : List (List ℕ)) → lines_of_parts (xs ++ (y ∷ ys)) ≡ map strip_carriage_return xs ++ lines_of_parts (y ∷ ys)
 lines_of-append [] y ys = refl
@@ -93,7 +93,7 @@ lines-sides front more =
     ∙ lines_of-append (parts front) some.0 some.1
     ∙ (λ i. sym ended i ++ lines_of_parts (sym some.2 i))
 
--- a text is one line that isn't ended, or its first line and those after it
+-- a text is one line without a newline, or its first line and those after it
 pub split : (t : List ℕ) → HasNoNewline t ⊎ ((raw : List ℕ) × (rest : List ℕ) × (t ≡ raw ++ (10 ∷ rest)) × HasNoNewline raw)
 split [] = inl tt
 split (b ∷ t) = by (b == 10) refl (split t)

@@ -1,4 +1,4 @@
--- The lines before the next place of a line are those before it, and it.
+-- The lines before the next place of a line are those before the line, and the line itself.
 use Rattle.std.proofs.Common.{◌≡◌, inl, inr, ℕ, zero, suc, ◌+◌, ◌≤◌, List, [], ◌∷◌, ◌++◌, length, take, drop, Some, None, refl, sym, ◌∙◌, ap, subst, arith, append_assoc, append-nil, length-take, length-drop, length-append, take-append-drop}
 use Rattle.std.specs.Str.Lines.{lines, strip_carriage_return}
 use Rattle.std.proofs.lemmas.List.{take_all, append_cancel_right}
@@ -13,7 +13,7 @@ use Rattle.ng_text.proofs.LineLemmas.{lines-newline, lines-alone, lines-sides, s
 use Rattle.ng_text.proofs.PercentLemmas.{first_kind-after}
 use Rattle.ng_text.proofs.PlaceLemmas.{span-newline, span-alone, first_found}
 
--- the next place parts the lines, and the line is the first of those from its place on
+-- the next place splits the lines, and the line is the first of those from its place on
 record Passes (program : List ℕ) (place next : ℕ) (l : List ℕ) : Type 0 where
   pub parts : lines program ≡ lines_before program next ++ lines (drop next program)
   pub line : lines (drop place program) ≡ l ∷ lines (drop next program)

@@ -1,4 +1,4 @@
--- The first line that isn't blank, of some lines and one after them.
+-- The first line that isn't blank, of some lines and the line after them.
 use Rattle.std.proofs.Common.{◌≡◌, ℕ, List, [], ◌∷◌, ◌++◌, refl, ap, ◌∙◌}
 use Rattle.ng_words.specs.Kinds.{kind_of}
 use Rattle.ng_words.specs.declared.start.LineKind.{LineKind}

@@ -1,4 +1,4 @@
--- Lines by their places: how long a line is, and where the next one begins.
+-- Lines and their places: how long a line is, and where the next one begins.
 use Rattle.std.proofs.Common.{◌≡◌, ℕ, ◌+◌, ◌==◌, Bool, true, false, cond, List, [], ◌∷◌, ◌++◌, length, take, drop, Some, None, refl, sym, ◌∙◌, ap, arith}
 use Rattle.std.specs.List.{onto_first}
 use Rattle.std.specs.Str.Lines.{lines, lines_of_parts}

@@ -1,4 +1,4 @@
--- How far the beginning of a text decides what its first line is that isn't blank (own).
+-- What the beginning of a text decides about its first line that isn't blank (own).
 use Rattle.std.specs.Prelude.{◌≡◌, ℕ, List, [], ◌∷◌, ◌++◌}
 use Rattle.std.specs.Str.Lines.{lines}
 use Rattle.ng_words.specs.declared.start.LineKind.{LineKind}
@@ -10,7 +10,8 @@ use Rattle.ng_text.specs.declared.first_line.FirstLine.TheVariants.{Unseen, Retu
 abbrev pub kind_in : List ℕ → LineKind
 kind_in text = first_kind (lines text)
 
--- a shortest text that decides the same: nothing, a carriage return, a percent sign, both, a percent sign on a line that has ended, or a digit
+-- a shortest text that decides the same: the empty text, a carriage return, a percent sign, both, a percent sign on a
+-- line that has ended, or a digit
 abbrev pub shortest : FirstLine → List ℕ
 shortest Unseen = []
 shortest Return = 13 ∷ []
@@ -19,10 +20,10 @@ shortest SignReturn = 37 ∷ (13 ∷ [])
 shortest Percent = 37 ∷ (10 ∷ [])
 shortest Other = 48 ∷ []
 
--- the beginning of a text decides as much as that, whatever follows
+-- the beginning of a text decides as much as this shortest text, whatever follows
 abbrev pub DecidesFirstLine : List ℕ → FirstLine → Type 0
 DecidesFirstLine front seen = (more : List ℕ) → kind_in (front ++ more) ≡ kind_in (shortest seen ++ more)
 
--- the beginning of a text decides the kind of its first line that isn't blank: it is this one, whatever follows
+-- the beginning of a text decides the kind of its first line that isn't blank: it is this kind, whatever follows
 abbrev pub IsDecided : List ℕ → LineKind → Type 0
 IsDecided front kind = (more : List ℕ) → kind_in (front ++ more) ≡ kind

@@ -1,4 +1,4 @@
--- Bytes that stand on one line.
+-- Bytes that are all on one line.
 use Rattle.std.specs.Prelude.{ℕ, ◌≢◌, List, [], ◌∷◌}
 
 abbrev pub HasNoNewline : List ℕ → Type 0

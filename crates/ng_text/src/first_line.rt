@@ -1,4 +1,4 @@
-//! The kind of the first line of a text that isn't blank, found as its bytes come.
+//! The kind of a text's first line that isn't blank, found byte by byte.
 ghost use Rattle.std.specs.Prelude.{◌≡◌, ◌≢◌, [], ◌∷◌, ◌++◌, MatchOption};
 ghost use Rattle.ng_words.specs.Plain.{is_blank};
 ghost use Rattle.ng_text.specs.declared.first_line.FirstLine.TheVariants.{Other};
@@ -6,20 +6,20 @@ ghost use Rattle.ng_text.specs.FirstLines.{kind_in, shortest, DecidesFirstLine, 
 
 use ng_words::LineKind;
 
-/// What the beginning of a text decides of its first line that isn't blank (own).
+/// What the beginning of a text says about its first line that isn't blank (own).
 #[derive(Clone, Copy)]
 pub enum FirstLine {
     /// All lines are blank so far.
     Unseen,
-    /// The same, but for a carriage return, with which the line may end.
+    /// All lines are blank so far, except for a carriage return that may end the line.
     Return,
-    /// It is a percent sign alone so far.
+    /// The line is a percent sign alone so far.
     Sign,
-    /// The same, but for a carriage return.
+    /// The line is a percent sign alone so far, except for a carriage return that may end the line.
     SignReturn,
-    /// It is a percent sign alone.
+    /// The line is a percent sign alone.
     Percent,
-    /// It is another.
+    /// The line is another one.
     Other,
 }
 
@@ -49,7 +49,7 @@ impl FirstLine {
         }
     }
 
-    /// After a byte on a line that is a percent sign so far.
+    /// After a byte on a line that is a percent sign alone so far.
     #[tactic(auto, using(crate::proofs::FirstLineLemmas::sign_decided_newline, crate::proofs::FirstLineLemmas::sign_decided_return, crate::proofs::FirstLineLemmas::sign_decided_blank, crate::proofs::FirstLineLemmas::sign_decided_other))]
     fn on_sign(byte: u8) -> FirstLine
         ensures { DecidesFirstLine (37 ∷ (byte ∷ [])) result }
@@ -65,7 +65,8 @@ impl FirstLine {
         }
     }
 
-    /// After a byte on a line that a carriage return may end: then it is this, else it is another.
+    /// After the byte that follows a carriage return: `ended` if that byte ends the line, otherwise the line is another
+    /// one.
     fn on_return(byte: u8, ended: FirstLine) -> FirstLine
         ensures ended { byte ≡ 10 → result ≡ ended }
         ensures other { byte ≢ 10 → result ≡ Other }
@@ -77,7 +78,7 @@ impl FirstLine {
         }
     }
 
-    /// After one byte more.
+    /// After one more byte.
     #[tactic(auto, using(crate::proofs::FirstLineLemmas::return_decided, crate::proofs::FirstLineLemmas::sign_return_decided, crate::proofs::FirstLineLemmas::percent_decided, crate::proofs::FirstLineLemmas::other_decided))]
     fn after(self, byte: u8) -> FirstLine
         ensures { DecidesFirstLine (shortest self ++ byte ∷ []) result }
@@ -92,7 +93,7 @@ impl FirstLine {
         }
     }
 
-    /// After some bytes more.
+    /// After some more bytes.
     pub fn after_all(self, bytes: &[u8]) -> FirstLine
         ensures { DecidesFirstLine (shortest self ++ bytes.now) result }
     {
@@ -103,7 +104,7 @@ impl FirstLine {
         seen
     }
 
-    /// The kind, where nothing follows.
+    /// The kind, if nothing follows.
     pub fn kind(self) -> LineKind
         ensures { result ≡ kind_in (shortest self) }
     {
@@ -114,7 +115,7 @@ impl FirstLine {
         }
     }
 
-    /// The kind, exactly where it is the same whatever follows.
+    /// The kind, exactly if it is the same whatever follows.
     #[tactic(auto, using(crate::proofs::FirstLineLemmas::sign_newline, crate::proofs::FirstLineLemmas::known_other, crate::proofs::FirstLineLemmas::undecided))]
     pub fn known(self) -> Option<LineKind>
         ensures { MatchOption result ((kind : LineKind) → IsDecided (shortest self) kind → ⊥) (IsDecided (shortest self)) }

@@ -1,6 +1,5 @@
-//! Percent programs: where a percent sign alone is the first line that isn't blank, the next such line ends the
-//! program (NISTIR 6556, 3.3). So what a line does depends on the lines before it, by the kind of the first of them
-//! that isn't blank.
+//! Percent programs: if the first line that isn't blank is a percent sign alone, the next such line ends the program
+//! (NISTIR 6556, 3.3). So what a line does depends on the kind of the first line before it that isn't blank.
 ghost use Rattle.std.specs.Prelude.{◌≡◌, ◌∷◌, ◌++◌, [], ℕ, List};
 ghost use Rattle.ng_words.specs.Kinds.{kind_of};
 ghost use Rattle.ng_text.specs.Percent.{first_kind, is_percent, kind_before, missing_end, percent_line_at, percent_line_by};
@@ -30,7 +29,7 @@ fn is_percent(line: &[u8]) -> bool
     }
 }
 
-/// Of a kind and that of a line after it, the first that isn't blank.
+/// The kind of the first line that isn't blank, given the kind of the lines before and the next line.
 #[inline]
 fn kind_before(first: LineKind, line: &[u8]) -> LineKind
     ensures { result ≡ kind_before first (kind_of line.now) }
@@ -42,8 +41,8 @@ fn kind_before(first: LineKind, line: &[u8]) -> LineKind
     }
 }
 
-/// The kind of the first line that isn't blank (blank where all are), of some lines and one after them; `first` is
-/// that of the lines before. It begins as blank, before the first line of a program.
+/// The kind of the first line that isn't blank, of some lines and the line after them; it is blank if all lines are.
+/// `first` is the kind for the lines before; for the first line of a program it is blank.
 #[inline]
 pub fn first_kind(first: LineKind, line: &[u8]) -> LineKind
     ensures value { result ≡ kind_before first (kind_of line.now) }
@@ -52,7 +51,7 @@ pub fn first_kind(first: LineKind, line: &[u8]) -> LineKind
     kind_before(first, line)
 }
 
-/// What a line does as a percent line, none for any other line; `first` is the kind of the first line before it that
+/// What a line does as a percent line. `None` if it isn't one. `first` is the kind of the first line before it that
 /// isn't blank.
 #[inline]
 pub fn percent_line_at(first: LineKind, line: &[u8]) -> Option<PercentLine>
@@ -74,7 +73,7 @@ pub fn percent_line_at(first: LineKind, line: &[u8]) -> Option<PercentLine>
     }
 }
 
-/// The fault of a text that ends before the program does, by the kind of its first line that isn't blank: X4 where a
+/// The fault of a text that ends before the program does, given the kind of its first line that isn't blank: X4 if a
 /// percent line is missing, else X3.
 pub fn missing_end(first: LineKind) -> Fault
     ensures { result ≡ missing_end first }

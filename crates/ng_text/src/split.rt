@@ -4,7 +4,7 @@ ghost use Rattle.ng_text.specs.Newlines.{HasNoNewline};
 
 use memchr::memchr;
 
-/// The bytes before the first newline, and those after it; none where there is no newline (own).
+/// The bytes before the first newline, and those after it. `None` if there is no newline (own).
 pub fn split_line(bytes: &[u8]) -> Option<(&[u8], &[u8])>
     ensures { MatchOption result (HasNoNewline bytes.now) (λ x. HasNoNewline x.0.now × (bytes.now ≡ x.0.now ++ 10 ∷ x.1.now)) }
 {

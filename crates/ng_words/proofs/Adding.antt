@@ -1,4 +1,4 @@
--- What the reader's calls owe for pieces: each is added to the places after those that are kept there.
+-- What the reader's calls have to show about pieces: each is added to the places after those that are there.
 use Rattle.std.proofs.Common.{ℕ, ◌+◌, ◌≤◌, ◌≡◌, List, [], ◌∷◌, ◌++◌, length, drop, Bool, true, false, ◌==◌, Option, Some, None, MatchBool, IsTrue, refl, sym, ap, ◌∙◌, arith, append-nil, length-append, length-drop}
 use Rattle.std.specs.List.{flat_map}
 use Rattle.std.specs.Option.{option_map, option_and_then}
@@ -21,7 +21,7 @@ use Rattle.ng_words.proofs.PieceLaws.{comment_sound, length-piece_at, found_befo
 
 -- ---- how many bytes are left
 
--- a comment's bytes stand between its parentheses
+-- a comment's bytes are between its parentheses
 pub comment_size : (bytes text rest : List ℕ) → StartsWithByte bytes 40 → comment_at (drop 1 bytes) ≡ Some (text, rest) → length text + length rest + 2 ≡ length bytes
 comment_size [] text rest s e = absurd s
 comment_size (b ∷ bs) text rest s e =
@@ -36,7 +36,7 @@ strip_prefix_shorter text bytes rest e =
 pub advanced_shorter : (bytes rest : List ℕ) → rest ≡ drop 1 bytes → length rest ≤ length bytes
 advanced_shorter bytes rest e = let same : length rest ≡ length (drop 1 bytes) = ap length e in omega (arith, length-drop 1 bytes)
 
--- a piece has two bytes at least
+-- a piece has at least two bytes
 pub piece_shorter : (bytes rest : List ℕ) (taken : Bool) (old new : PieceStore) → TakesPiece bytes taken rest old new → IsTrue taken → length rest + 2 ≤ length bytes
 piece_shorter bytes rest true old new h t = length-piece_at bytes (h.0, rest) h.1
 piece_shorter bytes rest false old new h t = absurd (cc)
@@ -110,7 +110,7 @@ takes_word (c ∷ bs) after_it rest b l taken items items_then nodes nodes_then 
 
 -- ---- the loop over the pieces
 
--- the places keep pieces, which the bytes read as with those that follow
+-- the places keep pieces; together with those that follow, they are the pieces of the bytes
 abbrev pub IsTaking : List ℕ → List ℕ → PieceStore → Type 0
 IsTaking bytes_first bytes places = (found : List Piece) × (found_before found bytes ≡ pieces_at (length bytes_first) bytes_first) × EncodesPieces places found
 
@@ -124,14 +124,14 @@ keeps_more p found old new k a = record {
   bytes_are = a.bytes_more ∙ ap (λ (l : List ℕ). l ++ bytes_of p) k.bytes_are ∙ ap (λ (l : List ℕ). flat_map bytes_of found ++ l) (sym (append-nil (bytes_of p))) ∙ sym (flat_map-append bytes_of found (p ∷ []));
 }
 
--- a piece more
+-- one more piece
 pub taking_goes : (bytes_first bytes rest : List ℕ) (taken : Bool) (old new : PieceStore) → IsTaking bytes_first bytes old → TakesPiece bytes taken rest old new → taken ≡ true
     → IsTaking bytes_first rest new
 taking_goes bytes_first bytes rest true old new h p t =
     (h.0 ++ p.0 ∷ [], found_before_more h.0 (h.0 ++ p.0 ∷ []) bytes (p.0, rest) _ h.1 p.1 refl, keeps_more p.0 h.0 old new h.2 p.2)
 taking_goes bytes_first bytes rest false old new h p t = absurd (cc)
 
--- an item more
+-- one more item
 pub one_item_more : (bytes rest : List ℕ) (taken : Bool) (old new : PieceStore) → TakesPiece bytes taken rest old new → taken ≡ true → length new.items ≡ length old.items + 1
 one_item_more bytes rest true old new h t = simp length-append at (ap length h.2.items_more)
 one_item_more bytes rest false old new h t = absurd (cc)

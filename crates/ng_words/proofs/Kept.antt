@@ -1,4 +1,4 @@
--- What is kept in places is read back as what it was.
+-- What is kept in places is read back unchanged.
 use Rattle.std.proofs.Common.{ℕ, suc, ◌+◌, ◌-◌, ◌≤◌, ◌≡◌, List, [], ◌∷◌, ◌++◌, length, take, drop, map, Option, Some, None, refl, sym, ap, ◌∙◌, subst, arith, append_assoc, length-append}
 use Rattle.std.specs.List.{flat_map}
 use Rattle.std.specs.Option.{option_or}
@@ -16,7 +16,7 @@ use Rattle.ng_words.specs.declared.piece_entry.PieceEntry.TheVariants as item
 
 -- ---- trees
 
--- the nodes of a tree build it upon what is there: its parts first, then what joins them
+-- the nodes of a tree build it on top of what is there: its parts first, then what joins them
 pub built-postfix : (t : Tree) (ts : List Tree) (more : List Node) → built ts (postfix t ++ more) ≡ built (t ∷ ts) more
 built-postfix (number value) ts more = refl
 built-postfix (parameter t) ts more = ap (built ts) (append_assoc (postfix t) (node.Parameter ∷ []) more) ∙ built-postfix t ts (node.Parameter ∷ more)
@@ -147,7 +147,7 @@ kept_comment places first n items k e is =
 
 -- ---- the last comment
 
--- where no comment stands there are no bytes; otherwise its bytes are the last of all bytes
+-- if there is no comment, there are no bytes; otherwise its bytes are the last of all bytes
 abbrev pub IsLastIn : List Piece → List ℕ → Option ℕ → Type 0
 IsLastIn pieces bytes None = (last_comment pieces ≡ None) × (bytes ≡ [])
 IsLastIn pieces bytes (Some n) = (last_comment pieces ≡ Some (drop (length bytes - n) bytes)) × (n ≤ length bytes)
@@ -192,7 +192,7 @@ last_by : (places : PieceStore) (items : List PieceEntry) (o answer : Option ℕ
 last_by places items o answer k items_are is was =
     subst (IsLastIn (pieces_by places) places.bytes) (ap last_size (sym items_are) ∙ sym is ∙ was) (kept_last places k)
 
--- how many bytes the last comment has is at most how many there are
+-- the last comment has at most as many bytes as there are
 pub last_within : (places : PieceStore) (items : List PieceEntry) (o : Option ℕ) (n : ℕ) → AreEncodedPieces places → items ≡ places.items → o ≡ last_size items → o ≡ Some n
     → n ≤ length places.bytes
 last_within places items o n k items_are is was = (last_by places items o (Some n) k items_are is was).1
@@ -206,7 +206,7 @@ last_text places items o n size bytes k items_are is was bytes_are size_is =
     ∙ ap (λ (s : ℕ). Some (drop (s - n) bytes)) (sym size_is)
     ∙ ap (λ (b : List ℕ). Some b) (sym (take_rest bytes (size - n)))
 
--- where no item is a comment there is none
+-- if no item is a comment, there is none
 pub last_none : (places : PieceStore) (items : List PieceEntry) (o : Option ℕ) → AreEncodedPieces places → items ≡ places.items → o ≡ last_size items → o ≡ None
     → last_comment (pieces_by places) ≡ None
 last_none places items o k items_are is was = (last_by places items o None k items_are is was).0

@@ -52,7 +52,7 @@ slash_is (b ∷ bs) = slash_is_at b bs (b == 47) refl
 pow_small : (k : ℕ) → k ≤ 5 → 10 ^ k ≤ 100000
 pow_small k h = pow-le-pow_right (omega arith) h
 
--- up to five digits the number that they write isn't cut
+-- a number of up to five digits isn't cut
 five_digits : (digits : List ℕ) → AreDigits digits → length digits ≤ 5 → whole_after 0 digits ≡ written_after 0 digits
 five_digits digits d short =
     let below = written_lt digits d in

@@ -1,4 +1,4 @@
--- The number found at the front is what the grammar says, both ways.
+-- The number found at the front is the one that the grammar says, in both directions.
 use Rattle.std.proofs.Common.{ℕ, zero, suc, unsigned_abs, ◌+◌, ◌*◌, ◌/◌, ◌<◌, ◌≤◌, ◌≡◌, ◌≢◌, ◌⊎◌, inl, inr, List, [], ◌∷◌, ◌++◌, length, Bool, true, false, cond, ◌&&◌, ◌==◌, nat_lt, ℤ, pos, neg_ℤ, Option, Some, None, min, refl, sym, ap, ◌∙◌, subst, arith, append_assoc, nat_le}
 use Rattle.std.specs.Option.{option_map}
 use Rattle.std.proofs.lemmas.Bool.Decides.{nat_tests, Decides-eqb}
@@ -8,7 +8,7 @@ use Rattle.ng_words.proofs.Round.{fraction_is}
 use Rattle.ng_num.specs.Rounding.{signed}
 use Rattle.ng_words.specs.Scan.{fraction_from, front_digits, after_digits, whole_after, point_at, is_empty, unsigned_parts, unsigned_at, sign_at, number_at}
 
--- no number goes on with these bytes
+-- a number can't go on with these bytes
 abbrev pub Stops : List ℕ → Type 0
 Stops [] = Unit {0}
 Stops (b ∷ bs) = (is_digit b ≡ false) × (b ≢ 46)
@@ -51,7 +51,7 @@ pub Stops_front : (rest : List ℕ) → Stops rest → point_at rest ≡ None
 Stops_front [] s = refl
 Stops_front (b ∷ rest) s = grind (arith, nat_tests, s.1)
 
--- what an unsigned number is worth, where its whole part is kept below ten million
+-- the value of an unsigned number, if its whole part is kept below ten million
 abbrev pub capped : List ℕ → List ℕ → ℕ
 capped whole fraction = whole_after 0 whole * 1000000 + (fraction_from 1000000 fraction + 5) / 10
 
@@ -109,7 +109,7 @@ count_of-capped negative whole fraction d =
     ap (λ f. count_of (signed negative (whole_after 0 whole * 1000000 + f))) (fraction_is fraction d)
     ∙ rw (whole_after_is whole 0 0 (omega arith)) (count_of_capped negative (written_after 0 whole) _)
 
--- ---- unsigned numbers, both ways
+-- ---- unsigned numbers, in both directions
 
 unsigned_again : (digits rest : List ℕ) (n : ℕ) → IsUnsigned digits n → Stops rest
     → (m : ℕ) × (unsigned_at (digits ++ rest) ≡ Some (m, rest)) × ((negative : Bool) → count_of (signed negative m) ≡ count_of (signed negative n))
@@ -175,7 +175,7 @@ number_again bytes rest z h s =
       ]
     ]
 
--- ---- what is found is so spelled
+-- ---- what is found is spelled so
 
 point_at_some_at : (b : ℕ) (bs after : List ℕ) (t : Bool) → (b == 46) ≡ t → cond t (Some bs) None ≡ Some after → b ∷ bs ≡ 46 ∷ after
 point_at_some_at b bs after true e f = let same : b ≡ 46 = (Decides-eqb b 46).0 e in cc
@@ -263,7 +263,7 @@ number_sound bytes x e =
       ]
     ]
 
--- a number has a byte at least
+-- a number has at least one byte
 pub length-number : (bytes : List ℕ) (z : ℤ) → IsNumber bytes z → 1 ≤ length bytes
 length-number bytes z h =
     let u = h.2 in

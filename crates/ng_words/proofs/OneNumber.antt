@@ -1,4 +1,4 @@
--- A text without blanks is a number exactly where its bytes that count are one: they are all of its bytes, as they stand.
+-- A text without blanks is a number exactly if its bytes that count are one: they are all of its bytes, unchanged.
 use Rattle.std.proofs.Common.{◌≡◌, ◌≤◌, ℕ, ℤ, unsigned_abs, Bool, true, false, if◌then◌else◌, ◌==◌, nat_le, ◌||◌, List, [], ◌∷◌, ◌++◌, Option, Some, None, Result, Ok, Err, IfOk, refl, sym, ◌∙◌, ap, subst, inl, inr, arith, append-nil}
 use Rattle.std.proofs.lemmas.Bool.Decides.{nat_tests}
 use Rattle.std.specs.List.{list_any}
@@ -49,7 +49,7 @@ bytes_blank (b ∷ bytes) are =
     let counts : is_blank b ≡ false = grind (arith, nat_tests, are.0) in
     rw counts (bytes_blank bytes are.2)
 
--- they count as they stand
+-- they count unchanged
 plain_bytes : (bytes : List ℕ) → AreBytes bytes → plain false bytes ≡ bytes
 plain_bytes [] are = refl
 plain_bytes (b ∷ bytes) are =
@@ -58,7 +58,7 @@ plain_bytes (b ∷ bytes) are =
     let goes : (b == 40) ≡ false = grind (arith, nat_tests, are.0) in
     rw (counts, same, goes) (ap (λ l. b ∷ l) (plain_bytes bytes are.2))
 
--- where no blank is dropped, only they count as such bytes
+-- if no blank is dropped, only such bytes count as such bytes
 bytes_again : (text : List ℕ) → list_any is_blank text ≡ false → AreBytes (plain false text) → plain false text ≡ text
 bytes_again [] none are = refl
 bytes_again (b ∷ text) none are =
@@ -87,7 +87,7 @@ pub number_whole : (text : List ℕ) (z : ℤ) → IsNumber text z → number_at
 number_whole text z is =
     ap number_at (plain_bytes text (number_bytes text z is) ∙ sym (append-nil text)) ∙ number_again text [] z is tt
 
--- what is found at the front of a text without blanks, where nothing is left after it, is the text's number
+-- if a number is found at the front of a text without blanks, and nothing is left after it, it is the text's number
 pub number_found : (text : List ℕ) (v : Option ℤ) → list_any is_blank text ≡ false → number_at (plain false text) ≡ Some (v, [])
     → (z : ℤ) × IsNumber text z × (v ≡ count_of z)
 number_found text v none e =
@@ -111,7 +111,7 @@ both_same v w xs ys e =
     let same : ◌≡◌ {A = Option ℤ × List ℕ} (v, xs) (w, ys) = cc in
     (ap (λ p. p.0) same, ap (λ p. p.1) same)
 
--- a text has one number
+-- a text is only one number
 number_one : (text : List ℕ) (y z : ℤ) → IsNumber text y → IsNumber text z → count_of y ≡ count_of z
 number_one text y z is also = (both_same _ _ _ _ (sym (number_whole text y is) ∙ number_whole text z also)).0
 
@@ -147,7 +147,7 @@ answer_unreadable text v r none e is = (
     out None e = absurd cc
     out (Some n) e = absurd cc
 
--- no answer stands for a text whose bytes that count are no number, or go on after it
+-- there is no value for a text whose bytes that count aren't a number, or go on after it
 pub no_number : (text : List ℕ) (z : ℤ) → IsNumber text z → number_at (plain false text) ≡ None → ⊥
 no_number text z is e = out (count_of z, []) (sym e ∙ number_whole text z is)
   where

@@ -1,4 +1,5 @@
--- The piece found at the front is what the grammar says, both ways; and the pieces up to the end, one after the other.
+-- The piece found at the front is the one that the grammar says, in both directions; and the pieces up to the end, in
+-- order.
 use Rattle.std.proofs.Common.{ℕ, zero, suc, ◌+◌, ◌≤◌, ◌≡◌, ◌≢◌, ◌⊎◌, inl, inr, List, [], ◌∷◌, ◌++◌, length, Bool, true, false, cond, ◌==◌, Option, Some, None, refl, sym, ap, ◌∙◌, subst, arith, append_assoc, append-nil, length-append}
 use Rattle.std.specs.Option.{option_map, option_and_then}
 use Rattle.std.proofs.lemmas.Bool.Decides.{nat_tests, Decides-eqb}
@@ -115,7 +116,7 @@ piece_again front rest (comment text) h s =
     ap (λ f. piece_at (f ++ rest)) h.0
     ∙ ap (option_map (λ (x : List ℕ × List ℕ). (comment x.0, x.1))) (ap comment_at (append_assoc text (41 ∷ []) rest) ∙ comment_again text rest h.1)
 
--- ---- what is found is so spelled
+-- ---- what is found is spelled so
 
 abbrev FoundPiece : List ℕ → Piece × List ℕ → Type 0
 FoundPiece bytes x = (front : List ℕ) × (bytes ≡ front ++ x.1) × Spells front x.0
@@ -172,13 +173,13 @@ piece_sound (b ∷ bs) x e = piece_sound_at b bs x (b == 40) (b == 35) refl refl
 
 -- ---- how many bytes a piece has
 
--- a value has a byte at least
+-- a value has at least one byte
 length-value : (bytes : List ℕ) (t : Tree) → IsValue bytes t → 1 ≤ length bytes
 length-value bytes t h =
     let shorter = length-value_at (bytes ++ []) (t, []) (value_again bytes [] t h tt) in
     subst (λ (l : List ℕ). 1 ≤ length l) (append-nil bytes) (omega arith)
 
--- a piece has two bytes at least: a letter and a value, two signs, or two parentheses
+-- a piece has at least two bytes: a letter and a value, two signs, or two parentheses
 pub length-spells : (front : List ℕ) (p : Piece) → Spells front p → 2 ≤ length front
 length-spells front (word l value) h =
     let some = length-value h.0 value h.2 in
@@ -199,7 +200,7 @@ length-piece_at bytes x e =
 
 -- ---- how pieces begin
 
--- a line's rest begins with a letter other than N, a parameter's sign or a comment
+-- the rest of a line begins with a letter other than N, a parameter sign or a comment
 abbrev pub BeginsPiece : List ℕ → Type 0
 BeginsPiece [] = Unit {0}
 BeginsPiece (b ∷ bs) = ((65 ≤ b) × (b ≤ 90) × (b ≢ 78)) ⊎ ((b ≡ 35) ⊎ (b ≡ 40))
@@ -263,7 +264,7 @@ pieces_at-more_at most b bs (Some x) e h same =
     let both = same x.1 (omega arith) in
     ap (option_map (λ ps. x.0 ∷ ps)) (both.0 ∙ sym both.1)
 
--- more pieces allowed than there are bytes change nothing
+-- a limit above the number of bytes changes nothing
 pieces_at-more : (bound : ℕ) (most : ℕ) (bytes : List ℕ) → length bytes ≤ most → most ≤ bound → pieces_at most bytes ≡ pieces_at (length bytes) bytes
 pieces_at-more bound most [] h k = refl
 pieces_at-more bound zero (b ∷ bs) h k = absurd (omega arith)
@@ -279,7 +280,7 @@ pieces_step (b ∷ bs) x e =
     let shorter = length-piece_at (b ∷ bs) x e in
     ap (option_and_then (pieces_after (length bs))) e ∙ ap (option_map (λ ps. x.0 ∷ ps)) (pieces_at-more (length bs) (length bs) x.1 (omega arith) (omega arith))
 
--- where no piece stands at the front the pieces can't be read
+-- if there is no piece at the front, the pieces can't be read
 pub pieces_none : (bytes : List ℕ) → bytes ≢ [] → piece_at bytes ≡ None → pieces_at (length bytes) bytes ≡ None
 pieces_none [] n e = absurd (n refl)
 pieces_none (b ∷ bs) n e = ap (option_and_then (pieces_after (length bs))) e

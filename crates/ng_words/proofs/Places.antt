@@ -1,4 +1,4 @@
--- How the places of a walk stand in the code: what each step of the code makes of them.
+-- How the places of a walk are represented in the code, and what each step of the code makes of them.
 use Rattle.std.proofs.Common.{ℕ, zero, suc, ◌+◌, ◌-◌, ◌<◌, ◌≡◌, List, [], ◌∷◌, ◌++◌, length, take, codes, Bool, true, false, cond, ◌==◌, nat_le, IsTrue, ◌↔◌, rules, OnSome, ℤ, Option, Some, None, slice_get, refl, sym, ap, ◌∙◌, subst, arith, append_assoc, append-nil, length-append}
 use Rattle.std.proofs.lemmas.List.{length-take}
 use Rattle.std.specs.Option.{option_map}
@@ -31,7 +31,7 @@ take-end (y ∷ xs) x = ap (λ l. y ∷ l) (take-end xs x)
 length-end : {A : Type 0} (xs : List A) (x : A) → length (xs ++ x ∷ []) - 1 ≡ length xs
 length-end xs x = omega (arith, length-append xs (x ∷ []))
 
--- the nearest of what waits
+-- the innermost entry that waits
 abbrev nearest_of : List Waiting → Option Mark
 nearest_of [] = None
 nearest_of (w ∷ ws) = Some (mark w)
@@ -40,12 +40,12 @@ nearest-marks : (ws : List Waiting) (stack : List Mark) → stack ≡ marks ws �
 nearest-marks [] stack e = ap nearest e
 nearest-marks (w ∷ ws) stack e = ap nearest e ∙ ap (slice_get (marks ws ++ mark w ∷ [])) (length-end (marks ws) (mark w)) ∙ slice_get-end (marks ws) (mark w)
 
--- the stack without its last
+-- the stack without its last entry
 popped : (w : Waiting) (ws : List Waiting) (stack rest : List Mark) → stack ≡ marks (w ∷ ws) → rest ≡ take (length stack - 1) stack → rest ≡ marks ws
 popped w ws stack rest e t =
     t ∙ ap (λ l. take (length l - 1) l) e ∙ ap (λ n. take n (marks ws ++ mark w ∷ [])) (length-end (marks ws) (mark w)) ∙ take-end (marks ws) (mark w)
 
--- something is nearest, so that something waits
+-- if there is an innermost entry, something waits
 pub some_waits : (stack : List Mark) (m : Mark) → nearest stack ≡ Some m → 0 < length stack
 some_waits [] m e = absurd (cc)
 some_waits (x ∷ stack) m e = omega arith
@@ -245,7 +245,7 @@ opening_function bytes one two rest f none_0 e none_1 g found =
     let third : entry_at function_openings bytes ≡ Some (function f, rest) = ap (entry_at function_openings) (sym e ∙ sym g) ∙ found in
     (function f, rw (none_0, second) third, refl, refl)
 
--- a number has a byte at least
+-- a number has at least one byte
 pub number_shorter : (bytes same rest : List ℕ) (value : Option ℤ) → same ≡ bytes → number_at same ≡ Some (value, rest) → length rest < length bytes
 number_shorter bytes same rest value e found =
     let n = number_sound same (value, rest) found in
@@ -253,12 +253,12 @@ number_shorter bytes same rest value e found =
     let sum : length same ≡ length n.0 + length rest = simp length-append at (ap length n.3) in
     let equal : length same ≡ length bytes = ap length e in omega arith
 
--- a value has a byte at least
+-- a value has at least one byte
 pub value_shorter : (bytes rest : List ℕ) (base nodes : List Node) (o : Option ℕ) → TakesValue bytes base o rest nodes → OnSome o (length rest < length bytes)
 value_shorter bytes rest base nodes None h = tt
 value_shorter bytes rest base nodes (Some n) h = length-value_at bytes (h.0, rest) h.1
 
--- ---- a step where no value stands right before
+-- ---- a step before a value
 
 -- something that opens one
 pub begin_opens : (bytes rest : List ℕ) (m : Mark) (stack stack_then : List Mark) (nodes : List Node) → IsOpening bytes (Some m) rest → stack_then ≡ stack ++ m ∷ []
@@ -302,7 +302,7 @@ begin_none bytes same rest stack stack_last nodes nodes_last none e found (after
 
 -- ---- a step after a value
 
--- a bracket that closes
+-- a closing bracket
 pub go_on_closes : (bytes rest : List ℕ) (stack stack_then stack_last : List Mark) (nodes nodes_then nodes_last : List Node) → strip_prefix (codes "]") bytes ≡ Some rest
     → Gathers 3 stack nodes stack_then nodes_then → ClosesBrackets stack_then nodes_then true stack_last nodes_last → WalkStepSpec true bytes stack nodes (Some true) rest stack_last nodes_last
 go_on_closes bytes rest stack stack_then stack_last nodes nodes_then nodes_last found gathers closes (before ws) base stands = absurd (let e : true ≡ false = stands.0 in cc)
@@ -310,7 +310,7 @@ go_on_closes bytes rest stack stack_then stack_last nodes nodes_then nodes_last 
     let c = closes (gathered 3 t ws).0 (gathered 3 t ws).1 base (gathers t ws base stands.1) in
     (c.0, ap (continued t ws bytes) found ∙ ap (option_map (λ (p : WalkPosition). (p, rest))) c.1, c.2)
 
--- one that closes nothing
+-- a closing bracket that closes nothing
 pub go_on_unopened : (bytes rest after_it : List ℕ) (stack stack_then stack_last : List Mark) (nodes nodes_then nodes_last : List Node) → strip_prefix (codes "]") bytes ≡ Some rest
     → Gathers 3 stack nodes stack_then nodes_then → ClosesBrackets stack_then nodes_then false stack_last nodes_last → WalkStepSpec true bytes stack nodes None after_it stack_last nodes_last
 go_on_unopened bytes rest after_it stack stack_then stack_last nodes nodes_then nodes_last found gathers closes (before ws) base stands = absurd (let e : true ≡ false = stands.0 in cc)
@@ -339,7 +339,7 @@ go_on_none bytes same rest stack stack_last nodes nodes_last none e found (after
 
 -- ---- the walk
 
--- the walk has come to a place: it gives there what it is to give
+-- the walk has come to a place; from there it gives the result that it has to give
 abbrev pub IsWalking : List ℕ → List Node → List ℕ → Bool → List Mark → List Node → Type 0
 IsWalking bytes_first base bytes after_value stack nodes =
     (p : WalkPosition) × (value_from (length bytes) p bytes ≡ value_at bytes_first) × Stands p base after_value stack nodes
@@ -364,7 +364,7 @@ pub has_ended_is : (ended : Bool) (after_value : Bool) (stack : List Mark) → (
 has_ended_is true after_value stack h e = h.0 (search rules)
 has_ended_is false after_value stack h e = absurd (cc)
 
--- a step on
+-- one more step
 pub walking_goes : (bytes_first bytes rest : List ℕ) (base : List Node) (after_value after_value_then : Bool) (stack stack_then : List Mark) (nodes nodes_then : List Node)
     → IsWalking bytes_first base bytes after_value stack nodes → ((after_value ≡ true) × (stack ≡ []) → ⊥)
     → WalkStepSpec after_value bytes stack nodes (Some after_value_then) rest stack_then nodes_then
@@ -380,7 +380,7 @@ walking_none_at bytes_first bytes base after_value stack nodes (before ws) e h n
 walking_none_at bytes_first bytes base after_value stack nodes (after t []) e h n s = absurd (n (h.0, h.1.stack_is))
 walking_none_at bytes_first bytes base after_value stack nodes (after t (w ∷ ws)) e h n s = sym e ∙ walk_after_none t w ws bytes s
 
--- no step on: there is no value
+-- no further step: there is no value
 pub walking_none : (bytes_first bytes rest : List ℕ) (base : List Node) (after_value : Bool) (stack stack_then : List Mark) (nodes nodes_then : List Node)
     → IsWalking bytes_first base bytes after_value stack nodes → ((after_value ≡ true) × (stack ≡ []) → ⊥)
     → WalkStepSpec after_value bytes stack nodes None rest stack_then nodes_then → value_at bytes_first ≡ None
@@ -401,14 +401,14 @@ walking_ends_at bytes_first bytes base after_value stack nodes (after t []) n e 
 walking_ends_at bytes_first bytes base after_value stack nodes (after t (w ∷ ws)) n e h b s l =
     let none : length (marks ws ++ mark w ∷ []) ≡ 0 = ap length (sym h.1.stack_is ∙ s) in absurd (omega (arith, length-append (marks ws) (mark w ∷ [])))
 
--- nothing waits after a value: it is taken
+-- nothing waits after a value, so it is taken
 pub walking_ends : (bytes_first bytes : List ℕ) (base : List Node) (after_value : Bool) (stack : List Mark) (nodes : List Node) (n : ℕ)
     → IsWalking bytes_first base bytes after_value stack nodes → (after_value ≡ true) × (stack ≡ []) → n ≡ length nodes - length base
     → TakesValue bytes_first base (Some n) bytes nodes
 walking_ends bytes_first bytes base after_value stack nodes n h ended l =
     walking_ends_at bytes_first bytes base after_value stack nodes h.0 n h.1 h.2 ended.0 ended.1 l
 
--- ---- a number, of which no walk is needed
+-- ---- a number, which needs no walk
 
 number_first : (b : ℕ) (bs : List ℕ) → BeginsNumber (b ∷ bs) → entry_at openings (b ∷ bs) ≡ None
 number_first b bs h =

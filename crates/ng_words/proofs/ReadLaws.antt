@@ -1,4 +1,4 @@
--- What the reader's calls owe: that its steps compute `read`, and what `read` says of a line.
+-- What the reader's calls have to show: that its steps compute `read`, and what `read` says of a line.
 use Rattle.std.proofs.Common.{ℕ, suc, ◌+◌, ◌<◌, ◌≤◌, ◌≡◌, ◌↔◌, List, [], ◌∷◌, length, Bool, true, false, cond, not, ◌==◌, nat_lt, Option, Some, None, Ok, Err, refl, sym, ap, ◌∙◌, arith, length-append}
 use Rattle.std.specs.Option.{option_map, option_and_then}
 use Rattle.std.proofs.lemmas.Bool.Decides.{nat_tests}
@@ -47,11 +47,11 @@ read_only text w e line h = line_only (plain false text) w (read_some text w e).
 pub read_found : (text : List ℕ) (line : ParsedLine) → IsLineOf text line → read text ≡ Ok line
 read_found text line h = read_is text (Some line) h.0 (line_found (plain false text) line h.1)
 
--- what is refused is no line of the grammar
+-- what is refused isn't a line of the grammar
 pub read_none : (text : List ℕ) (fault : Fault) → read text ≡ Err fault → (line : ParsedLine) → IsLineOf text line → ⊥
 read_none text fault e line h = let found = read_found text line h in cc
 
--- what is read is the grammar, both ways
+-- reading is the grammar, in both directions
 pub reads_iff : (text : List ℕ) (line : ParsedLine) → (read text ≡ Ok line) ↔ IsLineOf text line
 reads_iff text line = (read_sound text line, read_found text line)
 
@@ -62,7 +62,7 @@ one_line text line other a b =
     let second = read_found text other b in
     cc
 
--- a test that came out, on lengths
+-- the result of a test of lengths
 pub length_over : (text : List ℕ) (t : Bool) → t ≡ is_too_long text → t ≡ true → 256 < length text
 length_over text t e f = let long : nat_lt 256 (length text) ≡ true = sym e ∙ f in grind (arith, nat_tests)
 
@@ -99,7 +99,7 @@ unreadable_iff text = (
   λ h. unread_by text (parse_line (plain false text)) h.0 refl h.1,
 )
 
--- ---- how the reader comes to it
+-- ---- how the reader gets there
 
 -- what is read after a slash and a block number
 abbrev pieces_line : Bool → Option ℕ × List ℕ → Option ParsedLine
@@ -123,7 +123,7 @@ read_no_pieces text bytes rest deletable x short b s e p =
     ∙ ap (option_map (λ ps. record { deletable = deletable; number = x.0; pieces = ps })) p
     )
 
--- all is read
+-- everything is read
 pub read_ok : (text bytes rest : List ℕ) (deletable : Bool) (x : Option ℕ × List ℕ) (w : ParsedLine) → length text ≤ 256 → bytes ≡ plain false text → (deletable, rest) ≡ slash_at bytes
     → block_number_at rest ≡ Some x → pieces_at (length x.1) x.1 ≡ Some w.pieces → w.deletable ≡ deletable → w.number ≡ x.0 → read text ≡ Ok w
 read_ok text bytes rest deletable x w short b s e p d n =
@@ -136,7 +136,7 @@ read_ok text bytes rest deletable x w short b s e p d n =
 
 -- ---- how many bytes are left
 
--- no more bytes count than there are
+-- at most as many bytes count as there are
 pub length-plain : (inside : Bool) (bs : List ℕ) → length (plain inside bs) ≤ length bs
 length-plain inside [] = omega arith
 length-plain true (b ∷ bs) = omega (arith, length-plain (not (b == 41)) bs)
@@ -152,7 +152,7 @@ length-slash_at (b ∷ bs) = elim (b == 47) as (λ t. length (cond {A = Bool × 
   | false ↦ omega arith
 ]
 
--- no more bytes are left for the pieces
+-- the pieces have at most as many bytes left
 pub length-pieces : (text bytes rest : List ℕ) (deletable : Bool) (x : Option ℕ × List ℕ) → length text ≤ 256 → bytes ≡ plain false text → (deletable, rest) ≡ slash_at bytes
     → block_number_at rest ≡ Some x → length x.1 ≤ 256
 length-pieces text bytes rest deletable x short b s e =

@@ -27,7 +27,7 @@ written_split n (b ∷ bs) =
     let second = written_split (0 * 10 + (b - 48)) bs in
     rw pow-suc (omega (arith, first, second))
 
--- what digits write has no more of them
+-- what digits write has at most as many digits
 pub written_lt : (bs : List ℕ) → AreDigits bs → written_after 0 bs < 10 ^ length bs
 written_lt [] d = omega arith
 written_lt (b ∷ bs) d =
@@ -41,7 +41,7 @@ record Near (u S v D : ℕ) : Type 0 where
   low : S * D ≤ v * (u * 10)
   high : v * (u * 10) < S * D + D
 
--- past the last unit nothing is added
+-- after the last unit nothing is added
 fraction-zero : (ds : List ℕ) → fraction_from 0 ds ≡ 0
 fraction-zero [] = refl
 fraction-zero (b ∷ ds) = let others = fraction-zero ds in omega (arith, others)
@@ -70,7 +70,7 @@ fraction_near (suc k) (b ∷ ds) d =
     let unit : 10 ^ k * 10 / 10 ≡ 10 ^ k = mul-div_cancel (10 ^ k) (omega arith) in
     rw (pow-suc, pow-suc, unit) step
 
--- the millionths of a fraction are the nearest to it
+-- the millionths of a fraction are the nearest ones to it
 pub fraction_is : (ds : List ℕ) → AreDigits ds → (fraction_from 1000000 ds + 5) / 10 ≡ nearest (written_after 0 ds * 1000000) (10 ^ length ds)
 fraction_is ds d =
     let near : Near 1000000 (fraction_from 1000000 ds) (written_after 0 ds) (10 ^ length ds) = fraction_near 6 ds d in

@@ -25,7 +25,7 @@ skip_goes_at : (c : ℕ) (cs bytes : List ℕ) → StartsWithByte bytes c → st
 skip_goes_at c cs [] s = absurd s
 skip_goes_at c cs (b ∷ bs) s = strip_prefix_first b c cs bs s
 
--- what a test of the next byte says
+-- the result of a test of the next byte
 next_same : (o : Option ℕ) (c : ℕ) → not (option_eq eqb o (Some c)) ≡ false → o ≡ Some c
 next_same None c e = absurd (cc)
 next_same (Some b) c e = ap {B = Option ℕ} Some (next_same_at (eqb b c) refl e)
@@ -38,7 +38,7 @@ next_other : (o : Option ℕ) (c : ℕ) → not (option_eq eqb o (Some c)) ≡ t
 next_other None c e = λ f. absurd (cc)
 next_other (Some b) c e = λ f. let same : b ≡ c = cc in grind (arith, nat_tests)
 
--- the next byte is the text's
+-- the next byte is that of the text
 pub skip_goes : (text : List ℕ) (i : ℕ) (bytes after : List ℕ) (o : Option ℕ) → i < length text → MatchOption o (bytes ≡ []) (λ b. StartsWithByte bytes b)
     → not (option_eq eqb o (Some (get_or text i 0))) ≡ false → after ≡ drop 1 bytes → strip_prefix (drop (i + 1) text) after ≡ strip_prefix (drop i text) bytes
 skip_goes text i bytes after None h m o a = absurd (cc)
@@ -51,7 +51,7 @@ skip_stops_at : (c b : ℕ) (cs bytes : List ℕ) → StartsWithByte bytes b →
 skip_stops_at c b cs [] s n = refl
 skip_stops_at c b cs (d ∷ bs) s n = strip_prefix_other d c cs bs (λ e. n (sym s ∙ e))
 
--- the next byte isn't the text's
+-- the next byte isn't that of the text
 pub skip_stops : (text : List ℕ) (i : ℕ) (bytes : List ℕ) (o : Option ℕ) → i < length text → MatchOption o (bytes ≡ []) (λ b. StartsWithByte bytes b)
     → not (option_eq eqb o (Some (get_or text i 0))) ≡ true → strip_prefix (drop i text) bytes ≡ None
 skip_stops text i bytes None h m n = ap (λ t. strip_prefix t bytes) (text_from text i h) ∙ ap (strip_prefix (get_or text i 0 ∷ drop (i + 1) text)) m
@@ -79,7 +79,7 @@ HasNoComment-more text i h n = (HasNoComment-next text i h n).1
 
 -- ---- a comment
 
--- what is found further on, after bytes that belong to the comment
+-- what is found later, after bytes that belong to the comment
 abbrev pub found_after : List ℕ → Option (List ℕ × List ℕ) → Option (List ℕ × List ℕ)
 found_after front o = option_map (λ x. (front ++ x.0, x.1)) o
 

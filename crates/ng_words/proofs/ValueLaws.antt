@@ -1,4 +1,4 @@
--- The value found at the front is what the grammar says, both ways.
+-- The value found at the front is the one that the grammar says, in both directions.
 use Rattle.std.proofs.Common.{ℕ, zero, suc, ◌+◌, ◌<◌, ◌≤◌, ◌≡◌, ◌≢◌, ◌⊎◌, inl, inr, List, [], ◌∷◌, ◌++◌, length, codes, Bool, true, false, cond, ◌==◌, nat_le, ℤ, Option, Some, None, refl, sym, ap, ◌∙◌, subst, arith, append_assoc, append-nil, length-append}
 use Rattle.std.specs.Option.{option_map}
 use Rattle.std.proofs.lemmas.Bool.Decides.{nat_tests}
@@ -43,9 +43,9 @@ looseness_most (bracketed t) = omega arith
 looseness_most (applied f t) = omega arith
 looseness_most (joined op l r) = level_most op
 
--- ---- what may wait round a chain
+-- ---- what may wait around a chain
 
--- a chain of this looseness may stand after what waits
+-- a chain of this looseness may come after what waits
 abbrev pub Fits : ℕ → List Waiting → Type 0
 Fits n [] = n ≡ 0
 Fits n (index ∷ ws) = n ≡ 0
@@ -90,7 +90,7 @@ gathered_more_at : (m n : ℕ) (op : Operation) (l u : Tree) (waits : List Waiti
 gathered_more_at m n op l u waits x true s_is h e others = let tight : nat_le (level op) n ≡ true = grind (arith, nat_tests) in rw tight (others e)
 gathered_more_at m n op l u waits x false s_is h e others = ap {A = Tree × List Waiting} (λ y. gathered n y.0 y.1) e
 
--- what has been taken at one level goes on at a looser one
+-- what was taken at one level goes on at a looser one
 gathered_more : (m n : ℕ) (u : Tree) (waits : List Waiting) (x : Tree × List Waiting) → gathered m u waits ≡ x → m ≤ n → gathered n u waits ≡ gathered n x.0 x.1
 gathered_more m n u [] x e h = ap {A = Tree × List Waiting} (λ y. gathered n y.0 y.1) e
 gathered_more m n u (index ∷ waits) x e h = ap {A = Tree × List Waiting} (λ y. gathered n y.0 y.1) e
@@ -154,7 +154,7 @@ no_opening : (b : ℕ) (bs : List ℕ) → 43 ≤ b → b ≤ 57 → entry_at op
 no_opening b bs low high =
     entry_none openings b bs (omega arith, (omega arith, (omega arith, (omega arith, (omega arith, (omega arith, (omega arith, tt)))))))
 
--- the first byte: it makes no ** of a * in front
+-- the first byte: it doesn't turn a * before it into **
 record Begins (bytes : List ℕ) : Type 0 where
   first : ℕ
   others : List ℕ
@@ -184,11 +184,11 @@ chain_begins (joined op l r) bytes h = begins_more bytes h.0 _ h.2 (chain_begins
 
 -- ---- the walk's steps, forwards
 
--- from a place before bytes the walk comes to a place before the rest
+-- from a place before some bytes the walk comes to a place before the rest
 abbrev Leads : WalkPosition → List ℕ → WalkPosition → List ℕ → Type 0
 Leads p bytes q rest = value_from (length bytes) p bytes ≡ value_from (length rest) q rest
 
--- the same bytes, otherwise written
+-- the same bytes, written in another way
 leads_from : (p q : WalkPosition) (bytes same rest : List ℕ) → bytes ≡ same → Leads p same q rest → Leads p bytes q rest
 leads_from p q bytes same rest e h = ap (λ l. value_from (length l) p l) e ∙ h
 
@@ -240,11 +240,11 @@ operation_before op back rest b =
     let same : back ++ rest ≡ b.first ∷ (b.others ++ rest) = ap (λ l. l ++ rest) b.is in
     subst (λ l. entry_at operations (symbol op ++ l) ≡ Some (op, l)) (sym same) (operation_again op b.first (b.others ++ rest) b.no_star)
 
--- what an operation makes of what waits
+-- what an operation makes of the entries that wait
 abbrev waits_for : Tree → List Waiting → Operation × List ℕ → WalkPosition × List ℕ
 waits_for u waits x = (before (left x.0 (gathered (level x.0) u waits).0 ∷ (gathered (level x.0) u waits).1), x.1)
 
--- an operation takes what binds as tightly as its left part
+-- an operation takes what binds as tightly as its left operand
 join_leads : (op : Operation) (u l : Tree) (waits ws : List Waiting) (tail : List ℕ) → gathered (level op) u waits ≡ (l, ws) → Fits (level op) ws
     → entry_at operations (symbol op ++ tail) ≡ Some (op, tail) → Leads (after u waits) (symbol op ++ tail) (before (left op l ∷ ws)) tail
 join_leads op u l [] ws tail e h f =
@@ -260,7 +260,7 @@ join_leads op u l (w ∷ waits) ws tail e h f =
 
 -- ---- a chain is walked
 
--- a value by itself, up to where it has settled
+-- a single value, up to where it has settled
 abbrev WalkedAlone : Tree → Type 0
 WalkedAlone t = looseness t ≡ 0 → (ws : List Waiting) (bytes rest : List ℕ) → IsChain bytes t → Stops rest → Leads (before ws) (bytes ++ rest) (settled_value t ws) rest
 
@@ -291,7 +291,7 @@ parameter_walked t alone e ws bytes rest h s =
     leads_from (before ws) (settled_value (parameter t) ws) (bytes ++ rest) (35 ∷ (h.0 ++ rest)) rest (ap (λ l. l ++ rest) h.1)
     (walk_before ws (35 ∷ (h.0 ++ rest)) (before (index ∷ ws), h.0 ++ rest) refl ∙ alone h.3 (index ∷ ws) h.0 rest h.2 s)
 
--- a chain, and the bracket that closes what waits
+-- a chain, and the closing bracket of what waits
 closed_walked : (t : Tree) (w : Waiting) (ws : List Waiting) (p : WalkPosition) (inner rest : List ℕ) → Walked t → IsChain inner t → Fits (looseness t) (w ∷ ws) → NotIndex (w ∷ ws)
     → closed t (w ∷ ws) ≡ Some p → Leads (before (w ∷ ws)) (inner ++ (93 ∷ rest)) p rest
 closed_walked t w ws p inner rest walked h fits not_index e =
@@ -349,7 +349,7 @@ joined_walked op l r walked_l walked_r ws bytes rest h s fits not_index =
       gathered_more (looseness r) (level op) to_r.0 to_r.1 (r, left op l ∷ ws) to_r.3 (omega arith) ∙ gathered_joined op l r ws fits,
     )
 
--- by induction on the tree: a value by itself, and a chain
+-- by induction on the tree: a single value, and a chain
 chain_walked : (t : Tree) → WalkedAlone t × Walked t
 chain_walked (number value) = walked_by (number value) refl (number_walked value)
 chain_walked (parameter t) = walked_by (parameter t) refl (parameter_walked t (chain_walked t).0)
@@ -361,9 +361,9 @@ chain_walked (joined op l r) = (λ e. absurd (level_some op e), joined_walked op
 pub value_again : (front rest : List ℕ) (t : Tree) → IsValue front t → Stops rest → value_at (front ++ rest) ≡ Some (t, rest)
 value_again front rest t h s = (chain_walked t).0 h.1 [] front rest h.0 s
 
--- ---- what is found is so spelled
+-- ---- what is found is spelled so
 
--- these bytes are what waits
+-- these bytes are the entries that wait
 abbrev pub Waits : List Waiting → List ℕ → Type 0
 Waits [] bytes = bytes ≡ []
 Waits (index ∷ ws) bytes = (front : List ℕ) × (bytes ≡ front ++ 35 ∷ []) × Waits ws front
@@ -372,11 +372,12 @@ Waits (function f ∷ ws) bytes = (front : List ℕ) × (bytes ≡ front ++ (nam
 Waits (left op l ∷ ws) bytes = (front : List ℕ) × (back : List ℕ) × (bytes ≡ front ++ (back ++ symbol op)) × IsChain back l
     × (looseness l ≤ level op) × Fits (level op) ws × NotIndex ws × Waits ws front
 
--- these bytes are what waits, then a value by itself
+-- these bytes are the entries that wait, then a single value
 abbrev pub StandsAlone : Tree → List Waiting → List ℕ → Type 0
 StandsAlone t ws bytes = (front : List ℕ) × (back : List ℕ) × (bytes ≡ front ++ back) × Waits ws front × IsChain back t × (looseness t ≡ 0) × NotIndex ws
 
--- these bytes are what waits, then a chain no looser than n, which may stand there as a part of an operation of that level
+-- these bytes are the entries that wait, then a chain no looser than n, which may be there as an operand of an
+-- operation of that level
 abbrev pub StandsAt : ℕ → Tree → List Waiting → List ℕ → Type 0
 StandsAt n t ws bytes = (front : List ℕ) × (back : List ℕ) × (bytes ≡ front ++ back) × Waits ws front × IsChain back t × (looseness t ≤ n) × Fits n ws × NotIndex ws
 
@@ -393,7 +394,7 @@ settled_stands t (brackets ∷ ws) front back bytes e w c alone = (front, back, 
 settled_stands t (function f ∷ ws) front back bytes e w c alone = (front, back, e, w, c, alone, tt)
 settled_stands t (left op l ∷ ws) front back bytes e w c alone = (front, back, e, w, c, alone, tt)
 
--- an operation may stand there
+-- an operation may come there
 abbrev Inside : List Waiting → Type 0
 Inside [] = ⊥
 Inside (index ∷ ws) = ⊥
@@ -428,7 +429,7 @@ stands_left_at : (n : ℕ) (op : Operation) (l t : Tree) (ws : List Waiting) (by
 stands_left_at n op l t ws bytes true e tight loose = tight (grind (arith, nat_tests))
 stands_left_at n op l t ws bytes false e tight loose = loose (grind (arith, nat_tests))
 
--- an operation that waits, with what stands after it
+-- an operation that waits, with what comes after it
 joined_spelled : (bytes front back first part : List ℕ) (op : Operation) → bytes ≡ front ++ back → front ≡ first ++ (part ++ symbol op)
     → bytes ≡ first ++ (part ++ (symbol op ++ back))
 joined_spelled bytes front back first part op e f =
@@ -454,7 +455,7 @@ alone_stands n t w ws bytes s =
     let alone = s.5 in
     gathered_stands n t (w ∷ ws) s.0 s.1 bytes s.2 s.3 s.4 (omega arith) (fits_zero (looseness t) (w ∷ ws) s.5) (inside_more w ws s.6)
 
--- brackets closed round a chain
+-- brackets closed around a chain
 closed_stands : (t : Tree) (ws : List Waiting) (bytes : List ℕ) (p : WalkPosition) → StandsAt 3 t ws bytes → closed t ws ≡ Some p → LeadTo p (bytes ++ 93 ∷ [])
 closed_stands t [] bytes p s e = absurd (cc)
 closed_stands t (index ∷ ws) bytes p s e = absurd (cc)
@@ -483,7 +484,7 @@ closed_stands t (function f ∷ ws) bytes p s e =
     )
 closed_stands t (left op l ∷ ws) bytes p s e = absurd (cc)
 
--- the bytes past and then those that a step takes lead to its place
+-- the bytes so far, followed by those that a step takes, lead to the step's place
 abbrev pub Stepped : List ℕ → List ℕ → WalkPosition × List ℕ → Type 0
 Stepped past bytes x = (taken : List ℕ) × (bytes ≡ taken ++ x.1) × LeadTo x.0 (past ++ taken)
 
@@ -554,7 +555,7 @@ value_walked (suc m) (before ws) past bytes x h e =
 pub value_sound : (bytes : List ℕ) (x : Tree × List ℕ) → value_at bytes ≡ Some x → (front : List ℕ) × (bytes ≡ front ++ x.1) × IsValue front x.0
 value_sound bytes x e = value_walked (length bytes) (before []) [] bytes x refl e
 
--- a value found has a byte at least
+-- a value that is found has at least one byte
 pub length-value_at : (bytes : List ℕ) (x : Tree × List ℕ) → value_at bytes ≡ Some x → length x.1 < length bytes
 length-value_at bytes x e =
     let f = value_sound bytes x e in

@@ -1,4 +1,4 @@
--- The walk of value_at: a step takes a byte at least, so more steps than bytes change nothing.
+-- The walk of value_at: a step takes at least one byte, so allowing more steps than bytes changes nothing.
 use Rattle.std.proofs.Common.{ℕ, zero, suc, ◌+◌, ◌<◌, ◌≤◌, ◌≡◌, List, [], ◌∷◌, ◌++◌, length, codes, Bool, true, false, cond, ◌==◌, ℤ, Option, Some, None, refl, sym, ap, ◌∙◌, subst, arith, length-append}
 use Rattle.std.specs.Option.{option_and_then}
 use Rattle.std.proofs.lemmas.Bool.Decides.{Decides-eqb}
@@ -14,13 +14,13 @@ pub and_then_some : {A B : Type 0} (f : A → Option B) (o : Option A) (y : B) �
 and_then_some f None y e = absurd (cc)
 and_then_some f (Some x) y e = (x, refl, e)
 
--- ---- a text in front
+-- ---- a text at the front
 
 strip_prefix_is_at : (c b : ℕ) (cs bs rest : List ℕ) (t : Bool) → (b == c) ≡ t → cond t (strip_prefix cs bs) None ≡ Some rest → (strip_prefix cs bs ≡ Some rest → bs ≡ cs ++ rest) → b ∷ bs ≡ c ∷ (cs ++ rest)
 strip_prefix_is_at c b cs bs rest true t_is e others = ap (λ d. d ∷ bs) ((Decides-eqb b c).0 t_is) ∙ ap (λ l. c ∷ l) (others e)
 strip_prefix_is_at c b cs bs rest false t_is e others = absurd (cc)
 
--- the text, and then what stands after it
+-- the text, and then what comes after it
 pub strip_prefix_is : (cs bytes rest : List ℕ) → strip_prefix cs bytes ≡ Some rest → bytes ≡ cs ++ rest
 strip_prefix_is [] bytes rest e = cc
 strip_prefix_is (c ∷ cs) [] rest e = absurd (cc)
@@ -41,7 +41,7 @@ entry_found_at P text x es bytes y (Some rest) o_is p e others =
     let same : (x, rest) ≡ y = cc in
     subst (FoundEntry P bytes) same (text, strip_prefix_is text bytes rest o_is, p)
 
--- what is found in a table is an entry of it
+-- what is found in a table is one of its entries
 pub entry_found : {X : Type 0} (P : List ℕ → X → Type 0) (es : List (List ℕ × X)) (bytes : List ℕ) (y : X × List ℕ) → EachEntry P es → entry_at es bytes ≡ Some y → FoundEntry P bytes y
 entry_found P [] bytes y each e = absurd (cc)
 entry_found P (entry ∷ es) bytes y each e =
@@ -54,7 +54,7 @@ opener brackets = 91 ∷ []
 opener (function f) = name f ++ (91 ∷ [])
 opener (left op l) = []
 
--- an opener waits: no operation
+-- an opener waits, not an operation
 abbrev pub Opens : Waiting → Type 0
 Opens index = Unit {0}
 Opens brackets = Unit {0}
@@ -98,7 +98,7 @@ length-symbol Or = omega arith
 length-symbol Xor = omega arith
 length-symbol And = omega arith
 
--- ---- a step takes a byte at least
+-- ---- a step takes at least one byte
 
 shorter : (taken rest bytes others : List ℕ) → bytes ≡ taken ++ rest → 1 ≤ length taken → rest ≡ others → length others < length bytes
 shorter taken rest bytes others e h same =
@@ -137,7 +137,7 @@ no_step : (p : WalkPosition) (bytes : List ℕ) (o : Option (WalkPosition × Lis
 no_step p bytes None e h = refl
 no_step p bytes (Some x) e h = let less = step_shorter p bytes x e in absurd (omega arith)
 
--- what n further steps make of a step
+-- what n more steps make of a step
 abbrev then_from : ℕ → WalkPosition × List ℕ → Option (Tree × List ℕ)
 then_from n x = value_from n x.0 x.1
 
@@ -152,7 +152,7 @@ more_at m n p bytes (Some x) e h k same =
     let less = step_shorter p bytes x e in
     same x.0 x.1 (omega arith) (omega arith)
 
--- steps allowed beyond the bytes that there are change nothing
+-- allowing more steps than there are bytes changes nothing
 pub value_from-more : (m n : ℕ) (p : WalkPosition) (bytes : List ℕ) → length bytes ≤ m → length bytes ≤ n → value_from m p bytes ≡ value_from n p bytes
 value_from-more m n (after t []) bytes h k = refl
 value_from-more zero zero (after t (w ∷ ws)) bytes h k = refl
@@ -180,7 +180,7 @@ walk_after t w ws (b ∷ bs) x e =
     let less = step_shorter (after t (w ∷ ws)) (b ∷ bs) x e in
     ap (option_and_then (then_from (length bs))) e ∙ value_from-more (length bs) (length x.1) x.0 x.1 (omega arith) (omega arith)
 
--- where no step can be made there is no value
+-- if no step can be made, there is no value
 pub walk_before_none : (ws : List Waiting) (bytes : List ℕ) → step_at (before ws) bytes ≡ None → value_from (length bytes) (before ws) bytes ≡ None
 walk_before_none ws [] e = refl
 walk_before_none ws (b ∷ bs) e = ap (option_and_then (then_from (length bs))) e

@@ -1,4 +1,5 @@
--- The grammar of a line, on the bytes that count. The rules are NISTIR 6556's, section 3.3, where no other source stands.
+-- The grammar of a line, on the bytes that count. The rules are from NISTIR 6556, section 3.3, unless another source is
+-- given.
 use Rattle.std.specs.Prelude.{ℕ, ◌+◌, ◌-◌, ◌*◌, ◌^◌, ◌<◌, ◌≤◌, ◌≡◌, ◌≢◌, ◌⊎◌, List, [], ◌∷◌, ◌++◌, length, codes, Bool, true, false, ◌&&◌, nat_le, nat_lt, IsTrue, ℤ, pos, neg_ℤ, unsigned_abs, Option, Some, None, if◌then◌else◌}
 use Rattle.ng_num.specs.Rounding.{nearest}
 use Rattle.ng_num.specs.Range.{greatest}
@@ -19,12 +20,12 @@ abbrev pub AreDigits : List ℕ → Type 0
 AreDigits [] = Unit {0}
 AreDigits (b ∷ bs) = IsTrue (is_digit b) × AreDigits bs
 
--- the number that digits write after the number n
+-- the number that digits write when they follow the number n
 abbrev pub written_after : ℕ → List ℕ → ℕ
 written_after n [] = n
 written_after n (b ∷ bs) = written_after (n * 10 + (b - 48)) bs
 
--- millionths of a number without its sign, by the digits before and after its point
+-- the millionths of a number without a sign, from the digits before and after its point
 abbrev pub millionths : List ℕ → List ℕ → ℕ
 millionths whole fraction = written_after 0 whole * 1_000_000 + nearest (written_after 0 fraction * 1_000_000) (10 ^ length fraction)
 
@@ -43,7 +44,7 @@ abbrev pub IsNumber : List ℕ → ℤ → Type 0
 IsNumber bytes z = (n : ℕ) × (digits : List ℕ) × IsUnsigned digits n ×
     (((bytes ≡ digits) × (z ≡ pos n)) ⊎ (((bytes ≡ 43 ∷ digits) × (z ≡ pos n)) ⊎ ((bytes ≡ 45 ∷ digits) × (z ≡ neg_ℤ (pos n)))))
 
--- a count of millionths, or nothing where it is out of range (own)
+-- a count of millionths, or nothing if it is out of range (own)
 abbrev pub count_of : ℤ → Option ℤ
 count_of z = if nat_le (unsigned_abs z) greatest then Some z else None
 
@@ -73,7 +74,7 @@ level Or = 3
 level Xor = 3
 level And = 3
 
--- a function's name; the others of the manual are left out (own)
+-- a function's name; the report's other functions are left out (own)
 abbrev pub name : Function → List ℕ
 name Abs = codes "ABS"
 name Fix = codes "FIX"
@@ -81,8 +82,8 @@ name Fup = codes "FUP"
 name Round = codes "ROUND"
 name Sqrt = codes "SQRT"
 
--- how a value is built: a number (nothing where it is out of range), a parameter's value, a chain in brackets,
--- a function of a chain, two parts of a chain
+-- how a value is built: a number (nothing if it is out of range), a parameter's value, a chain in brackets, a function
+-- of a chain, two parts of a chain
 pub data Tree : Type 0 where
   number : Option ℤ → Tree
   parameter : Tree → Tree
@@ -90,7 +91,7 @@ pub data Tree : Type 0 where
   applied : Function → Tree → Tree
   joined : Operation → Tree → Tree → Tree
 
--- how loosely what stands outside brackets binds: a value by itself most tightly
+-- how loosely the part outside brackets binds; a single value binds most tightly
 abbrev pub looseness : Tree → ℕ
 looseness (number z) = 0
 looseness (parameter t) = 0
@@ -98,7 +99,7 @@ looseness (bracketed t) = 0
 looseness (applied f t) = 0
 looseness (joined op l r) = level op
 
--- these bytes are this chain, parted at the last of its loosest operations
+-- these bytes are this chain, split at the last of its loosest operations
 abbrev pub IsChain : List ℕ → Tree → Type 0
 IsChain bytes (number value) = (z : ℤ) × IsNumber bytes z × (value ≡ count_of z)
 IsChain bytes (parameter t) = (inner : List ℕ) × (bytes ≡ 35 ∷ inner) × IsChain inner t × (looseness t ≡ 0)
@@ -159,7 +160,7 @@ SpellsPieces bytes (piece ∷ pieces) = (front : List ℕ) × (rest : List ℕ) 
 
 -- ---- lines (3.3)
 
--- a line as written: whether a slash comes first, its block number, its pieces
+-- a line as written: whether it begins with a slash, its block number, its pieces
 pub record ParsedLine : Type 0 where
   pub deletable : Bool
   pub number : Option ℕ

@@ -1,4 +1,4 @@
--- What is said of the items of a line alone.
+-- What the items of a line say by themselves.
 use Rattle.std.specs.Prelude.{ℕ, List, [], ◌∷◌, Option, Some, None}
 use Rattle.std.specs.Option.{option_or}
 use Rattle.ng_words.specs.declared.piece_entry.PieceEntry.{PieceEntry}

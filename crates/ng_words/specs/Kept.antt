@@ -1,4 +1,4 @@
--- How what was read is kept in places of fixed number (own): trees as lists of nodes, each node after its parts.
+-- How a line is kept in storage of fixed size (own): trees as lists of nodes, each node after its parts.
 use Rattle.std.specs.Prelude.{ℕ, ◌≡◌, List, [], ◌∷◌, ◌++◌, length, map, flat_map, take, drop, Bool, Option, None}
 use Rattle.ng_words.specs.Grammar.{Tree, number, parameter, bracketed, applied, joined, Piece, word, setting, comment, ParsedLine}
 use Rattle.ng_words.specs.declared.tree.Node.{Node}
@@ -18,7 +18,7 @@ postfix (joined op l r) = postfix l ++ (postfix r ++ node.Joined op ∷ [])
 abbrev pub IsTree : List Node → Type 0
 IsTree nodes = (t : Tree) × (nodes ≡ postfix t)
 
--- the trees that nodes build upon those that are there, the latest first; nothing else is built of nodes without order
+-- the trees that nodes build on top of those that are there, the latest first; nodes out of order build nothing
 abbrev pub built : List Tree → List Node → List Tree
 built ts [] = ts
 built ts (node.Number value ∷ nodes) = built (number value ∷ ts) nodes
@@ -37,9 +37,10 @@ latest (t ∷ ts) = t
 abbrev pub tree_by : List Node → Tree
 tree_by nodes = latest (built [] nodes)
 
--- ---- the pieces of a line: for each an item, and its nodes or bytes after those of the pieces before it
+-- ---- the pieces of a line: an item for each; its nodes or bytes come after those of the pieces before it
 
--- a letter and how many nodes its value has; how many the index and the value of a setting; how many bytes a comment
+-- a letter and the number of nodes of its value; the numbers of nodes of an index and a value; the number of bytes of a
+-- comment
 abbrev pub item_of : Piece → PieceEntry
 item_of (word letter t) = item.Word letter (length (postfix t))
 item_of (setting index value) = item.Setting (length (postfix index)) (length (postfix value))

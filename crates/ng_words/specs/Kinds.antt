@@ -1,10 +1,11 @@
--- Which lines are blank, which are a percent sign alone, and which begin with the slash of block delete (NISTIR 6556, 3.3).
+-- Which lines are blank, which are a percent sign alone, and which begin with the slash of block delete (NISTIR 6556,
+-- 3.3).
 use Rattle.std.specs.Prelude.{ℕ, List, [], ◌∷◌, Bool, false, ◌==◌, if◌then◌else◌}
 use Rattle.ng_words.specs.Plain.{plain}
 use Rattle.ng_words.specs.declared.start.LineKind.{LineKind}
 use Rattle.ng_words.specs.declared.start.LineKind.TheVariants.{Blank, Percent, Other}
 
--- of the bytes that count
+-- the kind of a line, from its bytes that count
 abbrev pub kind : List ℕ → LineKind
 kind [] = Blank
 kind (b ∷ []) = if b == 37 then Percent else Other

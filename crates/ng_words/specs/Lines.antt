@@ -1,4 +1,4 @@
--- What is said of a line that was read.
+-- Facts about a line that was read.
 use Rattle.std.specs.Prelude.{ℕ, List, [], ◌∷◌, false, Option, Some, None}
 use Rattle.std.specs.Option.{option_or}
 use Rattle.ng_words.specs.Grammar.{Piece, word, setting, comment, ParsedLine}
@@ -17,7 +17,7 @@ last_comment (word letter t ∷ pieces) = last_comment pieces
 last_comment (setting index value ∷ pieces) = last_comment pieces
 last_comment (comment text ∷ pieces) = option_or (last_comment pieces) (Some text)
 
--- a piece that is handed out, wherever its parts lie
+-- a piece that is handed out, wherever its parts are stored
 abbrev pub piece_of : PieceRef → Piece
 piece_of (Word letter t) = word letter (tree_by t)
 piece_of (Setting index value) = setting (tree_by index) (tree_by value)

@@ -1,4 +1,4 @@
--- The pieces at the front of a list of bytes, and what is left. They serve the proofs; what is promised is the grammar
+-- The pieces at the front of a list of bytes, and what is left. They serve the proofs only; the contract is the grammar
 -- (`laws::lines`).
 use Rattle.std.specs.Prelude.{ℕ, zero, suc, List, [], ◌∷◌, codes, ◌==◌, Option, Some, None, if◌then◌else◌}
 use Rattle.std.specs.Option.{option_map, option_and_then}
@@ -6,7 +6,7 @@ use Rattle.ng_words.specs.Grammar.{Tree, Piece, word, setting, comment}
 use Rattle.ng_words.specs.Scan.{letter_of}
 use Rattle.ng_words.specs.Values.{strip_prefix, value_at}
 
--- a comment's bytes up to its closing parenthesis, and what stands after that
+-- a comment's bytes up to its closing parenthesis, and what comes after it
 abbrev pub comment_at : List ℕ → Option (List ℕ × List ℕ)
 comment_at [] = None
 comment_at (b ∷ bs) = if b == 41 then Some ([], bs) else if b == 40 then None else option_map (λ x. (b ∷ x.0, x.1)) (comment_at bs)
@@ -26,7 +26,7 @@ abbrev pub piece_at : List ℕ → Option (Piece × List ℕ)
 piece_at [] = None
 piece_at (b ∷ bs) = piece_from b bs
 
--- the pieces up to the end; the first argument counts how many there may be
+-- the pieces up to the end; the first argument limits how many there may be
 abbrev pub pieces_at : ℕ → List ℕ → Option (List Piece)
 pieces_at most [] = Some []
 pieces_at zero (b ∷ bs) = None

@@ -1,4 +1,5 @@
--- What counts of a line's bytes: outside comments blanks and tabs are dropped and letters are capitals (NISTIR 6556, 3.3).
+-- Which bytes of a line count: outside comments, blanks and tabs are dropped and letters are made capitals (NISTIR
+-- 6556, 3.3).
 use Rattle.std.specs.Prelude.{ℕ, ◌-◌, List, [], ◌∷◌, Bool, true, false, not, ◌&&◌, ◌||◌, ◌==◌, nat_le, if◌then◌else◌, ◌≡◌, ◌≢◌}
 
 -- a blank or a tab
@@ -19,12 +20,12 @@ abbrev pub StartsWithByte : List ℕ → ℕ → Type 0
 StartsWithByte [] b = ⊥
 StartsWithByte (c ∷ bs) b = c ≡ b
 
--- some byte comes first, and no comment begins there
+-- there is a first byte, and no comment begins there
 abbrev pub IsOutside : List ℕ → Type 0
 IsOutside [] = ⊥
 IsOutside (b ∷ bs) = b ≢ 40
 
--- the first of the bytes counts, if there is one
+-- the first byte counts, if there is one
 abbrev pub AtPlain : List ℕ → Type 0
 AtPlain [] = Unit {0}
 AtPlain (b ∷ bs) = is_blank b ≡ false

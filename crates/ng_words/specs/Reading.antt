@@ -1,4 +1,4 @@
--- Reading a line, as a function: what is written, or the fault. `laws::lines` says that it is the grammar; how it goes over
+-- Reading a line, as a function: the line, or the fault. `laws::lines` says that this is the grammar; how it walks over
 -- the bytes serves the proofs.
 use Rattle.std.specs.Prelude.{ℕ, List, length, Bool, false, Option, Some, None, Result, Ok, Err, if◌then◌else◌}
 use Rattle.std.specs.Option.{option_map, option_and_then}
@@ -21,6 +21,6 @@ abbrev pub or_unreadable : Option ParsedLine → Result ParsedLine Fault
 or_unreadable None = Err Unreadable
 or_unreadable (Some w) = Ok w
 
--- what a line holds, or why it can't be read; the length comes first
+-- what a line holds, or why it can't be read; the length is checked first
 unfoldable pub read : List ℕ → Result ParsedLine Fault
 read text = if is_too_long text then Err LineTooLong else or_unreadable (parse_line (plain false text))

@@ -1,5 +1,5 @@
--- What stands at the front of a list of bytes, and what is left: functions that the readers compute. They serve the proofs;
--- what is promised is the grammar (`laws::lines`).
+-- What is at the front of a list of bytes, and what is left: the functions that the readers compute. They serve the
+-- proofs only; the contract is the grammar (`laws::lines`).
 use Rattle.std.specs.Prelude.{ℕ, ◌+◌, ◌-◌, ◌*◌, ◌/◌, List, [], ◌∷◌, length, Bool, true, false, ◌||◌, ◌&&◌, ◌==◌, ℤ, Option, Some, None, if◌then◌else◌, nat_lt, min}
 use Rattle.std.specs.Option.{option_map}
 use Rattle.ng_num.specs.Rounding.{signed}
@@ -25,7 +25,7 @@ abbrev pub fraction_from : ℕ → List ℕ → ℕ
 fraction_from unit [] = 0
 fraction_from unit (b ∷ bs) = (b - 48) * unit + fraction_from (unit / 10) bs
 
--- the point and the digits after it, where there is a point
+-- the point and the digits after it, if there is a point
 abbrev pub point_at : List ℕ → Option (List ℕ)
 point_at [] = None
 point_at (b ∷ bs) = if b == 46 then Some bs else None
@@ -57,12 +57,12 @@ number_at bytes = option_map (λ x. (count_of (signed (sign_at bytes).0 x.0), x.
 abbrev pub letters : List Letter
 letters = A ∷ B ∷ C ∷ D ∷ F ∷ G ∷ H ∷ I ∷ J ∷ K ∷ L ∷ M ∷ P ∷ Q ∷ R ∷ S ∷ T ∷ X ∷ Y ∷ Z ∷ []
 
--- the first of the letters that is written by the byte b
+-- the first of the letters whose byte is b
 abbrev pub letter_among : ℕ → List Letter → Option Letter
 letter_among b [] = None
 letter_among b (l ∷ ls) = if b == code l then Some l else letter_among b ls
 
--- the letter that a byte is
+-- the letter of a byte
 abbrev pub letter_of : ℕ → Option Letter
 letter_of b = letter_among b letters
 
@@ -75,7 +75,7 @@ slash_at (b ∷ bs) = if b == 47 then (true, bs) else (false, b ∷ bs)
 abbrev pub numbered : List ℕ → List ℕ → Option (Option ℕ × List ℕ)
 numbered digits rest = if is_empty digits || nat_lt 5 (length digits) then None else Some (Some (whole_after 0 digits), rest)
 
--- the block number, where an N comes first, and what follows
+-- the block number, if an N comes first, and what follows
 abbrev pub block_number_at : List ℕ → Option (Option ℕ × List ℕ)
 block_number_at [] = Some (None, [])
 block_number_at (b ∷ bs) = if b == 78 then numbered (front_digits bs) (after_digits bs) else Some (None, b ∷ bs)

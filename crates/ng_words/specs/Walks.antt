@@ -1,4 +1,5 @@
--- For the proofs of the reader alone, which promise nothing outside: what its parts owe, how the places of a walk stand in the code, and what each step says.
+-- For the proofs of the reader only: what its parts have to show, how the places of a walk are represented in the code,
+-- and what each step does.
 use Rattle.std.specs.Prelude.{ℕ, ◌+◌, ◌-◌, ◌<◌, ◌≤◌, ◌≡◌, List, [], ◌∷◌, ◌++◌, length, take, drop, Bool, true, false, Option, Some, None, slice_get, nat_le, if◌then◌else◌}
 use Rattle.std.specs.Option.{option_and_then}
 use Rattle.ng_words.specs.Plain.{plain}
@@ -15,25 +16,25 @@ use Rattle.ng_words.specs.declared.tree.Node.TheVariants as node
 use Rattle.ng_words.specs.declared.value.Waiting.{Waiting as Mark}
 use Rattle.ng_words.specs.declared.value.Waiting.TheVariants as marked
 
--- a comment whose bytes these are closes after the first n of them
+-- a comment with these bytes closes after the first n of them
 abbrev pub ClosesAt : List ℕ → ℕ → Type 0
 ClosesAt bytes n = (n < length bytes) × (comment_at (plain true bytes) ≡ Some (take n bytes, plain false (drop (n + 1) bytes)))
 
 -- ---- the walk over a value
 
--- what stands on the stack for what waits: an operation without what stands to its left
+-- what is on the stack for an entry that waits: an operation without its left operand
 abbrev pub mark : Waiting → Mark
 mark index = marked.Index
 mark brackets = marked.Brackets
 mark (function f) = marked.Function f
 mark (left op l) = marked.Operation op
 
--- the stack: the nearest stands last
+-- the stack: the innermost is last
 abbrev pub marks : List Waiting → List Mark
 marks [] = []
 marks (w ∷ ws) = marks ws ++ mark w ∷ []
 
--- the nodes of what stands to the left of the operations that wait
+-- the nodes of the left operands of the waiting operations
 abbrev pub waiting_nodes : List Waiting → List Node
 waiting_nodes [] = []
 waiting_nodes (index ∷ ws) = waiting_nodes ws
@@ -51,17 +52,17 @@ pub record HoldsAfter (t : Tree) (ws : List Waiting) (base : List Node) (stack :
   pub stack_is : stack ≡ marks ws
   pub nodes_are : nodes ≡ base ++ (waiting_nodes ws ++ postfix t)
 
--- a place of the walk stands in the code: whether a value stands right before, the stack, the nodes after the base
+-- a place of the walk, as the code represents it: whether a value is complete, the stack, the nodes after the base
 abbrev pub Stands : WalkPosition → List Node → Bool → List Mark → List Node → Type 0
 Stands (before ws) base after_value stack nodes = (after_value ≡ false) × HoldsBefore ws base stack nodes
 Stands (after t ws) base after_value stack nodes = (after_value ≡ true) × HoldsAfter t ws base stack nodes
 
--- a step from a place: none, or one to the place that stands there now
+-- a step from a place: none, or one to the place that is now represented
 abbrev pub IsWalkStep : WalkPosition → List Node → List ℕ → Option Bool → List ℕ → List Mark → List Node → Type 0
 IsWalkStep p base bytes None rest stack nodes = step_at p bytes ≡ None
 IsWalkStep p base bytes (Some after_value) rest stack nodes = (q : WalkPosition) × (step_at p bytes ≡ Some (q, rest)) × Stands q base after_value stack nodes
 
--- the nearest of the stack
+-- the innermost entry of the stack
 abbrev pub nearest : List Mark → Option Mark
 nearest stack = slice_get stack (length stack - 1)
 
@@ -72,7 +73,7 @@ is_index (Some marked.Brackets) = false
 is_index (Some (marked.Function f)) = false
 is_index (Some (marked.Operation op)) = false
 
--- an operation that binds as tightly as n or tighter
+-- an operation that binds as tightly as n or more tightly
 abbrev pub operation_within : ℕ → Option Mark → Option Operation
 operation_within n None = None
 operation_within n (Some marked.Index) = None
@@ -88,7 +89,7 @@ closing (Some marked.Brackets) = Some node.Brackets
 closing (Some (marked.Function f)) = Some (node.Applied f)
 closing (Some (marked.Operation op)) = None
 
--- the openings but for the first two, which are those of functions
+-- the openings without the first two: those of functions
 abbrev pub function_openings : List (List ℕ × Waiting)
 function_openings = drop 2 openings
 
@@ -97,39 +98,39 @@ abbrev pub IsFunction : List ℕ → Option Function → List ℕ → Type 0
 IsFunction bytes None rest = (entry_at function_openings bytes ≡ None) × (rest ≡ bytes)
 IsFunction bytes (Some f) rest = entry_at function_openings bytes ≡ Some (function f, rest)
 
--- what opens a value, and how it stands on the stack
+-- what opens a value, and its entry on the stack
 abbrev pub IsOpening : List ℕ → Option Mark → List ℕ → Type 0
 IsOpening bytes None rest = (entry_at openings bytes ≡ None) × (rest ≡ bytes)
 IsOpening bytes (Some m) rest = (w : Waiting) × (entry_at openings bytes ≡ Some (w, rest)) × (mark w ≡ m) × (waiting_nodes (w ∷ []) ≡ [])
 
--- a value was taken: its nodes, and how many they are
+-- a value was taken: its nodes, and how many there are
 abbrev pub TakesValue : List ℕ → List Node → Option ℕ → List ℕ → List Node → Type 0
 TakesValue bytes base None rest nodes = value_at bytes ≡ None
 TakesValue bytes base (Some n) rest nodes = (t : Tree) × (value_at bytes ≡ Some (t, rest)) × (nodes ≡ base ++ postfix t) × (n ≡ length (postfix t))
 
--- wherever the walk stands, it makes its step
+-- wherever the walk is, it makes its step
 abbrev pub WalkStepSpec : Bool → List ℕ → List Mark → List Node → Option Bool → List ℕ → List Mark → List Node → Type 0
 WalkStepSpec after_value bytes stack nodes to rest stack_then nodes_then =
     (p : WalkPosition) (base : List Node) → Stands p base after_value stack nodes → IsWalkStep p base bytes to rest stack_then nodes_then
 
--- wherever a value stands, it is settled
+-- wherever a value is, it is settled
 abbrev pub Settles : List Mark → List Node → List Mark → List Node → Type 0
 Settles stack nodes stack_then nodes_then =
     (t : Tree) (ws : List Waiting) (base : List Node) → HoldsAfter t ws base stack nodes → Stands (settled_value t ws) base true stack_then nodes_then
 
--- wherever a value stands, the operations that bind as tightly as n or tighter gather it
+-- wherever a value is, the operations that bind as tightly as n or more tightly gather it
 abbrev pub Gathers : ℕ → List Mark → List Node → List Mark → List Node → Type 0
 Gathers n stack nodes stack_then nodes_then =
     (t : Tree) (ws : List Waiting) (base : List Node) → HoldsAfter t ws base stack nodes → HoldsAfter (gathered n t ws).0 (gathered n t ws).1 base stack_then nodes_then
 
--- wherever a chain stands, the brackets that wait are closed round it
+-- wherever a chain is, the waiting brackets are closed around it
 abbrev pub ClosesBrackets : List Mark → List Node → Bool → List Mark → List Node → Type 0
 ClosesBrackets stack nodes false stack_then nodes_then =
     (t : Tree) (ws : List Waiting) (base : List Node) → HoldsAfter t ws base stack nodes → closed t ws ≡ None
 ClosesBrackets stack nodes true stack_then nodes_then =
     (t : Tree) (ws : List Waiting) (base : List Node) → HoldsAfter t ws base stack nodes → (p : WalkPosition) × (closed t ws ≡ Some p) × Stands p base true stack_then nodes_then
 
--- a byte from the plus to the nine comes first: of all values only a number begins so
+-- a byte from the plus to the nine comes first: of all values, only a number begins so
 abbrev pub BeginsNumber : List ℕ → Type 0
 BeginsNumber [] = ⊥
 BeginsNumber (b ∷ bs) = (43 ≤ b) × (b ≤ 57)
@@ -144,7 +145,7 @@ abbrev pub AddsWord : Letter → List ℕ → List ℕ → List PieceEntry → L
 AddsWord letter bytes rest items items_then nodes nodes_then =
     (v : Tree) × (value_at bytes ≡ Some (v, rest)) × (items_then ≡ items ++ item_of (word letter v) ∷ []) × (nodes_then ≡ nodes ++ postfix v)
 
--- what stands after a setting's sign
+-- what comes after a setting's sign
 abbrev pub setting_at : List ℕ → Option (Piece × List ℕ)
 setting_at bytes = option_and_then (λ i. set_at i.0 i.1) (value_at bytes)
 
@@ -159,7 +160,7 @@ abbrev pub AddsComment : List ℕ → List ℕ → List PieceEntry → List Piec
 AddsComment bytes rest items items_then texts texts_then =
     (text : List ℕ) × (comment_at (drop 1 bytes) ≡ Some (text, rest)) × (items_then ≡ items ++ item_of (comment text) ∷ []) × (texts_then ≡ texts ++ text)
 
--- a piece's item, nodes and bytes stand after those that were there
+-- a piece's item, nodes and bytes come after those that were there
 pub record Adds (p : Piece) (old new : PieceStore) : Type 0 where
   pub items_more : new.items ≡ old.items ++ item_of p ∷ []
   pub nodes_more : new.nodes ≡ old.nodes ++ nodes_of p

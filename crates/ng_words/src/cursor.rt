@@ -7,7 +7,7 @@ ghost use Rattle.ng_words.specs.Walks.{ClosesAt};
 use crate::digits::Digits;
 use std::marker::Model;
 
-/// The bytes of a line that are left, seen as those that count. It stands outside comments, and no blank is next.
+/// The rest of a line, seen as the bytes that count. The cursor is outside comments, and the next byte isn't a blank.
 #[derive(Drop)]
 pub(crate) struct Cursor<'a> {
     rest: &'a [u8],
@@ -42,7 +42,7 @@ pub(crate) fn capital(byte: u8) -> u8
     }
 }
 
-/// The bytes from the first that counts on, where some blanks come first.
+/// The bytes from the first that counts on, if the text begins with blanks.
 #[cold]
 fn skip_run(bytes: &[u8]) -> &[u8]
     ensures same { plain false result.now ≡ plain false bytes.now }
@@ -58,7 +58,7 @@ fn skip_run(bytes: &[u8]) -> &[u8]
     rest
 }
 
-/// The bytes from the first that counts on. Most bytes lie above the blank, which one comparison tells.
+/// The bytes from the first that counts on. Most bytes are above the blank, so one comparison is enough for them.
 #[inline]
 pub(crate) fn skip_blanks(bytes: &[u8]) -> &[u8]
     ensures same { plain false result.now ≡ plain false bytes.now }
@@ -70,7 +70,7 @@ pub(crate) fn skip_blanks(bytes: &[u8]) -> &[u8]
     }
 }
 
-/// How many bytes stand before the closing parenthesis of a comment.
+/// How many bytes there are before the closing parenthesis of a comment.
 #[inline]
 fn comment_length(bytes: &[u8]) -> Option<usize>
     ensures { MatchOption result (comment_at (plain true bytes.now) ≡ None) (λ n. ClosesAt bytes.now n) }
@@ -118,7 +118,7 @@ impl<'a> Cursor<'a> {
         }
     }
 
-    /// The next byte that counts, as it stands.
+    /// The next byte that counts, without a change of case.
     #[inline]
     pub(crate) fn first(&self) -> Option<u8>
         ensures { MatchOption result (self.now ≡ []) (λ b. StartsWithByte self.now (capital b)) }
@@ -129,7 +129,7 @@ impl<'a> Cursor<'a> {
         }
     }
 
-    /// Whether a mark that is no letter comes next.
+    /// Whether a mark that isn't a letter comes next.
     #[inline]
     pub(crate) fn is_at(&self, mark: u8) -> bool
         requires { mark < 65 }
@@ -161,7 +161,7 @@ impl<'a> Cursor<'a> {
         Digits { rest: self.rest }
     }
 
-    /// Goes on after digits that were read.
+    /// Moves past digits that were read.
     #[inline]
     pub(crate) fn go_on(&mut self, digits: &Digits<'a>)
         ensures { self.new ≡ digits.now }
@@ -169,7 +169,7 @@ impl<'a> Cursor<'a> {
         self.rest = skip_blanks(digits.rest);
     }
 
-    /// Steps over a text, where it comes next; answers whether it does.
+    /// Skips a text if it comes next. Returns whether it does.
     pub(crate) fn skip(&mut self, text: &[u8]) -> bool
         requires { HasNoComment text.now }
         ensures { MatchBool result (strip_prefix text.now self.old ≡ Some self.new) ((strip_prefix text.now self.old ≡ None) × (self.new ≡ self.old)) }
@@ -185,7 +185,8 @@ impl<'a> Cursor<'a> {
         true
     }
 
-    /// Takes the comment whose opening parenthesis comes next: its bytes. After none the cursor stays.
+    /// Takes the comment whose opening parenthesis comes next, and returns its bytes. If there is no comment, the
+    /// cursor doesn't move.
     pub(crate) fn comment(&mut self) -> Option<&'a [u8]>
         requires { StartsWithByte self.old 40 }
         ensures { MatchOption result (comment_at (drop 1 self.old) ≡ None) (λ text. comment_at (drop 1 self.old) ≡ Some (text.now, self.new)) }

@@ -1,4 +1,4 @@
-//! The digits that come next on a line, one after the other.
+//! The digits that come next on a line, one by one.
 ghost use Rattle.std.specs.Prelude.{◌≡◌, [], ◌∷◌, false, Some, None, MatchOption, IsTrue};
 ghost use Rattle.ng_words.specs.Plain.{plain, AtPlain};
 ghost use Rattle.ng_words.specs.Grammar.{is_digit};
@@ -7,8 +7,8 @@ ghost use Rattle.ng_words.specs.Scan.{front_digits, after_digits};
 use crate::cursor::skip_blanks;
 use std::marker::Model;
 
-/// The bytes of a line that are left while digits are read, seen as those that count. Unlike a cursor's they may begin
-/// with blanks.
+/// The rest of a line while digits are read, seen as the bytes that count. Unlike a cursor's bytes they may begin with
+/// blanks.
 #[derive(Drop)]
 pub(crate) struct Digits<'a> {
     pub(crate) rest: &'a [u8],
@@ -30,7 +30,7 @@ fn is_digit(byte: u8) -> bool
     b'0' <= byte && byte <= b'9'
 }
 
-/// The first byte, where it is a digit, and those after it.
+/// The first byte, if it is a digit, and the bytes after it.
 #[inline]
 fn first_digit(bytes: &[u8]) -> Option<(u8, &[u8])>
     ensures { MatchOption result (AtPlain bytes.now → (front_digits (plain false bytes.now) ≡ []) × (after_digits (plain false bytes.now) ≡ plain false bytes.now))
@@ -43,8 +43,8 @@ fn first_digit(bytes: &[u8]) -> Option<(u8, &[u8])>
 }
 
 impl<'a> Digits<'a> {
-    /// The next digit; none where another byte comes first, or no byte is left. Blanks are rare, so they are looked for
-    /// where no digit comes.
+    /// The next digit. `None` if another byte comes first, or no byte is left. Blanks are rare, so they are looked for
+    /// only when the next byte isn't a digit.
     #[inline]
     pub(crate) fn next(&mut self) -> Option<u8>
         ensures { MatchOption result ((front_digits self.old ≡ []) × (after_digits self.old ≡ self.old) × (self.new ≡ self.old))

@@ -1,7 +1,7 @@
 ghost use Rattle.std.specs.Prelude.{◌≡◌};
 ghost use Rattle.ng_words.specs.Scan.{letter_of};
 
-/// The letter of a word (NISTIR 6556, 3.3.2, table 3). N begins a block number and is none of them.
+/// The letter of a word (NISTIR 6556, 3.3.2, table 3). N begins a block number, so it isn't one of them.
 #[derive(Clone, Copy, Debug, PartialEq, Eq)]
 pub enum Letter {
     A,
@@ -26,7 +26,7 @@ pub enum Letter {
     Z,
 }
 
-/// The letter that a capital's byte is, where it is one.
+/// The letter of a capital's byte, if it is one.
 pub(crate) fn letter_of(byte: u8) -> Option<Letter>
     ensures { result ≡ letter_of byte }
 {

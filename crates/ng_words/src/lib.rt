@@ -1,9 +1,9 @@
 //! Lines of a program: the grammar of a line, and its words.
 //!
-//! A line is read in one pass into places that its caller keeps, so that reading takes no memory. What is read
-//! is exactly what the grammar of `specs/Grammar.antt` says, that of the whole language, and nothing else is read.
-//! A value is kept as the list of its tree's nodes, each after its parts. A number's value is rounded by
-//! `ng_num`'s rule. What words mean is left to the crates above.
+//! A line is read in one pass into storage that its caller keeps, so reading doesn't allocate. What is accepted is
+//! exactly the grammar of `specs/Grammar.antt`, which covers the whole language. A value is kept as the list of its
+//! tree's nodes, each after its parts. A number is rounded by `ng_num`'s rule. What words mean is left to the crates
+//! above.
 #![tactic(auto)]
 
 mod comment;

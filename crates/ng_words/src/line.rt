@@ -16,15 +16,15 @@ use arrayvec::ArrayVec;
 use ng_num::Fault;
 use std::marker::Model;
 
-/// The most pieces that a line has: each has two bytes at least, and a line at most 256.
+/// The most pieces that a line can have: each takes at least two bytes, and a line has at most 256.
 pub const PIECES: usize = 128;
 
-/// The most bytes that a line has.
+/// The most bytes that a line can have.
 pub(crate) const BYTES: usize = 256;
 
-/// A line that was read (NISTIR 6556, 3.3): whether a slash comes first, its block number, its pieces.
+/// A line that was read (NISTIR 6556, 3.3): whether it begins with a slash, its block number, its pieces.
 ///
-/// It keeps them in places of its own, a fixed number of them, which serve any number of lines, one after the other.
+/// It keeps them in storage of its own, of fixed size, which is reused for one line after another.
 #[derive(Drop)]
 pub struct Line {
     head: Head,
@@ -33,7 +33,7 @@ pub struct Line {
     nodes: ArrayVec<Node, NODES>,
     /// The bytes of all comments, in order.
     bytes: ArrayVec<u8, BYTES>,
-    /// What waits while a value is read; nothing between lines.
+    /// What waits while a value is read; empty between lines.
     stack: WaitingList,
 }
 
@@ -63,10 +63,10 @@ impl Line {
         }
     }
 
-    /// Reads a line, without its end, into the places of this one.
+    /// Reads a line, without its line end, and stores it here.
     ///
-    /// E2 where the text has over 256 bytes, else E1 where it isn't in the grammar. After an error nothing is on
-    /// this line. Source: NISTIR 6556, 3.3; the faults are own.
+    /// E2 if the text has over 256 bytes, else E1 if it isn't in the grammar. After an error this line is empty.
+    /// Source: NISTIR 6556, 3.3; the faults are own.
     pub fn read(&mut self, text: &[u8]) -> Result<(), Fault>
         ensures value { MatchResult result (λ _. read text.now ≡ Ok (written_by self.new)) (λ e. read text.now ≡ Err e) }
         ensures reads { OnOk result (IsLineOf text.now (written_by self.new)) }
@@ -109,14 +109,14 @@ impl Line {
         self.head.deletable
     }
 
-    /// Its block number, at most 99,999, where it has one.
+    /// Its block number, at most 99,999, if it has one.
     pub fn number(&self) -> Option<u32>
         ensures { result ≡ self.now.number }
     {
         self.head.number
     }
 
-    /// Its pieces, from the first on.
+    /// Its pieces, from the first one.
     pub fn pieces(&self) -> Pieces<'_>
         ensures places { result ≡ self.now.places }
         ensures few { length (pieces_by result) ≤ 128 }
@@ -128,7 +128,7 @@ impl Line {
         }
     }
 
-    /// The bytes between the parentheses of its last comment, which alone counts (NISTIR 6556, 3.3.4).
+    /// The bytes between the parentheses of its last comment, the only one that counts (NISTIR 6556, 3.3.4).
     pub fn last_comment(&self) -> Option<&[u8]>
         ensures few { IfSome result (λ text. length text.now ≤ 256) }
         ensures text { MatchOption result (last_comment (pieces_by self.now.places) ≡ None) (λ text. last_comment (pieces_by self.now.places) ≡ Some text.now) }
@@ -140,17 +140,16 @@ impl Line {
     }
 }
 
-/// Whether a text has more bytes than a line may have, 256 without its end (own): the cause of E2.
+/// Whether a text has more bytes than a line may have, 256 without its line end (own): the cause of E2.
 pub fn is_too_long(text: &[u8]) -> bool
     ensures { result ≡ is_too_long text.now }
 {
     text.len() > BYTES
 }
 
-/// Reads a line, without its end: `Line::read` into a new line, which alone is what the dry run calls.
+/// Reads a line, without its line end, into a new `Line`. Only the dry run calls it.
 ///
-/// E2 where the text has over 256 bytes, else E1 where it isn't in the grammar. Source: NISTIR 6556, 3.3; the faults
-/// are own.
+/// E2 if the text has over 256 bytes, else E1 if it isn't in the grammar. Source: NISTIR 6556, 3.3; the faults are own.
 pub fn read_line(text: &[u8]) -> Result<Line, Fault>
     ensures value { MatchResult result (λ line. read text.now ≡ Ok (written_by line)) (λ e. read text.now ≡ Err e) }
     ensures reads { IfOk result (λ line. IsLineOf text.now (written_by line)) }

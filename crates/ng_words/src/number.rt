@@ -1,4 +1,4 @@
-//! Numbers: the one that comes next on a line, and a text that is one.
+//! Numbers: the one that comes next on a line, and a text that is a number.
 ghost use Rattle.std.specs.Prelude.{◌≡◌, ◌⊎◌, ◌↔◌, ◌+◌, ◌-◌, ◌*◌, ◌≤◌, [], ◌∷◌, ℤ, Some, None, MatchOption, IfSome, IfOk, IfErr, IsErrOf, IsTrue, min};
 ghost use Rattle.std.specs.List.{list_any};
 ghost use Rattle.ng_num.specs.Range.{in_range};
@@ -9,10 +9,10 @@ ghost use Rattle.ng_words.specs.Scan.{fraction_from, front_digits, after_digits,
 use crate::cursor::{Cursor, is_blank};
 use ng_num::{Fault, Num};
 
-/// The whole part past which every number is out of range.
+/// From this whole part on, every number is out of range.
 const WHOLE_LIMIT: u32 = 10_000_000;
 
-/// The whole part with one digit more, kept at its limit so that it never overflows.
+/// The whole part with one more digit. It is kept at its limit, so it never overflows.
 #[inline]
 pub(crate) fn with_digit(whole: u32, digit: u8) -> u32
     requires small { whole ≤ 10_000_000 }
@@ -23,7 +23,7 @@ pub(crate) fn with_digit(whole: u32, digit: u8) -> u32
     (whole * 10 + (digit - b'0') as u32).min(WHOLE_LIMIT)
 }
 
-/// Takes the digits that come next: their number, which stops at ten million, and whether there are none.
+/// Takes the digits that come next. Returns their number, which stops at ten million, and whether there are none.
 #[inline]
 fn whole(cursor: &mut Cursor<'_>) -> (u32, bool)
     ensures rest { cursor.new ≡ after_digits cursor.old }
@@ -42,7 +42,7 @@ fn whole(cursor: &mut Cursor<'_>) -> (u32, bool)
     (whole, none)
 }
 
-/// Takes the digits after a point: the ten-millionths that the first seven give, and whether there are none.
+/// Takes the digits after a point. Returns the ten-millionths of the first seven, and whether there are none.
 #[inline]
 fn fraction(cursor: &mut Cursor<'_>) -> (u32, bool)
     ensures rest { cursor.new ≡ after_digits cursor.old }
@@ -63,7 +63,7 @@ fn fraction(cursor: &mut Cursor<'_>) -> (u32, bool)
     (sum, none)
 }
 
-/// Takes a number without a sign: its millionths.
+/// Takes a number without a sign, and returns its millionths.
 #[inline]
 fn unsigned(cursor: &mut Cursor<'_>) -> Option<u64>
     ensures bound { IfSome result (λ n. n ≤ 10_000_001_000_001) }
@@ -85,7 +85,7 @@ fn unsigned(cursor: &mut Cursor<'_>) -> Option<u64>
     Some(whole_part as u64 * 1_000_000 + (tenths as u64 + 5) / 10)
 }
 
-/// Takes an optional sign, and answers whether it is a minus.
+/// Takes an optional sign. Returns whether it is a minus.
 #[inline]
 fn minus(cursor: &mut Cursor<'_>) -> bool
     ensures { (result, cursor.new) ≡ sign_at cursor.old }
@@ -100,7 +100,7 @@ fn minus(cursor: &mut Cursor<'_>) -> bool
     false
 }
 
-/// Takes a number: its count of millionths, or nothing within where that is out of range.
+/// Takes a number, and returns its count of millionths. The inner `None` says that it is out of range.
 pub(crate) fn number(cursor: &mut Cursor<'_>) -> Option<Option<Num>>
     ensures { MatchOption result (number_at cursor.old ≡ None) (λ v. number_at cursor.old ≡ Some (v, cursor.new)) }
 {
@@ -110,18 +110,18 @@ pub(crate) fn number(cursor: &mut Cursor<'_>) -> Option<Option<Num>>
     Some(Num::of(count).ok())
 }
 
-/// Whether a blank or a tab is among some bytes.
+/// Whether some bytes contain a blank or a tab.
 fn has_blank(bytes: &[u8]) -> bool
     ensures { result ≡ list_any is_blank bytes.now }
 {
     bytes.iter().any(|byte| is_blank(*byte))
 }
 
-/// Reads a text that is one number, of any length: an optional sign, then digits with at most one point. No blank
-/// belongs to it. Its seventh decimal and those after it round half away from zero.
+/// Reads a text that is one number, of any length: an optional sign, then digits with at most one point. It must not
+/// contain blanks. The seventh decimal and those after it round half away from zero.
 ///
-/// E1 where it isn't a number, E3 where the rounded number is beyond the range. It takes no memory. Source: NISTIR
-/// 6556, 3.3.2.1; rounding, range and faults are own.
+/// E1 if it isn't a number, E3 if the rounded number is out of range. It doesn't allocate. Source: NISTIR 6556,
+/// 3.3.2.1; rounding, range and faults are own.
 pub fn read_number(text: &[u8]) -> Result<Num, Fault>
     ensures value { (z : ℤ) → IsNumber text.now z → result ≡ in_range z }
     ensures reads { IfOk result (IsNumber text.now) }

@@ -1,14 +1,14 @@
-//! The items of a line: what it is made of, one after the other.
+//! The items of a line, one for each piece.
 use crate::letter::Letter;
 
-/// What stands for a piece of a line; its nodes or bytes stand after those of the pieces before it.
+/// What is kept for a piece of a line. Its nodes or bytes come after those of the pieces before it.
 #[derive(Clone, Copy)]
 pub(crate) enum PieceEntry {
-    /// A word: its letter, and how many nodes its value has.
+    /// A word: its letter, and the number of nodes of its value.
     Word(Letter, u16),
-    /// A setting: how many nodes its index has, and how many its value.
+    /// A setting: the number of nodes of its index, and of its value.
     Setting(u16, u16),
-    /// A comment: how many bytes it has.
+    /// A comment: the number of its bytes.
     Comment(u16),
 }
 

@@ -1,4 +1,4 @@
-//! The pieces of a line, one after the other.
+//! The pieces of a line, one by one.
 ghost use Rattle.std.specs.Prelude.{◌≡◌, ◌≤◌, [], ◌∷◌, length, take, drop, MatchOption};
 ghost use Rattle.ng_words.specs.Kept.{pieces_by, IsTree};
 ghost use Rattle.ng_words.specs.Lines.{piece_of};
@@ -38,7 +38,7 @@ impl<'a> Model for Pieces<'a> {
     ghost invariant = { λ p. AreEncodedPieces (record { items = p.items.now; nodes = p.nodes.now; bytes = p.bytes.now }) × (length p.nodes.now ≤ 256) };
 }
 
-/// The tree that the first n of some nodes are, and the other nodes.
+/// The tree that the first n nodes form, and the other nodes.
 #[inline]
 fn split_tree(nodes: &[Node], n: u16) -> (Tree<'_>, &[Node])
     requires within { n ≤ length nodes.now }
@@ -52,7 +52,7 @@ fn split_tree(nodes: &[Node], n: u16) -> (Tree<'_>, &[Node])
 }
 
 impl<'a> Pieces<'a> {
-    /// The next piece; none at the end.
+    /// The next piece. `None` at the end.
     pub fn next(&mut self) -> Option<PieceRef<'a>>
         ensures { MatchOption result ((pieces_by self.old ≡ []) × (self.new ≡ self.old)) (λ p. pieces_by self.old ≡ piece_of p ∷ pieces_by self.new) }
     {

@@ -1,4 +1,4 @@
-//! Pieces, one after the other, into the places that keep them.
+//! Reading the pieces of a line, one by one, into the places that keep them.
 ghost use Rattle.std.specs.Prelude.{◌≡◌, ◌+◌, ◌*◌, ◌<◌, ◌≤◌, [], ◌∷◌, ◌++◌, length, drop, IsTrue, None, MatchBool, OnSome};
 ghost use Rattle.ng_words.specs.Plain.{StartsWithByte};
 ghost use Rattle.ng_words.specs.Values.{value_at};
@@ -18,7 +18,7 @@ pub(crate) type Items = ArrayVec<PieceEntry, PIECES>;
 /// The bytes of a line's comments.
 pub(crate) type Bytes = ArrayVec<u8, BYTES>;
 
-/// Adds an item. (The arm of words stands apart for the prover's sake.)
+/// Adds an item. (The arm for words is separate for the prover's sake.)
 #[inline]
 fn push_item(items: &mut Items, item: PieceEntry)
     requires { length items.old.items < 128 }
@@ -30,7 +30,7 @@ fn push_item(items: &mut Items, item: PieceEntry)
     }
 }
 
-/// Takes a word's value, its letter aside.
+/// Takes a word's value, without its letter.
 #[inline]
 fn word(
     letter: Letter,
@@ -53,7 +53,7 @@ fn word(
     }
 }
 
-/// Takes a setting's index, its equals sign and its value, the parameter's sign aside.
+/// Takes a setting's index, its equals sign and its value, without the parameter sign.
 fn setting(
     cursor: &mut Cursor<'_>,
     items: &mut Items,
@@ -131,7 +131,7 @@ fn piece(
     }
 }
 
-/// Takes all pieces, up to the line's end; answers whether what was left is made of pieces.
+/// Takes all pieces up to the end of the line. Returns whether the text was made of pieces.
 fn take_pieces(
     cursor: &mut Cursor<'_>,
     items: &mut Items,
@@ -153,8 +153,8 @@ fn take_pieces(
     true
 }
 
-/// Takes all pieces, up to the line's end, into places that are empty; answers whether what was left is made of
-/// pieces. Where it isn't, the places are empty again.
+/// Takes all pieces up to the end of the line, into places that are empty. Returns whether the text was made of pieces.
+/// If it wasn't, the places are empty again.
 pub(crate) fn read_pieces(
     cursor: &mut Cursor<'_>,
     items: &mut Items,

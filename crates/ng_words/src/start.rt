@@ -5,10 +5,10 @@ ghost use Rattle.ng_words.specs.Scan.{front_digits, after_digits, slash_at, numb
 use crate::cursor::Cursor;
 use crate::number::with_digit;
 
-/// The most digits of a block number.
+/// The most digits that a block number can have.
 const DIGITS: u32 = 5;
 
-/// What a line begins with: whether a slash, and its block number, where it has one.
+/// How a line begins: whether with a slash, and its block number, if it has one.
 #[derive(Clone, Copy)]
 pub(crate) struct Head {
     pub(crate) deletable: bool,
@@ -28,7 +28,7 @@ impl Head {
     }
 }
 
-/// Takes the slash, where one comes next.
+/// Takes the slash, if it comes next.
 #[inline]
 pub(crate) fn slash(cursor: &mut Cursor<'_>) -> bool
     ensures { (result, cursor.new) ≡ slash_at cursor.old }
@@ -42,7 +42,7 @@ pub(crate) fn slash(cursor: &mut Cursor<'_>) -> bool
     }
 }
 
-/// Whether a line begins with the slash of block delete, blanks before it left aside (NISTIR 6556, 3.3).
+/// Whether a line begins with the slash of block delete, after any blanks (NISTIR 6556, 3.3).
 pub fn is_deletable(text: &[u8]) -> bool
     ensures { result ≡ is_deletable text.now }
 {
@@ -53,10 +53,10 @@ pub fn is_deletable(text: &[u8]) -> bool
     }
 }
 
-/// What kind of line a text is, as far as the bounds of a program go.
+/// What kind of line a text is. The kinds are those that decide where a program starts and ends.
 #[derive(Clone, Copy, Debug, PartialEq, Eq)]
 pub enum LineKind {
-    /// Nothing stands on it but blanks.
+    /// Only blanks, or nothing.
     Blank,
     /// A percent sign alone, which begins and ends a program.
     Percent,
@@ -64,10 +64,10 @@ pub enum LineKind {
     Other,
 }
 
-/// What kind of line a text is: blank, a percent sign alone, or another.
+/// What kind of line a text is: blank, a percent sign alone, or something else.
 ///
-/// Percent signs on lines of their own bound a program (NISTIR 6556, 3.3); that blanks and tabs beside the sign,
-/// and on a blank line, don't count is own.
+/// Percent signs on lines of their own mark the start and the end of a program (NISTIR 6556, 3.3). Blanks and tabs
+/// around the sign, and on a blank line, don't count (own).
 pub fn kind_of(text: &[u8]) -> LineKind
     ensures { result ≡ kind_of text.now }
 {
@@ -105,7 +105,7 @@ fn block_digits(cursor: &mut Cursor<'_>) -> Option<u32>
     if count == 0 { None } else { Some(number) }
 }
 
-/// Takes the block number, where an N comes next.
+/// Takes the block number, if an N comes next.
 #[inline]
 pub(crate) fn block_number(cursor: &mut Cursor<'_>) -> Option<Option<u32>>
     ensures { MatchOption result (block_number_at cursor.old ≡ None) (λ n. block_number_at cursor.old ≡ Some (n, cursor.new)) }

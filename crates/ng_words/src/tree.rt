@@ -5,7 +5,7 @@ ghost use Rattle.ng_words.specs.Kept.{IsTree};
 use ng_num::Num;
 use std::marker::Model;
 
-/// What joins two values (NISTIR 6556, 3.3.2.3), the tightest first.
+/// An operation that joins two values (NISTIR 6556, 3.3.2.3). Those that bind most tightly come first.
 #[derive(Clone, Copy)]
 pub enum Operation {
     Power,
@@ -19,7 +19,7 @@ pub enum Operation {
     And,
 }
 
-/// What is done to a value in brackets (NISTIR 6556, 3.3.2.4); the report's other functions are left out (own).
+/// A function of a value in brackets (NISTIR 6556, 3.3.2.4). The report's other functions are left out (own).
 #[derive(Clone, Copy)]
 pub enum Function {
     Abs,
@@ -32,11 +32,11 @@ pub enum Function {
 /// A node of a tree. A tree is kept as the list of its nodes, each after its parts.
 #[derive(Clone, Copy)]
 pub enum Node {
-    /// A number; none where the number written is out of the range of numbers.
+    /// A number. `None` if the written number is out of range.
     Number(Option<Num>),
     /// The value of the parameter that the value before it names.
     Parameter,
-    /// Brackets round the value before it.
+    /// Brackets around the value before it.
     Brackets,
     /// A function of the value before it.
     Applied(Function),
@@ -50,7 +50,7 @@ impl Default for Node {
     }
 }
 
-/// The most nodes that a line has: each has a byte at least, and a line at most 256.
+/// The most nodes that a line can have: each takes at least one byte, and a line has at most 256.
 pub const NODES: usize = 256;
 
 /// How a value of a line is built (NISTIR 6556, 3.3.2).

@@ -12,13 +12,13 @@ use arrayvec::ArrayVec;
 /// What waits for the value to its right.
 #[derive(Clone, Copy)]
 pub(crate) enum Waiting {
-    /// A parameter, for its index.
+    /// A parameter, waiting for its index.
     Index,
-    /// Brackets, for their chain.
+    /// Brackets, waiting for their chain.
     Brackets,
-    /// A function, for the chain in its brackets.
+    /// A function, waiting for the chain in its brackets.
     Function(Function),
-    /// An operation, for its right part.
+    /// An operation, waiting for its right operand.
     Operation(Operation),
 }
 
@@ -31,7 +31,7 @@ impl Default for Waiting {
 /// The nodes of a line.
 pub(crate) type Nodes = ArrayVec<Node, NODES>;
 
-/// The list of what waits, the nearest last. Each has a byte at least.
+/// The list of what waits, the innermost last. Each takes at least one byte.
 pub(crate) type WaitingList = ArrayVec<Waiting, NODES>;
 
 /// How loosely the loosest operations bind.
@@ -123,7 +123,7 @@ fn level(operation: Operation) -> u8
     }
 }
 
-/// The nearest of what waits.
+/// The innermost entry that waits.
 #[inline]
 fn nearest(stack: &WaitingList) -> Option<Waiting>
     ensures { result ≡ nearest stack.now.items }
@@ -141,7 +141,7 @@ fn is_index(waiting: Option<Waiting>) -> bool
     }
 }
 
-/// The operation that waits, where it binds as tightly as a level or tighter.
+/// The innermost waiting operation, if it binds as tightly as a level or more tightly.
 fn operation_within(most: u8, waiting: Option<Waiting>) -> Option<Operation>
     ensures { result ≡ operation_within most waiting }
 {
@@ -157,7 +157,7 @@ fn operation_within(most: u8, waiting: Option<Waiting>) -> Option<Operation>
     }
 }
 
-/// The node that stands for what waits, where it waits for a bracket that closes.
+/// The node for the innermost entry that waits, if it waits for a closing bracket.
 fn closing(waiting: Option<Waiting>) -> Option<Node>
     ensures { result ≡ closing waiting }
 {
@@ -168,7 +168,7 @@ fn closing(waiting: Option<Waiting>) -> Option<Node>
     }
 }
 
-/// Adds a node. (The arm of numbers stands apart for the prover's sake.)
+/// Adds a node. (The arm for numbers is separate for the prover's sake.)
 #[inline]
 fn push_node(nodes: &mut Nodes, node: Node)
     requires { length nodes.old.items < 256 }
@@ -180,7 +180,7 @@ fn push_node(nodes: &mut Nodes, node: Node)
     }
 }
 
-/// Settles the value that stands at the end of the nodes: the parameters that wait take it as their index.
+/// Settles the value at the end of the nodes: the parameters that wait take it as their index.
 fn settle(stack: &mut WaitingList, nodes: &mut Nodes)
     requires { length stack.old.items + length nodes.old.items ≤ 256 }
     ensures settles { Settles stack.old.items nodes.old.items stack.new.items nodes.new.items }
@@ -192,7 +192,8 @@ fn settle(stack: &mut WaitingList, nodes: &mut Nodes)
     }
 }
 
-/// Gathers the value that stands at the end of the nodes: operations that bind tightly enough take it as their right part.
+/// Gathers the value at the end of the nodes: the waiting operations that bind tightly enough take it as their right
+/// operand.
 fn gather(most: u8, stack: &mut WaitingList, nodes: &mut Nodes)
     requires { length stack.old.items + length nodes.old.items ≤ 256 }
     ensures gathers { Gathers most stack.old.items nodes.old.items stack.new.items nodes.new.items }
@@ -204,7 +205,7 @@ fn gather(most: u8, stack: &mut WaitingList, nodes: &mut Nodes)
     }
 }
 
-/// Closes the brackets that wait for the chain at the end of the nodes; answers whether there are some.
+/// Closes the brackets that wait for the chain at the end of the nodes. Returns whether there are any.
 fn close(stack: &mut WaitingList, nodes: &mut Nodes) -> bool
     requires { length stack.old.items + length nodes.old.items ≤ 256 }
     ensures closes { ClosesBrackets stack.old.items nodes.old.items result stack.new.items nodes.new.items }
@@ -221,7 +222,7 @@ fn close(stack: &mut WaitingList, nodes: &mut Nodes) -> bool
     }
 }
 
-/// A step where no value stands right before: what opens one, or a number. Answers whether a value stands there then.
+/// A step before a value: it takes what opens one, or a number. Returns whether a value is complete after it.
 fn begin(cursor: &mut Cursor<'_>, stack: &mut WaitingList, nodes: &mut Nodes) -> Option<bool>
     requires { length stack.old.items + length nodes.old.items + length cursor.old ≤ 256 }
     ensures steps { WalkStepSpec false cursor.old stack.old.items nodes.old.items result cursor.new stack.new.items nodes.new.items }
@@ -241,7 +242,7 @@ fn begin(cursor: &mut Cursor<'_>, stack: &mut WaitingList, nodes: &mut Nodes) ->
     }
 }
 
-/// A step after a value: a bracket that closes, or an operation. Answers whether a value stands there then.
+/// A step after a value: it takes a closing bracket or an operation. Returns whether a value is complete after it.
 fn go_on(cursor: &mut Cursor<'_>, stack: &mut WaitingList, nodes: &mut Nodes) -> Option<bool>
     requires { length stack.old.items + length nodes.old.items + length cursor.old ≤ 256 }
     ensures steps { WalkStepSpec true cursor.old stack.old.items nodes.old.items result cursor.new stack.new.items nodes.new.items }
@@ -265,7 +266,7 @@ fn go_on(cursor: &mut Cursor<'_>, stack: &mut WaitingList, nodes: &mut Nodes) ->
     }
 }
 
-/// A step of the walk. Answers whether a value stands right before then.
+/// A step of the walk. Returns whether a value is complete after it.
 fn step(
     after_value: bool,
     cursor: &mut Cursor<'_>,
@@ -283,7 +284,7 @@ fn step(
     }
 }
 
-/// Whether the walk has ended: a value stands right before, and nothing waits.
+/// Whether the walk has ended: a value is complete, and nothing waits.
 #[inline]
 fn has_ended(after_value: bool, stack: &WaitingList) -> bool
     ensures { IsTrue result ↔ ((after_value ≡ true) × (stack.now.items ≡ [])) }
@@ -291,7 +292,7 @@ fn has_ended(after_value: bool, stack: &WaitingList) -> bool
     after_value && stack.is_empty()
 }
 
-/// Takes a value of any form: pushes its nodes, and answers how many they are.
+/// Takes a value of any form. Pushes its nodes and returns how many there are.
 fn walk(cursor: &mut Cursor<'_>, stack: &mut WaitingList, nodes: &mut Nodes) -> Option<u16>
     requires { length nodes.old.items + length cursor.old ≤ 256 }
     ensures value { TakesValue cursor.old nodes.old.items result cursor.new nodes.new.items }
@@ -309,8 +310,8 @@ fn walk(cursor: &mut Cursor<'_>, stack: &mut WaitingList, nodes: &mut Nodes) -> 
     Some((nodes.len() - start) as u16)
 }
 
-/// Whether a byte comes next that of all values only a number begins with. (What else lies between the plus and the nine
-/// begins none.)
+/// Whether the next byte shows that a value here can only be a number. (It tests for the bytes from the plus to the
+/// nine; those that don't begin a number don't begin any value.)
 #[inline]
 fn begins_number(cursor: &Cursor<'_>) -> bool
     ensures { IsTrue result → BeginsNumber cursor.now }
@@ -321,8 +322,7 @@ fn begins_number(cursor: &Cursor<'_>) -> bool
     }
 }
 
-/// Takes a value: pushes its nodes, and answers how many they are. The places of `stack` serve as its list of
-/// what waits.
+/// Takes a value. Pushes its nodes and returns how many there are. `stack` is used for its list of what waits.
 #[inline(always)]
 pub(crate) fn value(
     cursor: &mut Cursor<'_>,

@@ -1,4 +1,4 @@
--- What comes first is taken from the places, and what is left is kept.
+-- The first piece is taken from the places, and the rest is kept.
 use Rattle.std.proofs.Common.{ℕ, ◌≤◌, List, length, take, drop, ap, sym, subst, ◌∙◌, arith, length-drop}
 use Rattle.ng_words.specs.Kept.{IsTree, AreEncodedPieces}
 use Rattle.ng_words.specs.declared.tree.Node.{Node}
