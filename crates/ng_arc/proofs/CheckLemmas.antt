@@ -1,4 +1,4 @@
--- The first fault whose cause holds is the least: none before it holds.
+-- The first fault whose cause holds: no cause before it holds.
 use Rattle.std.proofs.Common.{◌≡◌, ◌↔◌, Bool, true, false, refl}
 use Rattle.std.specs.Prelude.{Result, MatchResult, IsFalse, IsTrue, not}
 use Rattle.ng_num.specs.declared.fault.Fault.{Fault}

@@ -1,4 +1,4 @@
--- What the code keeps inside is what the definition keeps inside.
+-- What the code finds inside the travel is what the definition says is inside.
 use Rattle.std.proofs.Common.{arith, ◌≡◌, ◌∙◌, ◌^◌, ◌<◌, ℕ, ℤ, Bool, refl, unsigned_abs, to_z, of_z}
 use mir.Syntax.{w64}
 use Rattle.std.specs.Prelude.{not, ◌||◌}

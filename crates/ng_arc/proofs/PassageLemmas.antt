@@ -1,4 +1,4 @@
--- An arc passes the direction that a quadrant begins at exactly where it comes into the quadrant.
+-- An arc passes the direction at which a quadrant begins exactly if it enters the quadrant.
 use Rattle.std.proofs.Common.{arith, ℕ, zero, suc, ◌+◌, ◌-◌, ◌*◌, ◌%◌, ◌<◌, ◌≤◌, ◌≡◌, ◌∙◌, ◌⊎◌, inl, inr, refl, sym, ap, ℤ, pos, negsuc, neg_ℤ, ◌-ℤ◌, Bool, true, false}
 use Rattle.std.proofs.lemmas.Int.{ints}
 use Rattle.std.proofs.lemmas.Nat.{mul-le}
@@ -17,23 +17,23 @@ use Rattle.ng_canon.specs.Quadrants.{quadrant, quadrant_number, same_quadrant, m
 use Rattle.ng_arc.specs.Quadrants.{direction, changes, is_entered, passes_toward}
 use Rattle.ng_arc.proofs.TurnLemmas.{times_neg, passed_mirrored, cross-turned, dot-turned, passed-turned, point_of_quadrant, relative, turned-place, quadrant-place}
 
--- ---- how far it is from a point of the first quadrant
+-- ---- the turn from a point of the first quadrant
 
--- to a point of another: its sweep, and what that says of the outer sizes of the two
+-- to a point of another quadrant: its sweep, and what this says about the outer sizes of the two points
 abbrev IsFar : Quadrant → ℕ → ℕ → ℕ → Type 0
 IsFar First o p x = ((x ≡ 1) × (0 < p)) ⊎ (((x ≡ 3) × (0 < o)) ⊎ (x ≡ 4))
 IsFar Second o p x = x ≡ 1
 IsFar Third o p x = ((x ≡ 1) × (0 < o)) ⊎ ((x ≡ 2) ⊎ ((x ≡ 3) × (0 < p)))
 IsFar Fourth o p x = x ≡ 3
 
--- to a direction that a quadrant begins at
+-- to a direction at which a quadrant begins
 abbrev IsToward : Quadrant → ℕ → ℕ → Type 0
 IsToward First o y = ((y ≡ 3) × (0 < o)) ⊎ ((y ≡ 4) × (o ≡ 0))
 IsToward Second o y = y ≡ 1
 IsToward Third o y = ((y ≡ 1) × (0 < o)) ⊎ ((y ≡ 2) × (o ≡ 0))
 IsToward Fourth o y = y ≡ 3
 
--- whether an end, which lies so from a direction, comes no earlier than it
+-- whether an end with this place relative to a direction comes no earlier than the direction
 abbrev LiesPast : Quadrant → ℕ → Bool → Type 0
 LiesPast First p b = b ≡ true
 LiesPast Second p b = b ≡ true
@@ -112,7 +112,7 @@ lies_past_first Second j p h = rw (cross_second 1 0 j p) (grind (arith, ints))
 lies_past_first Third j p h = λ some. rw (cross_third 1 0 j p) (grind (arith, ints))
 lies_past_first Fourth j p h = rw (cross_fourth 1 0 j p) (grind (arith, ints))
 
--- ---- the same from a point of any quadrant
+-- ---- the turn from a point of any quadrant
 
 relative-self : (q : Quadrant) → relative q q ≡ First
 relative-self First = refl
@@ -134,7 +134,7 @@ passed-place q r k i o j p =
 lies_past : (k r : Quadrant) (j p : ℕ) → 0 < j → LiesPast (relative k r) p (int_le (pos 0) (cross (point_of_quadrant k 1 0) (point_of_quadrant r j p)))
 lies_past k r j p h = rw (cross-place k r 1 0 j p) (lies_past_first (relative k r) j p h)
 
--- ---- the quadrants that an arc from the first quadrant comes into
+-- ---- the quadrants that an arc from the first quadrant enters
 
 abbrev changes_first : Quadrant → ℕ → ℕ
 changes_first First x = if x == 1 then 0 else 4
@@ -198,7 +198,7 @@ first_passed : (r k : Quadrant) (i o j p : ℕ) → 0 < i → 0 < j
 unfolding is_passed
 first_passed r k i o j p hi hj = table r k o p _ _ _ (far r i o j p hi hj) (toward k i o hi) (lies_past k r j p hj)
 
--- ---- the same of the code's count
+-- ---- the count of the code
 
 abbrev sweep_of : Bool → Bool → Bool → ℕ
 sweep_of l m n = if l then 1 else if m then 3 else if n then 2 else 4
@@ -286,7 +286,7 @@ entered-place : (q r k : Quadrant) (i o j p : ℕ) → 0 < i → 0 < j
 entered-place q r k i o j p hi hj =
     rw (quadrant-place q i o hi, changes-place q r i o j p hi hj, direction_is k, passed-place q r k i o j p, turn_number q k) (sym (first_passed (relative q r) (relative q k) i o j p hi hj))
 
--- ---- a whole turn, from or to the centre too
+-- ---- a whole turn, also from or to the centre
 
 rest_below : (m : ℕ) → nat_lt (m % 4) 4 ≡ true
 rest_below m = lt-ltb (m % 4) 4 (omega arith)
@@ -301,7 +301,7 @@ from_centre e = rw (zero-*ℤ e.a, zero-*ℤ e.b) refl
 to_centre : (s : PlanePoint) → let e : PlanePoint = record { a = pos 0; b = pos 0 } in sweep_by (cross s e) (dot s e) ≡ 4
 to_centre s = rw (*ℤ-zero s.a, *ℤ-zero s.b) refl
 
--- each point but the centre has its place
+-- each point except the centre has its place
 record Placed (p : PlanePoint) : Type 0 where
   q : Quadrant
   i : ℕ
@@ -327,7 +327,7 @@ entered_by s e k (inr f) (inr g) = rw (f.is, g.is) (entered-place f.q g.q k f.i 
 entered : (s e : PlanePoint) (k : Quadrant) → is_entered (quadrant_number (quadrant s)) (changes s e) (quadrant_number k) ≡ is_passed Counterclockwise s e (direction k)
 entered s e k = entered_by s e k (centre_or_placed s.a s.b) (centre_or_placed e.a e.b)
 
--- ---- of the code's span
+-- ---- the code's span
 
 mirrored_direction : (turn : ArcDirection) (q : Quadrant) → mirror turn (direction (mirror_quadrant turn q)) ≡ direction q
 mirrored_direction Counterclockwise q = refl

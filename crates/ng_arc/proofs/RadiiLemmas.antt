@@ -1,4 +1,4 @@
--- Two radii differ by at most a tolerance exactly where the test by squares says so.
+-- Two radii differ by at most a tolerance exactly if the test by squares says so.
 use Rattle.std.proofs.Common.{arith, ℕ, zero, suc, ◌+◌, ◌-◌, ◌*◌, ◌^◌, ◌<◌, ◌≤◌, ◌≡◌, ◌⊎◌, inl, inr, refl, sym, ◌∙◌, IsTrue, true, ◌↔◌}
 use Rattle.std.specs.Prelude.{nat_le, min, max}
 use Rattle.std.proofs.lemmas.Nat.{mul-le, mul-lt}
@@ -8,7 +8,7 @@ use Rattle.ng_arc.specs.Radii.{IsLongerByAtMost, AreAlike, excess, is_excess_all
 square_le : (a b : ℕ) → a * a ≤ b * b → a ≤ b
 square_le a b h = grind (arith, mul-lt)
 
--- what the test allows is as much as the root of v, t times and twice
+-- the excess that the test allows is at most twice t times the root of v
 allowed : (e v t p q : ℕ) → e * e ≤ 4 * (t * t) * v → v * (q * q) ≤ p * p → e * q ≤ 2 * t * p
 allowed e v t p q small root =
     let first : (e * e) * (q * q) ≤ (4 * (t * t) * v) * (q * q) = mul-le _ _ _ _ small (omega arith) in
@@ -50,11 +50,11 @@ root_short v p q some near (inl h) =
     let far = short_by v q d some in
     absurd (omega (arith, rw is at near))
 
--- how fine a fraction between the roots is
+-- how fine a fraction between the roots has to be
 abbrev fineness : ℕ → ℕ → ℕ
 fineness v t = v * (8 * t + 4) + 2 * (v + 2) * (4 * (t * t)) + 2 * (v + 2) * (8 * t + 4)
 
--- a fraction so fine tells the roots apart, where the test does
+-- such a fine fraction separates the roots, if the test does
 apart : (e v t p q : ℕ) → fineness v t < q → 4 * (t * t) * v < e * e → p * p ≤ v * (q * q) + 2 * p → p ≤ (v + 2) * q → e * (q * q) ≤ p * (2 * (t * q) + 2) → ⊥
 apart e v t p q fine more near short less =
     let square : (e * (q * q)) * (e * (q * q)) ≤ (p * (2 * (t * q) + 2)) * (p * (2 * (t * q) + 2)) = mul-le _ _ _ _ less less in
@@ -128,7 +128,7 @@ far_square t v e small range far =
     let least : 1_000_000_000_000_000_000 * 1_000_000_000_000_000_000 ≤ e * e = mul-le 1_000_000_000_000_000_000 1_000_000_000_000_000_000 e e (omega arith) (omega arith) in
     omega arith
 
--- a greater excess is past whatever the radii allow
+-- a greater excess is more than any radii allow
 pub too_far : (t u v e : ℕ) → t ≤ 5_080 → v < 2 ^ 91 → e ≡ u - (v + t * t) → 1_000_000_000_000_000_000 < e → nat_le e 1_000_000_000_000_000_000 ≡ is_excess_allowed t u v
 unfolding is_excess_allowed
 too_far t u v e small range is far =

@@ -1,4 +1,4 @@
--- An arc passes the direction that a quadrant begins at exactly where it comes into the quadrant.
+-- An arc passes the direction at which a quadrant begins exactly if it enters the quadrant.
 use Rattle.std.proofs.Common.{arith, ℕ, zero, suc, ◌<◌, ◌≡◌, ◌∙◌, refl, sym, ap, ℤ, pos, negsuc, neg_ℤ, ◌*ℤ◌}
 use Rattle.std.proofs.lemmas.Int.{ints}
 use Rattle.std.proofs.Math.IntN.{*ℤ_comm, neg_ℤ-neg_ℤ, negsuc-*ℤ-pos, pos-*ℤ-negsuc, negsuc-*ℤ-negsuc, zero-*ℤ}
@@ -87,7 +87,7 @@ point_of_quadrant Fourth i o = record { a = pos o; b = neg_ℤ (pos i) }
 spot_same : (a a' b b' : ℤ) → a ≡ a' → b ≡ b' → let p : PlanePoint = record { a = a; b = b } in let q : PlanePoint = record { a = a'; b = b' } in p ≡ q
 spot_same a a' b b' e f = cc
 
--- where a quadrant lies, seen from another
+-- the position of a quadrant relative to another
 abbrev pub relative : Quadrant → Quadrant → Quadrant
 relative First First = First
 relative First Second = Second

@@ -1,10 +1,10 @@
--- The arc that a line asks for (NISTIR 6556, 3.5.3): its centre lies where I, J and K say, seen from its start.
+-- The arc that a line asks for (NISTIR 6556, 3.5.3): I, J and K give its centre relative to its start.
 use Rattle.std.specs.Prelude.{ℤ, pos, ◌+ℤ◌, Option, Some, None}
 use Rattle.ng_canon.specs.declared.segment.Arc.{Arc}
 use Rattle.ng_arc.specs.declared.asked.AskedArc.{AskedArc}
 use Rattle.ng_canon.specs.Planes.{pick_a, pick_b}
 
--- the offset of a word; a missing one is 0
+-- the offset of a word; that of a missing word is 0
 abbrev pub offset_of : Option ℤ → ℤ
 offset_of (Some offset) = offset
 offset_of None = pos 0

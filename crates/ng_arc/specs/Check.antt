@@ -1,5 +1,5 @@
--- Which arcs are lawful (NISTIR 6556, 3.5.3.2; tolerance and numbers own): the causes of its faults, in the order in which they
--- are looked for.
+-- Which arcs are valid (NISTIR 6556, 3.5.3.2; tolerance and numbers own): the causes of their faults, in the order in
+-- which they are checked.
 use Rattle.std.specs.Prelude.{ℕ, ℤ, unsigned_abs, nat_le, ◌==◌, Bool, not, ◌&&◌, ◌||◌, List, [], ◌∷◌, Result}
 use Rattle.std.specs.Option.{is_some}
 use Rattle.ng_num.specs.Range.{greatest}
@@ -14,11 +14,11 @@ use Rattle.ng_arc.specs.Radii.{are_alike}
 use Rattle.ng_arc.specs.Asked.{centre_a, centre_b, arc_of}
 use Rattle.ng_num.specs.Causes.{first_fault, unless}
 
--- a length that can be told
+-- a number of nanometres that is a length
 abbrev pub is_length : ℤ → Bool
 is_length nm = nat_le (unsigned_abs nm) greatest
 
--- E3: the centre's coordinates are no lengths
+-- E3: a coordinate of the centre isn't a length
 abbrev pub is_centre_beyond : AskedArc → Bool
 is_centre_beyond asked = not (is_length (centre_a asked) && is_length (centre_b asked))
 
@@ -26,12 +26,12 @@ is_centre_beyond asked = not (is_length (centre_a asked) && is_length (centre_b 
 abbrev pub has_no_end : AskedArc → Bool
 has_no_end asked = not (pick_a asked.plane asked.named.x asked.named.y asked.named.z || pick_b asked.plane asked.named.x asked.named.y asked.named.z)
 
--- C2: no offset in the plane
+-- C2: no centre offset in the plane
 abbrev pub has_no_centre : AskedArc → Bool
 has_no_centre asked =
     not (is_some (pick_a asked.plane asked.offsets.i asked.offsets.j asked.offsets.k) || is_some (pick_b asked.plane asked.offsets.i asked.offsets.j asked.offsets.k))
 
--- how much the radii may differ: two thousandths of a millimetre, or of an inch a tenth of that, in nanometres
+-- how much the radii may differ, in nanometres: two thousandths of a millimetre, or two ten-thousandths of an inch
 abbrev pub tolerance : LengthUnit → ℕ
 tolerance Inches = 5_080
 tolerance Millimetres = 2_000

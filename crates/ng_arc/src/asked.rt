@@ -1,11 +1,11 @@
-//! What a line asks for where its motion is an arc.
+//! The arc that a line asks for.
 ghost use Rattle.std.specs.Prelude.{◌≡◌, Ok, Err, if◌then◌else◌};
 ghost use Rattle.ng_num.specs.declared.fault.Fault.TheVariants.{OutOfRange};
 
 use ng_canon::{Arc, ArcDirection, Pace, Plane, pick_a, pick_b};
 use ng_num::{Fault, Len, Point, Unit};
 
-/// The axes of which a line has a word.
+/// The axes for which a line has a word.
 #[derive(Clone, Copy)]
 pub struct NamedAxes {
     pub x: bool,
@@ -13,7 +13,7 @@ pub struct NamedAxes {
     pub z: bool,
 }
 
-/// The words I, J and K of a line: how far along X, Y and Z the centre lies from the start (NISTIR 6556, 3.5.3.2).
+/// The words I, J and K of a line: the centre's offset from the start along X, Y and Z (NISTIR 6556, 3.5.3.2).
 #[derive(Clone, Copy)]
 pub struct CentreOffsets {
     pub i: Option<Len>,
@@ -21,20 +21,20 @@ pub struct CentreOffsets {
     pub k: Option<Len>,
 }
 
-/// An arc that a line asks for, by G2 or G3.
+/// An arc that a line asks for by G2 or G3.
 #[derive(Clone, Copy)]
 pub struct AskedArc {
     pub plane: Plane,
     pub turn: ArcDirection,
-    /// The machine point where it starts.
+    /// The machine point of the start.
     pub start: Point,
-    /// The machine point where it ends; on an axis that isn't named, that of the start.
+    /// The machine point of the end. On an axis that isn't named it is that of the start.
     pub end: Point,
     pub named: NamedAxes,
     pub offsets: CentreOffsets,
-    /// The unit after the line's own words, which the tolerance of its radii goes by.
+    /// The unit after the line's own words. It decides the tolerance of the radii.
     pub unit: Unit,
-    /// What it is stepped by; it decides no fault.
+    /// The pace of the move. No fault depends on it.
     pub pace: Pace,
 }
 
@@ -43,7 +43,7 @@ impl AskedArc {
     ghost use Rattle.ng_arc.specs.Asked.{centre_a, centre_b, arc_of};
     ghost use Rattle.ng_arc.specs.Check.{has_no_end, has_no_centre, is_centre_beyond};
 
-    /// The centre's machine coordinate on the plane's axis a; E3 beyond the range of lengths.
+    /// The centre's machine coordinate on the plane's axis a. E3 if it is out of the range of lengths.
     fn centre_a(&self) -> Result<Len, Fault>
         ensures { result ≡ in_range (centre_a self.now) }
     {
@@ -52,7 +52,7 @@ impl AskedArc {
         start.add(word.unwrap_or(Len::zero()))
     }
 
-    /// That on its axis b.
+    /// The centre's machine coordinate on the plane's axis b. E3 if it is out of the range of lengths.
     fn centre_b(&self) -> Result<Len, Fault>
         ensures { result ≡ in_range (centre_b self.now) }
     {
@@ -61,7 +61,7 @@ impl AskedArc {
         start.add(word.unwrap_or(Len::zero()))
     }
 
-    /// The arc round its centre; E3 where the centre's coordinates are beyond the range of lengths.
+    /// The arc with its centre. E3 if a coordinate of the centre is out of the range of lengths.
     pub(crate) fn arc(&self) -> Result<Arc, Fault>
         ensures { result ≡ (if is_centre_beyond self.now then Err OutOfRange else Ok (arc_of self.now)) }
     {
@@ -76,7 +76,7 @@ impl AskedArc {
         })
     }
 
-    /// Whether the line names no end coordinate in the plane.
+    /// Whether the line has no end coordinate in the plane.
     pub(crate) fn has_no_end(&self) -> bool
         ensures { result ≡ has_no_end self.now }
     {
@@ -85,7 +85,7 @@ impl AskedArc {
             || pick_b(self.plane, named.x, named.y, named.z))
     }
 
-    /// Whether it has no offset in the plane.
+    /// Whether the line has no centre offset in the plane.
     pub(crate) fn has_no_centre(&self) -> bool
         ensures { result ≡ has_no_centre self.now }
     {

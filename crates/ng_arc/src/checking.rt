@@ -1,4 +1,4 @@
-//! Whether the arc that a line asks for is lawful.
+//! Whether the arc that a line asks for is valid.
 ghost use Rattle.std.specs.Prelude.{◌≡◌, ◌≤◌, ◌↔◌, IsFalse, MatchResult};
 ghost use Rattle.ng_arc.specs.Radii.{AreAlike};
 ghost use Rattle.ng_num.specs.Causes.{first_fault, NoneHolds, IsFirstFault};
@@ -38,12 +38,12 @@ fn arc_fault(asked: &AskedArc, arc: &Arc) -> Option<Fault>
     ])
 }
 
-/// The arc that a line asks for, where it is lawful; else the first of these whose cause holds (NISTIR 6556, 3.5.3.2;
-/// tolerance and numbers own).
+/// The arc that a line asks for, if it is valid; otherwise the first of the following faults whose cause holds (NISTIR
+/// 6556, 3.5.3.2; tolerance and numbers own).
 ///
-/// E3: the centre's coordinates are beyond the range of lengths. C1: no end coordinate in the plane. C2: no offset in the
-/// plane. C3: the distances of start and end from the centre differ by more than 2,000 nm under G21, 5,080 nm under G20.
-/// C4: the start or the end is the centre.
+/// E3: a coordinate of the centre is out of the range of lengths. C1: no end coordinate in the plane. C2: no centre
+/// offset in the plane. C3: the distances of start and end from the centre differ by more than 2,000 nm under G21,
+/// 5,080 nm under G20. C4: the start or the end is the centre.
 pub fn check_arc(asked: &AskedArc) -> Result<Arc, Fault>
     ensures value { result ≡ checked asked.now }
     ensures least { MatchResult result (λ _. NoneHolds (causes asked.now)) (λ fault. IsFirstFault (causes asked.now) fault) }

@@ -1,4 +1,4 @@
-//! Whether the extremes that an arc passes lie inside the travel.
+//! Whether the extremes that an arc passes are inside the travel.
 ghost use Rattle.std.specs.Prelude.{◌≡◌, ◌^◌, ◌<◌, ◌-ℤ◌, unsigned_abs};
 ghost use Rattle.ng_arc.specs.Extremes.{extremes_inside};
 
@@ -6,7 +6,7 @@ use crate::span::ArcSpan;
 use ng_canon::{Arc, Axis, Geometry, PlanePoint, Quadrant, pick_a, pick_b};
 use ng_num::Len;
 
-/// How far a coordinate lies above another.
+/// How far a coordinate is above another.
 fn room_nm(below: Len, above: Len) -> i64
     ensures value { result ≡ above -ℤ below }
     ensures size { unsigned_abs result < 2 ^ 45 }
@@ -14,12 +14,12 @@ fn room_nm(below: Len, above: Len) -> i64
     above.nm() - below.nm()
 }
 
-/// Whether no extreme that an arc passes lies outside the travel (own).
+/// Whether all extremes that an arc passes are inside the travel (own).
 ///
-/// The extremes are the four points of its circle that lie farthest along an axis of its plane; the circle's radius is the
-/// distance of the start from the centre. A full turn passes all of them, another arc those that it comes to after its start
-/// and no later than its end. An extreme lies inside where it isn't past the limit that it lies toward. The start, the end
-/// and the axis across the plane are not looked at.
+/// The extremes are the four points of the arc's circle that are farthest along an axis of its plane. The circle's
+/// radius is the distance of the start from the centre. A full turn passes all of them; another arc passes those that
+/// it reaches after its start and no later than its end. An extreme is inside if it isn't past the limit in its
+/// direction. The start, the end and the axis perpendicular to the plane aren't checked here.
 pub fn extremes_inside(arc: &Arc, geometry: &Geometry) -> bool
     ensures { result ≡ extremes_inside arc.now geometry.now }
 {

@@ -1,12 +1,13 @@
-//! Arcs in the plane: which of them are lawful, and whether they stay within the travel.
+//! Arcs in a plane: which of them are valid, and whether they stay within the travel.
 //!
-//! `check_arc` makes the arc that a line asks for, or answers the first fault whose cause holds: its centre is no length,
-//! or C1 to C4. The radii of start and end are roots of whole numbers and are compared as such, by squares alone.
-//! `extremes_inside` looks at the points of an arc's circle that lie farthest along an axis, where the arc passes them.
-//! What a direction's being passed means stands in `specs/Extremes.antt`; the code finds it by quadrants.
+//! `check_arc` makes the arc that a line asks for, or returns the first fault whose cause holds: E3 if the centre isn't
+//! a pair of lengths, or C1 to C4. The radii of start and end are roots of whole numbers; they are compared exactly,
+//! using only their squares. `extremes_inside` checks the points of an arc's circle that are farthest along an axis, if
+//! the arc passes them. `specs/Extremes.antt` defines when an arc passes a direction; the code finds it by quadrants.
 //!
-//! The crate stands on `ng_canon` and `ng_num`, and takes no memory. Arcs are told by their centre, never by their radius.
-//! The start and the end of an arc aren't looked at for the travel here, nor is the axis across its plane.
+//! The crate depends on `ng_canon` and `ng_num`, and doesn't allocate. Arcs are given by their centre, never by their
+//! radius. The start and the end of an arc, and the axis perpendicular to its plane, aren't checked against the travel
+//! here.
 #![tactic(auto)]
 
 mod asked;

@@ -1,11 +1,11 @@
-//! Radii that count as one.
+//! Radii that count as equal.
 ghost use Rattle.std.specs.Prelude.{◌≡◌, ◌^◌, ◌<◌, ◌≤◌};
 ghost use Rattle.ng_arc.specs.Radii.{are_alike, is_excess_allowed};
 
-/// The square of a greater excess is past whatever the radii allow.
+/// If the excess is greater, its square is greater than any radii allow.
 const GREATEST_EXCESS: u128 = 1_000_000_000_000_000_000;
 
-/// Whether the greater of two radii, given by their squares, is longer by at most a tolerance.
+/// Whether the greater of two radii is longer by at most a tolerance. The radii are given by their squares.
 fn is_longer_by_at_most(tolerance_nm: u64, greater: u128, less: u128) -> bool
     requires order { less ≤ greater }
     requires range { greater < 2 ^ 91 }
@@ -21,7 +21,7 @@ fn is_longer_by_at_most(tolerance_nm: u64, greater: u128, less: u128) -> bool
     excess <= GREATEST_EXCESS && excess * excess <= 4 * tolerance_square * less
 }
 
-/// Whether two radii, given by their squares in square nanometres, differ by at most a tolerance (own).
+/// Whether two radii differ by at most a tolerance. They are given by their squares, in square nanometres (own).
 pub fn are_alike(first: u128, second: u128, tolerance_nm: u64) -> bool
     requires first { first < 2 ^ 91 }
     requires second { second < 2 ^ 91 }

@@ -1,4 +1,4 @@
-//! Which extremes of its circle an arc passes: those at which the quadrants begin that it comes into.
+//! Which extremes of its circle an arc passes: those at the start of the quadrants that it enters.
 ghost use Rattle.std.specs.Prelude.{◌≡◌, ◌^◌, ◌<◌, ◌||◌, ◌==◌, not, unsigned_abs};
 ghost use Rattle.ng_canon.specs.Planes.{square_of, cross, dot, AreBelowInSize};
 ghost use Rattle.ng_arc.specs.Extremes.{has_room, is_passed, sweep_by};
@@ -6,8 +6,8 @@ ghost use Rattle.ng_arc.specs.Quadrants.{direction, changes, passes_toward};
 
 use ng_canon::{ArcDirection, PlanePoint, Quadrant};
 
-/// Where an arc begins, and how often it comes into the next quadrant. A clockwise arc is seen as a counterclockwise one with
-/// b negated.
+/// Where an arc begins, and how often it enters the next quadrant. A clockwise arc is seen as a counterclockwise one
+/// with b negated.
 #[derive(Clone, Copy)]
 pub(crate) struct ArcSpan {
     turn: ArcDirection,
@@ -17,11 +17,11 @@ pub(crate) struct ArcSpan {
     square: u128,
 }
 
-/// The changes of quadrant of a full turn.
+/// The number of times that a full turn enters the next quadrant.
 const FULL_TURN: u8 = 4;
 
 impl ArcSpan {
-    /// The span of an arc from a start to an end, which are seen from its centre.
+    /// The span of an arc from a start to an end, which are relative to its centre.
     pub(crate) fn between(turn: ArcDirection, start: PlanePoint, end: PlanePoint) -> ArcSpan
         requires start { AreBelowInSize start (2 ^ 45) }
         requires end { AreBelowInSize end (2 ^ 45) }
@@ -37,7 +37,7 @@ impl ArcSpan {
         }
     }
 
-    /// Whether it passes the direction that a quadrant begins at.
+    /// Whether the arc passes the direction at which a quadrant begins.
     #[tactic(auto, unfolding(crate::specs::Quadrants::passes_toward))]
     fn passes(self, towards: Quadrant) -> bool
         ensures { result ≡ passes_toward self towards }
@@ -46,8 +46,8 @@ impl ArcSpan {
         (entered + 7 - self.from.number()) % 4 < self.changes
     }
 
-    /// Whether the extreme in the direction that a quadrant begins at isn't passed, or lies inside the travel, which goes so far
-    /// from the centre.
+    /// Whether the extreme in the direction at which a quadrant begins isn't passed, or is inside the travel. `room_nm`
+    /// is how far the travel reaches from the centre.
     pub(crate) fn keeps(&self, towards: Quadrant, room_nm: i64) -> bool
         requires { unsigned_abs room_nm < 2 ^ 45 }
         ensures { result ≡ (not (passes_toward self.now towards) || has_room self.now.square room_nm) }
@@ -56,7 +56,8 @@ impl ArcSpan {
     }
 }
 
-/// How often an arc comes into the next quadrant; an end the same way from the centre as the start is a full turn.
+/// How often an arc enters the next quadrant. If the end is in the same direction from the centre as the start, it is a
+/// full turn.
 #[tactic(auto, unfolding(crate::specs::Quadrants::changes))]
 fn changes(start: PlanePoint, end: PlanePoint) -> u8
     requires start { AreBelowInSize start (2 ^ 45) }
@@ -70,7 +71,7 @@ fn changes(start: PlanePoint, end: PlanePoint) -> u8
     }
 }
 
-/// Whether two points lie the same way from the centre, or one of them is the centre.
+/// Whether two points are in the same direction from the centre, or one of them is the centre.
 fn is_same_way(first: PlanePoint, second: PlanePoint) -> bool
     requires first { AreBelowInSize first (2 ^ 45) }
     requires second { AreBelowInSize second (2 ^ 45) }
@@ -79,7 +80,7 @@ fn is_same_way(first: PlanePoint, second: PlanePoint) -> bool
     first.cross(second) == 0 && first.dot(second) >= 0
 }
 
-/// Whether a circle, whose radius has this square, reaches no farther from its centre than the travel.
+/// Whether a circle, given the square of its radius, reaches no farther from its centre than the travel.
 fn has_room(square: u128, room_nm: i64) -> bool
     requires { unsigned_abs room_nm < 2 ^ 45 }
     ensures { result ≡ has_room square room_nm }

@@ -64,7 +64,7 @@ length-cycle d some = sym (by-repeats d d.repeats some)
 total : Drill → ℕ
 total d = (lead_length d + work_length d d.work) + (d.repeats - 1) * repeat_length d
 
--- the same, by what the code has of it
+-- the number of segments, in the code's terms
 pub counted : (d own : Drill) (lead work repeat later : ℕ) → own ≡ d → 1 ≤ d.repeats → lead ≡ lead_length own → work ≡ work_length own own.work → repeat ≡ repeat_length own → later ≡ (own.repeats - 1) * repeat →
     (lead + work) + later ≡ length (cycle_segments d)
 unfolding total

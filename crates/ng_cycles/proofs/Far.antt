@@ -1,4 +1,4 @@
--- Whether the places of a cycle are in range is decided by the last one.
+-- Whether the holes of a cycle are in range is decided by the last one.
 use Rattle.std.proofs.Common.{arith, ℕ, zero, suc, ◌+◌, ◌≡◌, ◌≤◌, ℤ, pos, ◌+ℤ◌, ◌*ℤ◌, Bool, true, false, ◌||◌, List, ◌++◌, flat_map, refl, sym}
 use Rattle.std.specs.List.{list_any}
 use Rattle.std.proofs.lemmas.List.Folds.{list_any-append}
@@ -53,7 +53,7 @@ by_last p m w (suc n) some hp hm false e =
     let last = or_none (is_far (p +ℤ pos (suc n) *ℤ w)) (is_far (m +ℤ pos (suc n) *ℤ w)) e in
     none_far p m w (suc n) hp hm (is_far-near (p +ℤ pos (suc n) *ℤ w) last.0) (is_far-near (m +ℤ pos (suc n) *ℤ w) last.1) 1 (suc n) (omega arith)
 
--- all places by the last
+-- all holes, by the last one
 pub repeated_last : (p m w : ℤ) (n : ℕ) → 1 ≤ n → IsCount p → IsCount m →
     (is_far (p +ℤ pos n *ℤ w) || is_far (m +ℤ pos n *ℤ w)) ≡ list_any is_far (flat_map (repeated p m w) (numbers_from 1 n))
 repeated_last p m w n some hp hm = sym (by_last p m w n some hp hm _ refl)
@@ -61,6 +61,6 @@ repeated_last p m w n some hp hm = sym (by_last p m w n some hp hm _ refl)
 pub last_near : (far : Bool) (n : ℤ) → (far || is_far n) ≡ false → IsCount n
 last_near far n e = is_far-near n (or_none far (is_far n) e).1
 
--- lengths that are looked at one after another
+-- lengths that are checked one after another
 pub any_append : (xs ys : List ℤ) → list_any is_far (xs ++ ys) ≡ (list_any is_far xs || list_any is_far ys)
 any_append xs ys = list_any-append is_far xs ys

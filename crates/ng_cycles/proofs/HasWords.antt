@@ -1,4 +1,4 @@
--- R and Z are found exactly where their words are there.
+-- R and Z are found exactly if their words are there.
 use Rattle.std.proofs.Common.{arith, ◌≡◌, ℤ, pos, ◌≤ℤ◌, Bool, true, false, int_lt, Option, Some, None, unwrap_or, refl, if◌then◌else◌}
 use Rattle.std.specs.Option.{is_none, option_map}
 use Rattle.std.specs.Int.{int_max}

@@ -1,4 +1,4 @@
--- Sums that are looked at for their range one after another.
+-- Sums whose range is checked one after another.
 use Rattle.std.proofs.Common.{arith, ℕ, ◌≡◌, ℤ, ap, refl, Bool, true, false, not, ◌||◌, nat_lt, nat_le, unsigned_abs, [], ◌∷◌, Ok, Err, if◌then◌else◌}
 use Rattle.std.proofs.lemmas.Bool.Decides.{nat_tests}
 use Rattle.ng_num.specs.Range.{greatest, in_range}

@@ -1,4 +1,4 @@
--- Whole repeats and whole pecks of a cycle are passed at once.
+-- Whole repeats and whole pecks of a cycle are skipped at once.
 use Rattle.std.proofs.Common.{arith, ℕ, zero, suc, ◌+◌, ◌-◌, ◌*◌, ◌/◌, min, ◌≡◌, ◌≤◌, Bool, true, false, ℤ, List, [], ◌∷◌, ◌++◌, length, take, drop, flat_map, refl, sym, ◌∙◌, ap, append_assoc, if◌then◌else◌, int_lt}
 use Rattle.std.specs.Ordering.{int_eq}
 use Rattle.std.proofs.lemmas.List.Sums.{fold-append}
@@ -37,7 +37,7 @@ skip-strokes d at xs ys k n e =
     ∙ (ap (λ (segments : List Segment). later (length (traced d at xs) + k) (record { standing = at; segments = segments })) (traced-append d at xs ys)
     ∙ later-append at (traced d at xs) (traced d (after_segments at (traced d at xs)) ys) k)
 
--- ---- a place
+-- ---- a hole
 
 abbrev pub stand : Drill → Point → MotionState
 stand d p = record { point = p; outputs = d.outputs }
@@ -119,7 +119,7 @@ skips d p b (suc q) m k e =
     let at : b + suc (suc q) ≡ suc b + suc q = omega arith in
     rw (all, n, at) (one_repeat d p b (suc q + m) (suc q * repeat_length d + k) e ∙ skips d (hole_at d (suc b)) (suc b) q m k refl)
 
--- the same, by numbers that are equal
+-- skipping repeats, with equal numbers
 pub skip_repeats : (d : Drill) (at : MotionState) (b n q left m b' k : ℕ) → at.point.z ≡ d.clear → at.outputs ≡ d.outputs → 1 ≤ q → n ≡ q * repeat_length d + k → left ≡ q + m → b' ≡ b + q →
     later k (ahead d (stand d (hole_at d b')) (flat_map (repeat d) (numbers_from (suc b') m))) ≡ later n (ahead d at (flat_map (repeat d) (numbers_from (suc b) left)))
 skip_repeats d at b n zero left m b' k z o some e f g = absurd (omega arith)
@@ -127,7 +127,7 @@ skip_repeats d at b n (suc q) left m b' k z o some e f g = rw (e, f, g) (sym (
     ap (λ (outputs : Outputs). later (suc q * repeat_length d + k) (ahead d (record { point = at.point; outputs = outputs }) (flat_map (repeat d) (numbers_from (suc b) (suc q + m))))) o
     ∙ skips d at.point b q m k z))
 
--- the same, by what the code has of it
+-- skipping repeats, in the code's terms
 pub pass_repeats_later : (d : Drill) (at : MotionState) (b n q left m b' k : ℕ) (end : Point) (z : ℤ) → at.point.z ≡ d.clear → at.outputs ≡ d.outputs → 1 ≤ q → n ≡ q * repeat_length d + k → left ≡ q + m → b' ≡ b + q →
     end ≡ record { x = coordinate d.x b'; y = coordinate d.y b'; z = z } → z ≡ d.clear →
     later k (ahead d (record { point = end; outputs = at.outputs }) (flat_map (repeat d) (numbers_from (suc b') m))) ≡ later n (ahead d at (flat_map (repeat d) (numbers_from (suc b) left)))
@@ -159,7 +159,7 @@ pecks_at : (d : Drill) (at : MotionState) (q a j left' done k : ℕ) (rest : Lis
     ≡ later (3 * suc j + k) (ahead d at (flat_map (again d q) (numbers_from a (suc j + suc left')) ++ rest))
 pecks_at d at q a j left' done k rest g = rw g (sym (peck_skips d at q a j (suc left') k rest))
 
--- the same, by numbers that are equal
+-- skipping pecks, with equal numbers
 pub skip_pecks : (d : Drill) (at : MotionState) (q a n j left done left' k : ℕ) (out rest : List Stroke) → 1 ≤ j → n ≡ j * 3 + k → left ≡ j + left' → done ≡ a + j →
     later k (ahead d (record at { point = record at.point { z = bottom d q done } }) ((flat_map (again d q) (numbers_from done (suc left')) ++ out) ++ rest))
     ≡ later n (ahead d at ((flat_map (again d q) (numbers_from a (suc left)) ++ out) ++ rest))
@@ -199,7 +199,7 @@ parts_fit n l most =
     let g = div-mul-le_self n l in
     omega (arith, h, g)
 
--- ---- after all of it
+-- ---- after the whole cycle
 
 after_segments-append : (d : Drill) (at : MotionState) (xs ys : List Stroke) → after_segments at (traced d at (xs ++ ys)) ≡ after_segments (after_segments at (traced d at xs)) (traced d (after_segments at (traced d at xs)) ys)
 after_segments-append d at xs ys =

@@ -10,7 +10,7 @@ use Rattle.ng_cycles.specs.Strokes.{Stroke, ToR, TraverseTo, numbers_from, coord
 use Rattle.ng_cycles.specs.Left.{pecks_after}
 use Rattle.ng_cycles.specs.Segments.{traced, after_segment, after_segments, line_to}
 
--- the point at the place of a repeat
+-- the point at the hole of a repeat
 abbrev pub over : Drill → MotionState → ℕ → MotionState
 over d at r = record at { point = record at.point { x = coordinate d.x r; y = coordinate d.y r } }
 
@@ -36,7 +36,7 @@ traced-repeat d at b n b' m e f =
     (by_test d (over d at (suc b)) (strokes_of d d.work ++ rest) (int_eq at.point.z d.r)
     ∙ ap (traced d (over d at (suc b))) (sym (append_assoc (if int_eq at.point.z d.r then [] else TraverseTo d.r ∷ []) (strokes_of d d.work) rest))))
 
--- the same, by what the code has of it
+-- the next repeat, in the code's terms
 pub across_goes : (d : Drill) (at : MotionState) (b n b' m : ℕ) (end : Point) (segment : Segment) (after : MotionState) (left : List Stroke) → b' ≡ suc b → n ≡ suc m →
     end ≡ (over d at b').point →
     left ≡ (if int_eq end.z d.r then [] else TraverseTo d.r ∷ []) ++ strokes_of d d.work →

@@ -1,4 +1,4 @@
--- How the machine stands after some segments of a cycle, by how it stood before it.
+-- The machine's position and outputs after some segments of a cycle, given those before it.
 use Rattle.std.proofs.Common.{arith, ℕ, zero, suc, ◌+◌, ◌-◌, ◌≡◌, ◌≤◌, ◌<◌, Bool, true, false, ℤ, List, [], ◌∷◌, ◌++◌, take, flat_map, refl, sym, ◌∙◌, ap, subst, if◌then◌else◌, int_lt, nat_lt}
 use Rattle.std.proofs.lemmas.Bool.{ltb-true, ltb-false}
 use Rattle.std.specs.Ordering.{int_eq}
@@ -18,7 +18,7 @@ use Rattle.ng_cycles.specs.Strokes.{Stroke, Across, ToR, TraverseTo, FeedTo, Wai
 use Rattle.ng_cycles.specs.Segments.{begin, cycle_segments, traced, segments_of, after_segments}
 use Rattle.ng_cycles.proofs.Skips.{take-nothing}
 
--- ---- points and outputs apart
+-- ---- points and outputs separately
 
 point-alone : (p : Point) (o o' : Outputs) (xs : List Segment) → (after_segments (record { point = p; outputs = o }) xs).point ≡ (after_segments (record { point = p; outputs = o' }) xs).point
 point-alone p o o' [] = refl
@@ -91,7 +91,7 @@ turn-rise d false ss h = h
 turn-strokes : (d : Drill) → stops d.work ≡ false → has_turn (strokes d) ≡ false
 turn-strokes d h = turn-rise d (int_lt d.start.z d.r) (flat_map (repeat d) (numbers_from 1 d.repeats)) (turn-repeats d 1 d.repeats h)
 
--- ---- where there are no turns, nothing switches
+-- ---- without turns, nothing switches
 
 to_r-none : (d : Drill) (at : MotionState) (ss : List Stroke) (there : Bool) (n : ℕ) →
     ((at : MotionState) (n : ℕ) → has_switch (take n (traced d at ss)) ≡ false) →
@@ -156,7 +156,7 @@ hole-after d at false seconds ss (suc (suc zero)) h = absurd (omega (arith, h))
 hole-after d at false seconds ss (suc (suc (suc zero))) h = absurd (omega (arith, h))
 hole-after d at false seconds ss (suc (suc (suc (suc n)))) h = refl
 
--- the same from the cycle's start on
+-- a hole of G86, from the cycle's start
 first_hole : Drill → Bool → ℤ → List Stroke → List Segment
 first_hole d rises seconds ss = traced d (begin d) ((if rises then TraverseTo d.r ∷ [] else []) ++ (Across 1 ∷ ToR ∷ FeedTo d.z ∷ Wait seconds ∷ Turn Stopped ∷ ss))
 
@@ -243,6 +243,6 @@ by-case false b a n e few more = sym (few (ltb-false a n e))
 by-test : (a n : ℕ) (b : Bool) → (n ≤ a → b ≡ false) → (a < n → b ≡ true) → nat_lt a n ≡ b
 by-test a n b few more = by-case (nat_lt a n) b a n refl few more
 
--- the same, by what the code has of it
+-- whether a segment switches, in the code's terms
 pub has-switched : (d : Drill) (n l : ℕ) → 1 ≤ d.repeats → stops d.work ≡ true → l ≡ lead_length d → nat_lt (l + 2) n ≡ has_switch (take n (cycle_segments d))
 has-switched d n l some h e = rw e (by-test (lead_length d + 2) n _ (before-stop d n some h) (after-stop d n some h))

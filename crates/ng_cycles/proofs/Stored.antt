@@ -1,4 +1,4 @@
--- Lengths, sums and products of them as they are stored.
+-- Lengths, and sums and products of them, as machine integers.
 use Rattle.std.proofs.Common.{arith, ℕ, ◌*◌, ◌/◌, ◌^◌, ◌<◌, ◌≡◌, suc, ℤ, pos, negsuc, ◌+ℤ◌, ◌*ℤ◌, to_z, of_z, unsigned_abs}
 use mir.Syntax.{w64, w128}
 use mir.Val.{SFits}
@@ -6,7 +6,7 @@ use Rattle.std.proofs.lemmas.Int.{ints}
 use Rattle.std.proofs.lemmas.Nat.{mul-lt, mul-le, div_below}
 use Rattle.ng_num.specs.Range.{IsCount}
 
--- a length so many times
+-- a length times a count
 small_product : (n : ℕ) (l : ℤ) → n < 2 ^ 32 → IsCount l → unsigned_abs (pos n *ℤ l) < 2 ^ 100
 small_product n (pos s) few near = let h : n * s < 2 ^ 32 * 2 ^ 44 = mul-lt n s (2 ^ 32) (2 ^ 44) few (omega (arith, near)) in omega (arith, ints, h)
 small_product n (negsuc s) few near = let h : n * suc s < 2 ^ 32 * 2 ^ 44 = mul-lt n (suc s) (2 ^ 32) (2 ^ 44) few (omega (arith, near)) in omega (arith, ints, h)
@@ -25,7 +25,7 @@ product_stored n l m few near e =
     let length : to_z w128 (of_z w128 (to_z w64 (of_z w64 m))) ≡ l = omega (arith, ints) in
     rw (count, length) (small_stored (pos n *ℤ l) (small_product n l few near))
 
--- a length and what is added to it
+-- a length plus an addend
 pub sum_stored : (n l t : ℤ) → n ≡ l → IsCount l → unsigned_abs t < 2 ^ 100 → to_z w128 (of_z w128 (to_z w128 (of_z w128 (to_z w64 (of_z w64 n))) +ℤ to_z w128 (of_z w128 t))) ≡ l +ℤ t
 sum_stored n l t e near small = omega (arith, ints)
 

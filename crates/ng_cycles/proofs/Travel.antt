@@ -1,4 +1,4 @@
--- A cycle stays within the travel exactly where its extreme coordinates do.
+-- A cycle stays within the travel exactly if its extreme coordinates do.
 use Rattle.std.proofs.Common.{arith, ℕ, zero, suc, ◌+◌, ◌-◌, ◌*◌, ◌/◌, ◌%◌, max, ◌≡◌, ◌≤◌, ◌<◌, ℤ, pos, negsuc, ◌+ℤ◌, ◌-ℤ◌, ◌*ℤ◌, ◌≤ℤ◌, ◌<ℤ◌, unsigned_abs, Bool, true, false, not, ◌||◌, ◌&&◌, int_lt, int_le, List, [], ◌∷◌, ◌++◌, flat_map, refl, sym, ap, subst, if◌then◌else◌}
 use Rattle.std.specs.Int.{int_min, int_max}
 use Rattle.std.specs.List.{list_any}
@@ -156,7 +156,7 @@ stays g d at (FeedTo z ∷ rest) r h all =
 stays g d at (Wait seconds ∷ rest) r h all = stays g d at rest r h all.1
 stays g d at (Turn spindle ∷ rest) r h all = stays g d (record at { outputs = record d.outputs { spindle = spindle } }) rest r h all.1
 
--- ---- and the other way: where no segment ends outside, the strokes end inside
+-- ---- and the other direction: if no segment ends outside, the strokes end inside
 
 by_test_back : (g : Geometry) (d : Drill) (at : MotionState) (ss : List Stroke) (there : Bool) (P : Type 0) → (outside g (traced d at ss) ≡ false → P) → (outside g (traced d (height_at at d.r) ss) ≡ false → P) →
     outside g (to_r_segments d at there ++ traced d (after_segments at (to_r_segments d at there)) ss) ≡ false → P
@@ -245,7 +245,7 @@ last_place : (g : Geometry) (d : Drill) (a j : ℕ) → AllEnd g d (flat_map (re
 last_place g d a zero all = let e : a + 0 ≡ a = omega arith in rw e all.0
 last_place g d a (suc j) all = let e : a + suc j ≡ suc a + j = omega arith in rw e (last_place g d (suc a) j (end-after g d (strokes_of d d.work) _ all.1.1))
 
--- ---- the whole
+-- ---- the whole cycle
 
 record Extremes (g : Geometry) (d : Drill) : Type 0 where
   first_x : On g.x (coordinate d.x 1)
@@ -287,7 +287,7 @@ or_true : (a b : Bool) → b ≡ true → (a || b) ≡ true
 or_true true b e = refl
 or_true false b e = e
 
--- what the cycle does, by whether Z is below R before it
+-- what the cycle does, depending on whether Z is below R before it
 abbrev strokes_by : Drill → Bool → List Stroke
 strokes_by d rises = (if rises then TraverseTo d.r ∷ [] else []) ++ flat_map (repeat d) (numbers_from 1 d.repeats)
 
@@ -379,13 +379,13 @@ extremes_shown g d made none =
     subst (λ (n : ℕ). outside g (traced d (begin d) ((if int_lt d.start.z d.r then TraverseTo d.r ∷ [] else []) ++ flat_map (repeat d) (numbers_from 1 n))) ≡ false) (sym m.1) none in
     are_extremes g d (extremes_by g d (int_lt d.start.z d.r) m.0 m.1 refl made none')
 
--- a cycle leaves the travel exactly where an extreme coordinate lies outside
+-- a cycle leaves the travel exactly if an extreme coordinate is outside
 pub leaves-extremes : (g : Geometry) (d : Drill) → IsMade d → leaves_travel g d ≡ not (extremes_inside g d)
 leaves-extremes g d made = by_both (leaves_travel g d) (extremes_inside g d)
     (λ inside. inside_by g d (int_lt d.start.z d.r) refl made (extremes_are g d inside))
     (extremes_shown g d made)
 
--- and R is no farther above Z than the travel is long
+-- and R is no farther above Z than the length of the travel
 pub near_by : (g : Geometry) (d : Drill) → negsuc 9_999_999_999 ≤ℤ g.z.low → g.z.high ≤ℤ pos 10_000_000_000 → extremes_inside g d ≡ true → d.r ≤ℤ (d.z +ℤ pos 20_000_000_000)
 near_by g d low high inside =
     let x = extremes_are g d inside in

@@ -1,4 +1,4 @@
--- How many segments lead to a cycle's first hole, and whether some segments switch.
+-- How many segments come before a cycle's first hole, and whether some segments switch.
 use Rattle.std.specs.Prelude.{ℕ, ◌+◌, int_lt, Bool, true, false, if◌then◌else◌, List, [], ◌∷◌}
 use Rattle.std.specs.Ordering.{int_eq}
 use Rattle.ng_canon.specs.declared.segment.Segment.{Segment}
@@ -7,13 +7,13 @@ use Rattle.ng_cycles.specs.declared.drill.Drill.{Drill}
 use Rattle.ng_cycles.specs.declared.drill.Work.{Work}
 use Rattle.ng_cycles.specs.declared.drill.Work.TheVariants.{Drilling, DrillingWithDwell, PeckDrilling, Boring, BoringWithStop, BoringWithDwell}
 
--- to R before all repeats, to the place of the first, and to R there
+-- to R before all repeats, to the first hole, and to R there
 abbrev pub lead_length : Drill → ℕ
 lead_length d =
     let rises = int_lt d.start.z d.r in
     (if rises then 1 else 0) + (1 + (if int_eq (if rises then d.r else d.start.z) d.r then 0 else 1))
 
--- G86 alone stops the spindle
+-- only G86 stops the spindle
 abbrev pub stops : Work → Bool
 stops Drilling = false
 stops (DrillingWithDwell seconds) = false

@@ -1,4 +1,4 @@
--- What a cycle's line does, or the first cause for which it is refused (NISTIR 6556, 3.5.16; numbers own).
+-- What a cycle's line does, or the first cause for refusing it (NISTIR 6556, 3.5.16; numbers own).
 use Rattle.std.specs.Prelude.{ℤ, pos, int_lt, Bool, true, false, not, ◌&&◌, ◌||◌, Option, Some, None, unwrap_or, List, [], ◌∷◌, ◌++◌, Result, if◌then◌else◌}
 use Rattle.std.specs.Int.{int_max}
 use Rattle.std.specs.List.{list_any}
@@ -27,9 +27,9 @@ use Rattle.ng_cycles.specs.Lengths.{hole_axis_of, r_of, z_of, lengths, is_far}
 use Rattle.ng_cycles.specs.Segments.{cycle_segments}
 use Rattle.ng_state.specs.KeptWords.{in_force}
 
--- ---- what is done, where nothing forbids it
+-- ---- what is done, if the line is valid
 
--- a P that is missing is 0 (own)
+-- the P of a line without P is 0 (own)
 abbrev pub work_of : CycleKind → KeptWords → Work
 work_of Drilling words = work.Drilling
 work_of DrillingWithDwell words = work.DrillingWithDwell (unwrap_or words.p (pos 0))
@@ -38,7 +38,7 @@ work_of Boring words = work.Boring
 work_of BoringWithStop words = work.BoringWithStop (unwrap_or words.p (pos 0))
 work_of BoringWithDwell words = work.BoringWithDwell (unwrap_or words.p (pos 0))
 
--- a cycle by its lengths
+-- a cycle, given its lengths
 abbrev pub drill_by : CycleWords → Setting → KeptWords → Lengths → Drill
 drill_by w s words l = record {
   work = work_of w.kind words;
@@ -53,7 +53,7 @@ drill_by w s words l = record {
   outputs = s.outputs;
 }
 
--- the lengths of words, of missing ones those of 0
+-- the lengths of words; that of a missing word is that of 0
 abbrev pub lengths_of : CycleWords → Setting → KeptWords → Lengths
 lengths_of w s words =
     let r' = r_of s.is_incremental (unwrap_or words.r (pos 0)) (shift_z s.offsets) s.point.z in
@@ -83,7 +83,7 @@ abbrev pub is_negative : Option ℤ → Bool
 is_negative None = false
 is_negative (Some n) = int_lt n (pos 0)
 
--- Y6: the P in force of G82, G86 or G89 is below 0
+-- Y6: the P in force of G82, G86 or G89 is negative
 abbrev pub has_negative_p : CycleKind → KeptWords → Bool
 has_negative_p kind words = dwells kind && is_negative words.p
 
@@ -133,7 +133,7 @@ hole_causes w s words below =
     ++ ((is_none (above_zero s.feed_per_min), NoFeed)
     ∷ [])))
 
--- each fault with its cause before it: E3, Y1 to Y8, X1, X2
+-- the faults in order, each with its cause: E3, Y1 to Y8, X1, X2
 abbrev pub causes : CycleWords → Setting → Geometry → List (Bool × Fault)
 causes w s g =
     let words = in_force w.own s.kept in

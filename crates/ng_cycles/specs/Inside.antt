@@ -1,4 +1,5 @@
--- The extreme coordinates of a cycle: those of its first and its last place, Z, and where the first move across is made.
+-- The extreme coordinates of a cycle: those of its first and its last hole, Z, and the height of the first move in X
+-- and Y.
 use Rattle.std.specs.Prelude.{Bool, not, ◌&&◌, ◌||◌, ℤ, int_lt}
 use Rattle.std.specs.Int.{int_max}
 use Rattle.ng_canon.specs.Inside.{is_on}

@@ -1,4 +1,4 @@
--- What a cursor over a cycle's segments has left.
+-- The remaining part of a cycle, as a cursor over its segments has it.
 use Rattle.std.specs.Prelude.{◌≡◌, ℕ, suc, ◌+◌, ◌-◌, ◌*◌, if◌then◌else◌, ℤ, pos, ◌+ℤ◌, Option, MatchOption, List, [], ◌∷◌, ◌++◌, flat_map}
 use Rattle.std.specs.Int.{int_min}
 use Rattle.std.specs.Ordering.{int_eq}
@@ -13,7 +13,7 @@ use Rattle.ng_cycles.specs.declared.phase.Phase.TheVariants as phase
 use Rattle.ng_cycles.specs.Strokes.{Stroke, TraverseTo, FeedTo, Wait, Turn, numbers_from, bottom, pecks, clearance, again, strokes_of, repeat}
 use Rattle.ng_cycles.specs.Segments.{traced, after_segment, CycleModel}
 
--- how long it waits at the bottom
+-- how long it dwells at the bottom
 abbrev pub seconds_of : Work → ℤ
 seconds_of (DrillingWithDwell seconds) = seconds
 seconds_of (BoringWithStop seconds) = seconds
@@ -29,7 +29,7 @@ way_out d Boring = FeedTo d.clear ∷ []
 way_out d (BoringWithStop seconds) = Turn Stopped ∷ TraverseTo d.clear ∷ Turn d.outputs.spindle ∷ []
 way_out d (BoringWithDwell seconds) = FeedTo d.clear ∷ []
 
--- how many segments a cycle has at a place, from R on
+-- how many segments there are at a hole, from R on
 abbrev pub work_length : Drill → Work → ℕ
 work_length d Drilling = 2
 work_length d (DrillingWithDwell seconds) = 3
@@ -38,15 +38,15 @@ work_length d Boring = 2
 work_length d (BoringWithStop seconds) = 5
 work_length d (BoringWithDwell seconds) = 3
 
--- how many a repeat has that begins where repeats end
+-- how many segments a repeat has that begins at the height at which repeats end
 abbrev pub repeat_length : Drill → ℕ
 repeat_length d = 1 + ((if int_eq d.clear d.r then 0 else 1) + work_length d d.work)
 
--- so many pecks after peck k, and out
+-- some pecks after peck k, and out
 abbrev pub pecks_after : Drill → ℕ → ℕ → ℕ → List Stroke
 pecks_after d peck k n = flat_map (again d peck) (numbers_from k n) ++ TraverseTo d.clear ∷ []
 
--- what is left of a repeat
+-- the remaining part of a repeat
 abbrev pub strokes_in : Drill → Phase → List Stroke
 strokes_in d phase.Rise = TraverseTo d.r ∷ []
 strokes_in d phase.Across = []
@@ -62,14 +62,14 @@ strokes_in d (phase.PeckOut p) = TraverseTo d.r ∷ TraverseTo (int_min d.r (bot
 strokes_in d (phase.PeckBack p) = TraverseTo (int_min d.r (bottom d p.peck p.done +ℤ clearance)) ∷ FeedTo (bottom d p.peck (suc p.done)) ∷ pecks_after d p.peck (suc p.done) p.left
 strokes_in d (phase.PeckDown p) = FeedTo (bottom d p.peck (suc p.done)) ∷ pecks_after d p.peck (suc p.done) p.left
 
--- what is left of a cycle
+-- the remaining part of a cycle
 abbrev pub strokes_left : Drill → CycleLeft → List Stroke
 strokes_left d c = strokes_in d c.phase ++ flat_map (repeat d) (numbers_from (suc c.begun) c.repeats_left)
 
 abbrev pub ahead_of : CycleLeft → CycleModel
 ahead_of c = record { standing = c.standing; segments = traced c.canned c.standing (strokes_left c.canned c) }
 
--- the next segment of what is ahead, if there is one
+-- the next of the remaining segments, if there is one
 abbrev pub IsNextSegment : CycleModel → CycleModel → Option Segment → Type 0
 IsNextSegment old new result = MatchOption result ((old.segments ≡ []) × (new ≡ old)) (λ segment. (old.segments ≡ segment ∷ new.segments) × (new.standing ≡ after_segment old.standing segment))
 

@@ -1,5 +1,5 @@
--- What a cycle's words name in machine coordinates, and the lengths that are looked at for their range (NISTIR 6556, 3.5.16,
--- 3.5.17; ranges own).
+-- A cycle's lengths in machine coordinates, and the lengths whose range is checked (NISTIR 6556, 3.5.16, 3.5.17; ranges
+-- own).
 use Rattle.std.specs.Prelude.{ℕ, ℤ, pos, ◌+ℤ◌, ◌-ℤ◌, ◌*ℤ◌, unsigned_abs, Bool, true, false, not, nat_le, if◌then◌else◌, Option, Some, None, List, [], ◌∷◌, ◌++◌, flat_map, Result, Ok, Err}
 use Rattle.std.specs.List.{list_any}
 use Rattle.std.specs.Option.{option_map, option_and_then}
@@ -18,7 +18,7 @@ use Rattle.ng_cycles.specs.Strokes.{numbers_from}
 
 -- ---- machine coordinates
 
--- the places along an axis: under G90 the named one for all repeats, under G91 from the current one on
+-- the holes' coordinates along an axis: under G90 the named one for all repeats, under G91 starting at the current one
 abbrev pub hole_axis_of : Bool → Option ℤ → ℤ → ℤ → HoleAxis
 hole_axis_of incremental None shift at = record { from = at; step = pos 0 }
 hole_axis_of false (Some word) shift at = record { from = word +ℤ shift; step = pos 0 }
@@ -40,7 +40,7 @@ z_by false r (Some word) shift at = Some (word +ℤ shift)
 z_by true None (Some word) shift at = None
 z_by true (Some r) (Some word) shift at = Some ((at +ℤ r) +ℤ word)
 
--- the same of words that may be missing; under G91 Z is none where R is missing
+-- R and Z from words that may be missing; under G91 there is no Z if R is missing
 abbrev pub heights_of : Bool → KeptWords → ℤ → ℤ → Heights
 heights_of incremental words shift at = record { r = option_map (λ r. r_of incremental r shift at) words.r; z = z_by incremental words.r words.z shift at }
 
@@ -51,13 +51,13 @@ optional_lengths_of w words s = record {
   heights = heights_of s.is_incremental words (shift_z s.offsets) s.point.z;
 }
 
--- all of them, where R and Z are there
+-- all lengths, if R and Z are there
 abbrev pub lengths_in : OptionalLengths → Option Lengths
 lengths_in f = option_and_then (λ r. option_map (λ z. record { x = f.x; y = f.y; r = r; z = z }) f.heights.z) f.heights.r
 
--- ---- what is looked at: the current and the new program coordinates where the line needs them, and the machine coordinates
+-- ---- what is checked: the current and the new program coordinates if the line needs them, and the machine coordinates
 
--- a program and a machine coordinate at the place of a repeat
+-- a program and a machine coordinate at the hole of a repeat
 abbrev pub repeated : ℤ → ℤ → ℤ → ℕ → List ℤ
 repeated program machine word r = (program +ℤ pos r *ℤ word) ∷ (machine +ℤ pos r *ℤ word) ∷ []
 
@@ -72,7 +72,7 @@ r_lengths incremental None shift at = []
 r_lengths false (Some word) shift at = (word +ℤ shift) ∷ []
 r_lengths true (Some word) shift at = (at -ℤ shift) ∷ ((at -ℤ shift) +ℤ word) ∷ (at +ℤ word) ∷ []
 
--- under G91 Z is none where R is missing
+-- under G91 there is no Z if R is missing
 abbrev pub z_lengths : Bool → Option ℤ → Option ℤ → ℤ → ℤ → List ℤ
 z_lengths incremental r None shift at = []
 z_lengths false r (Some word) shift at = (word +ℤ shift) ∷ []
@@ -84,7 +84,7 @@ height_lengths words s =
     r_lengths s.is_incremental words.r (shift_z s.offsets) s.point.z
     ++ z_lengths s.is_incremental words.r words.z (shift_z s.offsets) s.point.z
 
--- with the words in force
+-- the lengths with the words in force
 abbrev pub lengths : CycleWords → KeptWords → Setting → List ℤ
 lengths w words s =
     place_lengths s.is_incremental w.x (shift_x s.offsets) s.point.x w.repeats
@@ -95,6 +95,6 @@ lengths w words s =
 abbrev pub is_far : ℤ → Bool
 is_far n = not (nat_le (unsigned_abs n) greatest)
 
--- what there is, unless one of some lengths is beyond the range
+-- a value, unless one of some lengths is out of range
 abbrev pub far_unless : {X : Type 0} → List ℤ → X → Result X Fault
 far_unless lengths x = if list_any is_far lengths then Err OutOfRange else Ok x

@@ -10,21 +10,21 @@ use Rattle.ng_cycles.specs.declared.drill.Drill.{Drill}
 use Rattle.ng_cycles.specs.declared.motion_state.MotionState.{MotionState}
 use Rattle.ng_cycles.specs.Strokes.{Stroke, Across, ToR, TraverseTo, FeedTo, Wait, Turn, coordinate, strokes}
 
--- where the machine stands after a segment, and its outputs there
+-- the machine's position and outputs after a segment
 abbrev pub after_segment : MotionState → Segment → MotionState
 after_segment at (segment.Line line) = record at { point = line.end }
 after_segment at (segment.Arc arc) = record at { point = arc.end }
 after_segment at (segment.Dwell seconds) = at
 after_segment at (segment.Switch outputs) = record at { outputs = outputs }
 
--- the same after some segments
+-- the machine's position and outputs after some segments
 abbrev pub after_segments : MotionState → List Segment → MotionState
 after_segments at segments = fold after_segment at segments
 
 abbrev pub line_to : Pace → Point → Point → Segment
 line_to pace start end = segment.Line (record { start = start; end = end; pace = pace })
 
--- a stroke is one segment, but that to R is none where Z is there
+-- a stroke is one segment; but a stroke to R is no segment if Z is there
 abbrev pub segments_of : Drill → MotionState → Stroke → List Segment
 segments_of d at (Across r) = line_to pace.Traverse at.point (record at.point { x = coordinate d.x r; y = coordinate d.y r }) ∷ []
 segments_of d at ToR = if int_eq at.point.z d.r then [] else line_to pace.Traverse at.point (record at.point { z = d.r }) ∷ []
@@ -44,7 +44,7 @@ begin d = record { point = d.start; outputs = d.outputs }
 abbrev pub cycle_segments : Drill → List Segment
 cycle_segments d = traced d (begin d) (strokes d)
 
--- segments that are left, and how the machine stands before them
+-- the remaining segments, and the machine's position and outputs before them
 pub record CycleModel : Type 0 where
   pub standing : MotionState
   pub segments : List Segment
@@ -52,6 +52,6 @@ pub record CycleModel : Type 0 where
 abbrev pub whole : Drill → CycleModel
 whole d = record { standing = begin d; segments = cycle_segments d }
 
--- the same with so many of them done
+-- the model after the first n of them
 abbrev pub later : ℕ → CycleModel → CycleModel
 later n a = record { standing = after_segments a.standing (take n a.segments); segments = drop n a.segments }

@@ -1,4 +1,4 @@
-//! A canned cycle that nothing forbids, or why it is refused.
+//! A valid canned cycle, or the reason why it is refused.
 ghost use Rattle.std.specs.Prelude.{◌≡◌, ◌≤◌, ◌∷◌, [], pos, int_lt, unwrap_or, IfOk, if◌then◌else◌};
 ghost use Rattle.std.specs.Int.{int_max};
 ghost use Rattle.std.specs.Option.{is_none, option_and_then};
@@ -18,7 +18,7 @@ use ng_num::{Fault, Len, Num};
 use ng_state::KeptWords;
 use std::marker::Model;
 
-/// A canned cycle that nothing forbids.
+/// A valid canned cycle.
 #[derive(Clone, Copy)]
 pub struct Canned {
     drill: Drill,
@@ -37,7 +37,7 @@ impl Model for Canned {
     ghost inverse = { λ d. record { drill = d } };
 }
 
-/// The P in force, 0 where there is none.
+/// The P in force, or 0 if there is none.
 fn seconds_of(p: Option<Num>) -> Result<Num, Fault>
     ensures { result ≡ unless (first_fault ((is_negative p, Fault.NegativeP) ∷ [])) (unwrap_or p (pos 0)) }
 {
@@ -61,7 +61,7 @@ fn pecking(q: Option<Len>) -> Result<Work, Fault>
         Some(q) => match Peck::of(q) {
             None => Err(Fault::BadQ),
             Some(peck) => {
-                // called for its contract: a peck is above 0
+                // Called for its contract: a peck is above 0.
                 let _nm = peck.nm();
                 Ok(Work::PeckDrilling(peck))
             }
@@ -81,7 +81,7 @@ fn boring_with_stop(seconds: Num, spindle: Spindle) -> Result<Work, Fault>
     }
 }
 
-/// What a kind of cycle does, by the words in force.
+/// What a kind of cycle does, given the words in force.
 fn work_of(kind: CycleKind, words: &KeptWords, spindle: Spindle) -> Result<Work, Fault>
     ensures work { result ≡ unless (first_fault (work_causes kind words.now spindle)) (work_of kind words.now) }
     ensures deep { IfOk result IsDeep }
@@ -119,7 +119,7 @@ impl CycleWords {
     }
 }
 
-/// The cycle of a line that has its words; Y4 to Y8 and X1.
+/// The cycle of a line that has its words. Checks Y4 to Y8 and X1.
 fn drill_in(
     words: &CycleWords,
     in_force: &KeptWords,
@@ -163,8 +163,8 @@ impl Canned {
     ghost use Rattle.ng_cycles.specs.Canned.{IsCanned};
     ghost use Rattle.ng_cycles.specs.Faults.{canned_of};
 
-    /// The cycle of a line, or the first fault that holds of it: E3 where a length that it computes is beyond the range, Y1 to Y8,
-    /// X1, X2. Places and pecks aren't walked, however many they are.
+    /// The cycle of a line, or its first fault: E3 if a length that is computed is out of range, Y1 to Y8, X1, X2.
+    /// Neither holes nor pecks are walked, however many there are.
     pub fn of(words: &CycleWords, setting: &Setting, geometry: &Geometry) -> Result<Canned, Fault>
         requires { 1 ≤ words.now.repeats }
         ensures { result ≡ canned_of words.now setting.now geometry.now }

@@ -6,7 +6,7 @@ use crate::canned::Canned;
 use crate::drill::Drill;
 
 impl Drill {
-    /// How many segments lead to its first hole.
+    /// How many segments come before its first hole.
     pub(crate) fn lead_length(&self) -> u64
         ensures value { result ≡ lead_length self.now }
         ensures few { result ≤ 3 }
@@ -21,7 +21,7 @@ impl Drill {
     }
 }
 
-/// A number of segments, taken so many times.
+/// A number of segments, times a count.
 fn times(count: u32, length: u64) -> u128
     ensures value { result ≡ count * length }
     ensures few { result ≤ 2 ^ 96 }
@@ -32,7 +32,7 @@ fn times(count: u32, length: u64) -> u128
 impl Canned {
     ghost use Rattle.ng_cycles.specs.Segments.{cycle_segments};
 
-    /// How many segments it has. They aren't walked.
+    /// The number of segments. They aren't walked.
     pub fn count(&self) -> u128
         ensures { result ≡ length (cycle_segments self.now) }
     {

@@ -9,7 +9,8 @@ use ng_canon::{Geometry, Segment};
 use ng_num::Fault;
 use std::marker::Model;
 
-/// The segments that are left of a canned cycle, and how the machine stands before them. None of them is stored.
+/// The segments of a canned cycle that are left, and the machine's position and outputs before them. The segments
+/// aren't stored.
 #[derive(Drop)]
 pub struct Cycle {
     left: CycleLeft,
@@ -42,7 +43,7 @@ impl Cycle {
         }
     }
 
-    /// All segments of the cycle of a line, or the first fault that holds of it, as `Canned::of`.
+    /// All segments of the cycle of a line, or its first fault, as in `Canned::of`.
     pub fn new(words: &CycleWords, setting: &Setting, geometry: &Geometry) -> Result<Cycle, Fault>
         requires { 1 ≤ words.now.repeats }
         ensures { result ≡ and_then (canned_of words.now setting.now geometry.now) (λ drill. Ok (whole drill)) }
@@ -53,8 +54,8 @@ impl Cycle {
         }
     }
 
-    /// A cycle before its segment n, from 0, or after its last one. The segments before aren't walked: whole repeats and whole
-    /// pecks are passed at once.
+    /// A cycle before its segment n, counted from 0, or after its last one. The segments before aren't walked: whole
+    /// repeats and whole pecks are skipped at once.
     pub fn from(canned: &Canned, n: u64) -> Cycle
         ensures { result ≡ later n (whole canned.now) }
     {
@@ -70,7 +71,7 @@ impl Cycle {
         self.left.next()
     }
 
-    /// How the machine stands before the next segment: where that begins, and the outputs before it.
+    /// The machine's position and outputs before the next segment.
     pub fn standing(&self) -> MotionState
         ensures { result ≡ self.now.standing }
     {

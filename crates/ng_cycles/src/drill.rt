@@ -3,7 +3,7 @@ use crate::peck::Peck;
 use ng_canon::{Outputs, Rate};
 use ng_num::{Len, Num, Point};
 
-/// What a cycle does at each of its places (NISTIR 6556, 3.5.16.2 to 3.5.16.10). Dwells are in seconds.
+/// What a cycle does at each of its holes (NISTIR 6556, 3.5.16.2 to 3.5.16.10). Dwells are in seconds.
 #[derive(Clone, Copy)]
 pub enum Work {
     /// G81.
@@ -14,13 +14,13 @@ pub enum Work {
     PeckDrilling(Peck),
     /// G85.
     Boring,
-    /// G86: the spindle stands still on the way out.
+    /// G86: the spindle is stopped on the way out.
     BoringWithStop(Num),
     /// G89.
     BoringWithDwell(Num),
 }
 
-/// An axis's coordinates at the places of a cycle: where they count from, and what is added for each repeat (NISTIR 6556,
+/// An axis's coordinates at the holes of a cycle: where they start, and what is added for each repeat (NISTIR 6556,
 /// 3.5.16).
 #[derive(Clone, Copy)]
 pub struct HoleAxis {
@@ -32,7 +32,7 @@ pub struct HoleAxis {
 #[derive(Clone, Copy)]
 pub struct Drill {
     pub work: Work,
-    /// Where the machine stands before it.
+    /// The machine's position before it.
     pub start: Point,
     pub x: HoleAxis,
     pub y: HoleAxis,
@@ -43,6 +43,6 @@ pub struct Drill {
     /// At least 1.
     pub repeats: u32,
     pub rate: Rate,
-    /// The outputs before it, and after it.
+    /// The outputs before the cycle, and after it.
     pub outputs: Outputs,
 }

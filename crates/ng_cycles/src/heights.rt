@@ -1,4 +1,4 @@
-//! A cycle's lengths in machine coordinates. E3 where one of them is beyond the range.
+//! A cycle's lengths in machine coordinates. E3 if one of them is out of range.
 ghost use Rattle.std.specs.Prelude.{◌≡◌, ◌≤◌, ◌+ℤ◌, ◌-ℤ◌, ◌*ℤ◌, ◌||◌, ◌++◌, pos, true, false, flat_map, IfOk};
 ghost use Rattle.std.specs.List.{list_any};
 ghost use Rattle.ng_num.specs.Range.{IsCount};
@@ -13,14 +13,14 @@ use ng_num::{Fault, Len};
 use ng_offsets::Shift;
 use ng_state::KeptWords;
 
-/// R and Z in machine coordinates, where their words are there. Under G91 Z is none where R is missing.
+/// R and Z in machine coordinates, if their words are there. Under G91 Z is `None` if R is missing.
 #[derive(Clone, Copy)]
 pub struct Heights {
     pub r: Option<Len>,
     pub z: Option<Len>,
 }
 
-/// What a cycle's words name in machine coordinates, where R and Z may be missing.
+/// A cycle's lengths in machine coordinates; R and Z may be missing.
 #[derive(Clone, Copy)]
 pub struct OptionalLengths {
     pub x: HoleAxis,
@@ -28,7 +28,7 @@ pub struct OptionalLengths {
     pub heights: Heights,
 }
 
-/// What a cycle's words name in machine coordinates.
+/// A cycle's lengths in machine coordinates.
 #[derive(Clone, Copy)]
 pub struct Lengths {
     pub x: HoleAxis,
@@ -37,7 +37,7 @@ pub struct Lengths {
     pub z: Len,
 }
 
-/// Whether a coordinate with a length added so many times is beyond the range of lengths.
+/// Whether a coordinate, with a length added for each repeat, is out of the range of lengths.
 fn is_far(coordinate: Len, repeats: u32, length: Len) -> bool
     ensures { result ≡ is_far (coordinate +ℤ pos repeats *ℤ length) }
 {
@@ -51,18 +51,18 @@ fn is_either(one: bool, other: bool) -> bool
     one || other
 }
 
-/// Whether the coordinates at some place are beyond the range: then those at the last one are.
+/// Whether the coordinates at any hole are out of range. If so, those at the last one are.
 fn reaches_far(current: Len, at: Len, word: Len, repeats: u32) -> bool
     requires { 1 ≤ repeats }
     ensures far { result ≡ list_any is_far (flat_map (repeated current at word) (numbers_from 1 repeats)) }
     ensures last { result ≡ false → IsCount (at +ℤ pos repeats *ℤ word) }
 {
-    // called for their contract: the lengths are in range
+    // Called for their contract: the lengths are in range.
     let _range = (current.nm(), at.nm());
     is_either(is_far(current, repeats, word), is_far(at, repeats, word))
 }
 
-/// The places along an axis from the current coordinate on.
+/// The holes' coordinates along an axis, starting at the current coordinate.
 fn stepping(word: Len, shift: Shift, at: Len, repeats: u32) -> Result<HoleAxis, Fault>
     requires { 1 ≤ repeats }
     ensures hole_axis { result ≡ far_unless (place_lengths true (Some word) shift at repeats) (hole_axis_of true (Some word) shift at) }
@@ -78,7 +78,7 @@ fn stepping(word: Len, shift: Shift, at: Len, repeats: u32) -> Result<HoleAxis, 
     })
 }
 
-/// The places along an axis.
+/// The holes' coordinates along an axis.
 pub fn hole_axis_of(
     is_incremental: bool,
     word: Option<Len>,
@@ -92,7 +92,7 @@ pub fn hole_axis_of(
 {
     match word {
         None => {
-            // called for its contract: the length is in range
+            // Called for its contract: the length is in range.
             let _range = at.nm();
             Ok(HoleAxis {
                 from: at,
@@ -103,7 +103,7 @@ pub fn hole_axis_of(
             stepping(word, shift, at, repeats)
         } else {
             let from = shift.to_machine(word)?;
-            // called for its contract: the length is in range
+            // Called for its contract: the length is in range.
             let _range = from.nm();
             Ok(HoleAxis {
                 from,
@@ -113,7 +113,7 @@ pub fn hole_axis_of(
     }
 }
 
-/// R of a word.
+/// R, from its word.
 fn r_of(is_incremental: bool, word: Len, shift: Shift, at: Len) -> Result<Len, Fault>
     ensures { result ≡ far_unless (r_lengths is_incremental (Some word) shift at) (r_of is_incremental word shift at) }
 {
@@ -126,7 +126,7 @@ fn r_of(is_incremental: bool, word: Len, shift: Shift, at: Len) -> Result<Len, F
     }
 }
 
-/// Z of a word that counts from R.
+/// Z, from a word that counts from R.
 fn z_from(r: Len, word: Len, shift: Shift, at: Len) -> Result<Len, Fault>
     requires current { IsCount (at -ℤ shift) }
     requires r { IsCount ((at -ℤ shift) +ℤ r) }
@@ -183,7 +183,7 @@ pub fn heights_of(words: &KeptWords, setting: &Setting) -> Result<Heights, Fault
 }
 
 impl OptionalLengths {
-    /// All of them, where R and Z are there.
+    /// All lengths, if R and Z are there.
     pub fn lengths(&self) -> Option<Lengths>
         ensures { result ≡ lengths_in self.now }
     {

@@ -1,4 +1,4 @@
-//! The places of a cycle, and its bottoms.
+//! The holes of a cycle, and their bottoms.
 ghost use Rattle.std.specs.Prelude.{◌≡◌, ◌≤◌, ◌<◌, ◌*◌, ◌^◌, ◌+ℤ◌, ◌*ℤ◌, pos, unsigned_abs};
 ghost use Rattle.std.specs.Int.{int_min};
 ghost use Rattle.ng_num.specs.Range.{IsCount};
@@ -18,7 +18,7 @@ fn length_of(nm: i128) -> Len
     Len::of_nm(nm).unwrap()
 }
 
-/// A length so many times.
+/// A length times a count.
 pub(crate) fn times(count: u32, length: Len) -> i128
     ensures value { result ≡ pos count *ℤ length }
     ensures small { unsigned_abs result < 2 ^ 100 }
@@ -26,7 +26,7 @@ pub(crate) fn times(count: u32, length: Len) -> i128
     count as i128 * length.nm() as i128
 }
 
-/// So many pecks.
+/// The depth of a number of pecks.
 fn depth_of(count: u64, peck: Peck) -> i128
     ensures value { result ≡ pos (count * peck) }
     ensures small { count * peck < 2 ^ 110 }
@@ -35,7 +35,7 @@ fn depth_of(count: u64, peck: Peck) -> i128
 }
 
 impl HoleAxis {
-    /// The coordinate at the place of a repeat. Where that of the last one is in range, so are all before it.
+    /// The coordinate at the hole of a repeat. If that of the last repeat is in range, so are all before it.
     #[tactic(auto, using(crate::proofs::Between::between))]
     pub(crate) fn coordinate(&self, repeat: u32, repeats: u32) -> Len
         requires before { repeat ≤ repeats }
@@ -55,7 +55,7 @@ impl Drill {
         length_of((self.z.nm() as i128).max(below))
     }
 
-    /// How many pecks go from R to Z.
+    /// How many pecks it takes from R to Z.
     pub(crate) fn pecks(&self, peck: Peck) -> u64
         ensures value { result ≡ pecks self.now peck }
         ensures few { result < 40_000_000_000_000 }
@@ -64,7 +64,7 @@ impl Drill {
         ((depth + (peck.nm() - 1)) / peck.nm()).max(1)
     }
 
-    /// A little above the bottom of a peck, but not above R.
+    /// A hundredth of an inch above the bottom of a peck, but at most R.
     pub(crate) fn above_bottom(&self, peck: Peck, number: u64) -> Len
         ensures { result ≡ int_min self.now.r (bottom self.now peck number +ℤ clearance) }
     {
@@ -74,7 +74,7 @@ impl Drill {
 }
 
 impl Canned {
-    /// The place of a repeat, at a height.
+    /// The hole of a repeat, at a height.
     pub(crate) fn hole_at(&self, repeat: u32, z: Len) -> Point
         requires { repeat ≤ self.now.repeats }
         ensures { result ≡ record { x = coordinate self.now.x repeat; y = coordinate self.now.y repeat; z = z } }
@@ -101,7 +101,7 @@ impl Canned {
         self.drill().clear
     }
 
-    /// How the spindle turns before it.
+    /// The spindle's state before the cycle.
     pub(crate) fn spindle(&self) -> Spindle
         ensures { result ≡ self.now.outputs.spindle }
     {

@@ -1,4 +1,4 @@
-//! Whether a cycle stays within the travel, by its extreme coordinates.
+//! Whether a cycle stays within the travel, decided by its extreme coordinates.
 ghost use Rattle.std.specs.Prelude.{◌≡◌, ◌≤◌};
 ghost use Rattle.ng_num.specs.Range.{IsCount};
 ghost use Rattle.ng_cycles.specs.Canned.{IsMade};
@@ -12,7 +12,7 @@ impl HoleAxis {
     ghost use Rattle.ng_canon.specs.Inside.{is_on};
     ghost use Rattle.ng_cycles.specs.Strokes.{coordinate};
 
-    /// Whether its first and its last coordinate lie on an axis.
+    /// Whether its first and its last coordinate are on an axis.
     fn lies_on(&self, axis: &Axis, repeats: u32) -> bool
         requires some { 1 ≤ repeats }
         requires last { IsCount (coordinate self.now repeats) }
@@ -28,7 +28,7 @@ impl Drill {
     ghost use Rattle.ng_cycles.specs.Faults.{leaves_travel};
     ghost use Rattle.ng_cycles.specs.Inside.{top_of, rises_inside, extremes_inside};
 
-    /// The highest end of a move: where the first move across goes.
+    /// The highest end of a move: the height of the first move in X and Y.
     fn top(&self) -> Len
         ensures { result ≡ top_of self.now }
     {
@@ -39,7 +39,7 @@ impl Drill {
         }
     }
 
-    /// Whether its first traverse, if it has one, ends within the travel across.
+    /// Whether its first traverse, if it has one, ends within the travel in X and Y.
     fn rises_inside(&self, geometry: &Geometry) -> bool
         ensures { result ≡ rises_inside geometry.now self.now }
     {
@@ -47,7 +47,7 @@ impl Drill {
             || (geometry.x.contains(self.start.x) && geometry.y.contains(self.start.y))
     }
 
-    /// Whether the extreme coordinates lie within the travel.
+    /// Whether the extreme coordinates are within the travel.
     fn extremes_inside(&self, geometry: &Geometry) -> bool
         requires { IsMade self.now }
         ensures { result ≡ extremes_inside geometry.now self.now }
@@ -59,7 +59,7 @@ impl Drill {
             && self.rises_inside(geometry)
     }
 
-    /// Whether a move ends outside the travel. Nothing is walked: the extreme coordinates decide it.
+    /// Whether a move ends outside the travel. Nothing is walked: the extreme coordinates decide.
     pub fn leaves_travel(&self, geometry: &Geometry) -> bool
         requires { IsMade self.now }
         ensures leaves { result ≡ leaves_travel geometry.now self.now }

@@ -1,4 +1,4 @@
-//! What is left of a cycle: a repeat and a phase of it.
+//! The remaining part of a cycle: a repeat and a phase of it.
 ghost use Rattle.std.specs.Prelude.{◌≡◌, ◌∷◌, [], ◌+◌, ◌<◌, ◌++◌, if◌then◌else◌};
 ghost use Rattle.std.specs.Ordering.{int_eq};
 ghost use Rattle.ng_canon.specs.declared.pace.Pace.TheVariants as pace;
@@ -15,18 +15,18 @@ use crate::phase::{Pecking, Phase};
 use ng_canon::{Pace, Segment, Spindle};
 use ng_num::{Len, Num};
 
-/// What is left of a cycle.
+/// The remaining part of a cycle.
 #[derive(Clone, Copy)]
 pub struct CycleLeft {
     pub canned: Canned,
     pub standing: MotionState,
-    /// The repeats that have begun.
+    /// How many repeats have begun.
     pub begun: u32,
     pub repeats_left: u32,
     pub phase: Phase,
 }
 
-/// What comes after so many pecks, where so many are left.
+/// What comes after a peck, given how many pecks are done and how many are left.
 fn phase_after_peck(peck: Peck, done: u64, left: u64) -> Phase
     requires { done + left < 40_000_000_000_000 }
     ensures { (d : Drill) → strokes_in d result ≡ pecks_after d peck done left }
@@ -48,7 +48,7 @@ fn dwell_in(seconds: Num) -> Segment
     Segment::Dwell(seconds)
 }
 
-/// How long a cycle waits at the bottom.
+/// How long a cycle dwells at the bottom.
 fn seconds_of(work: Work) -> Num
     ensures { result ≡ seconds_of work }
 {
@@ -72,7 +72,7 @@ fn way_out(work: Work) -> Phase
 }
 
 impl Canned {
-    /// What comes at a place, at a height.
+    /// What comes at a hole, at a height.
     fn at_place(&self, z: Len) -> Phase
         ensures { strokes_in self.now result ≡ (if int_eq z self.now.r then [] else TraverseTo self.now.r ∷ []) ++ strokes_of self.now self.now.work }
     {
@@ -84,7 +84,7 @@ impl Canned {
     }
 }
 
-/// A cycle before all of it.
+/// A whole cycle, before its first segment.
 pub fn cycle_left(canned: &Canned) -> CycleLeft
     ensures ahead { ahead_of result ≡ whole canned.now }
     ensures count { result.begun + result.repeats_left ≡ result.canned.repeats }
@@ -109,7 +109,7 @@ pub fn cycle_left(canned: &Canned) -> CycleLeft
 }
 
 impl CycleLeft {
-    /// Traverses in Z.
+    /// A traverse in Z.
     fn traverse(&mut self, z: Len, next: Phase) -> Segment
         ensures segment { result ≡ line_to pace.Traverse self.old.standing.point (record self.old.standing.point { z = z }) }
         ensures left { self.new ≡ record self.old { standing = after_segment self.old.standing result; phase = next } }
@@ -119,7 +119,7 @@ impl CycleLeft {
         self.standing.move_to(end, Pace::Traverse)
     }
 
-    /// Feeds in Z.
+    /// A feed in Z.
     fn feed(&mut self, z: Len, next: Phase) -> Segment
         ensures segment { result ≡ line_to (pace.Feed self.old.canned.rate) self.old.standing.point (record self.old.standing.point { z = z }) }
         ensures left { self.new ≡ record self.old { standing = after_segment self.old.standing result; phase = next } }
@@ -130,7 +130,7 @@ impl CycleLeft {
         self.standing.move_to(end, Pace::Feed(rate))
     }
 
-    /// Turns the spindle.
+    /// A switch of the spindle.
     fn turn(&mut self, spindle: Spindle, next: Phase) -> Segment
         ensures segment { result ≡ Segment.Switch (record self.old.canned.outputs { spindle = spindle }) }
         ensures left { self.new ≡ record self.old { standing = after_segment self.old.standing result; phase = next } }
@@ -140,7 +140,7 @@ impl CycleLeft {
         self.standing.turn(spindle, outputs)
     }
 
-    /// Moves to the place of the next repeat, if there is one.
+    /// A move to the hole of the next repeat, if there is one.
     fn across(&mut self) -> Option<Segment>
         requires phase { self.old.phase ≡ Phase.Across }
         requires count { self.old.begun + self.old.repeats_left ≡ self.old.canned.repeats }
@@ -178,7 +178,7 @@ impl CycleLeft {
         }
     }
 
-    /// Waits at the bottom.
+    /// A dwell at the bottom.
     fn dwell(&mut self) -> Segment
         requires { self.old.phase ≡ Phase.Dwell }
         ensures { NextSegmentSpec self.old self.new result }
@@ -188,7 +188,7 @@ impl CycleLeft {
         dwell_in(seconds)
     }
 
-    /// On to the bottom of the next peck.
+    /// A feed to the bottom of the next peck.
     fn peck(&mut self, pecking: Pecking) -> Segment
         requires { self.old.phase ≡ Phase.PeckDown pecking }
         ensures { NextSegmentSpec self.old self.new result }

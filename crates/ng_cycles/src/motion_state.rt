@@ -1,11 +1,11 @@
-//! Where the machine stands, and the segments that take it on.
+//! The machine's position and outputs, and the segments that change them.
 ghost use Rattle.std.specs.Prelude.{◌≡◌};
 ghost use Rattle.ng_cycles.specs.Segments.{after_segment, line_to};
 
 use ng_canon::{Outputs, Pace, Segment, Spindle, StraightMove};
 use ng_num::{Len, Point};
 
-/// Where the machine stands, and its outputs.
+/// The machine's position and outputs.
 #[derive(Clone, Copy)]
 pub struct MotionState {
     pub point: Point,
@@ -26,7 +26,7 @@ fn switch(outputs: Outputs) -> Segment
     Segment::Switch(outputs)
 }
 
-/// Outputs with the spindle turning so.
+/// Outputs with another state of the spindle.
 fn turning(outputs: Outputs, spindle: Spindle) -> Outputs
     ensures { result ≡ record outputs { spindle = spindle } }
 {
@@ -51,7 +51,7 @@ impl MotionState {
         line(start, self.point, pace)
     }
 
-    /// The point above or below it.
+    /// The point above or below the machine's position, at a height.
     pub(crate) fn at_height(&self, z: Len) -> Point
         ensures { result ≡ record self.now.point { z = z } }
     {
@@ -62,7 +62,7 @@ impl MotionState {
         }
     }
 
-    /// Turns the spindle so.
+    /// Switches the spindle.
     pub(crate) fn turn(&mut self, spindle: Spindle, outputs: Outputs) -> Segment
         ensures segment { result ≡ Segment.Switch (record outputs { spindle = spindle }) }
         ensures standing { self.new ≡ after_segment self.old result }

@@ -1,7 +1,7 @@
 use ng_num::Len;
 use std::marker::Model;
 
-/// How deep a peck of G83 goes: 1 to 9,999,999,999,999 nm (NISTIR 6556, 3.5.16.4).
+/// The depth of one peck of G83: 1 to 9,999,999,999,999 nm (NISTIR 6556, 3.5.16.4).
 #[derive(Clone, Copy)]
 pub struct Peck {
     nm: u64,
@@ -25,7 +25,7 @@ impl Peck {
     ghost use Rattle.ng_num.specs.Range.{greatest};
     ghost use Rattle.ng_canon.specs.Rates.{above_zero};
 
-    /// That of a length; none where the length isn't above 0.
+    /// The peck of a length. `None` if the length isn't above 0.
     pub fn of(length: Len) -> Option<Peck>
         ensures { result ≡ above_zero length }
     {

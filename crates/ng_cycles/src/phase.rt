@@ -2,7 +2,7 @@ ghost use Rattle.std.specs.Prelude.{◌+◌, ◌<◌};
 
 use crate::peck::Peck;
 
-/// How far a repeat of G83 has come.
+/// How far a repeat of G83 has got.
 #[derive(Clone, Copy)]
 pub struct Pecking {
     pub peck: Peck,
@@ -16,15 +16,15 @@ pub struct Pecking {
 /// What comes next.
 #[derive(Clone, Copy)]
 pub enum Phase {
-    /// To R, before all repeats.
+    /// Up to R, before all repeats.
     Rise,
-    /// To the place of the next repeat, if there is one.
+    /// To the hole of the next repeat, if there is one.
     Across,
     ToR,
     Down,
     Dwell,
     Stop,
-    /// Out with the spindle stopped.
+    /// Out of the hole with the spindle stopped.
     OutStopped,
     Start,
     Out,

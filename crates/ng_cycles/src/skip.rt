@@ -1,4 +1,4 @@
-//! Whole repeats and whole pecks are passed without being walked.
+//! Skipping whole repeats and whole pecks without walking them.
 ghost use Rattle.std.specs.Prelude.{◌≡◌, ◌≤◌, ◌<◌, ◌+◌, ◌*◌, ◌^◌, true};
 ghost use Rattle.ng_cycles.specs.Segments.{later};
 ghost use Rattle.ng_cycles.specs.Left.{ahead_of, work_length, repeat_length};
@@ -9,7 +9,7 @@ use crate::left::CycleLeft;
 use crate::phase::{Pecking, Phase};
 use ng_num::Point;
 
-/// Whole lengths in a number, at most so many, and what is left of it.
+/// How often a length fits into a number, at most `most` times, and the remainder.
 #[tactic(auto, using(crate::proofs::Skips::parts_fit))]
 fn parts(n: u64, length: u64, most: u64) -> (u64, u64)
     requires { 1 ≤ length }
@@ -21,7 +21,7 @@ fn parts(n: u64, length: u64, most: u64) -> (u64, u64)
 }
 
 impl Drill {
-    /// How many segments it has at a place, from R on.
+    /// How many segments there are at a hole, from R on.
     pub(crate) fn work_length(&self) -> u64
         ensures value { result ≡ work_length self.now self.now.work }
         ensures few { result < 2 ^ 60 }
@@ -36,7 +36,7 @@ impl Drill {
         }
     }
 
-    /// How many segments a repeat has that begins where repeats end.
+    /// How many segments a repeat has that begins at the height at which repeats end.
     pub(crate) fn repeat_length(&self) -> u64
         ensures value { result ≡ repeat_length self.now }
         ensures some { 1 ≤ result }
@@ -49,7 +49,7 @@ impl Drill {
 impl Canned {
     ghost use Rattle.ng_cycles.specs.Segments.{begin, after_segments, cycle_segments};
 
-    /// Where the machine stands after all of it; its outputs are then those before it.
+    /// The machine's position after the cycle. Its outputs are then those before the cycle.
     pub fn end(&self) -> Point
         ensures { after_segments (begin self.now) (cycle_segments self.now) ≡ record { point = result; outputs = self.now.outputs } }
     {
@@ -59,7 +59,7 @@ impl Canned {
 }
 
 impl CycleLeft {
-    /// Whether it stands where repeats end.
+    /// Whether the machine is at the height at which repeats end.
     fn stands_clear(&self) -> bool
         ensures { result ≡ true → (self.now.standing.point.z ≡ self.now.canned.clear) × (self.now.standing.outputs ≡ self.now.canned.outputs) }
     {
@@ -67,7 +67,7 @@ impl CycleLeft {
         self.standing.point.z.nm() == drill.clear.nm() && self.standing.outputs == drill.outputs
     }
 
-    /// Passes whole repeats, as far as so many segments go; gives how many are left to pass.
+    /// Skips as many whole repeats as `n` segments cover. Returns how many segments are left to skip.
     fn pass_repeats(&mut self, n: u64) -> u64
         requires count { self.old.begun + self.old.repeats_left ≡ self.old.canned.repeats }
         requires phase { self.old.phase ≡ Phase.Across }
@@ -91,7 +91,7 @@ impl CycleLeft {
         rest
     }
 
-    /// Passes whole pecks, as far as so many segments go; gives how many are left to pass.
+    /// Skips as many whole pecks as `n` segments cover. Returns how many segments are left to skip.
     fn pass_pecks(&mut self, pecking: Pecking, n: u64) -> u64
         requires { self.old.phase ≡ Phase.PeckOut pecking }
         ensures later { later result (ahead_of self.new) ≡ later n (ahead_of self.old) }
@@ -115,7 +115,7 @@ impl CycleLeft {
         rest
     }
 
-    /// Passes whole repeats or pecks where it stands before some.
+    /// Skips whole repeats or whole pecks, if it is at the beginning of one.
     fn pass_whole(&mut self, n: u64) -> u64
         requires { self.old.begun + self.old.repeats_left ≡ self.old.canned.repeats }
         ensures later { later result (ahead_of self.new) ≡ later n (ahead_of self.old) }
@@ -134,7 +134,7 @@ impl CycleLeft {
         }
     }
 
-    /// Passes some of so many segments; gives how many are left to pass.
+    /// Skips at least one of `n` segments. Returns how many are left to skip.
     fn pass(&mut self, n: u64) -> u64
         requires some { 0 < n }
         requires count { self.old.begun + self.old.repeats_left ≡ self.old.canned.repeats }
@@ -153,7 +153,7 @@ impl CycleLeft {
         }
     }
 
-    /// Passes so many segments.
+    /// Skips `n` segments.
     pub fn advance(&mut self, n: u64)
         requires { self.old.begun + self.old.repeats_left ≡ self.old.canned.repeats }
         ensures later { ahead_of self.new ≡ later n (ahead_of self.old) }

@@ -1,4 +1,4 @@
-//! How the machine stands after some segments of a cycle, however it stood before it.
+//! The machine's position and outputs after some segments of a cycle, from any position and outputs before it.
 ghost use Rattle.std.specs.Prelude.{◌≡◌, ◌≤◌, take};
 ghost use Rattle.ng_cycles.specs.Counts.{has_switch, stops};
 
@@ -7,7 +7,7 @@ use crate::cycle::Cycle;
 use crate::drill::{Drill, Work};
 use crate::motion_state::MotionState;
 
-/// Whether it stops the spindle at the bottom.
+/// Whether a kind of cycle stops the spindle at the bottom.
 fn stops(work: Work) -> bool
     ensures { result ≡ stops work }
 {
@@ -21,7 +21,7 @@ fn stops(work: Work) -> bool
 impl Drill {
     ghost use Rattle.ng_cycles.specs.Segments.{cycle_segments};
 
-    /// Whether one of so many of its first segments switches: only G86 does, after its first dwell.
+    /// Whether one of its first `n` segments is a switch. Only G86 has one, after its first dwell.
     fn has_switched(&self, n: u64) -> bool
         requires { 1 ≤ self.now.repeats }
         ensures { result ≡ has_switch (take n (cycle_segments self.now)) }
@@ -36,8 +36,8 @@ impl Drill {
 impl Canned {
     ghost use Rattle.ng_cycles.specs.Segments.{after_segments, cycle_segments};
 
-    /// How the machine stands after so many of its segments, or after them all, from how it stood before them. They aren't
-    /// walked.
+    /// The machine's position and outputs after the first `n` segments, or after all of them, given those before the
+    /// cycle. The segments aren't walked.
     pub fn motion_state_after(&self, before: MotionState, n: u64) -> MotionState
         ensures { result ≡ after_segments before (take n (cycle_segments self.now)) }
     {

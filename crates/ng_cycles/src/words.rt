@@ -1,4 +1,4 @@
-//! What a line asks of a canned cycle, and what it meets.
+//! What a line asks of a canned cycle, and the state in which the cycle is executed.
 
 use ng_canon::{Feed, Outputs};
 use ng_num::{Len, Point};
@@ -22,7 +22,7 @@ pub enum CycleKind {
     BoringWithDwell,
 }
 
-/// What a line asks of a canned cycle. Lengths are as its words wrote them.
+/// What a line asks of a canned cycle. Lengths are as the words wrote them.
 #[derive(Clone, Copy)]
 pub struct CycleWords {
     pub kind: CycleKind,
@@ -34,20 +34,20 @@ pub struct CycleWords {
     pub repeats: u32,
 }
 
-/// What a cycle's line meets: the modes, offsets and outputs after its other words.
+/// The state in which a line's cycle is executed: the modes, offsets and outputs after its other words.
 #[derive(Clone, Copy)]
 pub struct Setting {
     /// The machine point.
     pub point: Point,
     pub offsets: Offsets,
-    /// G91: words count from the current point, Z from R, and the places go on from repeat to repeat.
+    /// G91: words count from the current point, Z from R, and the holes go on from repeat to repeat.
     pub is_incremental: bool,
-    /// G98: each repeat ends at the old Z where that is above R.
+    /// G98: each repeat ends at the old Z if that is above R.
     pub keeps_old_z: bool,
     /// G93.
     pub is_inverse_time: bool,
     pub feed_per_min: Feed,
     pub outputs: Outputs,
-    /// The words that the same cycle keeps; none where the motion mode was another.
+    /// The words that the same cycle keeps. There are none if the motion mode was another.
     pub kept: KeptWords,
 }

@@ -20,7 +20,7 @@ step_at : (a b : Settled) (first others : Result Settled Fault) → followed_if_
 step_at a b (Ok f) others e = followed_if_ok_twice a f others ∙ ap (λ (s : Settled). followed_if_ok s others) (cc)
 step_at a b (Err f) others e = absurd (cc)
 
--- one piece more
+-- one more piece
 pub settled_step : (table : List ℤ) (a b : Settled) (p : Piece) (all pieces : List Piece) (whole : Result Settled Fault) → all ≡ p ∷ pieces
     → followed_if_ok a (given table p) ≡ Ok b → followed_if_ok a (settled_pieces all table) ≡ whole → followed_if_ok b (settled_pieces pieces table) ≡ whole
 settled_step table a b p all pieces whole is e walk =

@@ -11,7 +11,7 @@ use Rattle.ng_num.specs.Results.{and_then}
 use Rattle.ng_expr.specs.Value.{written, parameter_value, apply, join, value}
 use Rattle.ng_expr.specs.Walk.{onto, after_node, after_nodes}
 
--- what goes on with a value put on top goes on with the value
+-- going on after a value was pushed is going on with the value
 go_on : (found : List ℤ) (r : Result ℤ Fault) (g : List ℤ → Result (List ℤ) Fault) → and_then (onto found r) g ≡ and_then r (λ z. g (z ∷ found))
 go_on found (Ok z) g = refl
 go_on found (Err e) g = refl
@@ -27,7 +27,8 @@ go_on_two : (found : List ℤ) (x y : Result ℤ Fault) (f : ℤ → ℤ → Res
 go_on_two found (Ok a) y f g k h = h a ∙ go_on_one found y (f a) g
 go_on_two found (Err e) y f g k h = refl
 
--- a tree's nodes put its value on top of what was found, by induction on the tree: its parts first, then what joins them
+-- a tree's nodes put its value on top of what was found, by induction on the tree: its parts first, then what joins
+-- them
 pub walk_postfix : (table : List ℤ) (t : Tree) (found : List ℤ) (more : List Node)
     → after_nodes table (postfix t ++ more) found ≡ and_then (value t table) (λ z. after_nodes table more (z ∷ found))
 walk_postfix table (number v) found more = go_on found (written v) (λ x. after_nodes table more x)
@@ -69,20 +70,20 @@ walked_nowhere : (r : Result ℤ Fault) → and_then r (λ x. Ok (x ∷ [])) ≡
 walked_nowhere (Ok x) e = cc
 walked_nowhere (Err f) e = cc
 
--- what the walk ends with
+-- the result of the walk
 pub walk_ok : (table : List ℤ) (nodes : List Node) (z : ℤ) (rest : List ℤ) → IsTree nodes → after_nodes table nodes [] ≡ Ok (z ∷ rest) → Ok z ≡ value (tree_by nodes) table
 walk_ok table nodes z rest h e = walked_to (value (tree_by nodes) table) z rest (sym (walk_tree table nodes h) ∙ e)
 
 pub walk_err : (table : List ℤ) (nodes : List Node) (fault : Fault) → IsTree nodes → after_nodes table nodes [] ≡ Err fault → Err fault ≡ value (tree_by nodes) table
 walk_err table nodes fault h e = walked_out (value (tree_by nodes) table) fault (sym (walk_tree table nodes h) ∙ e)
 
--- it never ends with nothing found
+-- the walk never ends with nothing found
 pub walk_some : (table : List ℤ) (nodes : List Node) → IsTree nodes → after_nodes table nodes [] ≡ Ok [] → ⊥
 walk_some table nodes h e = walked_nowhere (value (tree_by nodes) table) (sym (walk_tree table nodes h) ∙ e)
 
 -- ---- the loop
 
--- a node that stops the walk stops the whole
+-- a node that stops the walk stops the whole walk
 pub stopped : (table : List ℤ) (nodes : List Node) (i : ℕ) (found : List ℤ) (n : Node) (fault : Fault) → IsTree nodes → i < length nodes → n ≡ get_or nodes i n
     → after_nodes table (drop i nodes) found ≡ after_nodes table nodes [] → after_node table n found ≡ Err fault → Err fault ≡ value (tree_by nodes) table
 stopped table nodes i found n fault tree within is walk e =
@@ -96,7 +97,7 @@ all_walked : (table : List ℤ) (nodes : List Node) (i : ℕ) (found : List ℤ)
     → after_nodes table (drop i nodes) found ≡ after_nodes table nodes [] → after_nodes table nodes [] ≡ Ok found
 all_walked table nodes i found all walk = sym walk ∙ ap (λ (l : List Node). after_nodes table l found) (drop_all i nodes all)
 
--- past the last node the value is on top
+-- after the last node the value is on top
 pub finished : (table : List ℤ) (nodes : List Node) (i : ℕ) (found : List ℤ) (z : ℤ) (rest : List ℤ) → IsTree nodes → length nodes ≤ i
     → after_nodes table (drop i nodes) found ≡ after_nodes table nodes [] → found ≡ z ∷ rest → Ok z ≡ value (tree_by nodes) table
 finished table nodes i found z rest tree all walk top =

@@ -1,4 +1,4 @@
--- What a line gives: the values of its words and its settings, in their order.
+-- The values of the words and settings of a line, in order.
 use Rattle.std.specs.Prelude.{ℕ, ℤ, List, [], ◌∷◌, ◌++◌, Result, Ok}
 use Rattle.ng_num.specs.declared.fault.Fault.{Fault}
 use Rattle.ng_params.specs.declared.change.Change.{Change}
@@ -21,7 +21,7 @@ nothing = record { words = []; settings = [] }
 abbrev pub followed : Settled → Settled → Settled
 followed a b = record { words = a.words ++ b.words; settings = a.settings ++ b.settings }
 
--- what is there, and then what an answer gives
+-- what is there, followed by an answer's values
 abbrev pub followed_if_ok : Settled → Result Settled Fault → Result Settled Fault
 followed_if_ok a answer = and_then answer (λ b. Ok (followed a b))
 
@@ -40,18 +40,18 @@ index table t = and_then (value t table) named
 abbrev pub change : List ℤ → Tree → Tree → Result Change Fault
 change table i v = and_then (index table i) (λ p. and_then (value v table) (λ z. Ok (record { index = p; value = z })))
 
--- what a piece gives (NISTIR 6556, 3.3.2, 3.3.3): a comment nothing
+-- the values of a piece (NISTIR 6556, 3.3.2, 3.3.3); a comment has none
 abbrev pub given : List ℤ → Piece → Result Settled Fault
 given table (word l t) = and_then (value t table) (λ z. Ok (one_word (record { letter = l; value = z })))
 given table (setting i v) = and_then (change table i v) (λ c. Ok (one_setting c))
 given table (comment text) = Ok nothing
 
--- what the pieces of a line give, each from the table as it was before the line (NISTIR 6556, 3.3.3); the first without
--- a value decides the fault
+-- the values of a line's pieces, each with the table as it was before the line (NISTIR 6556, 3.3.3); the first piece
+-- without a value decides the fault
 abbrev pub settled_pieces : List Piece → List ℤ → Result Settled Fault
 settled_pieces [] table = Ok nothing
 settled_pieces (p ∷ pieces) table = and_then (given table p) (λ first. followed_if_ok first (settled_pieces pieces table))
 
--- what was read into places
+-- the values that the places hold
 abbrev pub settled_of : Values → Settled
 settled_of v = record { words = v.words.items; settings = v.settings.items }

@@ -18,7 +18,7 @@ use Rattle.ng_words.specs.declared.tree.Operation.TheVariants.{Power, Times, Ove
 use Rattle.ng_words.specs.declared.tree.Function.{Function}
 use Rattle.ng_words.specs.declared.tree.Function.TheVariants.{Abs, Fix, Fup, Round, Sqrt}
 
--- a number as written: nothing is one out of range
+-- a number as written; `None` means that it is out of range
 abbrev pub written : Option ℤ → Result ℤ Fault
 written z = ok_or z OutOfRange
 
@@ -38,7 +38,7 @@ apply Fup z = in_range (fup z)
 apply Round z = in_range (round z)
 apply Sqrt z = root_of z
 
--- zero is false, all else is true
+-- zero is false, everything else is true
 abbrev pub truth : ℤ → Bool
 truth z = not (int_eq z (pos 0))
 
@@ -58,7 +58,8 @@ join Or a b = Ok (of_truth (truth a || truth b))
 join Xor a b = Ok (of_truth (if truth a then not (truth b) else truth b))
 join And a b = Ok (of_truth (truth a && truth b))
 
--- the value of a tree: each part's, from left to right, then what joins them; both parts of an operation always count
+-- the value of a tree: the values of its parts from left to right, then what joins them; both operands are always
+-- evaluated
 abbrev pub value : Tree → List ℤ → Result ℤ Fault
 value (number z) table = written z
 value (parameter t) table = and_then (value t table) (parameter_value table)

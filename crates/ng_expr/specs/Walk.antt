@@ -7,11 +7,11 @@ use Rattle.ng_words.specs.declared.tree.Node.TheVariants as node
 use Rattle.ng_num.specs.Results.{and_then}
 use Rattle.ng_expr.specs.Value.{written, parameter_value, apply, join}
 
--- a value found comes first
+-- a value is pushed
 abbrev pub onto : List ℤ → Result ℤ Fault → Result (List ℤ) Fault
 onto found answer = and_then answer (λ z. Ok (z ∷ found))
 
--- what is found of the latest value, of the latest two; a node without its parts is of no tree
+-- what the latest value gives, or the latest two; a node whose parts are missing doesn't belong to any tree
 abbrev pub of_one : (ℤ → Result ℤ Fault) → List ℤ → Result (List ℤ) Fault
 of_one f [] = Err BadArithmetic
 of_one f (z ∷ found) = onto found (f z)

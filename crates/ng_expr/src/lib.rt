@@ -1,10 +1,10 @@
-//! The values of a line: what the trees of its pieces come to in a table of parameters.
+//! The values of a line: what the trees of its pieces evaluate to, given a table of parameters.
 //!
-//! `value` gives the value of one tree, `Values` those of a line's words and settings in their order, all from the
-//! table as it was before the line. A line without a value has the fault of its first piece without one. Nothing
-//! here takes memory: values are kept in places that serve any number of lines. The crate stands on `ng_words` for
-//! trees, on `ng_params` for the table and on `ng_num` for what each operation answers; what words mean, and when
-//! settings take effect, is for the crates above.
+//! `value` evaluates one tree. `Values` evaluates a line's words and settings in order, all with the table as it was
+//! before the line. If a piece has no value, the line has the fault of the first such piece. Nothing here allocates:
+//! values are kept in storage that is reused for one line after another. The crate depends on `ng_words` for trees, on
+//! `ng_params` for the table, and on `ng_num` for the operations. The crates above decide what words mean, and when
+//! settings take effect.
 #![tactic(auto)]
 
 mod operation;

@@ -1,11 +1,11 @@
-//! Functions of a value and operations on two.
+//! Functions of one value and operations on two.
 ghost use Rattle.std.specs.Prelude.{◌≡◌};
 ghost use Rattle.ng_expr.specs.Value.{apply, join, of_truth, truth};
 
 use ng_num::{Fault, Num};
 use ng_words::{Function, Operation};
 
-/// A function of a value (NISTIR 6556, 3.3.2.4).
+/// Applies a function to a value (NISTIR 6556, 3.3.2.4).
 pub(crate) fn apply(function: Function, value: Num) -> Result<Num, Fault>
     ensures { result ≡ apply function value }
 {
@@ -18,7 +18,7 @@ pub(crate) fn apply(function: Function, value: Num) -> Result<Num, Fault>
     }
 }
 
-/// Whether a value is true: all but zero are.
+/// Whether a value counts as true: all but zero do.
 #[inline]
 fn truth(value: Num) -> bool
     ensures { result ≡ truth value }
@@ -34,7 +34,7 @@ fn of_truth(truth: bool) -> Num
     if truth { Num::one() } else { Num::zero() }
 }
 
-/// An operation on two values (NISTIR 6556, 3.3.2.3).
+/// Applies an operation to two values (NISTIR 6556, 3.3.2.3).
 pub(crate) fn join(operation: Operation, left: Num, right: Num) -> Result<Num, Fault>
     ensures { result ≡ join operation left right }
 {

@@ -24,7 +24,7 @@ fn index_on<A: Allocator + Copy + Drop>(
     }
 }
 
-/// A parameter's new value: its index first, then its value (NISTIR 6556, 3.3.3; the order own).
+/// A parameter's new value. The index is evaluated first, then the value (NISTIR 6556, 3.3.3; the order own).
 pub(crate) fn change_on<A: Allocator + Copy + Drop>(
     stack: &mut Stack,
     params: &Params<A>,

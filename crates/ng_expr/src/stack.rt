@@ -5,7 +5,7 @@ use ng_num::Num;
 use ng_words::NODES;
 use std::marker::Model;
 
-/// The values found so far on the walk over a tree's nodes, each of which finds one at most.
+/// The values found so far on the walk over a tree's nodes. Each node adds at most one.
 #[derive(Drop)]
 pub(crate) struct Stack {
     values: ArrayVec<Num, NODES>,
@@ -20,7 +20,7 @@ impl Model for Stack {
 }
 
 impl Stack {
-    /// No values yet.
+    /// An empty stack.
     pub(crate) fn new() -> Self
         ensures { result ≡ [] }
     {
@@ -29,7 +29,7 @@ impl Stack {
         }
     }
 
-    /// Forgets all values.
+    /// Removes all values.
     #[inline]
     pub(crate) fn clear(&mut self)
         ensures { self.new ≡ [] }
@@ -37,7 +37,7 @@ impl Stack {
         self.values.clear();
     }
 
-    /// Puts a value on top.
+    /// Pushes a value.
     #[inline]
     pub(crate) fn push(&mut self, value: Num)
         requires { length self.old < 256 }
@@ -46,7 +46,7 @@ impl Stack {
         self.values.push(value);
     }
 
-    /// Takes the value on top.
+    /// Pops the value on top.
     #[inline]
     pub(crate) fn pop(&mut self) -> Option<Num>
         ensures { MatchOption result ((self.old ≡ []) × (self.new ≡ [])) (λ v. self.old ≡ v ∷ self.new) }

@@ -14,12 +14,12 @@ use ng_params::{Change, Params};
 use ng_words::{Letter, Line, PIECES, PieceRef, Tree};
 use std::alloc::Allocator;
 
-/// The values of a line, in its order. Its places serve any number of lines, one after the other.
+/// The values of a line, in order. The storage is reused for one line after another.
 #[derive(Drop)]
 pub struct Values {
     /// The words.
     pub words: ArrayVec<Word, PIECES>,
-    /// The parameters' new values; of two for one parameter the last counts.
+    /// The parameters' new values. Of two for one parameter the last counts.
     pub settings: ArrayVec<Change, PIECES>,
     stack: Stack,
 }
@@ -79,7 +79,7 @@ impl Values {
         }
     }
 
-    /// Adds what a piece gives.
+    /// Adds the value of a piece.
     #[inline]
     fn add<A: Allocator + Copy + Drop>(
         &mut self,
@@ -97,7 +97,7 @@ impl Values {
         }
     }
 
-    /// Forgets all values.
+    /// Removes all values.
     #[inline]
     fn clear(&mut self)
         ensures { settled_of self.new ≡ nothing }
@@ -106,8 +106,8 @@ impl Values {
         self.settings.clear();
     }
 
-    /// Finds the values of a line, all from the table as it is, in the places kept. E3, E4 or E5 of the first piece
-    /// that has no value; after an error there are no values.
+    /// Evaluates a line, with the table as it is, and stores the values here. Fails with E3, E4 or E5 of the first
+    /// piece that has no value; then there are no values here.
     pub fn evaluate_into<A: Allocator + Copy + Drop>(
         &mut self,
         line: &Line,
@@ -131,8 +131,7 @@ impl Values {
     }
 }
 
-/// The values of a line: `Values::evaluate_into` into new places, which alone is what the dry run calls; its faults are
-/// those.
+/// The values of a line: `Values::evaluate_into` into new storage, with the same faults. Only the dry run calls it.
 pub fn evaluate<A: Allocator + Copy + Drop>(
     line: &Line,
     params: &Params<A>,

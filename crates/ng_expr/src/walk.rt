@@ -12,7 +12,7 @@ use ng_params::{Index, Params};
 use ng_words::{Function, Node, Operation, Tree};
 use std::alloc::Allocator;
 
-/// A number as written; E3 where it is out of range.
+/// A number as written. E3 if it is out of range.
 #[inline]
 fn written(number: Option<Num>) -> Result<Num, Fault>
     ensures { result ≡ written number }
@@ -23,7 +23,8 @@ fn written(number: Option<Num>) -> Result<Num, Fault>
     }
 }
 
-/// The parameter that a value names; E4 unless it counts as a whole number from 1 to 5399 (NISTIR 6556, 3.3.2.2).
+/// The parameter that a value names. E4 unless the value counts as a whole number from 1 to 5399 (NISTIR 6556,
+/// 3.3.2.2).
 pub fn named(value: Num) -> Result<Index, Fault>
     ensures { result ≡ named value }
 {
@@ -43,7 +44,7 @@ fn parameter_value<A: Allocator + Copy + Drop>(params: &Params<A>, value: Num) -
     }
 }
 
-/// Puts a value found on top.
+/// Pushes a value that was found.
 #[inline]
 fn put(stack: &mut Stack, answer: Result<Num, Fault>) -> Result<(), Fault>
     requires { length stack.old < 256 }
@@ -59,7 +60,7 @@ fn put(stack: &mut Stack, answer: Result<Num, Fault>) -> Result<(), Fault>
     }
 }
 
-/// Takes the value on top for that of the parameter that it names.
+/// Replaces the value on top by that of the parameter that it names.
 fn put_parameter<A: Allocator + Copy + Drop>(
     stack: &mut Stack,
     params: &Params<A>,
@@ -74,7 +75,7 @@ fn put_parameter<A: Allocator + Copy + Drop>(
     }
 }
 
-/// Takes the value on top for a function of it.
+/// Replaces the value on top by a function of it.
 fn put_applied(stack: &mut Stack, function: Function) -> Result<(), Fault>
     requires { length stack.old < 256 }
     ensures found { MatchResult result (λ _. of_one (apply function) stack.old ≡ Ok stack.new) (λ e. of_one (apply function) stack.old ≡ Err e) }
@@ -86,7 +87,7 @@ fn put_applied(stack: &mut Stack, function: Function) -> Result<(), Fault>
     }
 }
 
-/// Takes the two values on top for an operation on them.
+/// Replaces the two values on top by the result of an operation.
 fn put_joined(stack: &mut Stack, operation: Operation) -> Result<(), Fault>
     requires { length stack.old < 256 }
     ensures found { MatchResult result (λ _. of_two (join operation) stack.old ≡ Ok stack.new) (λ e. of_two (join operation) stack.old ≡ Err e) }
@@ -101,7 +102,7 @@ fn put_joined(stack: &mut Stack, operation: Operation) -> Result<(), Fault>
     }
 }
 
-/// One step of the walk. A node without its parts is of no tree.
+/// One step of the walk. A node whose parts are missing doesn't belong to any tree.
 fn step<A: Allocator + Copy + Drop>(
     stack: &mut Stack,
     params: &Params<A>,
@@ -120,7 +121,7 @@ fn step<A: Allocator + Copy + Drop>(
     }
 }
 
-/// The value of the tree that some nodes are.
+/// The value of the tree that some nodes form.
 fn walk<A: Allocator + Copy + Drop>(
     stack: &mut Stack,
     params: &Params<A>,
@@ -143,7 +144,7 @@ fn walk<A: Allocator + Copy + Drop>(
     }
 }
 
-/// The number that some nodes are, where they are one alone.
+/// The number, if the nodes are a single number.
 #[inline]
 fn number_alone(nodes: &[Node]) -> Option<Option<Num>>
     ensures { MatchOption result (Unit {0}) (λ number. nodes.now ≡ node.Number number ∷ []) }
@@ -157,7 +158,7 @@ fn number_alone(nodes: &[Node]) -> Option<Option<Num>>
     }
 }
 
-/// The value of a tree, found on a stack that the caller keeps.
+/// The value of a tree, evaluated on a stack that the caller keeps.
 #[inline(always)]
 pub(crate) fn value_on<A: Allocator + Copy + Drop>(
     stack: &mut Stack,
@@ -173,9 +174,10 @@ pub(crate) fn value_on<A: Allocator + Copy + Drop>(
     }
 }
 
-/// The value of a tree in a table of parameters (NISTIR 6556, 3.3.2.2 to 3.3.2.4). E3 where a number or a value on the
-/// way is out of range, E4 where an index is no parameter's, E5 where an operation or a function has no answer; of two
-/// faults the one further to the left. The dry run walks the same on a stack that it keeps.
+/// The value of a tree, given a table of parameters (NISTIR 6556, 3.3.2.2 to 3.3.2.4). E3 if a number or an
+/// intermediate value is out of range, E4 if an index isn't that of a parameter, E5 if an operation or a function has
+/// no result; of two faults the one further to the left counts. The dry run does the same walk on a stack that it
+/// keeps.
 pub fn value<A: Allocator + Copy + Drop>(tree: &Tree<'_>, params: &Params<A>) -> Result<Num, Fault>
     ensures { result ≡ value (tree_by tree.now) params.now }
 {

@@ -1,7 +1,7 @@
 use ng_num::Num;
 use ng_words::Letter;
 
-/// A word of a line: its letter and its value. The default is `Z0`: it fills places.
+/// A word of a line: its letter and its value. The default, `Z0`, only fills unused places.
 #[derive(Clone, Copy)]
 pub struct Word {
     pub letter: Letter,

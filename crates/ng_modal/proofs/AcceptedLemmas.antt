@@ -1,4 +1,4 @@
--- Where no cause holds, words are as they have to be.
+-- If no cause holds, the words are as required.
 use Rattle.std.proofs.Common.{◌≡◌, ◌≤◌, arith, rules, ℕ, ℤ, pos, negsuc, Bool, true, false, List, Option, Some, None, refl, subst}
 use Rattle.std.specs.Prelude.{not, ◌||◌, ◌&&◌, nat_lt, nat_le, ◌≤ℤ◌, ◌≢◌, max, IsSome, IfSome, Result, Ok, Err, MatchResult, OnOk}
 use Rattle.std.specs.Option.{is_none, option_and_then}
@@ -121,7 +121,7 @@ accepted ws m slots few h =
       moves = moves_on b.g.motion (has_axis v && not (takes_axes b.g.non_modal)) m.motion;
     }
 
--- of an answer whose block stands elsewhere
+-- an answer whose block is stored elsewhere
 pub accepted_by : (ws : List Word) (m : Modes) (slots : ℕ) → slots ≤ 255 → (b : Block) (r : Result (Unit {0}) Fault) →
     MatchResult r (λ _. checked ws m slots ≡ Ok b) (λ fault. checked ws m slots ≡ Err fault) →
     OnOk r (IsAccepted b m slots)

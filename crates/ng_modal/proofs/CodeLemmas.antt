@@ -1,4 +1,4 @@
--- Where no row of a table has a number, nothing stands beside it.
+-- If no row of a table has a number, there is no entry for it.
 use Rattle.std.proofs.Common.{◌≡◌, ℕ, ℤ, pos, Bool, true, false, List, [], ◌∷◌, Some, None, refl, sym}
 use Rattle.std.specs.Prelude.{if◌then◌else◌}
 use Rattle.std.specs.Ordering.{int_eq}

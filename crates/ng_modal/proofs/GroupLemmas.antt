@@ -1,4 +1,4 @@
--- A word of a group is there where a word that asks of the group is.
+-- There is a word of a group exactly if there is a word that asks for something in the group.
 use Rattle.std.proofs.Common.{◌≡◌, ℕ, Bool, true, false, List, [], ◌∷◌, refl}
 use Rattle.std.specs.Prelude.{◌==◌, if◌then◌else◌, Option}
 use Rattle.std.specs.Option.{is_some, option_and_then}
@@ -10,7 +10,7 @@ use Rattle.ng_modal.specs.declared.codes.GWord.TheVariants as word
 use Rattle.ng_modal.specs.declared.codes.MWord.{MWord}
 use Rattle.ng_modal.specs.declared.codes.MWord.TheVariants as m_word
 
--- a word that isn't of the group is passed over
+-- a word that isn't of the group is skipped
 first_asks : {W X : Type 0} (group : W → ℕ) (asks : W → Option X) (n : ℕ) →
     ((w : W) → is_some (asks w) ≡ (n == group w)) →
     (ws : List W) → is_some (option_and_then asks (first (with_group group n ws))) ≡ is_some (first (with_group group n ws))
@@ -23,7 +23,7 @@ first_asks {W} {X} group asks n same (w ∷ ws) =
       | false ↦ λ _. first_asks group asks n same ws
     ] (same w)
 
--- what asks is of the group, and all of the group asks
+-- a word that asks for something in the group is of the group, and conversely
 non_modal_asks : (w : GWord) → is_some (non_modal_of w) ≡ (0 == group_of w)
 non_modal_asks (word.NonModal _) = refl
 non_modal_asks _ = refl

@@ -1,4 +1,4 @@
--- The first fault whose cause holds is the least: none before it holds.
+-- The first fault whose cause holds: no cause before it holds.
 use Rattle.std.proofs.Common.{◌≡◌, ℕ, List, refl}
 use Rattle.std.specs.Prelude.{Result, Ok, Err, MatchResult}
 use Rattle.ng_num.specs.declared.fault.Fault.{Fault}
@@ -15,7 +15,7 @@ pub least : (ws : List Word) (m : Modes) (slots : ℕ) (r : Result Block Fault) 
 least ws m slots r e =
     rw (← e) (first_of (faults ws m slots) (block_of ws m) (first_fault (faults ws m slots)) refl)
 
--- the same of an answer whose block stands elsewhere
+-- the first fault, for an answer whose block is stored elsewhere
 pub least_by : (ws : List Word) (m : Modes) (slots : ℕ) (b : Block) (r : Result (Unit {0}) Fault) →
     MatchResult r (λ _. checked ws m slots ≡ Ok b) (λ fault. checked ws m slots ≡ Err fault) →
     MatchResult r (λ _. NoneHolds (faults ws m slots)) (λ fault. IsFirstFault (faults ws m slots) fault)

@@ -1,4 +1,4 @@
--- A straight move that asks for nothing that may be refused is lawful.
+-- A straight move that asks for nothing that may be refused is valid.
 use Rattle.std.proofs.Common.{◌≡◌, ◌≤◌, arith, ℕ, ℤ, Bool, true, false, List, Option, Some, None, refl, length}
 use Rattle.std.specs.Prelude.{not, ◌||◌, ◌&&◌, nat_lt, min, unwrap_or}
 use Rattle.std.specs.Option.{is_some, option_and_then}
@@ -22,7 +22,7 @@ use Rattle.ng_state.specs.declared.modes.Motion.TheVariants.{Traverse, Feed, Off
 use Rattle.ng_modal.specs.declared.sorted.Sorted.{Sorted}
 use Rattle.ng_modal.proofs.TestLemmas.{and_left, and_right, or_left, or_right, not_true, and_false, nothing_there}
 
--- where a line moves straight, so does the mode after it
+-- if a line makes a straight move, the mode after it is that of a straight move
 straight_after : (word : Option Motion) (calls : Bool) (mode : Motion) → is_straight (motion_by word calls mode) ≡ true → is_off (unwrap_or word mode) ≡ false
 straight_after (Some Off) calls mode e = absurd (cc e)
 straight_after (Some _) calls mode e = refl
@@ -66,7 +66,7 @@ lawful_block ws b m slots c1 c2 c3 c4 c5 h i j k l p q r s t non_modal tool_leng
     let c19 : has_cycle_plane b m ≡ false = rw cycle refl in
     (c1, (c2, (c3, (c4, (c5, (c6, (c7, (c8, (c9, (c10, (c11, (c12, (c13, (c14, (c15, (c16, (c17, (c18, (c19, tt)))))))))))))))))))
 
--- what the test of six marks, of ten words says of each
+-- the test of six marks, or of ten words, says this about each
 marks : (s : Sorted) → is_marked s ≡ false →
     (s.repeated ≡ false) × (s.unknown ≡ false) × (s.left_out ≡ false) × (s.group_twice ≡ false) × (s.m_group_twice ≡ false) × (nat_lt 4 s.m_count ≡ false)
 marks s e =

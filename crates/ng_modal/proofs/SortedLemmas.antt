@@ -1,4 +1,4 @@
--- One word more in front of those taken.
+-- One more word in front of those added before.
 use Rattle.std.proofs.Common.{◌≡◌, ℕ, ℤ, Bool, true, false, List, ◌∷◌, Some, None, refl}
 use Rattle.std.specs.Prelude.{◌||◌, ◌&&◌}
 use Rattle.std.specs.Option.{is_some}
@@ -41,7 +41,7 @@ sorted_with_g v ws old word g was left_out before is taken was_is left_out_is =
     )
     refl
 
--- one that is none
+-- a G word that isn't a code
 pub sorted_with_unknown_g : (v : ℤ) (ws : List Word) (old : Sorted) →
     old ≡ sorted ws →
     g_word v ≡ None →
@@ -76,7 +76,7 @@ pub sorted_with_unknown_m : (v : ℤ) (ws : List Word) (old : Sorted) (count : �
     record old { unknown = true; m_count = count } ≡ sorted (record { letter = M; value = v } ∷ ws)
 sorted_with_unknown_m v ws old count before is counted = rw (before, counted, is) refl
 
--- a word of another letter is no code
+-- a word with another letter isn't a code
 no_g_code : (l : Letter) (v : ℤ) → takes_value l ≡ true → g_word_on l v ≡ None
 no_g_code G v e = absurd (cc e)
 no_g_code _ v e = refl

@@ -1,4 +1,4 @@
--- One word more: something stands twice then, where it did before or where one of the word's kind was there.
+-- One more word: then there are two of a kind if there were two before, or if there was one of the word's kind.
 use Rattle.std.proofs.Common.{◌≡◌, ℕ, ℤ, Bool, true, false, List, [], ◌∷◌, refl, ap, ◌∙◌, subst}
 use Rattle.std.specs.Prelude.{◌||◌, ◌&&◌, ◌==◌, if◌then◌else◌}
 use Rattle.std.specs.Option.{is_some}
@@ -16,7 +16,7 @@ use Rattle.ng_modal.specs.declared.codes.GWord.TheVariants.{Motion}
 use Rattle.ng_modal.specs.declared.codes.MWord.{MWord}
 use Rattle.ng_modal.specs.declared.codes.MWord.TheVariants.{Stop}
 
--- the key that is looked at is the word's
+-- the key in question is that of the word
 same_key : {X : Type 0} (x : X) (xs : List X) (others here : Bool) → (is_twice (x ∷ xs) || (others || (here && is_some (first xs)))) ≡ ((is_twice xs || others) || ((true || here) && is_some (first xs)))
 same_key x [] true here = refl
 same_key x [] false true = refl
@@ -25,14 +25,14 @@ same_key x (y ∷ []) true here = refl
 same_key x (y ∷ []) false here = refl
 same_key x (y ∷ (z ∷ zs)) others here = refl
 
--- it is another
+-- it is another key
 other_key : (twice others here was : Bool) → (twice || (others || (here && was))) ≡ ((twice || others) || ((false || here) && was))
 other_key true others here was = refl
 other_key false true here was = refl
 other_key false false here was = refl
 
--- lists under keys, of which one grew at its front: a key's list has two where one had before, or where the grown
--- one is looked at and had any
+-- lists under keys, one of which grew at its front: a key's list has two elements if one had before, or if the list
+-- that grew is that of the key and wasn't empty
 one_more : {K X : Type 0} (key : K → ℕ) (under : ℕ → List X) (n : ℕ) (x : X) (ks : List K) →
     list_any (λ k. is_twice (if key k == n then x ∷ under (key k) else under (key k))) ks
     ≡ (list_any (λ k. is_twice (under (key k))) ks || (list_any (λ k. key k == n) ks && is_some (first (under n))))
@@ -52,7 +52,7 @@ one_more {K} {X} key under n x (k ∷ ks) =
       | false ↦ λ _. other_key (is_twice (under (key k))) before here (is_some (first (under n)))
     ] refl)
 
--- of the letters that are looked at, a word's is one where it takes a value
+-- a word's letter is among the value letters if it takes a value
 is_value_letter : (l : Letter) → list_any (λ k. byte_of k == byte_of l) value_letters ≡ takes_value l
 is_value_letter G = refl
 is_value_letter _ = refl
@@ -70,7 +70,7 @@ is_an_m_group : (w : MWord) → list_any (λ k. k == m_group_of w) m_groups ≡ 
 is_an_m_group (Stop _) = refl
 is_an_m_group _ = refl
 
--- a group that stands twice now did before, or one of the word's group was there
+-- there are two words of a group now if there were two before, or if there was one of the word's group
 pub group_twice_with : (w : GWord) (ws : List GWord) → is_group_twice (w ∷ ws) ≡ (is_group_twice ws || is_some (first (of_group (group_of w) ws)))
 group_twice_with w ws =
     one_more (λ n. n) (λ n. of_group n ws) (group_of w) w groups ∙

@@ -1,4 +1,4 @@
--- The whole numbers that words name, and what is known of the words of an accepted block.
+-- The whole numbers in words, and what is known about the words of an accepted block.
 use Rattle.std.specs.Prelude.{◌≡◌, ◌≢◌, ◌≤◌, ℕ, ℤ, pos, negsuc, ◌≤ℤ◌, true, nat_le, max, if◌then◌else◌, Option, Some, None, IsSome, IfSome}
 use Rattle.std.specs.Option.{option_and_then}
 use Rattle.ng_num.specs.Whole.{whole_of}
@@ -11,7 +11,7 @@ use Rattle.ng_modal.specs.declared.block.Block.{Block}
 use Rattle.ng_state.specs.declared.modes.Modes.{Modes}
 use Rattle.ng_state.specs.declared.modes.Motion.TheVariants.{Off}
 
--- the slot of a number, one of 0 to 255
+-- the slot with a number, from 0 to 255
 abbrev pub slot_of : ℤ → Option ℕ
 slot_of (pos n) = if nat_le n 255 then Some n else None
 slot_of (negsuc n) = None
@@ -24,7 +24,7 @@ slot_on word = option_and_then slot_of (option_and_then whole_of word)
 abbrev pub system_on : Option ℤ → Option ℕ
 system_on word = option_and_then system_of (option_and_then whole_of word)
 
--- how often a cycle is done: by its L, at least once (NISTIR 6556, 3.5.16)
+-- how often a cycle is repeated: L times, but at least once (NISTIR 6556, 3.5.16)
 abbrev pub repeats_by : Option ℤ → ℕ
 repeats_by None = 1
 repeats_by (Some (pos n)) = max 1 n
@@ -33,15 +33,15 @@ repeats_by (Some (negsuc n)) = 1
 abbrev pub repeats_on : Option ℤ → ℕ
 repeats_on word = repeats_by (option_and_then whole_of word)
 
--- a word names a slot, where it is there
+-- if there is a word, it names a slot
 abbrev pub IsSlot : Option ℤ → ℕ → Type 0
 IsSlot word slots = IfSome word (λ _. (n : ℕ) × (slot_on word ≡ Some n) × (n ≤ slots))
 
--- a word isn't below 0, where it is there
+-- if there is a word, it isn't negative
 abbrev pub IsFromZero : Option ℤ → Type 0
 IsFromZero word = IfSome word (λ v. pos 0 ≤ℤ v)
 
--- what is known of a block that no fault refuses, in the modes that it meets, with this many slots
+-- what is known about a block that isn't refused, given the modes before it and the number of slots
 pub record IsAccepted (b : Block) (m : Modes) (slots : ℕ) : Type 0 where
   pub selected : IsSlot b.values.t slots
   pub of_length : IsSlot b.values.h slots

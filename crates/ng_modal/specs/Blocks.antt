@@ -1,4 +1,4 @@
--- What a line's words ask for in the modes that they meet.
+-- What a line's words ask for, given the modes before it.
 use Rattle.std.specs.Prelude.{List}
 use Rattle.ng_expr.specs.declared.word.Word.{Word}
 use Rattle.ng_modal.specs.Words.{g_words_of, m_words_of}

@@ -21,7 +21,7 @@ use Rattle.ng_modal.specs.declared.codes.MWord.TheVariants as m_word
 use Rattle.ng_modal.specs.declared.by_group.GWords.{GWords}
 use Rattle.ng_modal.specs.declared.by_group.MWords.{MWords}
 
--- what a word asks for of one group
+-- what a word asks for in one group
 abbrev pub non_modal_of : GWord → Option NonModal
 non_modal_of (word.NonModal asked) = Some asked
 non_modal_of _ = None
@@ -78,7 +78,7 @@ abbrev pub overrides_of : MWord → Option Bool
 overrides_of (m_word.Overrides allowed) = Some allowed
 overrides_of _ = None
 
--- of the words of a group the first asks; one that is left out asks for nothing
+-- of several words of a group the first counts; one that is left out asks for nothing
 abbrev pub g_words : List GWord → GWords
 g_words ws = record {
   non_modal = option_and_then non_modal_of (first (of_group 0 ws));
@@ -104,7 +104,7 @@ m_words ws = record {
   overrides = option_and_then overrides_of (first (of_m_group 9 ws));
 }
 
--- a word of this word's group is there
+-- there is a word of the same group
 abbrev pub has_word : GWord → GWords → Bool
 has_word (word.NonModal _) g = is_some g.non_modal
 has_word (word.Motion _) g = g.motion_word

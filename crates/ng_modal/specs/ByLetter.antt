@@ -1,4 +1,4 @@
--- The values that the words of a line give, by letter (NISTIR 6556, 3.3.2, table 3).
+-- The values of a line's words, by letter (NISTIR 6556, 3.3.2, table 3).
 use Rattle.std.specs.Prelude.{Bool, true, false, ◌||◌, List}
 use Rattle.std.specs.Option.{is_some}
 use Rattle.ng_words.specs.declared.letter.Letter.{Letter}
@@ -7,7 +7,7 @@ use Rattle.ng_expr.specs.declared.word.Word.{Word}
 use Rattle.ng_modal.specs.Words.{first, of_letter}
 use Rattle.ng_modal.specs.declared.by_letter.ByLetter.{ByLetter}
 
--- a letter whose words give a value, and no code
+-- a letter whose words have a value, and not a code
 abbrev pub takes_value : Letter → Bool
 takes_value G = false
 takes_value M = false
@@ -35,6 +35,6 @@ by_letter ws = record {
   z = first (of_letter Z ws);
 }
 
--- X, Y or Z is named
+-- there is an X, Y or Z
 abbrev pub has_axis : ByLetter → Bool
 has_axis v = is_some v.x || (is_some v.y || is_some v.z)

@@ -1,4 +1,4 @@
--- The causes of B6 to B19, a sentence each over what the line asks for and the modes that it meets (NISTIR 6556, 3.3 to
+-- The causes of B6 to B19, each as a sentence about what the line asks for and the modes before it (NISTIR 6556, 3.3 to
 -- 3.7; numbers own).
 use Rattle.std.specs.Prelude.{ℕ, ℤ, pos, Bool, true, false, not, ◌||◌, ◌&&◌, int_lt, Option, Some, None}
 use Rattle.std.specs.Option.{is_some, is_none, option_and_then}
@@ -16,7 +16,7 @@ use Rattle.ng_state.specs.declared.modes.Modes.{Modes}
 use Rattle.ng_state.specs.declared.modes.Motion.{Motion}
 use Rattle.ng_state.specs.declared.modes.Motion.TheVariants.{Off, DrillingWithDwell, PeckDrilling, BoringWithStop, BoringWithDwell}
 
--- B6: a group 1 word other than G80 beside G10, G28, G30 or G92
+-- B6: a group 1 word other than G80 on a line with G10, G28, G30 or G92
 abbrev pub takes_axes_twice : Block → Bool
 takes_axes_twice b = is_some (option_and_then moving b.g.motion) && takes_axes b.g.non_modal
 
@@ -24,7 +24,7 @@ abbrev pub is_off : Motion → Bool
 is_off Off = true
 is_off _ = false
 
--- B7: X, Y or Z, the motion mode after the line is G80, and none of G10, G28, G30, G92
+-- B7: X, Y or Z when the motion mode after the line is G80, without G10, G28, G30 or G92
 abbrev pub leaves_axis_unused : Block → Modes → Bool
 leaves_axis_unused b m = has_axis b.values && (is_off (motion_after b m) && not (takes_axes b.g.non_modal))
 
@@ -44,7 +44,7 @@ abbrev pub is_machine : Option NonModal → Bool
 is_machine (Some MachineCoordinates) = true
 is_machine _ = false
 
--- B10: G53 where the motion mode after the line isn't G0 or G1
+-- B10: G53 when the motion mode after the line isn't G0 or G1
 abbrev pub has_bad_g53 : Block → Modes → Bool
 has_bad_g53 b m = is_machine b.g.non_modal && not (is_straight (Some (motion_after b m)))
 
@@ -76,7 +76,7 @@ abbrev pub pecks : Option Motion → Bool
 pecks (Some PeckDrilling) = true
 pecks _ = false
 
--- an axis is one of the plane's
+-- X is an axis of the plane
 abbrev pub is_along_x : Plane → Bool
 is_along_x Yz = false
 is_along_x _ = true
@@ -89,19 +89,19 @@ abbrev pub is_along_z : Plane → Bool
 is_along_z Xy = false
 is_along_z _ = true
 
--- a word is there that nothing takes
+-- there is a word that nothing uses
 abbrev pub is_unused_word : Option ℤ → Bool → Bool
 is_unused_word word taken = is_some word && not taken
 
--- I, J, K: offsets of an arc in its plane
+-- I, J, K: one that isn't an offset of an arc in its plane
 abbrev pub has_unused_offset : Block → Plane → Bool
 has_unused_offset b plane =
     is_unused_word b.values.i (is_arc b.motion && is_along_x plane)
     || (is_unused_word b.values.j (is_arc b.motion && is_along_y plane)
     || is_unused_word b.values.k (is_arc b.motion && is_along_z plane))
 
--- B12: a word that nothing takes: H but with G43, I, J, K but as offsets of an arc in its plane, L but with G10 or a
--- cycle, P but with G4, G10, G82, G86 or G89, Q but with G83, R but with a cycle or an arc
+-- B12: a word that nothing uses: H without G43; I, J, K except as offsets of an arc in its plane; L without G10 or a
+-- cycle; P without G4, G10, G82, G86 or G89; Q without G83; R without a cycle or an arc
 abbrev pub leaves_word_unused : Block → Modes → Bool
 leaves_word_unused b m =
     is_unused_word b.values.h (is_of_slot b.g.tool_length)
@@ -115,7 +115,7 @@ abbrev pub is_negative : Option ℤ → Bool
 is_negative None = false
 is_negative (Some v) = int_lt v (pos 0)
 
--- B13: F, S, or P of G4 below 0
+-- B13: F, S, or P of G4 is negative
 abbrev pub has_negative : Block → Bool
 has_negative b = is_negative b.values.f || (is_negative b.values.s || (is_dwell b.g.non_modal && is_negative b.values.p))
 
@@ -124,28 +124,28 @@ abbrev pub is_between : ℤ → ℤ → Option ℤ → Bool
 is_between low high None = false
 is_between low high (Some n) = not (int_lt n low) && not (int_lt high n)
 
--- a word is there whose value counts as a whole number from low to high
+-- there is a word whose value counts as a whole number from low to high
 abbrev pub is_whole_within : ℤ → ℤ → Option ℤ → Bool
 is_whole_within low high value = is_between low high (option_and_then whole_of value)
 
--- B14: T or H is there and isn't whole from 0 to the number of slots
+-- B14: there is a T or H that isn't a whole number from 0 to the number of slots
 abbrev pub has_bad_slot : Block → ℕ → Bool
 has_bad_slot b slots =
     is_unused_word b.values.t (is_whole_within (pos 0) (pos slots) b.values.t)
     || is_unused_word b.values.h (is_whole_within (pos 0) (pos slots) b.values.h)
 
--- a number that isn't below 1
+-- a number of at least 1
 abbrev pub is_positive : Option ℤ → Bool
 is_positive None = false
 is_positive (Some n) = not (int_lt n (pos 1))
 
--- B15: G10 whose L is missing or isn't 2; L of a cycle not whole or below 1
+-- B15: L of G10 is missing or isn't 2; L of a cycle isn't whole or is below 1
 abbrev pub has_bad_l : Block → Bool
 has_bad_l b =
     (is_set_origin b.g.non_modal && not (is_whole_within (pos 2) (pos 2) b.values.l))
     || (is_cycle b.motion && is_unused_word b.values.l (is_positive (option_and_then whole_of b.values.l)))
 
--- B16: G10 whose P is missing or isn't whole from 1 to 9
+-- B16: P of G10 is missing or isn't a whole number from 1 to 9
 abbrev pub has_bad_system : Block → Bool
 has_bad_system b = is_set_origin b.g.non_modal && not (is_whole_within (pos 1) (pos 9) b.values.p)
 

@@ -1,4 +1,4 @@
--- Whether a line may ask for what it asks for: the causes of its faults, in the order in which they are looked for.
+-- Whether a line's words are valid together: the causes of its faults, in the order in which they are checked.
 use Rattle.std.specs.Prelude.{ℕ, Bool, List, [], ◌∷◌, Result}
 use Rattle.ng_num.specs.Causes.{first_fault, unless}
 use Rattle.ng_num.specs.declared.fault.Fault.{Fault}
@@ -10,7 +10,7 @@ use Rattle.ng_modal.specs.Causes.{takes_axes_twice, leaves_axis_unused, moves_no
 use Rattle.ng_modal.specs.declared.block.Block.{Block}
 use Rattle.ng_state.specs.declared.modes.Modes.{Modes}
 
--- B1 to B19 of words that ask for a block, each with its cause before it
+-- B1 to B19 for words that ask for a block, each with its cause
 abbrev pub faults_of : List Word → Block → Modes → ℕ → List (Bool × Fault)
 faults_of ws b m slots =
     (is_repeated ws, RepeatedLetter)

@@ -1,4 +1,4 @@
--- The codes of the language: what a word asks for by its value (NISTIR 6556, tables 5 and 7), each row with its code
+-- The codes of the language: what a word asks for, by its value (NISTIR 6556, tables 5 and 7). Each row has its code
 -- and its section.
 use Rattle.std.specs.Prelude.{ℕ, ℤ, pos, ◌*ℤ◌, true, false, List, [], ◌∷◌, Option, Some, None, if◌then◌else◌}
 use Rattle.std.specs.Option.{option_and_then}
@@ -97,12 +97,12 @@ m_table =
     (60, Stop Shuttle) ∷  -- M60 3.6.1
     []
 
--- what stands beside a number in a table
+-- the entry for a number in a table
 abbrev pub beside : {W : Type 0} → ℤ → List (ℕ × W) → Option W
 beside n [] = None
 beside n (row ∷ rows) = if int_eq (pos row.0) n then Some row.1 else beside n rows
 
--- the G word whose value is a tenth of a number, and the M word of a number
+-- the G word with a code, given as ten times its value, and the M word with a code
 unfoldable pub g_word_of : ℤ → Option GWord
 g_word_of tenths = beside tenths g_table
 
@@ -113,7 +113,7 @@ m_word_of number = beside number m_table
 abbrev pub selecting : ℕ → Option GWord
 selecting n = Some (System n)
 
--- a G word of a value, of which ten times is looked at, and an M word (closeness to a whole number own)
+-- a G word by its value, of which ten times is looked up, and an M word (closeness to a whole number own)
 unfoldable pub g_word : ℤ → Option GWord
 g_word value = option_and_then g_word_of (whole_of (value *ℤ pos 10))
 

@@ -1,4 +1,4 @@
--- The modal groups of words by their numbers (NISTIR 6556, table 4), what is left out among them.
+-- The numbers of the modal groups (NISTIR 6556, table 4), including those of words that are left out.
 use Rattle.std.specs.Prelude.{ℕ, List, [], ◌∷◌}
 use Rattle.ng_modal.specs.declared.codes.GWord.{GWord}
 use Rattle.ng_modal.specs.declared.codes.GWord.TheVariants.{NonModal, Motion, LeftOutMotion, Plane, Distance, FeedMode, Unit, NoCompensation, LeftOutCompensation, ToolLength, Retract, System, Path}
@@ -21,7 +21,7 @@ group_of (Retract _) = 10
 group_of (System _) = 12
 group_of (Path _) = 13
 
--- and that of an M word
+-- the group of an M word
 abbrev pub m_group_of : MWord → ℕ
 m_group_of (Stop _) = 4
 m_group_of ToolChange = 6

@@ -1,4 +1,4 @@
--- What a line's words say together, as far as it is kept while they are taken from the last to the first.
+-- What is known about a line's words together, while they are added from the last to the first.
 use Rattle.std.specs.Prelude.{Bool, not, ◌||◌, ◌&&◌, nat_lt, List, None}
 use Rattle.std.specs.Option.{is_some}
 use Rattle.ng_expr.specs.declared.word.Word.{Word}
@@ -13,7 +13,7 @@ use Rattle.ng_modal.specs.declared.by_letter.ByLetter.{ByLetter}
 use Rattle.ng_state.specs.declared.modes.Modes.{Modes}
 use Rattle.ng_modal.specs.declared.sorted.Sorted.{Sorted}
 
--- the motion is found after all words
+-- the motion is found after all words were added
 abbrev pub sorted : List Word → Sorted
 sorted ws = record {
   block = record {
@@ -37,7 +37,7 @@ sorted_in ws m = record (sorted ws) { block = block_of ws m }
 abbrev pub is_marked : Sorted → Bool
 is_marked s = s.repeated || s.unknown || s.left_out || s.group_twice || s.m_group_twice || nat_lt 4 s.m_count
 
--- a word that a straight move doesn't take
+-- a word that a straight move doesn't use
 abbrev pub has_others : ByLetter → Bool
 has_others v = is_some v.h || is_some v.i || is_some v.j || is_some v.k || is_some v.l || is_some v.p || is_some v.q || is_some v.r || is_some v.s || is_some v.t
 

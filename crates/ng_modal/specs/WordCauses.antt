@@ -1,4 +1,4 @@
--- The causes of B1 to B5: what no line may have, whatever the modes (NISTIR 6556, 3.3.5 and 3.4; numbers own).
+-- The causes of B1 to B5: what a line may not have in any modes (NISTIR 6556, 3.3.5 and 3.4; numbers own).
 use Rattle.std.specs.Prelude.{ℕ, ℤ, Bool, true, false, ◌||◌, List, length, min, nat_lt, Option, Some}
 use Rattle.std.specs.Option.{is_none}
 use Rattle.std.specs.List.{list_any}
@@ -12,11 +12,11 @@ use Rattle.ng_modal.specs.declared.codes.GWord.{GWord}
 use Rattle.ng_modal.specs.declared.codes.GWord.TheVariants.{LeftOutMotion, LeftOutCompensation}
 use Rattle.ng_modal.specs.declared.codes.MWord.{MWord}
 
--- B1: two words of one letter other than G and M
+-- B1: two words with one letter other than G and M
 abbrev pub is_repeated : List Word → Bool
 is_repeated ws = list_any (λ letter. is_twice (of_letter letter ws)) value_letters
 
--- B2: a G or M word that is no code
+-- B2: a G or M word that isn't a code
 abbrev pub is_unknown_on : Letter → ℤ → Bool
 is_unknown_on G value = is_none (g_word value)
 is_unknown_on M value = is_none (m_word value)
@@ -25,13 +25,13 @@ is_unknown_on _ value = false
 abbrev pub has_unknown : List Word → Bool
 has_unknown ws = list_any (λ w. is_unknown_on w.letter w.value) ws
 
--- left out are probing, cutter radius compensation, tapping, back boring, boring with a manual way out
+-- probing, cutter radius compensation, tapping, back boring and boring with manual retraction are left out
 abbrev pub is_left_out_code : Option GWord → Bool
 is_left_out_code (Some LeftOutMotion) = true
 is_left_out_code (Some LeftOutCompensation) = true
 is_left_out_code _ = false
 
--- and words of rotary axes and of the number of a cutter's radius
+-- and words of rotary axes, and of the number of a cutter's radius
 abbrev pub is_left_out_letter : Letter → Bool
 is_left_out_letter A = true
 is_left_out_letter B = true
@@ -62,6 +62,6 @@ has_group_twice ws = is_group_twice (g_words_of ws) || is_m_group_twice (m_words
 abbrev pub has_many_m : List Word → Bool
 has_many_m ws = nat_lt 4 (length (of_letter M ws))
 
--- the number of M words, as far as it is looked at
+-- the number of M words; it stops at 5
 abbrev pub count_of_m : List Word → ℕ
 count_of_m ws = min 5 (length (of_letter M ws))

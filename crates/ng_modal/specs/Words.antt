@@ -1,4 +1,4 @@
--- What stands on a line: the values by letter, and the G and M words by modal group (NISTIR 6556, 3.3.2 and 3.4).
+-- The words of a line: the values by letter, and the G and M words by modal group (NISTIR 6556, 3.3.2 and 3.4).
 use Rattle.std.specs.Prelude.{ℕ, ℤ, Bool, true, false, ◌==◌, List, [], ◌∷◌, Option, Some, None, if◌then◌else◌}
 use Rattle.ng_words.specs.declared.letter.Letter.{Letter}
 use Rattle.ng_words.specs.declared.letter.Letter.TheVariants.{A, B, C, D, F, G, H, I, J, K, L, M, P, Q, R, S, T, X, Y, Z}
@@ -31,7 +31,7 @@ byte_of X = 88
 byte_of Y = 89
 byte_of Z = 90
 
--- each letter but G and M
+-- every letter except G and M
 abbrev pub value_letters : List Letter
 value_letters = A ∷ B ∷ C ∷ D ∷ F ∷ H ∷ I ∷ J ∷ K ∷ L ∷ P ∷ Q ∷ R ∷ S ∷ T ∷ X ∷ Y ∷ Z ∷ []
 
@@ -48,7 +48,7 @@ of_byte byte (w ∷ ws) = if has_byte byte w.letter then w.value ∷ of_byte byt
 abbrev pub of_letter : Letter → List Word → List ℤ
 of_letter letter ws = of_byte (byte_of letter) ws
 
--- what a G word asks for, and an M word; nothing by another word, and by one that has no code
+-- what a G word asks for, and an M word; nothing for another word, or one whose value isn't a code
 abbrev pub g_word_on : Letter → ℤ → Option GWord
 g_word_on G value = g_word value
 g_word_on _ value = None
@@ -57,7 +57,7 @@ abbrev pub m_word_on : Letter → ℤ → Option MWord
 m_word_on M value = m_word value
 m_word_on _ value = None
 
--- what is there, in front of others
+-- an optional element in front of a list
 abbrev pub in_front : {X : Type 0} → Option X → List X → List X
 in_front None xs = xs
 in_front (Some x) xs = x ∷ xs

@@ -1,6 +1,6 @@
-//! What words ask for that is no mode.
+//! What words ask for that isn't a mode.
 
-/// What a word of group 0 asks for, on its line alone (NISTIR 6556, table 4).
+/// What a word of group 0 asks for; it applies to its line only (NISTIR 6556, table 4).
 #[derive(Clone, Copy)]
 pub enum NonModal {
     /// G4 (NISTIR 6556, 3.5.4).

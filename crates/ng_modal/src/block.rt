@@ -1,4 +1,4 @@
-//! What a line asks for in the modes that it meets.
+//! What a line asks for, given the modes before it.
 ghost use Rattle.std.specs.Prelude.{◌≡◌};
 ghost use Rattle.ng_modal.specs.Lines.{takes_axes, moving, motion_by, motion_for, motion_after, plane_after, is_straight, is_arc, is_cycle};
 
@@ -17,12 +17,12 @@ pub struct Block {
     pub g: GWords,
     /// What the M words ask for.
     pub m: MWords,
-    /// The motion that the line makes: that of its word of group 1; without one, where axis words call for it, that of
-    /// the mode in force. None where nothing moves, so never `Off`.
+    /// The motion that the line makes. It is that of its group 1 word or, if it has none and its axis words call for a
+    /// motion, that of the mode in force. `None` if nothing moves; it is never `Off`.
     pub motion: Option<Motion>,
 }
 
-/// Whether a word of group 0 takes the axis words of its line: G10, G28, G30, G92.
+/// Whether a word of group 0 uses the axis words of its line: G10, G28, G30, G92.
 #[inline]
 pub(crate) fn takes_axes(word: Option<NonModal>) -> bool
     ensures { result ≡ takes_axes word }
@@ -36,7 +36,7 @@ pub(crate) fn takes_axes(word: Option<NonModal>) -> bool
     }
 }
 
-/// The motion that a motion mode makes; none for G80.
+/// The motion of a motion mode. `None` for G80.
 #[inline]
 pub(crate) fn moving(mode: Motion) -> Option<Motion>
     ensures { result ≡ moving mode }
@@ -96,7 +96,7 @@ pub(crate) fn is_cycle(motion: Option<Motion>) -> bool
 }
 
 impl Block {
-    /// The motion that the line makes where it meets a motion mode.
+    /// The motion that the line makes in a motion mode.
     #[inline]
     pub(crate) fn motion_for(&self, mode: Motion) -> Option<Motion>
         ensures { result ≡ motion_for self.now.g self.now.values mode }

@@ -12,14 +12,14 @@ use ng_num::Unit;
 use ng_params::System;
 use ng_state::{Distance, FeedMode, Motion, PathMode, Retract};
 
-/// What the G words of a line ask for, by modal group; none where no word asks.
+/// What the G words of a line ask for, by modal group. `None` if no word of the group asks for anything.
 #[derive(Clone, Copy)]
 pub struct GWords {
     /// Group 0.
     pub non_modal: Option<NonModal>,
-    /// Whether a word of group 1 is there, be it one that is left out.
+    /// Whether there is a word of group 1, including one that is left out.
     pub motion_word: bool,
-    /// Group 1: the motion mode that its word sets.
+    /// Group 1: the motion mode that the word sets.
     pub motion: Option<Motion>,
     /// Group 2.
     pub plane: Option<Plane>,
@@ -29,7 +29,7 @@ pub struct GWords {
     pub feed_mode: Option<FeedMode>,
     /// Group 6.
     pub unit: Option<Unit>,
-    /// Group 7: a word is there; of an accepted block G40, which does nothing.
+    /// Whether there is a word of group 7. In an accepted block it is G40, which does nothing.
     pub compensation: bool,
     /// Group 8.
     pub tool_length: Option<ToolLength>,
@@ -41,7 +41,7 @@ pub struct GWords {
     pub path: Option<PathMode>,
 }
 
-/// What the M words of a line ask for, by modal group; none where no word asks.
+/// What the M words of a line ask for, by modal group. `None` if no word of the group asks for anything.
 #[derive(Clone, Copy)]
 pub struct MWords {
     /// Group 4.
@@ -78,7 +78,7 @@ impl GWords {
         }
     }
 
-    /// Takes the word in front of those taken; answers whether one of its group was there.
+    /// Adds a word in front of those added before. Returns whether there was one of its group.
     pub(crate) fn take(&mut self, word: GWord) -> bool
         ghost words: { List TheGWord }
         requires { self.old ≡ g_words words }
@@ -123,7 +123,7 @@ impl MWords {
         }
     }
 
-    /// Takes the word in front of those taken; answers whether one of its group was there.
+    /// Adds a word in front of those added before. Returns whether there was one of its group.
     pub(crate) fn take(&mut self, word: MWord) -> bool
         ghost words: { List TheMWord }
         requires { self.old ≡ m_words words }

@@ -1,4 +1,4 @@
-//! The values that the words of a line give, by letter.
+//! The values of a line's words, by letter.
 ghost use Rattle.std.specs.Prelude.{◌≡◌, ◌∷◌, ◌&&◌, ◌||◌, List, [], Some};
 ghost use Rattle.std.specs.Option.{is_some};
 ghost use Rattle.ng_expr.specs.declared.word.Word.{Word};
@@ -9,8 +9,8 @@ use crate::place::put;
 use ng_num::Num;
 use ng_words::Letter;
 
-/// The values of a line's words other than G and M, by letter (NISTIR 6556, table 3). Of an accepted block A, B, C and
-/// D are none.
+/// The values of a line's words other than G and M, by letter (NISTIR 6556, table 3). In an accepted block A, B, C and
+/// D are `None`.
 #[derive(Clone, Copy)]
 pub struct ByLetter {
     pub a: Option<Num>,
@@ -61,8 +61,8 @@ impl ByLetter {
         }
     }
 
-    /// Takes the word in front of those taken; answers whether one of its letter was there. G and M words have no place
-    /// here.
+    /// Adds a word in front of those added before. Returns whether there was one with its letter. G and M words aren't
+    /// kept here.
     #[inline]
     pub(crate) fn take(&mut self, letter: Letter, value: Num) -> bool
         ghost ws: { List Word }
@@ -93,7 +93,7 @@ impl ByLetter {
         }
     }
 
-    /// Whether X, Y or Z is named.
+    /// Whether the line has an X, Y or Z.
     #[inline]
     pub fn has_axis(&self) -> bool
         ensures { result ≡ has_axis self.now }

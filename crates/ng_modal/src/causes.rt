@@ -1,4 +1,4 @@
-//! The causes of B6 to B19, each by itself.
+//! The causes of B6 to B19, one by one.
 ghost use Rattle.std.specs.Prelude.{◌≡◌};
 ghost use Rattle.ng_modal.specs.Causes.{takes_axes_twice, leaves_axis_unused, moves_no_axis, sets_nothing, has_bad_g53, has_radius_arc, has_unused_offset, leaves_word_unused, has_negative, has_bad_slot, has_bad_l, has_bad_system, has_no_dwell, has_no_h, has_cycle_plane};
 
@@ -11,7 +11,7 @@ use ng_canon::Plane;
 use ng_state::Modes;
 
 impl Block {
-    /// B6: a motion word other than G80 beside G10, G28, G30 or G92.
+    /// B6: a motion word other than G80 on a line with G10, G28, G30 or G92.
     #[inline]
     pub(crate) fn takes_axes_twice(&self) -> bool
         ensures { result ≡ takes_axes_twice self.now }
@@ -22,7 +22,7 @@ impl Block {
         }
     }
 
-    /// B7: an axis word that nothing takes.
+    /// B7: an axis word that nothing uses.
     #[inline]
     pub(crate) fn leaves_axis_unused(&self, modes: &Modes) -> bool
         ensures { result ≡ leaves_axis_unused self.now modes.now }
@@ -46,7 +46,7 @@ impl Block {
         is_set_offset(self.g.non_modal) && !self.values.has_axis()
     }
 
-    /// B10: G53 where the motion mode after the line isn't G0 or G1.
+    /// B10: G53 when the motion mode after the line isn't G0 or G1.
     #[inline]
     pub(crate) fn has_bad_g53(&self, modes: &Modes) -> bool
         ensures { result ≡ has_bad_g53 self.now modes.now }
@@ -62,7 +62,7 @@ impl Block {
         self.values.r.is_some() && is_arc(self.motion)
     }
 
-    /// Whether an offset is there that no arc of the plane takes.
+    /// Whether there is a centre offset that an arc in the plane doesn't use.
     #[inline]
     fn has_unused_offset(&self, plane: Plane) -> bool
         ensures { result ≡ has_unused_offset self.now plane }
@@ -72,7 +72,7 @@ impl Block {
             || is_unused_word(self.values.k, is_arc(self.motion) && is_along_z(plane))
     }
 
-    /// B12: a word that nothing on the line takes.
+    /// B12: a word that nothing on the line uses.
     #[inline]
     pub(crate) fn leaves_word_unused(&self, modes: &Modes) -> bool
         ensures { result ≡ leaves_word_unused self.now modes.now }
@@ -93,7 +93,7 @@ impl Block {
             || is_unused_word(self.values.r, is_cycle(self.motion) || is_arc(self.motion))
     }
 
-    /// B13: F, S, or P of G4 below 0.
+    /// B13: F, S, or P of G4 is negative.
     #[inline]
     pub(crate) fn has_negative(&self) -> bool
         ensures { result ≡ has_negative self.now }
@@ -117,7 +117,7 @@ impl Block {
         )
     }
 
-    /// B15: L of G10 missing or not 2, or L of a cycle not whole or below 1.
+    /// B15: L of G10 is missing or isn't 2, or L of a cycle isn't whole or is below 1.
     #[inline]
     pub(crate) fn has_bad_l(&self) -> bool
         ensures { result ≡ has_bad_l self.now }
@@ -126,7 +126,7 @@ impl Block {
             || is_cycle(self.motion) && is_unused_word(self.values.l, is_positive(self.values.l))
     }
 
-    /// B16: P of G10 missing, or not whole from 1 to 9.
+    /// B16: P of G10 is missing, or isn't a whole number from 1 to 9.
     #[inline]
     pub(crate) fn has_bad_system(&self) -> bool
         ensures { result ≡ has_bad_system self.now }

@@ -1,4 +1,4 @@
-//! Whether a line may ask for what it asks for.
+//! Whether a line's words are valid together.
 ghost use Rattle.std.specs.Prelude.{◌≡◌, Ok, Err, MatchResult, OnOk, IfOk};
 ghost use Rattle.ng_num.specs.Causes.{first_fault, NoneHolds, IsFirstFault};
 ghost use Rattle.ng_modal.specs.Check.{faults, checked};
@@ -14,8 +14,8 @@ use ng_state::Modes;
 impl Sorted {
     ghost use Rattle.ng_modal.specs.Sorted.{sorted_in, is_plain};
 
-    /// Whether words ask for a straight move and for nothing else that may be refused. Most lines are such, so this is
-    /// looked at before the causes by themselves.
+    /// Whether words ask for a straight move and for nothing else that may be refused. Most lines are of this kind, so
+    /// this is checked before the causes one by one.
     #[inline(never)]
     fn is_plain(&self) -> bool
         ensures { result ≡ is_plain self.now }
@@ -45,8 +45,7 @@ impl Sorted {
             && !(marked | others | takers)
     }
 
-    /// Takes the words of a line in place of those that were there, and the motion that it makes where it meets these
-    /// modes.
+    /// Replaces what is kept by the words of a line, and finds the motion that the line makes in these modes.
     fn sort_in(&mut self, words: &[Word], modes: &Modes)
         ensures { self.new ≡ sorted_in words.now modes.now }
     {
@@ -90,9 +89,9 @@ impl Sorted {
         }
     }
 
-    /// Finds what a line asks for in the modes that it meets, with this many slots of tools, in the places kept; else
-    /// the least of B1 to B19 whose cause holds (NISTIR 6556, 3.3 to 3.7; numbers own). After an error the block is of
-    /// no use.
+    /// Finds what a line asks for, given the modes before it and the number of tool slots, and stores it here.
+    /// Otherwise returns the first of B1 to B19 whose cause holds (NISTIR 6556, 3.3 to 3.7; numbers own). After an
+    /// error the block here is meaningless.
     pub fn check(&mut self, values: &Values, modes: &Modes, slots: u8) -> Result<(), Fault>
         ensures value { MatchResult result (λ _. checked values.now.words.items modes.now slots ≡ Ok self.new.block) (λ fault. checked values.now.words.items modes.now slots ≡ Err fault) }
         ensures least { MatchResult result (λ _. NoneHolds (faults values.now.words.items modes.now slots)) (λ fault. IsFirstFault (faults values.now.words.items modes.now slots) fault) }
@@ -102,8 +101,8 @@ impl Sorted {
     }
 }
 
-/// What a line asks for in the modes that it meets, with this many slots of tools; else the least of B1 to B19 whose
-/// cause holds (NISTIR 6556, 3.3 to 3.7; numbers own).
+/// What a line asks for, given the modes before it and the number of tool slots, or the first of B1 to B19 whose cause
+/// holds (NISTIR 6556, 3.3 to 3.7; numbers own).
 pub fn check(values: &Values, modes: &Modes, slots: u8) -> Result<Block, Fault>
     ensures value { result ≡ checked values.now.words.items modes.now slots }
     ensures least { MatchResult result (λ _. NoneHolds (faults values.now.words.items modes.now slots)) (λ fault. IsFirstFault (faults values.now.words.items modes.now slots) fault) }

@@ -1,4 +1,4 @@
-//! The codes of the language: what a G word and an M word ask for, by the word's value.
+//! The codes of the language: what G and M words ask for, by their values.
 ghost use Rattle.std.specs.Prelude.{◌≡◌};
 ghost use Rattle.std.specs.Option.{option_and_then};
 ghost use Rattle.ng_params.specs.Numbers.{system_of};
@@ -10,14 +10,14 @@ use ng_num::{Num, Unit};
 use ng_params::System;
 use ng_state::{Distance, FeedMode, Motion, PathMode, Retract};
 
-/// A G word: its modal group (NISTIR 6556, table 4), and what it asks for of that group.
+/// A G word: its modal group (NISTIR 6556, table 4), and what it asks for in that group.
 #[derive(Clone, Copy)]
 pub(crate) enum GWord {
-    /// Group 0: what holds for its line alone.
+    /// Group 0: applies to its line only.
     NonModal(NonModal),
     /// Group 1.
     Motion(Motion),
-    /// Group 1: probing, tapping, back boring, boring with a manual way out; this controller leaves them out.
+    /// Group 1: probing, tapping, back boring, boring with manual retraction. This controller leaves them out.
     LeftOutMotion,
     /// Group 2.
     Plane(Plane),
@@ -29,7 +29,7 @@ pub(crate) enum GWord {
     Unit(Unit),
     /// Group 7: no cutter radius compensation.
     NoCompensation,
-    /// Group 7: cutter radius compensation; this controller leaves it out.
+    /// Group 7: cutter radius compensation. This controller leaves it out.
     LeftOutCompensation,
     /// Group 8.
     ToolLength(ToolLength),
@@ -41,7 +41,7 @@ pub(crate) enum GWord {
     Path(PathMode),
 }
 
-/// An M word: its modal group (NISTIR 6556, table 4), and what it asks for of that group.
+/// An M word: its modal group (NISTIR 6556, table 4), and what it asks for in that group.
 #[derive(Clone, Copy)]
 pub(crate) enum MWord {
     /// Group 4: stopping.
@@ -56,7 +56,7 @@ pub(crate) enum MWord {
     Overrides(bool),
 }
 
-/// The G word that selects the coordinate system of a number.
+/// The G word that selects the coordinate system with a number.
 #[inline]
 fn system(number: i64) -> Option<GWord>
     ensures { result ≡ option_and_then selecting (system_of number) }
@@ -67,7 +67,7 @@ fn system(number: i64) -> Option<GWord>
     }
 }
 
-/// The G word whose value is a tenth of a number; none where no code has it (NISTIR 6556, table 5).
+/// The G word with a code, given as ten times its value. `None` if there is no such code (NISTIR 6556, table 5).
 #[tactic(auto, unfolding(crate::specs::Codes::g_word_of))]
 fn g_word_of(tenths: i64) -> Option<GWord>
     ensures { result ≡ g_word_of tenths }
@@ -129,7 +129,7 @@ fn g_word_of(tenths: i64) -> Option<GWord>
     }
 }
 
-/// The M word of a number; none where no code has it (NISTIR 6556, table 7).
+/// The M word with a number. `None` if there is no such code (NISTIR 6556, table 7).
 #[tactic(auto, unfolding(crate::specs::Codes::m_word_of))]
 fn m_word_of(number: i64) -> Option<MWord>
     ensures { result ≡ m_word_of number }
@@ -153,8 +153,8 @@ fn m_word_of(number: i64) -> Option<MWord>
     }
 }
 
-/// What a G word of this value asks for: ten times the value is looked at, and counts as the whole number that it is
-/// within 0.0001 of (own); none where that is no code's.
+/// What a G word with this value asks for. Ten times the value counts as the whole number that is at most 0.0001 away
+/// (own). `None` if the value isn't a code.
 #[inline]
 #[tactic(auto, unfolding(crate::specs::Codes::g_word))]
 pub(crate) fn g_word(value: Num) -> Option<GWord>
@@ -166,8 +166,8 @@ pub(crate) fn g_word(value: Num) -> Option<GWord>
     }
 }
 
-/// What an M word of this value asks for: the value counts as the whole number that it is within 0.0001 of (own); none
-/// where that is no code's.
+/// What an M word with this value asks for. The value counts as the whole number that is at most 0.0001 away (own).
+/// `None` if it isn't a code.
 #[inline]
 #[tactic(auto, unfolding(crate::specs::Codes::m_word))]
 pub(crate) fn m_word(value: Num) -> Option<MWord>

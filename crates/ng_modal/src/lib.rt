@@ -1,18 +1,18 @@
-//! Modal groups: what the words of a line ask for, and whether a line may ask for it.
+//! Modal groups: what the words of a line ask for, and whether they are valid together.
 //!
-//! `Sorted::check` looks at each word of a line once, in the modes that the line meets, and answers the block that the
-//! words ask for: values by letter, what G and M words ask for by modal group, and the motion that the line makes. Else
-//! it answers the least of the faults B1 to B19 whose cause holds. It takes no memory; its places serve any number of
-//! lines, and `check` is the same with places of its own.
+//! `Sorted::check` looks at each word of a line once, given the modes before the line. It makes the block that the
+//! words ask for: values by letter, what G and M words ask for by modal group, and the motion that the line makes.
+//! Otherwise it returns the first of the faults B1 to B19 whose cause holds. It doesn't allocate; its storage is reused
+//! for one line after another. `check` does the same with storage of its own.
 //!
-//! A code is one row of the table in `specs/Codes.antt`, and one of that in `codes.rt`: its number and what its word
-//! asks for. The numbers of the modal groups are in `Groups.antt`; each cause is a sentence in `WordCauses.antt` (B1 to
-//! B5, of the words alone) or `Causes.antt` (B6 to B19, of what they ask for), and their order is the list in
-//! `Check.antt`. All codes of the language are known here.
+//! A code is one row of the table in `specs/Codes.antt` and one row in `codes.rt`: its number and what its word asks
+//! for. The numbers of the modal groups are in `Groups.antt`. Each cause is a sentence, in `WordCauses.antt` for B1 to
+//! B5, which depend only on the words, or in `Causes.antt` for B6 to B19, which depend on what the words ask for. Their
+//! order is the list in `Check.antt`. All codes of the language are known here.
 //!
-//! The crate stands on `ng_expr` for the values of words, on `ng_state` for the modes, on `ng_params` for the numbers
-//! of coordinate systems and on `ng_canon` for planes and the spindle. It knows nothing of parameters, offsets, arcs
-//! and cycles beyond their words.
+//! The crate depends on `ng_expr` for the values of words, on `ng_state` for the modes, on `ng_params` for the numbers
+//! of coordinate systems, and on `ng_canon` for planes and the spindle. It knows nothing about parameters, offsets,
+//! arcs and cycles except their words.
 #![tactic(auto)]
 
 mod asks;

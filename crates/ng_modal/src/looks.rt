@@ -1,4 +1,4 @@
-//! What the causes of faults look at: words by what they ask for, and whole numbers.
+//! What the causes of faults depend on: words by what they ask for, and whole numbers.
 ghost use Rattle.std.specs.Prelude.{◌≡◌};
 ghost use Rattle.std.specs.Option.{option_and_then};
 ghost use Rattle.ng_num.specs.Whole.{whole_of};
@@ -99,7 +99,7 @@ pub(crate) fn pecks(motion: Option<Motion>) -> bool
     }
 }
 
-/// Whether a plane lies along X.
+/// Whether X is an axis of a plane.
 #[inline]
 pub(crate) fn is_along_x(plane: Plane) -> bool
     ensures { result ≡ is_along_x plane }
@@ -110,7 +110,7 @@ pub(crate) fn is_along_x(plane: Plane) -> bool
     }
 }
 
-/// Whether a plane lies along Y.
+/// Whether Y is an axis of a plane.
 #[inline]
 pub(crate) fn is_along_y(plane: Plane) -> bool
     ensures { result ≡ is_along_y plane }
@@ -121,7 +121,7 @@ pub(crate) fn is_along_y(plane: Plane) -> bool
     }
 }
 
-/// Whether a plane lies along Z.
+/// Whether Z is an axis of a plane.
 #[inline]
 pub(crate) fn is_along_z(plane: Plane) -> bool
     ensures { result ≡ is_along_z plane }
@@ -132,7 +132,7 @@ pub(crate) fn is_along_z(plane: Plane) -> bool
     }
 }
 
-/// Whether a word is there that nothing takes.
+/// Whether there is a word that nothing uses.
 #[inline]
 pub(crate) fn is_unused_word(word: Option<Num>, taken: bool) -> bool
     ensures { result ≡ is_unused_word word taken }
@@ -140,7 +140,7 @@ pub(crate) fn is_unused_word(word: Option<Num>, taken: bool) -> bool
     word.is_some() && !taken
 }
 
-/// Whether a number is below 0.
+/// Whether a word's value is negative.
 #[inline]
 pub(crate) fn is_negative(value: Option<Num>) -> bool
     ensures { result ≡ is_negative value }
@@ -172,7 +172,7 @@ pub(crate) fn is_whole_within(low: i64, high: i64, value: Option<Num>) -> bool
     }
 }
 
-/// Whether a value counts as a whole number that isn't below 1.
+/// Whether a value counts as a whole number of at least 1.
 #[inline]
 pub(crate) fn is_positive(value: Option<Num>) -> bool
     ensures { result ≡ is_positive (option_and_then whole_of value) }

@@ -1,8 +1,8 @@
-//! Places that are filled while words are taken.
+//! Places that are filled while words are added.
 ghost use Rattle.std.specs.Prelude.{◌≡◌, Some, IsTrue};
 ghost use Rattle.std.specs.Option.{is_some};
 
-/// Puts a value into a place; answers whether one was there.
+/// Stores a value in a place. Returns whether there was one.
 #[inline(always)]
 pub(crate) fn put<X: Copy>(place: &mut Option<X>, value: X) -> bool
     ensures value { place.new ≡ Some value }
@@ -13,7 +13,7 @@ pub(crate) fn put<X: Copy>(place: &mut Option<X>, value: X) -> bool
     was
 }
 
-/// Sets a mark; answers whether it was set.
+/// Sets a mark. Returns whether it was set before.
 #[inline(always)]
 pub(crate) fn mark(place: &mut bool) -> bool
     ensures value { IsTrue place.new }

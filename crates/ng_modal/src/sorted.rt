@@ -14,21 +14,21 @@ use ng_expr::Word;
 use ng_num::Num;
 use ng_words::Letter;
 
-/// Places for what the words of a line say together. They serve any number of lines, one after the other; what is kept
-/// beside the block is of use within a pass alone.
+/// What the words of a line ask for together. The storage is reused for one line after another. The fields other than
+/// the block are meaningful only during a pass.
 #[derive(Clone, Copy)]
 pub struct Sorted {
     /// What the line asks for.
     pub block: Block,
-    /// Two words of one letter other than G and M.
+    /// There are two words with one letter other than G and M.
     pub(crate) repeated: bool,
-    /// A G or M word that is no code.
+    /// There is a G or M word that isn't a code.
     pub(crate) unknown: bool,
-    /// A code or a letter that is left out.
+    /// There is a code or a letter that is left out.
     pub(crate) left_out: bool,
-    /// Two G words of one modal group.
+    /// There are two G words of one modal group.
     pub(crate) group_twice: bool,
-    /// Two M words of one modal group.
+    /// There are two M words of one modal group.
     pub(crate) m_group_twice: bool,
     /// The number of M words, 5 for more than 4.
     pub(crate) m_count: u8,
@@ -45,7 +45,7 @@ fn is_left_out_code(word: &GWord) -> bool
     }
 }
 
-/// Whether words of a letter are left out.
+/// Whether words with a letter are left out.
 #[inline]
 fn is_left_out_letter(letter: Letter) -> bool
     ensures { result ≡ is_left_out_letter letter }
@@ -56,7 +56,7 @@ fn is_left_out_letter(letter: Letter) -> bool
     }
 }
 
-/// The number of M words with one more, as far as it is looked at.
+/// The number of M words after one more; it stops at 5.
 #[inline]
 fn with_one_more(count: u8) -> u8
     ghost ws: { List TheWord }
@@ -69,7 +69,7 @@ fn with_one_more(count: u8) -> u8
 impl Sorted {
     ghost use Rattle.ng_modal.specs.Sorted.{sorted};
 
-    /// Of no words.
+    /// The result for no words.
     #[inline]
     pub fn nothing() -> Sorted
         ensures { result ≡ sorted [] }
@@ -90,7 +90,7 @@ impl Sorted {
         }
     }
 
-    /// Takes the G word in front of the words taken.
+    /// Adds a G word in front of the words added before.
     fn take_g(&mut self, value: Num)
         ghost ws: { List TheWord }
         requires { self.old ≡ sorted ws }
@@ -105,7 +105,7 @@ impl Sorted {
         }
     }
 
-    /// Takes the M word in front of the words taken.
+    /// Adds an M word in front of the words added before.
     fn take_m(&mut self, value: Num)
         ghost ws: { List TheWord }
         requires { self.old ≡ sorted ws }
@@ -118,7 +118,7 @@ impl Sorted {
         }
     }
 
-    /// Takes a word of another letter in front of the words taken.
+    /// Adds a word with another letter in front of the words added before.
     #[inline]
     fn take_value(&mut self, letter: Letter, value: Num)
         ghost ws: { List TheWord }
@@ -130,8 +130,8 @@ impl Sorted {
         self.left_out = is_left_out_letter(letter) | self.left_out;
     }
 
-    /// Takes the word in front of those taken. A call of its own, so that the places stay in memory: kept in registers
-    /// over the pass they would be put aside and fetched again at each word.
+    /// Adds a word in front of those added before. This is a call of its own, so that the fields stay in memory. If
+    /// they were kept in registers during the pass, they would be spilled and reloaded at each word.
     #[inline(never)]
     fn take(&mut self, word: &Word)
         ghost ws: { List TheWord }
@@ -145,7 +145,7 @@ impl Sorted {
         }
     }
 
-    /// Takes the word at a place, in front of those after it.
+    /// Adds the word at an index, in front of those after it.
     #[inline]
     fn take_at(&mut self, words: &[Word], i: usize)
         ghost ws: { List TheWord }
@@ -157,7 +157,7 @@ impl Sorted {
         self.take(&words[i]);
     }
 
-    /// Takes all words of a line, from the last to the first, in place of what was there.
+    /// Adds all words of a line, from the last to the first, after removing what was there.
     #[inline(never)]
     pub(crate) fn sort(&mut self, words: &[Word])
         ensures { self.new ≡ sorted words.now }

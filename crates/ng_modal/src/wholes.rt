@@ -1,4 +1,4 @@
-//! The whole numbers that a block's words name.
+//! The whole numbers in a block's words.
 ghost use Rattle.std.specs.Prelude.{◌≡◌, ◌≤◌, unsigned_abs, IfSome};
 ghost use Rattle.std.specs.Option.{option_and_then};
 ghost use Rattle.ng_num.specs.Whole.{whole_of};
@@ -8,7 +8,7 @@ use crate::block::Block;
 use ng_num::Num;
 use ng_params::System;
 
-/// The slot of a number.
+/// The slot with a number.
 #[inline]
 fn slot_of(number: i64) -> Option<u8>
     ensures { result ≡ slot_of number }
@@ -20,7 +20,7 @@ fn slot_of(number: i64) -> Option<u8>
     }
 }
 
-/// The whole number that a word's value counts as, at most 10,000,000 in size.
+/// The whole number that a word's value counts as, at most 10,000,000 in absolute value.
 #[inline]
 fn whole_on(word: Option<Num>) -> Option<i64>
     ensures value { result ≡ option_and_then whole_of word }
@@ -28,7 +28,7 @@ fn whole_on(word: Option<Num>) -> Option<i64>
 {
     match word {
         Some(value) => {
-            // called for its contract: the value is in range
+            // Called for its contract: the value is in range.
             let _count = value.count();
             value.whole()
         }
@@ -47,7 +47,7 @@ fn slot_on(word: Option<Num>) -> Option<u8>
     }
 }
 
-/// At least one of a number of repeats.
+/// A number of repeats, but at least one.
 #[inline]
 fn repeats_by(number: Option<i64>) -> u32
     requires { IfSome number (λ n. unsigned_abs n ≤ 10_000_000) }
@@ -62,8 +62,8 @@ fn repeats_by(number: Option<i64>) -> u32
 }
 
 impl Block {
-    /// The slot that T selects; of an accepted block none only without T, and at most the number of slots
-    /// (NISTIR 6556, 3.7.3).
+    /// The slot that T selects. In an accepted block it is `None` only if there is no T, and at most the number of
+    /// slots (NISTIR 6556, 3.7.3).
     #[inline]
     pub fn selected_slot(&self) -> Option<u8>
         ensures { result ≡ slot_on self.now.values.t }
@@ -71,8 +71,8 @@ impl Block {
         slot_on(self.values.t)
     }
 
-    /// The slot whose length G43 takes by H, 0 for none; of an accepted block none only without H, and at most the
-    /// number of slots (NISTIR 6556, 3.5.11).
+    /// The slot that H names, whose length G43 takes; 0 for none. In an accepted block it is `None` only if there is no
+    /// H, and at most the number of slots (NISTIR 6556, 3.5.11).
     #[inline]
     pub fn length_slot(&self) -> Option<u8>
         ensures { result ≡ slot_on self.now.values.h }
@@ -80,7 +80,8 @@ impl Block {
         slot_on(self.values.h)
     }
 
-    /// The system whose origin G10 sets by P; some of each accepted block with G10 (NISTIR 6556, 3.5.5).
+    /// The system that P names, whose origin G10 sets. In an accepted block with G10 it is never `None` (NISTIR 6556,
+    /// 3.5.5).
     #[inline]
     pub fn origin_system(&self) -> Option<System>
         ensures { result ≡ system_on self.now.values.p }
@@ -91,8 +92,8 @@ impl Block {
         }
     }
 
-    /// How often a cycle is done: L, or once without it; at least once, and at most 10,000,000 times, which is what an
-    /// L of 9,999,999.9999 counts as (NISTIR 6556, 3.5.16).
+    /// How often a cycle is repeated: L times, or once if there is no L. At least once, and at most 10,000,000 times,
+    /// which is what an L of 9,999,999.9999 counts as (NISTIR 6556, 3.5.16).
     #[inline]
     pub fn repeats(&self) -> u32
         ensures value { result ≡ repeats_on self.now.values.l }

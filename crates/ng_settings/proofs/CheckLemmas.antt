@@ -1,4 +1,4 @@
--- Causes of faults, from what is found under the keys; the first cause that holds.
+-- Causes of faults, in terms of the values under the keys; the first cause that holds.
 use Rattle.std.proofs.Common.{◌≡◌, Bool, true, false, List, [], ◌∷◌, refl}
 use Rattle.ng_num.specs.declared.fault.Fault.{Fault}
 use Rattle.ng_num.specs.declared.fault.Fault.TheVariants.{MissingKey, UnknownKey, WrongType, OutOfLimits, TooManyTools}

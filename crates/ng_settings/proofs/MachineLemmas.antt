@@ -1,4 +1,4 @@
--- Numbers of which none is beyond its limits.
+-- Numbers that are all within their limits.
 use Rattle.std.proofs.Common.{◌≡◌, false, ◌||◌, [], ◌∷◌, ℤ, pos, negsuc, ◌≤ℤ◌, int_lt, arith}
 use Rattle.std.proofs.lemmas.Bool.{or_parts}
 use Rattle.std.proofs.lemmas.Int.{ints}

@@ -1,4 +1,4 @@
--- The names of a table, as its map has them.
+-- The names of a table, as the keys of its map.
 use Rattle.std.proofs.Common.{◌≡◌, Bool, List, [], ◌∷◌, ◌||◌, not, String, Global, string_bytes, refl, ap}
 use Rattle.std.specs.List.{list_any}
 use Rattle.std.specs.Map.{keys_of}

@@ -1,4 +1,4 @@
--- The whole numbers of an array, as its list has them.
+-- The whole numbers of an array, as those of its list.
 use Rattle.std.proofs.Common.{◌≡◌, ◌≢◌, ℕ, ◌<◌, ◌&&◌, ◌==◌, Bool, true, false, List, [], ◌∷◌, length, get_or, ℤ, Option, Some, None, zero, suc, is_some, refl, ap, sym, ◌∙◌, arith}
 use Rattle.std.proofs.Math.Bool.{and-false}
 use Rattle.std.proofs.lemmas.Bool.Decides.{nat_tests}
@@ -33,12 +33,12 @@ unfolding is_whole
 more d ds (Some n) e rest h = rw e (ap suc (rest (rw e at h)))
 more d ds None e rest h = absurd (cc (rw e at h))
 
--- of whole numbers alone there are as many as items
+-- if all items are whole numbers, there are as many numbers as items
 pub numbers_length : (ds : List Data) → list_all is_whole ds ≡ true → length (filter_map as_integer ds) ≡ length ds
 numbers_length [] h = refl
 numbers_length (d ∷ ds) h = more d ds (as_integer d) refl (numbers_length ds) h
 
--- another number of items is no triple
+-- an array with another number of items isn't a triple
 not_three_by : (whole : Bool) (n m : ℕ) → (whole ≡ true → n ≡ m) → m ≢ 3 → (whole && (n == 3)) ≡ false
 not_three_by false n m same other = refl
 not_three_by true n m same other = let e : n ≡ m = same refl in grind (arith, nat_tests)
@@ -49,7 +49,7 @@ not_three vs other =
     not_three_by (list_all is_whole (listed (items_view vs))) (length (filter_map as_integer (listed (items_view vs)))) (length vs)
     (λ (h : list_all is_whole (listed (items_view vs)) ≡ true). numbers_length (listed (items_view vs)) h ∙ listed_length vs) other
 
--- a value that is no array is none either
+-- a value that isn't an array isn't a triple either
 pub no_array : (d : Data) → None ≡ as_array d → is_triple d ≡ false
 unfolding is_triple is_list
 no_array (string s) e = refl
@@ -66,7 +66,7 @@ not_all [] k v lt at e = absurd (omega (arith, lt))
 not_all (u ∷ vs) zero v lt at e = let none : as_integer (view u) ≡ None = rw at at (sym e) in rw none
 not_all (u ∷ vs) (suc k) v lt at e = rw (not_all vs k v (omega (arith, lt)) at e) (and-false (is_some (as_integer (view u))))
 
--- nor is an array with another item
+-- nor is an array with an item of another type
 pub not_whole : (vs : List Value) (k : ℕ) (v : Value) → k < length vs → v ≡ get_or vs k v → None ≡ as_integer (view v) → is_triple (array (items_view vs)) ≡ false
 unfolding is_triple is_list numbers_of
 not_whole vs k v lt at e = rw (not_all vs k v lt at e)

@@ -1,4 +1,4 @@
--- Why settings are refused: the causes of S2 to S6 (own). Each is looked at over all keys.
+-- Why settings are refused: the causes of S2 to S6 (own). Each is checked for all keys.
 use Rattle.std.specs.Prelude.{ℕ, Bool, false, not, ◌||◌, List, [], ◌∷◌, length, ℤ, pos, negsuc, int_lt, nat_lt, Option, Some, None, is_none}
 use Rattle.std.specs.List.{list_any}
 use Rattle.toml.specs.Data.{Data, Members, no_members, member, get_member}
@@ -14,11 +14,11 @@ abbrev pub names : Members → List (List ℕ)
 names no_members = []
 names (member name value members) = name ∷ names members
 
--- S3: there is a name that is no key
+-- S3: there is a name that isn't a key
 unfoldable pub has_unknown_key : Members → Bool
 has_unknown_key table = list_any (λ name. not (is_key name)) (names table)
 
--- there is a value of another type
+-- there is a value of the wrong type
 abbrev pub is_other : (Data → Bool) → Option Data → Bool
 is_other is_type None = false
 is_other is_type (Some value) = not (is_type value)
@@ -37,12 +37,12 @@ has_wrong_type table =
 abbrev pub is_beyond : ℤ → ℤ → ℤ → Bool
 is_beyond least greatest n = int_lt n least || int_lt greatest n
 
--- one of these numbers is
+-- one of these numbers is below the least or above the greatest
 unfoldable pub are_beyond : ℤ → ℤ → List ℤ → Bool
 are_beyond least greatest numbers = list_any (λ n. is_beyond least greatest n) numbers
 
--- S5: steps from 10 to 1,000,000 nm, a travel with 0 inside and at most 10 m to either side, traverses of 1 to
--- 100,000,000,000 nm a minute, a least period of 1 to 1,000,000 us, tool lengths from 0 to 1 m
+-- S5: steps from 10 to 1,000,000 nm; a travel that contains 0 and reaches at most 10 m to either side; traverses of 1
+-- to 100,000,000,000 nm a minute; a least period of 1 to 1,000,000 us; tool lengths from 0 to 1 m
 unfoldable pub is_beyond_limits : Numbers → Bool
 is_beyond_limits numbers =
     are_beyond (pos 10) (pos 1_000_000) numbers.steps

@@ -1,4 +1,4 @@
--- The settings of a text, or its first fault: the causes in the order in which they are looked for (own).
+-- The settings of a text, or its first fault: the causes in the order in which they are checked (own).
 use Rattle.std.specs.Prelude.{◌≡◌, ℕ, Bool, ◌⊎◌, List, [], ◌∷◌, Some, IsUtf8}
 use Rattle.ng_num.specs.Causes.{NoneHolds, IsFirstFault}
 use Rattle.ng_num.specs.declared.fault.Fault.{Fault}
@@ -11,7 +11,7 @@ use Rattle.ng_settings.specs.Causes.{has_missing_key, has_unknown_key, has_wrong
 use Rattle.ng_settings.specs.Given.{numbers_set}
 use Rattle.ng_settings.specs.declared.standard.Settings.{Settings}
 
--- S2 to S6 of a table, each with its cause before it
+-- S2 to S6 of a table, each with its cause
 abbrev pub faults : Members → List (Bool × Fault)
 faults table =
     (has_missing_key table, MissingKey)
@@ -21,7 +21,7 @@ faults table =
     ∷ ((has_many_tools (numbers_in table), TooManyTools)
     ∷ []))))
 
--- a text is that of a table, by TOML's grammar and rules
+-- a text stands for this table, by TOML's grammar and rules
 pub record IsToml (text : List ℕ) (table : Members) : Type 0 where
   pub utf8 : IsUtf8 text
   pub parsed : parse_document text ≡ Some table
@@ -33,13 +33,14 @@ pub record AreSettings (text : List ℕ) (settings : Settings) : Type 0 where
   pub lawful : NoneHolds (faults table)
   pub numbers : numbers_set settings ≡ numbers_in table
 
--- this is the least fault of the table of a text
+-- this is the first fault of the table of a text
 pub record IsTableFault (text : List ℕ) (fault : Fault) : Type 0 where
   pub table : Members
   pub read : IsToml text table
   pub least : IsFirstFault (faults table) fault
 
--- a text is refused: for want of memory, which no blank text asks for; as that of no table; or by the fault of its table
+-- a text is refused because memory ran out, which can't happen with a blank text; because it doesn't stand for a table;
+-- or because of its table's fault
 abbrev pub IsRefused : List ℕ → Fault → Type 0
 IsRefused text fault =
     ((fault ≡ OutOfMemory) × ¬ IsBlank text)

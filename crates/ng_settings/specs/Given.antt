@@ -21,7 +21,7 @@ pub record AreFound (table : Members) (found : KeyValues) : Type 0 where
   pub period : get_member period_us table ≡ Some (view found.period.now)
   pub tools : get_member tools_nm table ≡ Some (view found.tools.now)
 
--- a value found is of another type
+-- a value that was found has the wrong type
 unfoldable pub has_other_type : KeyValues → Bool
 has_other_type found =
     not (is_triple (view found.steps.now))
@@ -31,7 +31,7 @@ has_other_type found =
     || not (is_whole (view found.period.now))
     || not (is_list (view found.tools.now))
 
--- the whole numbers of what is found
+-- the whole numbers of the values that were found
 abbrev pub numbers_found : KeyValues → Numbers
 numbers_found found = record { steps = numbers_of (view found.steps.now); lows = numbers_of (view found.lows.now); highs = numbers_of (view found.highs.now); traverse = numbers_of (view found.traverse.now); period = numbers_of (view found.period.now); tools = numbers_of (view found.tools.now) }
 
@@ -71,7 +71,7 @@ pub record IsMachine (given : SettingNumbers) : Type 0 where
   pub traverse : IsInLimits (pos 1) (pos 100_000_000_000) given.traverse
   pub period : IsInLimits (pos 1) (pos 1_000_000) given.period
 
--- the axis of a step and a travel
+-- the axis with a step and a travel
 pub record IsAxisOf (axis : Axis) (nm least greatest : ℤ) : Type 0 where
   pub step : pos axis.step_nm ≡ nm
   pub low : axis.low ≡ least

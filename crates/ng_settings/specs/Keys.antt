@@ -24,6 +24,6 @@ tools_nm = codes "tools_nm"
 abbrev pub keys : List (List ℕ)
 keys = step_nm ∷ low_nm ∷ high_nm ∷ traverse_nm_per_min ∷ period_us ∷ tools_nm ∷ []
 
--- whether a name is that of a key
+-- whether a name is a key
 unfoldable pub is_key : List ℕ → Bool
 is_key name = list_any (λ key. bytes_eq name key) keys

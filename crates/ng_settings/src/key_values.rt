@@ -26,7 +26,7 @@ fn value_at<'a>(table: &'a Table, key: &str) -> Option<&'a Value>
     table.get(key)
 }
 
-/// The values of the keys; none where one is missing.
+/// The values of the keys. `None` if one is missing.
 #[tactic(auto, unfolding(crate::specs::Causes::has_missing_key))]
 pub(crate) fn find(table: &Table) -> Option<KeyValues<'_>>
     ensures { MatchOption result (has_missing_key (table_view table.now) ≡ true) (AreFound (table_view table.now)) }
@@ -41,7 +41,7 @@ pub(crate) fn find(table: &Table) -> Option<KeyValues<'_>>
     })
 }
 
-/// Whether a name is that of a key.
+/// Whether a name is a key.
 #[tactic(auto, unfolding(crate::specs::Keys::is_key))]
 fn is_key(name: &str) -> bool
     ensures { result ≡ is_key name.now }
@@ -54,7 +54,7 @@ fn is_key(name: &str) -> bool
         || name == "tools_nm"
 }
 
-/// Whether a table has another name than those of the keys.
+/// Whether a table has a name that isn't a key.
 pub(crate) fn has_unknown_key(table: &Table) -> bool
     ensures { result ≡ has_unknown_key (table_view table.now) }
 {

@@ -1,11 +1,12 @@
 //! The settings of a machine, read from a text in TOML.
 //!
-//! `settings` answers the geometry and the tool table that a text gives, or the first fault that it has: S1 where it is no TOML,
-//! then S2 to S6, each looked at over all keys before the next. `specs/Keys.antt` has the keys, `Causes.antt` one sentence for each
-//! cause, `Check.antt` their order. What is TOML, and what table a text stands for, is the definition of the crate `toml`.
+//! `settings` returns the geometry and the tool table that a text gives, or its first fault: S1 if it isn't TOML, then
+//! S2 to S6. Each cause is checked for all keys before the next. `specs/Keys.antt` has the keys, `Causes.antt` one
+//! sentence for each cause, and `Check.antt` their order. The crate `toml` defines what TOML is, and which table a text
+//! stands for.
 //!
-//! The numbers of settings are within their limits by the types of `ng_canon` and by what `settings` answers. Memory is taken for
-//! the parsed table alone.
+//! The types of `ng_canon` and the contract of `settings` ensure that the numbers of settings are within their limits.
+//! Memory is allocated only for the parsed table.
 #![tactic(auto)]
 
 mod key_values;

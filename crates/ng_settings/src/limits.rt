@@ -1,4 +1,4 @@
-//! Numbers beyond their limits.
+//! Numbers outside their limits.
 ghost use Rattle.std.specs.Prelude.{◌≡◌, [], ◌∷◌, pos, false};
 ghost use Rattle.std.specs.List.{filter_map};
 ghost use Rattle.std.specs.Option.{option_map_or};
@@ -20,7 +20,7 @@ pub(crate) fn is_single_beyond(number: Whole, least: i64, greatest: i64) -> bool
     number.is_beyond(least, greatest)
 }
 
-/// Whether one of three numbers is.
+/// Whether one of three numbers is below the least or above the greatest.
 pub(crate) fn is_triple_beyond(numbers: PerAxis, least: i64, greatest: i64) -> bool
     ensures { result ≡ are_beyond least greatest (three numbers) }
 {
@@ -30,7 +30,7 @@ pub(crate) fn is_triple_beyond(numbers: PerAxis, least: i64, greatest: i64) -> b
     x | y | z
 }
 
-/// Whether a value is a whole number that is no tool length: below 0 or above 1,000,000,000 nm.
+/// Whether a value is a whole number that isn't a tool length: below 0 or above 1,000,000,000 nm.
 fn is_length_beyond(value: &Value) -> bool
     ensures { result ≡ option_map_or (is_beyond (pos 0) (pos 1_000_000_000)) (as_integer (view value.now)) false }
 {
@@ -40,7 +40,7 @@ fn is_length_beyond(value: &Value) -> bool
     }
 }
 
-/// Whether one of an array's whole numbers is.
+/// Whether one of an array's whole numbers isn't a tool length.
 pub(crate) fn is_list_beyond(lengths: &Array) -> bool
     ensures { result ≡ are_beyond (pos 0) (pos 1_000_000_000) (filter_map as_integer (listed (array_view lengths.now))) }
 {

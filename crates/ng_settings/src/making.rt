@@ -1,4 +1,4 @@
-//! The settings that whole numbers within their limits make.
+//! The settings, made from whole numbers within their limits.
 ghost use Rattle.std.specs.Prelude.{◌≡◌, ◌≤◌, true, false, nat_lt, length, pos, negsuc, MatchOption};
 ghost use Rattle.std.specs.List.{filter_map};
 ghost use Rattle.toml.specs.Data.{as_integer};
@@ -15,7 +15,7 @@ use ng_num::Len;
 use ng_offsets::{SLOTS, Tools};
 use toml::value::Array;
 
-/// The length of a number of nanometres.
+/// The length for a number of nanometres.
 fn length(nm: Whole) -> Len
     requires { IsInLimits (negsuc 9_999_999_999) (pos 10_000_000_000) nm }
     ensures { result ≡ nm }
@@ -23,7 +23,7 @@ fn length(nm: Whole) -> Len
     Len::of_nm(nm.number() as i128).unwrap()
 }
 
-/// The axis of a step and a travel.
+/// The axis with a step and a travel.
 fn axis(step: Whole, low: Whole, high: Whole) -> Axis
     requires step { IsInLimits (pos 10) (pos 1_000_000) step }
     requires low { IsInLimits (negsuc 9_999_999_999) (pos 0) low }
@@ -39,7 +39,7 @@ fn axis(step: Whole, low: Whole, high: Whole) -> Axis
     }
 }
 
-/// The traverse rate of a number.
+/// The traverse rate for a number.
 fn traverse(nm_per_min: Whole) -> Rate
     requires { IsInLimits (pos 1) (pos 100_000_000_000) nm_per_min }
     ensures { pos result ≡ nm_per_min }
@@ -48,7 +48,7 @@ fn traverse(nm_per_min: Whole) -> Rate
     Rate::of(Feed::of(per_min)).unwrap()
 }
 
-/// The least period of a number.
+/// The least period for a number.
 fn period(microseconds: Whole) -> u32
     requires { IsInLimits (pos 1) (pos 1_000_000) microseconds }
     ensures value { pos result ≡ microseconds }
@@ -58,7 +58,7 @@ fn period(microseconds: Whole) -> u32
     microseconds.number() as u32
 }
 
-/// The tool length of a number.
+/// The tool length for a number.
 fn tool_length(nm: i64) -> Len
     requires { is_beyond (pos 0) (pos 1_000_000_000) nm ≡ false }
     ensures value { result ≡ nm }
@@ -68,7 +68,7 @@ fn tool_length(nm: i64) -> Len
 }
 
 impl<'a> SettingNumbers<'a> {
-    /// The machine of numbers that are within their limits.
+    /// The machine, made from numbers within their limits.
     pub(crate) fn geometry(&self) -> Geometry
         requires { IsMachine self.now }
         ensures { IsMachineOf result self.now }
@@ -83,7 +83,8 @@ impl<'a> SettingNumbers<'a> {
     }
 }
 
-/// The tool table of an array's whole numbers, which are within their limits; none where there are more than 128.
+/// The tool table, made from an array's whole numbers, which are within their limits. `None` if there are more than
+/// 128.
 pub(crate) fn tools_of(lengths: &Array) -> Option<Tools>
     requires { are_beyond (pos 0) (pos 1_000_000_000) (filter_map as_integer (listed (array_view lengths.now))) ≡ false }
     ensures { MatchOption result (nat_lt 128 (length (filter_map as_integer (listed (array_view lengths.now)))) ≡ true) (λ tools. (nat_lt 128 (length tools) ≡ false) × (filter_map as_integer (listed (array_view lengths.now)) ≡ tools)) }

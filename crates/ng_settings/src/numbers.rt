@@ -18,14 +18,14 @@ pub(crate) struct PerAxis {
     pub(crate) z: Whole,
 }
 
-/// Whether all that an array holds are whole numbers.
+/// Whether an array holds only whole numbers.
 fn are_whole(array: &Array) -> bool
     ensures { result ≡ list_all is_whole (listed (array_view array.now)) }
 {
     array.iter().all(|value| value.is_integer())
 }
 
-/// The three whole numbers of an array; none of any other value.
+/// The three whole numbers of an array. `None` for any other value.
 pub(crate) fn triple(value: &Value) -> Option<PerAxis>
     ensures { MatchOption result (is_triple (view value.now) ≡ false) (λ triple. (is_triple (view value.now) ≡ true) × (numbers_of (view value.now) ≡ three triple)) }
 {
@@ -43,7 +43,7 @@ pub(crate) fn triple(value: &Value) -> Option<PerAxis>
     })
 }
 
-/// A whole number; none of any other value.
+/// A whole number. `None` for any other value.
 #[tactic(auto, unfolding(crate::specs::Numbers::is_whole, crate::specs::Numbers::numbers_of))]
 pub(crate) fn single(value: &Value) -> Option<Whole>
     ensures { MatchOption result (is_whole (view value.now) ≡ false) (λ number. (is_whole (view value.now) ≡ true) × (numbers_of (view value.now) ≡ number ∷ [])) }
@@ -51,7 +51,7 @@ pub(crate) fn single(value: &Value) -> Option<Whole>
     Some(Whole::of(value.as_integer()?))
 }
 
-/// An array of whole numbers; none of any other value.
+/// An array of whole numbers. `None` for any other value.
 #[tactic(auto, unfolding(crate::specs::Numbers::is_list, crate::specs::Numbers::numbers_of))]
 pub(crate) fn list(value: &Value) -> Option<&Array>
     ensures { MatchOption result (is_list (view value.now) ≡ false) (λ array. (is_list (view value.now) ≡ true) × (numbers_of (view value.now) ≡ filter_map as_integer (listed (array_view array.now)))) }

@@ -13,7 +13,7 @@ use ng_num::Fault;
 use std::alloc::Global;
 use toml::Table;
 
-/// The settings of a table; else the least of S2 to S6 whose cause holds.
+/// The settings of a table, or the first of S2 to S6 whose cause holds.
 fn settings_of(table: &Table) -> Result<Settings, Fault>
     ensures { MatchResult result (λ settings. NoneHolds (faults (table_view table.now)) × (numbers_set settings ≡ numbers_in (table_view table.now))) (λ fault. IsFirstFault (faults (table_view table.now)) fault) }
 {
@@ -40,9 +40,9 @@ fn settings_of(table: &Table) -> Result<Settings, Fault>
     }
 }
 
-/// The settings of a TOML text (own). S1 where it is no TOML, M1 for want of memory; else the least of S2 to S6 whose cause
-/// holds: S2 a key is missing, S3 there is another key, S4 a value is of another type, S5 a number is beyond its limits, S6
-/// there are more than 128 tool lengths. Each is looked at over all keys.
+/// The settings of a TOML text (own). S1 if it isn't TOML, M1 if memory runs out; otherwise the first of S2 to S6 whose
+/// cause holds. S2: a key is missing. S3: there is another key. S4: a value has the wrong type. S5: a number is outside
+/// its limits. S6: there are more than 128 tool lengths. Each cause is checked for all keys before the next.
 pub fn settings(alloc: Global, text: &[u8]) -> Result<Settings, Fault>
     ensures { MatchResult result (AreSettings text.now) (IsRefused text.now) }
 {

@@ -1,4 +1,4 @@
-//! The whole numbers under each key, and the settings that they make.
+//! The whole numbers under each key, and the settings made from them.
 ghost use Rattle.std.specs.Prelude.{◌≡◌, true, false, pos, MatchOption};
 ghost use Rattle.ng_settings.specs.Causes.{is_beyond_limits};
 ghost use Rattle.ng_settings.specs.Given.{has_other_type, numbers_found, numbers_given};
@@ -21,7 +21,7 @@ pub(crate) struct SettingNumbers<'a> {
 }
 
 impl<'a> KeyValues<'a> {
-    /// The whole numbers of the values; none where one is of another type.
+    /// The whole numbers of the values. `None` if one has the wrong type.
     #[tactic(auto, unfolding(crate::specs::Given::has_other_type))]
     pub(crate) fn given(self) -> Option<SettingNumbers<'a>>
         ensures { MatchOption result (has_other_type self.entry ≡ true) (λ given. (has_other_type self.entry ≡ false) × (numbers_found self.entry ≡ numbers_given given)) }
@@ -38,7 +38,7 @@ impl<'a> KeyValues<'a> {
 }
 
 impl<'a> SettingNumbers<'a> {
-    /// Whether a number is beyond the limits of its key.
+    /// Whether a number is outside the limits of its key.
     pub(crate) fn is_beyond_limits(&self) -> bool
         ensures { result ≡ is_beyond_limits (numbers_given self.now) }
     {

@@ -32,7 +32,7 @@ impl Whole {
         self.number
     }
 
-    /// Whether it is below the least or above the greatest of its limits.
+    /// Whether the number is below the least or above the greatest of its limits.
     pub(crate) fn is_beyond(self, least: i64, greatest: i64) -> bool
         ensures { result ≡ is_beyond least greatest self }
     {

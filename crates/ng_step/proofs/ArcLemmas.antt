@@ -1,4 +1,4 @@
--- An arc's steps end, are the only ones, and keep near the circle.
+-- An arc's steps come to an end, are the only ones, and stay near the circle.
 use Rattle.std.proofs.Common.{arith, ℕ, zero, suc, ◌+◌, ◌-◌, ◌*◌, ◌<◌, ◌≤◌, ◌≡◌, ◌⊎◌, inl, inr, refl, sym, ◌∙◌, subst, pos, neg_ℤ, ◌-ℤ◌, Bool, true, false, List, [], ◌∷◌, length}
 use Rattle.std.proofs.lemmas.Int.{ints}
 use Rattle.std.proofs.lemmas.Bool.{cases_lt}
@@ -93,7 +93,7 @@ onward c radius k q i o has roomy sound = elim (cases_lt c.square (norm i o)) [
   ]
 ]
 
--- ---- ends
+-- ---- coming to an end
 
 pub left_some : (e : PlanePoint) (left : ℕ) (p : PlanePoint) → stops e left p ≡ false → 0 < left
 unfolding stops
@@ -131,7 +131,7 @@ arc_complete c e radius k has roomy (suc fuel) left q i o sound enough =
     let falls = budget_falls c radius k left q i o sound (left_some e left (point_of_quadrant q i o) go) n in
     rw n.is (arc_complete c e radius k has roomy fuel (left_after c left (point_of_quadrant q i o)) n.q' n.i' n.o' n.sound (omega arith)))
 
--- ---- no more steps than this
+-- ---- a bound for the number of steps
 
 length_steps : (c : Circle) (t : Bool) (m : PlaneStep) (ms : List PlaneStep) (n : ℕ) → length ms ≤ n → length (if t then [] else (m ∷ ms)) ≤ suc n
 length_steps c true m ms n h = omega arith
@@ -153,7 +153,7 @@ IsArc-only c e left p (m ∷ ms) (n ∷ ns) h k =
     let firsts : m ≡ n = h.1 ∙ sym k.1 in
     cc
 
--- ---- near the circle
+-- ---- staying near the circle
 
 abs_diff : (m n b : ℕ) → m ≤ n + b → n ≤ m + b → unsigned_abs (pos m -ℤ pos n) ≤ b
 abs_diff m n b h k = grind (arith, ints)
@@ -206,7 +206,7 @@ near_circle c e radius k has roomy w f0 left q i o (m ∷ ms) sound below walk w
     All-cons (NearBy c w f0) (point_of_quadrant q i o) _ (near_place c q i o w f0 below)
     (subst (λ (x : PlanePoint). All (NearBy c w f0) (spots c x ms)) (sym to) others)
 
--- ---- from any point but the centre
+-- ---- from any point except the centre
 
 roomy_of : (c : Circle) (radius k : ℕ) → IsLargeArc c radius → radius + larger c ≤ k → Roomy c.square radius (larger c) k
 roomy_of c radius k arc h = record { large = arc.large; within = arc.within; room = h }
@@ -245,7 +245,7 @@ below_first c w q i o = rw excess-place (between (norm i o) c.square (2 * (large
         let high : m ≤ n + unsigned_abs (pos m -ℤ pos n) = grind (arith, ints) in
         record { upper = inl (omega arith); lower = omega arith }
 
--- and they keep near the circle
+-- and they stay near the circle
 pub is_near_circle : (c : Circle) (e : PlanePoint) (radius left : ℕ) (p : PlanePoint) (ms : List PlaneStep) → IsLargeArc c radius → 0 < unsigned_abs p.a + unsigned_abs p.b
     → IsArc c e left p ms → IsNearCircle c p ms
 is_near_circle c e radius left p ms arc some walk =

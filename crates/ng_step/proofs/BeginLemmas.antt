@@ -17,7 +17,7 @@ use Rattle.ng_step.specs.declared.steps.AxisSteps.{AxisSteps}
 use Rattle.ng_step.specs.declared.frame.Frame.{Frame}
 use Rattle.ng_step.specs.Frames.{pulse_with}
 
--- the sizes are those of the place
+-- the sizes are those of the point
 pub record Starts (q : Quadrant) (i o : ℕ) (p : PlanePoint) : Type 0 where
   pub some : 0 < i
   pub is : point_of_quadrant q i o ≡ p

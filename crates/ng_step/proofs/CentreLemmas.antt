@@ -1,4 +1,4 @@
--- An arc seen from its centre: the code's numbers are those of the definition.
+-- An arc relative to its centre: the code's numbers are those of the definition.
 use Rattle.std.proofs.Common.{arith, ℕ, ◌+◌, ◌*◌, ◌^◌, ◌<◌, ◌≡◌, refl, sym, ap, ◌∙◌, ℤ, pos, ◌-ℤ◌, ◌*ℤ◌, to_z, of_z}
 use mir.Syntax.{w64}
 use Rattle.std.proofs.lemmas.Int.{ints}
@@ -50,7 +50,7 @@ of_third_small Xy d m h = h.z
 of_third_small Xz d m h = h.y
 of_third_small Yz d m h = h.x
 
--- the same of distances that the code has stored
+-- the closing line from the distances of the code
 pub of_a_kept : (plane : Plane) (d : Distances) (r : ℤ) → AreSized d (2 ^ 50) → r ≡ pick_a plane (to_z w64 (of_z w64 d.x)) (to_z w64 (of_z w64 d.y)) (to_z w64 (of_z w64 d.z)) → r ≡ pick_a plane d.x d.y d.z
 of_a_kept Xy d r h e = e ∙ stored d.x (omega (arith, h.x))
 of_a_kept Xz d r h e = e ∙ stored d.z (omega (arith, h.z))

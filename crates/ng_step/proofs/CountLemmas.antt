@@ -8,7 +8,7 @@ use Rattle.ng_step.specs.declared.quadrant.PlaneStep.TheVariants.{AddA, SubA, Ad
 use Rattle.ng_step.specs.Arcs.{along_a, along_b, net_a, net_b, stops, left_after, IsArc, next_spot, step_at, moved}
 use Rattle.ng_step.specs.Leaps.{reach_a, reach_b}
 
--- how far so many steps go
+-- how far a number of steps goes
 pub scaled_more : (n : ℤ) (s : ℕ) → (pos 1 +ℤ n) *ℤ pos s ≡ pos s +ℤ n *ℤ pos s
 scaled_more (pos n) s = omega (arith, ints)
 scaled_more (negsuc zero) s = omega (arith, ints)
@@ -40,7 +40,7 @@ moved_b c SubA p n = still p.b n c.step_b
 moved_b c AddB p n = forward p.b n c.step_b
 moved_b c SubB p n = backward p.b n c.step_b
 
--- where the arc does not stop there is a step more
+-- if the arc doesn't stop there, there is one more step
 pub arc_more : (c : Circle) (e : PlanePoint) (left : ℕ) (p : PlanePoint) (ms : List PlaneStep) (n : ℕ) → stops e left p ≡ false → n ≤ length ms → IsArc c e left p (drop n ms)
     → (suc n ≤ length ms) × IsArc c e (left_after c left p) (next_spot c p) (drop (suc n) ms)
     × (net_a (drop n ms) ≡ along_a (step_at c p) +ℤ net_a (drop (suc n) ms)) × (net_b (drop n ms) ≡ along_b (step_at c p) +ℤ net_b (drop (suc n) ms))

@@ -35,7 +35,7 @@ distances_same x y z x' y' z' e f g = cc
 
 -- ---- a line
 
--- where the axes stand after pulse k of n
+-- the coordinates after pulse k of n
 abbrev pub line_point : ℕ → Distances → Distances → ℕ → Distances
 line_point n p d k = record { x = point_on_line n p.x (p.x +ℤ d.x) k; y = point_on_line n p.y (p.y +ℤ d.y) k; z = point_on_line n p.z (p.z +ℤ d.z) k }
 
@@ -88,7 +88,7 @@ some_leads us p d some =
     ap (stands_after (map (pulse_item us) (line_from (largest d) d (largest d)))) (sym (line_point_none (largest d) p d some))
     ∙ line_stands us (largest d) p d (largest d) some (at_most_largest d) (omega arith) ∙ line_point_all (largest d) p d some
 
--- a line's pulses lead as far as its distances say
+-- a line's pulses go as far as its distances say
 pub line_leads : (us : ℕ) (p d : Distances) → stands_after (map (pulse_item us) (line_pulses d)) p ≡ moved p d
 line_leads us p d = elim (cases_lt 0 (largest d)) [
   | inl some ↦ some_leads us p d some
@@ -98,7 +98,7 @@ line_leads us p d = elim (cases_lt 0 (largest d)) [
 
 -- ---- an arc
 
--- what a, b and the third axis move by, on the machine's axes
+-- movements along a, b and the third axis, on the machine's axes
 abbrev pub placed : Plane → ℤ → ℤ → ℤ → Distances
 placed plane a b third = record { x = at_x plane a b third; y = at_y plane a b third; z = at_z plane a b third }
 
@@ -188,7 +188,7 @@ takes us frame ms third p count before after le more most len = elim (cases_lt b
       rest = omega arith;
     }
 
--- so many steps forward or backward
+-- a number of steps forward or backward
 abbrev pub signed : Bool → ℕ → ℤ
 signed true n = pos n
 signed false n = neg_ℤ (pos n)
@@ -208,7 +208,7 @@ signed_none : (forward : Bool) → signed forward 0 ≡ pos 0
 signed_none true = refl
 signed_none false = refl
 
--- where an arc's pulses lead to
+-- where an arc's pulses lead
 abbrev pub arc_reaches : Frame → List PlaneStep → ℤ → Distances
 arc_reaches frame ms third = placed frame.plane (net_a ms) (mirrored frame.turn (net_b ms)) third
 
@@ -256,7 +256,7 @@ signed_is : (z : ℤ) → signed (int_le (pos 0) z) (unsigned_abs z) ≡ z
 signed_is (pos n) = let e : int_le (pos 0) (pos n) ≡ true = grind (arith, ints) in rw e refl
 signed_is (negsuc n) = refl
 
--- an arc's pulses lead as far as its steps and the third axis's
+-- an arc's pulses go as far as its steps and those of the third axis
 pub arc_leads : (us : ℕ) (frame : Frame) (ms : List PlaneStep) (third : ℤ) (p : Distances) → stands_after (map (pulse_item us) (arc_pulses frame ms third)) p ≡ moved p (arc_reaches frame ms third)
 arc_leads us frame ms third p = of_total (max (length ms) (unsigned_abs third)) us frame ms third p refl
   where
@@ -286,7 +286,7 @@ of_all Xy d = refl
 of_all Xz d = refl
 of_all Yz d = refl
 
--- an arc's pulses and its closing line's lead as far as its distances say
+-- the pulses of an arc and of its closing line go as far as the distances say
 pub over_leads : (us : ℕ) (frame : Frame) (d : Distances) (ms : List PlaneStep) (p : Distances)
     → stands_after (map (pulse_item us) (arc_pulses frame ms (across frame d) ++ line_pulses (closing frame d ms))) p ≡ moved p d
 over_leads us frame d ms p =

@@ -1,4 +1,4 @@
--- The items of a segment, put together.
+-- The items of a segment, combined.
 use Rattle.std.proofs.Common.{arith, ℕ, zero, suc, ◌+◌, ◌*◌, ◌<◌, ◌≡◌, refl, sym, ap, ◌∙◌, ℤ, pos, Bool, true, false, max, List, [], ◌++◌, map, length}
 use Rattle.std.proofs.Common.{◌≤◌, ◌^◌}
 use Rattle.std.proofs.lemmas.Nat.{mul-le}
@@ -23,7 +23,7 @@ use Rattle.ng_step.specs.Lines.{largest, line_pulses, line_from}
 use Rattle.ng_step.specs.Periods.{root_up, pulse_us}
 use Rattle.ng_step.specs.Hands.{pulse_item, distances, square_between, line_items, centred, is_small, arc_path, across, closing, closing_after, arc_total, items_over, large_arc_items, arc_items}
 
--- where there is no pulse any period serves
+-- if there are no pulses, any period will do
 pub items_same : (total time other : ℕ) (pulses : List AxisSteps) → (0 < total → time ≡ other) → (total ≡ 0 → pulses ≡ []) → map (pulse_item time) pulses ≡ map (pulse_item other) pulses
 items_same zero time other pulses h e = rw (e refl) refl
 items_same (suc total) time other pulses h e = rw (h (omega arith)) refl
@@ -80,7 +80,7 @@ pub path_is : (c : CentredArc) → IsWalkable c → IsArc c.circle c.end (quadra
 unfolding arc_path plane_steps
 path_is c h = is_arc c.circle c.end (unsigned_abs c.start.a + unsigned_abs c.start.b) (quadrants_to_walk c.start c.end c.from) c.from h.arc h.some
 
--- the total of the pulses, as the code has it
+-- the total of the pulses, in the code's terms
 abbrev code_total : CentredArc → Distances → ℕ → Distances → ℕ
 code_total c d steps close = max steps (unsigned_abs (across c.frame d)) + largest close
 

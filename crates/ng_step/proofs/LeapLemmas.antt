@@ -1,4 +1,4 @@
--- Many steps at once: the arc's relation is carried over a whole run of a quadrant.
+-- Many steps at once: the arc's relation is carried over a whole part of a quadrant.
 use Rattle.std.proofs.Common.{arith, ℕ, zero, suc, ◌+◌, ◌-◌, ◌*◌, ◌<◌, ◌≤◌, ◌≡◌, ◌⊎◌, inl, inr, refl, sym, ap, ◌∙◌, subst, pos, ◌+ℤ◌, ◌*ℤ◌, List, drop, length-drop, false}
 use Rattle.std.proofs.lemmas.Nat.{mul-le}
 use Rattle.std.proofs.lemmas.Bool.{cases_lt}
@@ -105,7 +105,7 @@ module _ (c : Circle) (e : PlanePoint) (has : HasSteps c) (roomy : Roomy c.squar
       let sound' = sound_crossing c.square farthest (larger c) beyond i o j roomy outside small sound in
       leads_one q i o left (quadrant_after q) o j (left - 1) go next (left_next c left q i o o j sound.some sound'.some next) sound' (budget_crossing left i o o j some sound.outer)
 
-  -- the run: from a point to one that is j levels lower and m outward steps further, where the walk comes to it
+  -- from a point to one that is j levels lower and m outward steps further, if the walk reaches it
   pub run : (t j m : ℕ) (q : Quadrant) (left i o x y : ℕ) → t ≡ j + m → i ≡ x + j * in_step c q → y ≡ o + m * out_step c q → 0 < x
       → ((j ≡ 0) ⊎ (c.square < norm (x + in_step c q) y)) → ((k : ℕ) → k < m → norm x (o + k * out_step c q) ≤ c.square)
       → ((i' o' : ℕ) → x ≤ i' → i' ≤ i → o ≤ o' → o' ≤ y → stops e left (point_of_quadrant q i' o') ≡ false)

@@ -1,4 +1,4 @@
--- A line's length is bounded by its pulses: so its period is, too.
+-- A line's length is bounded by the number of its pulses; so its period is bounded, too.
 use Rattle.std.proofs.Common.{arith, ℕ, suc, ◌+◌, ◌-◌, ◌*◌, ◌^◌, ◌<◌, ◌≤◌, ◌≡◌, inl, inr, ap, ◌∙◌, ℤ, pos, negsuc, neg_ℤ, ◌-ℤ◌, ◌*ℤ◌}
 use Rattle.std.proofs.lemmas.Int.{ints}
 use Rattle.std.proofs.lemmas.Nat.{mul-le}
@@ -13,7 +13,7 @@ use Rattle.ng_step.specs.Hands.{distances, square_between}
 use Rattle.ng_step.proofs.RoundLemmas.{rounded_near}
 use Rattle.ng_step.proofs.PeriodLemmas.{root_up_is}
 
--- the distance of two multiples of a step
+-- the difference of two multiples of a step
 scaled_sizes : (m n d s : ℕ) → m ≡ n + d → m * s ≡ n * s + d * s
 scaled_sizes m n d s e = rw e (omega arith)
 
@@ -32,7 +32,7 @@ scaled_apart (pos m) (negsuc n) s = let e : unsigned_abs (negsuc n -ℤ pos m) �
 scaled_apart (negsuc m) (pos n) s = omega (arith, ints)
 scaled_apart (negsuc m) (negsuc n) s = rw neg_apart (apart_sizes (suc m) (suc n) s)
 
--- two coordinates lie no farther apart than their steps and one more
+-- the distance of two coordinates is at most that of their steps plus one step
 apart_by : (p q u v : ℤ) (s m : ℕ) → 2 * unsigned_abs (u -ℤ p) ≤ s → 2 * unsigned_abs (v -ℤ q) ≤ s → unsigned_abs (v -ℤ u) ≤ m → unsigned_abs (q -ℤ p) ≤ m + s
 apart_by p q u v s m a b h = omega (arith, ints)
 
@@ -57,7 +57,7 @@ pub record HasLimits (g : Geometry) : Type 0 where
   pub y : (0 < g.y.step_nm) × (g.y.step_nm ≤ 1_000_000)
   pub z : (0 < g.z.step_nm) × (g.z.step_nm ≤ 1_000_000)
 
--- each geometry has them
+-- every geometry has them
 pub limits : (g : Geometry) → HasLimits g
 limits g = record { x = (omega (arith, g.x.step_in_limits.0), g.x.step_in_limits.1); y = (omega (arith, g.y.step_in_limits.0), g.y.step_in_limits.1); z = (omega (arith, g.z.step_in_limits.0), g.z.step_in_limits.1) }
 

@@ -24,7 +24,7 @@ made_is n d k q error small is = ap (λ x. x / (2 * n)) is ∙ div-mul-add q (2 
 pub made_none : (n d : ℕ) → 0 < n → made n d 0 ≡ 0
 made_none n d h = made_is n d 0 0 n (omega arith) (omega arith)
 
--- a line ends on its end
+-- a line ends at its end
 pub made_all : (n d : ℕ) → 0 < n → made n d n ≡ d
 made_all n d h = made_is n d n d n (omega arith) (omega arith)
 
@@ -59,7 +59,7 @@ step_or_rest n d k error le h = elim (cases_lt (error + 2 * d) (2 * n)) [
   | inr full ↦ (let e = (holds_step n d k error le full h).0 in (omega arith, omega arith))
 ]
 
--- never more than one step a pulse, and never back
+-- at most one step per pulse, and never back
 pub made_more : (n d k : ℕ) → 0 < n → d ≤ n → (made n d k ≤ made n d (k + 1)) × (made n d (k + 1) ≤ made n d k + 1)
 made_more n d k some le = step_or_rest n d k _ le (holds_at n d k some)
 
@@ -77,12 +77,12 @@ pub line_at_none : (n : ℕ) (a z : ℤ) → 0 < n → point_on_line n a z 0 ≡
 unfolding point_on_line
 line_at_none n a z some = rw made_none (grind (arith, ints))
 
--- a line ends on its end
+-- a line ends at its end
 pub line_at_all : (n : ℕ) (a z : ℤ) → 0 < n → point_on_line n a z n ≡ z
 unfolding point_on_line
 line_at_all n a z some = rw made_all (grind (arith, ints))
 
--- an axis makes at most one step a pulse
+-- an axis makes at most one step per pulse
 pub line_at_more : (n k : ℕ) (a z : ℤ) → 0 < n → unsigned_abs (z -ℤ a) ≤ n → unsigned_abs (point_on_line n a z (k + 1) -ℤ point_on_line n a z k) ≤ 1
 unfolding point_on_line
 line_at_more n k a z some le =
@@ -92,7 +92,7 @@ line_at_more n k a z some le =
     apart : (a z : ℤ) (m m' : ℕ) → m ≤ m' → m' ≤ m + 1 → unsigned_abs (toward a z m' -ℤ toward a z m) ≤ 1
     apart a z m m' h k = grind (arith, ints)
 
--- a line lies between its ends
+-- a line stays between its ends
 pub line_at_between : (n k : ℕ) (a z low high : ℤ) → 0 < n → k ≤ n → low ≤ℤ a → low ≤ℤ z → a ≤ℤ high → z ≤ℤ high
     → (low ≤ℤ point_on_line n a z k) × (point_on_line n a z k ≤ℤ high)
 unfolding point_on_line
@@ -134,7 +134,7 @@ between_by_half x y z low high s xy yz hx hz =
 le_cases : (x y : ℤ) → (x ≤ℤ y) ⊎ (y ≤ℤ x)
 le_cases x y = by_lt_z x y (λ h. inl (omega (arith, ints))) (λ h. inr h)
 
--- a line whose start and end lie in the travel leaves it by no more than half a step
+-- a line whose start and end are within the travel leaves it by at most half a step
 pub line_inside : (n k s : ℕ) (p q low high : ℤ) → 0 < s → 0 < n → k ≤ n → low ≤ℤ p → low ≤ℤ q → p ≤ℤ high → q ≤ℤ high
     → IsByHalfIn low high s (point_on_line n (in_steps p s) (in_steps q s) k)
 line_inside n k s p q low high steps some le pl ql ph qh =
@@ -147,7 +147,7 @@ line_inside n k s p q low high steps some le pl ql ph qh =
           between_by_half _ _ _ low high s b.0 b.1 last first)
     ]
 
--- ---- the body's axes
+-- ---- the axes of the code
 
 pub axis_none : (n : ℕ) (a : Spread) → 0 < n → a.count ≤ n → a.twice ≡ 2 * a.count → a.error ≡ n → IsSpread n 0 a
 axis_none n a some most twice error = record { most = most; twice = twice; error = rw error (holds_none n a.count some) }
@@ -176,7 +176,7 @@ axis_more n k a error e full h =
     let r = holds_step n a.count k a.error h.most (rw (← same) full) h.error in
     (step_one a.forward (made n a.count k) (made n a.count (k + 1)) r.0, record { most = h.most; twice = h.twice; error = rw same r.1 })
 
--- the same, as the code has it
+-- a pulse without a step, in the code's terms
 pub code_rest : (whole n k : ℕ) (a : Spread) → whole ≡ 2 * n → a.error + a.twice < whole → IsSpread n k a
     → (Still ≡ axis_step n a.forward a.count k) × IsSpread n (k + 1) (record a { error = a.error + a.twice })
 code_rest whole n k a is small h = axis_rest n k a (a.error + a.twice) refl (rw (← is) small) h
@@ -233,7 +233,7 @@ line_start total d x y z e a b c d' f g = rw (← e) (starts total d x y z total
         let others = starts total d x y z left a b c d' f g in
         rw (a, b, c, d', f, g, others) refl
 
--- an axis at the start, seen after none of its pulses
+-- an axis at the start, before its first pulse
 pub axis_first : (n : ℕ) (a : Spread) → IsSpread n 0 a → IsSpread n (n - n) a
 axis_first n a h = let e : n - n ≡ 0 = omega arith in rw e h
 

@@ -64,14 +64,14 @@ leaving_le square i o s m n h k = elim (cases_lt n m) [
 leaving_only : (square i o s m n : ℕ) → IsLeaving square i o s m → IsLeaving square i o s n → m ≡ n
 leaving_only square i o s m n h k = let one = leaving_le square i o s m n h k in let two = leaving_le square i o s n m k h in omega arith
 
--- a level above is no nearer to the axis
+-- a higher level isn't nearer to the axis
 level_above : (p : QuadrantSweep) (j k : ℕ) → j ≤ k → inner_at p k ≤ inner_at p j
 level_above p j k h = let product = scaled_le j k p.inner_step h in omega arith
 
 outer_le : (p : QuadrantSweep) (m n : ℕ) → m ≤ n → outer_at p m ≤ outer_at p n
 outer_le p m n h = let product = scaled_le m n p.outer_step h in omega arith
 
--- a point where it goes inward is one that it comes to
+-- a point from which it goes inward is one that it reaches
 pub on_way-leaving : (p : QuadrantSweep) (j m : ℕ) → j * p.inner_step < p.inner → IsLeaving p.square (inner_at p j) p.outer p.outer_step m → OnWay p j m
 on_way-leaving p j m inside h = record {
   inside = inside;
@@ -148,7 +148,7 @@ ceil_div_is a b some =
     less zero a b some more low = absurd (omega arith)
     less (suc q) a b some more low = let e : suc q - 1 ≡ q = omega arith in rw e (omega arith)
 
--- as many steps as the rest up to the end asks for
+-- as many steps as the remaining way to the end takes
 pub first_past_is : (p : QuadrantSweep) (e : QuadrantEnd) (j m more : ℕ) → Enters p e j m → p.outer * e.inner < p.inner * e.outer → LeavesPast p e j
     → more ≡ ceil_div (inner_at p j * e.outer - outer_at p m * e.inner) (p.outer_step * e.inner)
     → IsPast p e j (m + more) × (ComesInward p e j (m + more) ⊎ ComesOutward p e j (m + more))
@@ -187,7 +187,7 @@ enters_below p e j m some inside h before =
       });
     }
 
--- ---- the search by halves: the level is one of so many from the first on
+-- ---- the binary search: the level is one of those from the first on
 pub record Halves (p : QuadrantSweep) (e : QuadrantEnd) (last first levels : ℕ) : Type 0 where
   pub some : 0 < levels
   pub within : first + levels ≤ last + 1
@@ -218,11 +218,11 @@ halves_high p e last first levels half h less before = record {
   before = inr before;
 }
 
--- each of its levels lies in the quadrant
+-- each of its levels is in the quadrant
 pub halves_inside : (p : QuadrantSweep) (e : QuadrantEnd) (last first levels level : ℕ) → last * p.inner_step < p.inner → Halves p e last first levels → level < first + levels → level * p.inner_step < p.inner
 halves_inside p e last first levels level inside h less = let product = scaled_le level last p.inner_step (omega (arith, h.within)) in omega arith
 
--- no farther than the root and a step
+-- at most the root and one step away
 pub root_room : (square i o s r q : ℕ) → 0 < s → s ≤ 2 ^ 47 → square ≤ 2 ^ 94 → norm i o ≤ square → r * r ≤ square - i * i → square - i * i < (r + 1) * (r + 1) → q ≡ (r - o) / s → o + (q + 1) * s ≤ 2 ^ 48
 root_room square i o s r q some small few inside low high is =
     let parts = quotient (r - o) s q some is in
@@ -230,7 +230,7 @@ root_room square i o s r q some small few inside low high is =
     let root : r ≤ 2 ^ 47 = root_small r (omega arith) in
     omega arith
 
--- a point within the circle, and one step more
+-- a point inside the circle, and one more step
 within_room : (p : QuadrantSweep) (i m : ℕ) → norm i (outer_at p m) ≤ p.square → outer_at p (m + 1) ≤ 2 ^ 48
 within_room p i m h =
     let few = p.square_in_range in

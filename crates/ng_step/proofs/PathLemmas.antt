@@ -1,4 +1,4 @@
--- Where the machine stands on an arc: at the spots of its path.
+-- The machine's position on an arc is a point of its path.
 use Rattle.std.proofs.Common.{arith, ℕ, zero, suc, ◌+◌, ◌*◌, ◌<◌, ◌≤◌, ◌≡◌, inl, inr, refl, sym, ap, ◌∙◌, subst, ℤ, pos, ◌+ℤ◌, ◌-ℤ◌, ◌*ℤ◌, false, max, List, [], ◌∷◌, ◌++◌, map, length, take, get_or, Some}
 use Rattle.std.proofs.lemmas.Int.{ints}
 use Rattle.std.proofs.lemmas.Bool.{cases_lt}
@@ -30,7 +30,7 @@ use Rattle.ng_step.proofs.EndLemmas.{moved, rest_of, distances_same, line_leads,
 use Rattle.ng_step.proofs.PromiseLemmas.{line_goes, true_arc, start_moved}
 use Rattle.ng_step.proofs.SpotLemmas.{third_of, length-interleaved, then_items, goes_round}
 
--- ---- each spot of the path is reached
+-- ---- each point of the path is reached
 
 pub record Reaches (n count j last : ℕ) : Type 0 where
   pub k : ℕ
@@ -54,7 +54,7 @@ length-spots c p (m ∷ ms) = let e = length-spots c (stepped c m p) ms in omega
 abbrev NearBy : Circle → ℕ → ℕ → PlanePoint → Type 0
 NearBy c w f0 x = unsigned_abs (excess c x) ≤ 2 * (larger c * w) + larger c * larger c + f0
 
--- what is near at each spot is near where the machine stands
+-- what is near at each point of the path is near at the machine's position
 near_at : (c : Circle) (p : PlanePoint) (ms : List PlaneStep) (n : ℕ) (at : ℕ → PlanePoint) → 0 < n → length ms ≤ n → ((k : ℕ) → k ≤ n → slice_get (spots c p ms) (made n (length ms) k) ≡ Some (at k))
     → IsNearCircle c p ms → (w : ℕ) → ((k : ℕ) → k ≤ n → IsAtMostInSize w (at k)) → (k : ℕ) → k ≤ n → NearBy c w (unsigned_abs (excess c p)) (at k)
 near_at c p ms n at some le stands near w within k most =
@@ -93,7 +93,7 @@ third_ends Xy g p q = rest_of _ _
 third_ends Xz g p q = rest_of _ _
 third_ends Yz g p q = rest_of _ _
 
--- the items of an arc before and with its closing line, at any period
+-- the items of an arc without and with its closing line, for any period
 abbrev large_list : Geometry → Arc → ℕ → List Item
 large_list g arc us =
     map (pulse_item us) (arc_pulses (centred g arc).frame (arc_path (centred g arc)) (across (centred g arc).frame (distances g arc.start arc.end))
@@ -117,14 +117,14 @@ stands_none g arc items k none = rw none refl
 near_start : (c : Circle) (w : ℕ) (x y : PlanePoint) → y ≡ x → NearBy c w (unsigned_abs (excess c x)) y
 near_start c w x y is = rw is (omega arith)
 
--- the list over steps in the plane, with its closing line
+-- the items for steps in the plane, with the closing line
 abbrev over_list : ℕ → Frame → Distances → List PlaneStep → List Item
 over_list us frame d ms = map (pulse_item us) (arc_pulses frame ms (across frame d) ++ line_pulses (closing frame d ms))
 
 abbrev over_total : Frame → Distances → List PlaneStep → ℕ
 over_total frame d ms = max (length ms) (unsigned_abs (across frame d))
 
--- after the arc's own pulses
+-- after the arc's pulses
 abbrev after_arc : ℕ → Frame → Distances → List PlaneStep → Distances → Distances
 after_arc us frame d ms p = stands_after (map (pulse_item us) (arc_pulses frame ms (across frame d))) p
 

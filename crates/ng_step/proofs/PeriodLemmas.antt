@@ -1,4 +1,4 @@
--- The root rounded up is the least.
+-- The root rounded up is the least number that qualifies.
 use Rattle.std.proofs.Common.{arith, ℕ, zero, suc, ◌+◌, ◌-◌, ◌*◌, ◌/◌, ◌<◌, ◌≤◌, ◌≡◌, refl, Bool, true, false}
 use Rattle.std.proofs.lemmas.Nat.{mul-le, mul-lt, div_below}
 use Rattle.std.proofs.lemmas.Bool.Decides.{nat_tests}

@@ -1,4 +1,4 @@
--- A step from a point of a quadrant, in the turned frame.
+-- A step from a point of a quadrant, in the rotated frame.
 use Rattle.std.proofs.Common.{arith, ℕ, zero, suc, ◌+◌, ◌*◌, ◌<◌, ◌≤◌, ◌≡◌, refl, ℤ, pos, negsuc, neg_ℤ, ◌-ℤ◌, ◌*ℤ◌, true, false}
 use Rattle.std.proofs.lemmas.Int.{ints}
 use Rattle.std.specs.Prelude.{int_lt, unsigned_abs}
@@ -99,7 +99,7 @@ same_quadrant-quadrant_after Second = refl
 same_quadrant-quadrant_after Third = refl
 same_quadrant-quadrant_after Fourth = refl
 
--- each point but the centre has its place
+-- each point except the centre has its place
 pub record Placed (p : PlanePoint) : Type 0 where
   pub q : Quadrant
   pub i : ℕ

@@ -1,4 +1,4 @@
--- An arc's pulses, by a list of steps and by the rule.
+-- An arc's pulses, from a list of steps and from the rule.
 use Rattle.std.proofs.Common.{arith, ℕ, zero, suc, ◌+◌, ◌-◌, ◌^◌, ◌<◌, ◌≤◌, ◌≡◌, inl, inr, refl, sym, ap, ◌∙◌, ℤ, pos, Bool, true, List, [], ◌∷◌, length, max}
 use Rattle.std.proofs.Common.{to_z}
 use mir.Syntax.{w64}
@@ -32,7 +32,7 @@ pub pulses_from_more : (frame : Frame) (n count : ℕ) (forward : Bool) (d : ℕ
 pulses_from_more frame n count forward d c p zero some = absurd (omega arith)
 pulses_from_more frame n count forward d c p (suc left) some = let less : suc left - 1 ≡ left = omega arith in rw less refl
 
--- a pulse in which the arc rests
+-- a pulse in which the arc makes no step
 pub rest_keeps : (a : Inside) (arc third : Spread) (i j : AxisStep) → IsArcLeft a → 0 < a.left → SpreadStepSpec a.whole a.arc arc i → SpreadStepSpec a.whole a.third third j
     → IsArcLeft (record a { left = a.left - 1; arc = arc; third = third })
 rest_keeps a arc third i j h some sa st = record {
@@ -105,7 +105,7 @@ step_next a walk arc third i j made p h some sa st s moves is =
 pub onward_count : (n : ℕ) (b : Bool) → n < 2 ^ 60 → b ≡ int_le (pos 0) (to_z w64 n) → b ≡ true
 onward_count n b h e = let same : to_z w64 n ≡ pos n = omega (arith, ints) in rw (e, same) (grind (arith, ints))
 
--- ---- the body's pulses are those over the list of steps
+-- ---- the code's pulses are those of the list of steps
 
 abbrev pub Follows : Circle → PlanePoint → List PlaneStep → Type 0
 Follows c p [] = Unit {0}
@@ -115,7 +115,7 @@ pub follows : (c : Circle) (e : PlanePoint) (left : ℕ) (p : PlanePoint) (ms : 
 follows c e left p [] h = tt
 follows c e left p (m ∷ ms) h = (h.1, follows c e (left_after c left p) (next_spot c p) ms h.2)
 
--- what one pulse does to both
+-- the effect of one pulse on both
 same_pulse : (frame : Frame) (c : Circle) (p : PlanePoint) (ms : List PlaneStep) (third : AxisStep) (count before after : ℕ) → before ≤ after → after ≤ before + 1 → after ≤ count
     → length ms ≡ count - before → Follows c p ms
     → (walking frame (step_toward true (after - before)) c p third ≡ taking frame (step_toward true (after - before)) ms third)
@@ -145,7 +145,7 @@ pulses_are frame n count forward d c p ms (suc left) le small len f =
     let others = pulses_are frame n count forward d c (walked (axis_step n true count k) c p) (taken (axis_step n true count k) ms) left le (omega arith) len' s.1 in
     rw (s.0, others) refl
 
--- the body's pulses over the count of an arc's steps are the pulses over the steps
+-- the code's pulses for the count of an arc's steps are the pulses of these steps
 pub pulses_of : (frame : Frame) (c : Circle) (e : PlanePoint) (left : ℕ) (p : PlanePoint) (ms : List PlaneStep) (d : ℤ) → IsArc c e left p ms
     → pulses_from frame (max (length ms) (unsigned_abs d)) (length ms) (int_le (pos 0) d) (unsigned_abs d) c p (max (length ms) (unsigned_abs d)) ≡ arc_pulses frame ms d
 pulses_of frame c e left p ms d arc = of_total frame (max (length ms) (unsigned_abs d)) c p ms (int_le (pos 0) d) (unsigned_abs d) (omega arith) (follows c e left p ms arc)

@@ -32,13 +32,13 @@ neg_scaled (suc m) s = refl
 nearest_is : (n s : ℕ) → 0 < s → (nearest n s * (2 * s) ≤ 2 * n + s) × (2 * n < nearest n s * (2 * s) + s)
 nearest_is n s some = (omega arith, omega arith)
 
--- rounding moves a coordinate by half a step at most
+-- rounding moves a coordinate by at most half a step
 pub rounded_near : (z : ℤ) (s : ℕ) → 0 < s → 2 * unsigned_abs (in_steps z s *ℤ pos s -ℤ z) ≤ s
 unfolding in_steps
 rounded_near (pos n) s some = let e = nearest_is n s some in omega (arith, ints)
 rounded_near (negsuc n) s some = let e = nearest_is (suc n) s some in simp neg_scaled (omega (arith, ints))
 
--- a stored product is the product
+-- a product of machine integers is the product
 pub product_kept : (q p z : ℤ) (s : ℕ) → q ≡ in_steps z s → unsigned_abs q < 2 ^ 45 → 0 < s → s ≤ 1_000_000 → unsigned_abs z ≤ greatest
     → p ≡ to_z w64 (of_z w64 q) *ℤ to_z w64 s → (p ≡ in_steps z s *ℤ pos s) × (unsigned_abs p < 2 ^ 44) × (2 * unsigned_abs (p -ℤ z) ≤ s)
 product_kept q p z s is small some most range e =

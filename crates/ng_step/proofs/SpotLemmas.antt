@@ -1,4 +1,4 @@
--- An arc's pulses lead the machine from spot to spot.
+-- An arc's pulses move the machine from point to point of its path.
 use Rattle.std.proofs.Common.{arith, ℕ, zero, suc, ◌+◌, ◌-◌, ◌<◌, ◌≤◌, ◌≡◌, inl, inr, refl, sym, ap, ◌∙◌, subst, ℤ, pos, negsuc, neg_ℤ, ◌+ℤ◌, ◌-ℤ◌, ◌*ℤ◌, Bool, true, max, List, [], ◌∷◌, ◌++◌, map, length, take, Some}
 use Rattle.std.proofs.lemmas.Int.{ints}
 use Rattle.std.proofs.lemmas.Bool.{cases_lt}
@@ -53,7 +53,7 @@ down z k s = rw minus_one (omega (arith, ints))
 level : (z k : ℤ) (s : ℕ) → (z +ℤ pos 0) *ℤ pos s -ℤ k ≡ z *ℤ pos s -ℤ k
 level z k s = ap (λ x. x -ℤ k) (plus_none z s)
 
--- the same with the sign turned
+-- with the sign reversed
 up_turned : (z k : ℤ) (s : ℕ) → neg_ℤ ((z +ℤ negsuc 0) *ℤ pos s -ℤ k) ≡ neg_ℤ (z *ℤ pos s -ℤ k) +ℤ pos s
 up_turned z k s = rw minus_one (omega (arith, ints))
 
@@ -103,7 +103,7 @@ third_moved Xy p a b t = refl
 third_moved Xz p a b t = refl
 third_moved Yz p a b t = refl
 
--- ---- the pulses before the closing line, and those of it
+-- ---- the pulses before the closing line, and those of the closing line
 
 pub length-interleaved : (frame : Frame) (n count : ℕ) (forward : Bool) (d : ℕ) (ms : List PlaneStep) (left : ℕ) → length (interleaved frame n count forward d ms left) ≡ left
 length-interleaved frame n count forward d ms zero = refl
@@ -196,7 +196,7 @@ module _ (g : Geometry) (arc : Arc) (us square : ℕ) where
       let more = made_more n d (k + j) some le in
       rw e (omega arith)
 
-  -- the machine goes from spot to spot, and the third axis along its line
+  -- the machine goes from point to point of the path, and the third axis along its line
   pub goes : (n count : ℕ) (third z : ℤ) (ms : List PlaneStep) (x : PlanePoint) (p : Distances) (left j : ℕ) → 0 < n → count ≤ n → unsigned_abs third ≤ n → left ≤ n → j ≤ left
       → length ms ≡ count - made n count (n - left) → offset_of g arc p ≡ x → third_of arc.plane p ≡ point_on_line n z (z +ℤ third) (n - left)
       → (slice_get (spots c x ms) (made n count (n - left + j) - made n count (n - left))

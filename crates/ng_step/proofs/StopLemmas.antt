@@ -1,4 +1,4 @@
--- Where an arc stops, without walking it.
+-- Where an arc stops, found without walking it.
 use Rattle.std.proofs.Common.{arith, ℕ, zero, suc, ◌+◌, ◌-◌, ◌*◌, ◌^◌, ◌<◌, ◌≤◌, ◌≡◌, ◌⊎◌, inl, inr, refl, sym, ap, ◌∙◌, ℤ, pos, negsuc, neg_ℤ, ◌+ℤ◌, ◌-ℤ◌, ◌*ℤ◌, List, [], length, drop, length-drop, true, false}
 use Rattle.std.proofs.lemmas.Int.{ints}
 use Rattle.std.proofs.lemmas.Nat.{mul-le}
@@ -28,14 +28,14 @@ stops_last : (e p : PlanePoint) → stops e 1 p ≡ int_le (cross p e) (pos 0)
 unfolding stops
 stops_last e p = refl
 
--- before the last quadrant nothing stops it
+-- before the last quadrant it doesn't stop
 pub goes_on_before : (e p : PlanePoint) (left : ℕ) → 1 < left → stops e left p ≡ false
 unfolding stops
 goes_on_before e p zero h = absurd (omega arith)
 goes_on_before e p (suc zero) h = absurd (omega arith)
 goes_on_before e p (suc (suc left)) h = grind (arith, nat_tests)
 
--- after it, it has stopped
+-- after the last quadrant it has stopped
 pub stops_after_last : (e p : PlanePoint) → stops e 0 p ≡ true
 unfolding stops
 stops_after_last e p = refl
@@ -55,14 +55,14 @@ goes_on_to q e a x y is before = stops_last e (point_of_quadrant q x y) ∙ ap (
     high : (m n : ℕ) → n < m → int_le (pos m -ℤ pos n) (pos 0) ≡ false
     high m n h = grind (arith, ints)
 
--- what isn't past the end is before it
+-- a point that isn't past the end is before it
 pub before_of : (q : Quadrant) (e : PlanePoint) (a : QuadrantEnd) (x y : ℕ) → IsAhead q e a → stops e 1 (point_of_quadrant q x y) ≡ false → y * a.inner < x * a.outer
 before_of q e a x y is going = elim (cases_lt (y * a.inner) (x * a.outer)) [
   | inl before ↦ before
   | inr past ↦ absurd (cc (stops_past q e a x y is past, going))
 ]
 
--- no point up to one before the end stops it
+-- it stops at no point up to one before the end
 pub goes_on_up_to : (e : PlanePoint) (w : ArcWalk) (a : QuadrantEnd) (x y : ℕ) → IsAhead w.quadrant e a → y * a.inner < x * a.outer → NeverStopsUntil e 1 w x y
 goes_on_up_to e w a x y is before = λ i o low high near far.
     let inner = mul-le x a.outer i a.outer low (omega arith) in
@@ -102,7 +102,7 @@ later_level (pos zero) i o x y going some = let h = level_some (i * 0) (o * 0) (
 later_level (pos (suc b)) i o x y going some = let product : 1 * 1 ≤ x * suc b = mul-le 1 1 x (suc b) some (omega arith) in level_false (x * suc b) (y * 0) (omega arith) (omega arith)
 later_level (negsuc b) i o x y going some = absurd (level_past_axis (i * suc b) (o * 0) (omega arith) going)
 
--- an end after the quadrant's axis is never come to
+-- an end after the quadrant's axis is never reached
 pub never : (q : Quadrant) (i o x y : ℕ) (e : PlanePoint) (ta tb : ℤ) → (turned q e).a ≡ ta → (turned q e).b ≡ tb → int_le ta (pos 0) ≡ true → stops e 1 (point_of_quadrant q i o) ≡ false
     → 0 < x → x ≤ i → o ≤ y → stops e 1 (point_of_quadrant q x y) ≡ false
 never q i o x y e ta tb ea eb past_axis going some low far =
@@ -124,7 +124,7 @@ never q i o x y e ta tb ea eb past_axis going some low far =
         let before = apart_some (i * suc b) (o * suc a) going in
         apart_false (x * suc b) (y * suc a) (omega arith)
 
--- an arc that stops here has no step more
+-- an arc that stops here has no more steps
 pub ends_here : (c : Circle) (e : PlanePoint) (q : Quadrant) (i o left : ℕ) (q' : Quadrant) (i' o' left' n : ℕ) → Leads c e q i o left q' i' o' left' n → stops e left' (point_of_quadrant q' i' o') ≡ true
     → EndsArc c e q i o left (point_of_quadrant q' i' o') n
 ends_here c e q i o left q' i' o' left' n h stop = record {
@@ -199,7 +199,7 @@ walk_stops w p way e h from s = comes s.first.comes
         let to : y + out_step w.circle w.quadrant ≡ outer_at p way.outward = omega arith in
         rw (count, to) at all
 
--- a walk stands so many steps on, with as many quadrants left
+-- a walk after a number of steps, with the number of quadrants left
 pub record Reached (e : PlanePoint) (first : ArcWalk) (quadrants : ℕ) (w : ArcWalk) (left n : ℕ) : Type 0 where
   pub walks : Walks w
   pub circle : w.circle ≡ first.circle
@@ -225,7 +225,7 @@ pub reached_end : (e : PlanePoint) (first : ArcWalk) (quadrants : ℕ) (w : ArcW
 reached_end e first quadrants w left n last m h ends =
     ends_then first.circle e first.quadrant first.inner first.outer quadrants w.quadrant w.inner w.outer left n last m h.leads (rw (← h.circle) ends)
 
--- ---- as the code has it
+-- ---- in the code's terms
 
 not_ahead : (m n : ℕ) → int_le (neg_ℤ (pos m) -ℤ pos n) (pos 0) ≡ false → ⊥
 not_ahead m n h = grind (arith, ints)
@@ -238,7 +238,7 @@ ahead_of (pos a) (pos b) i o some going = (refl, refl)
 ahead_of (pos a) (negsuc b) i o some going = absurd (not_ahead (i * suc b) (o * a) going)
 ahead_of (negsuc a) tb i o some going = absurd (not_below a some)
 
--- an end before which an arc stands, and not after the axis, is ahead
+-- an end is ahead if the arc is before it, and it isn't after the axis
 pub ahead_is : (q : Quadrant) (i o : ℕ) (e t : PlanePoint) (m n : ℕ) → t ≡ turned q e → int_le t.a (pos 0) ≡ false → stops e 1 (point_of_quadrant q i o) ≡ false → m ≡ unsigned_abs t.a → n ≡ unsigned_abs t.b
     → turned q e ≡ (let there : PlanePoint = record { a = pos m; b = pos n } in there)
 ahead_is q i o e t m n is some going em en =
@@ -250,7 +250,7 @@ ahead_is q i o e t m n is some going em en =
         → let p : PlanePoint = record { a = a; b = b } in let r : PlanePoint = record { a = pos m; b = pos n } in p ≡ r
     same a b m n f g h k = rw (h, k, ← f, ← g) refl
 
--- an arc that goes on in the last quadrant has one left
+-- an arc that goes on in the last quadrant has one quadrant left
 pub last_left : (e p : PlanePoint) (left : ℕ) → left ≤ 1 → stops e left p ≡ false → left ≡ 1
 unfolding stops
 last_left e p zero few going = absurd (cc)
@@ -271,7 +271,7 @@ across_ends w w' e left n one leads =
 pub stands_ends : (w : ArcWalk) (e : PlanePoint) (left : ℕ) → Walks w → stops e left (spot_of w) ≡ true → EndsArc w.circle e w.quadrant w.inner w.outer left (spot_of w) 0
 stands_ends w e left h stop = ends_here w.circle e w.quadrant w.inner w.outer left w.quadrant w.inner w.outer left 0 (leads_none w.circle e h.has h.roomy w.quadrant w.inner w.outer left h.sound) stop
 
--- an arc has no more steps than this
+-- a bound for the number of an arc's steps
 pub few_steps : (w : ArcWalk) (quadrants : ℕ) → Walks w → quadrants ≤ 6 → budget beyond quadrants w.inner w.outer < 2 ^ 52
 few_steps w quadrants h few =
     let inner = h.sound in

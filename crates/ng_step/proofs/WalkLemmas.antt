@@ -62,7 +62,7 @@ small w h =
       outer = omega arith;
     }
 
--- the pulse of a step of the plane, the third axis still
+-- the pulse of a step of the plane, without a step of the third axis
 abbrev pub flat : ArcWalk → PlaneStep → AxisSteps
 flat w m = pulse_with w.frame m Still
 
@@ -213,11 +213,11 @@ crossing_is w h excess_high near =
         let one : s * s ≡ (i + j) * s = ap (λ x. x * s) split in
         omega (arith, ints)
 
--- a number that the code has stored and read again
+-- a number as a machine integer is the number
 pub kept : (z : ℤ) → unsigned_abs z < 2 ^ 100 → unsigned_abs (to_z w128 (of_z w128 z)) < 2 ^ 100
 kept z h = omega (arith, ints)
 
--- the same, as the code has it
+-- a step outward, in the code's terms
 pub step_outward : (w : ArcWalk) (excess change : ℤ) (m : AxisSteps) → Walks w → w.excess ≤ℤ pos 0 → m ≡ flat w (outward w.quadrant)
     → excess ≡ w.excess +ℤ w.outward → change ≡ w.outward +ℤ w.outer_second
     → ArcStepSpec w (record w { excess = excess; outward = change; outer = w.outer + w.outer_step }) m

@@ -25,7 +25,7 @@ outward Second = SubA
 outward Third = SubB
 outward Fourth = AddA
 
--- how far a point lies outside the circle, in squares
+-- how far a point is outside the circle, in squares
 unfoldable pub excess : Circle → PlanePoint → ℤ
 excess c p = p.a *ℤ p.a +ℤ p.b *ℤ p.b -ℤ pos c.square
 
@@ -43,16 +43,16 @@ moved c SubB p = record { a = p.a; b = p.b -ℤ pos c.step_b }
 unfoldable pub next_spot : Circle → PlanePoint → PlanePoint
 next_spot c p = moved c (step_at c p) p
 
--- the quadrants still to be walked in, the present one included, after a step from p
+-- the number of quadrants still to be walked in, including the current one, after a step from p
 unfoldable pub left_after : Circle → ℕ → PlanePoint → ℕ
 left_after c left p = if same_quadrant (quadrant p) (quadrant (next_spot c p)) then left else left - 1
 
--- the stopping rule: past the last quadrant, or in it and not before the end
+-- the stopping rule: after the last quadrant, or in it and not before the end
 unfoldable pub stops : PlanePoint → ℕ → PlanePoint → Bool
 stops e left p = left == 0 || (left == 1 && int_le (cross p e) (pos 0))
 
--- the quadrants to walk in from p, where the start s is rounded to: one more than the changes from there; 0 where these
--- would be fewer than none
+-- the number of quadrants to walk in from p, which the start s is rounded to: one more than the changes from there; 0
+-- if that would be negative
 unfoldable pub quadrants_to_walk : PlanePoint → PlanePoint → PlanePoint → ℕ
 quadrants_to_walk s e p =
     if same_quadrant (quadrant_after (quadrant p)) (quadrant s) then quadrant_changes s e + 2
@@ -74,7 +74,7 @@ abbrev pub spots : Circle → PlanePoint → List PlaneStep → List PlanePoint
 spots c p [] = p ∷ []
 spots c p (m ∷ ms) = p ∷ spots c (moved c m p) ms
 
--- both coordinates are at most w in size
+-- both coordinates are at most w in absolute value
 abbrev pub IsAtMostInSize : ℕ → PlanePoint → Type 0
 IsAtMostInSize w p = (unsigned_abs p.a ≤ w) × (unsigned_abs p.b ≤ w)
 
@@ -88,17 +88,17 @@ pub record HasSteps (c : Circle) : Type 0 where
   pub a : 0 < c.step_a
   pub b : 0 < c.step_b
 
--- the radius is twice the larger step or more, and no more than this
+-- the radius is at least twice the larger step, and at most this
 pub record IsLargeArc (c : Circle) (radius : ℕ) : Type 0 where
   pub has : HasSteps c
   pub large : 4 * (larger c * larger c) ≤ c.square
   pub within : c.square ≤ radius * radius
 
--- a length that no coordinate of the arc's points passes, for a start of that size
+-- no coordinate of the arc's points exceeds this, for a start of that size
 abbrev pub reach : ℕ → Circle → PlanePoint → ℕ
 reach radius c p = radius + larger c + unsigned_abs p.a + unsigned_abs p.b
 
--- more steps than an arc has
+-- more steps than the arc has
 abbrev pub most_steps : ℕ → Circle → ℕ → PlanePoint → ℕ
 most_steps radius c left p = left * (2 * reach radius c p + 1) + 2 * reach radius c p
 
@@ -106,7 +106,7 @@ most_steps radius c left p = left * (2 * reach radius c p + 1) + 2 * reach radiu
 unfoldable pub plane_steps : Circle → PlanePoint → PlanePoint → ℕ → PlanePoint → List PlaneStep
 plane_steps c start e left p = plane_steps_within (most_steps (unsigned_abs start.a + unsigned_abs start.b) c left p) c e left p
 
--- how far a step goes along each axis, in steps
+-- how far a step goes along axis a, in steps
 abbrev pub along_a : PlaneStep → ℤ
 along_a AddA = pos 1
 along_a SubA = negsuc 0
@@ -119,7 +119,7 @@ along_b SubA = pos 0
 along_b AddB = pos 1
 along_b SubB = negsuc 0
 
--- how far all of them go together
+-- how far all of them go along axis a
 abbrev pub net_a : List PlaneStep → ℤ
 net_a [] = pos 0
 net_a (m ∷ ms) = along_a m +ℤ net_a ms

@@ -1,4 +1,4 @@
--- The axes of an arc's plane (NISTIR 6556, 3.5.6), and the side that an arc is seen from (own).
+-- The axes of an arc's plane (NISTIR 6556, 3.5.6), and the side from which an arc is seen (own).
 use Rattle.std.specs.Prelude.{ℤ, neg_ℤ}
 use Rattle.ng_canon.specs.declared.item.AxisStep.{AxisStep}
 use Rattle.ng_canon.specs.declared.item.AxisStep.TheVariants.{Backward, Still, Forward}
@@ -11,25 +11,25 @@ use Rattle.ng_step.specs.declared.steps.AxisSteps.{AxisSteps}
 use Rattle.ng_step.specs.declared.quadrant.PlaneStep.{PlaneStep}
 use Rattle.ng_step.specs.declared.quadrant.PlaneStep.TheVariants.{AddA, SubA, AddB, SubB}
 
--- of what belongs to X, Y and Z: what belongs to the axis across the plane
+-- of three values for X, Y and Z: the one for the axis perpendicular to the plane
 abbrev pub of_third : {A : Type 0} → Plane → A → A → A → A
 of_third Xy x y z = z
 of_third Xz x y z = y
 of_third Yz x y z = x
 
--- and back, of what belongs to a, b and the third axis: what belongs to X
+-- and back: of three values for a, b and the third axis, the one for X
 abbrev pub at_x : {A : Type 0} → Plane → A → A → A → A
 at_x Xy a b third = a
 at_x Xz a b third = b
 at_x Yz a b third = third
 
--- to Y
+-- the one for Y
 abbrev pub at_y : {A : Type 0} → Plane → A → A → A → A
 at_y Xy a b third = b
 at_y Xz a b third = third
 at_y Yz a b third = a
 
--- to Z
+-- the one for Z
 abbrev pub at_z : {A : Type 0} → Plane → A → A → A → A
 at_z Xy a b third = third
 at_z Xz a b third = a
@@ -46,35 +46,35 @@ mirrored_step Clockwise Backward = Forward
 mirrored_step Clockwise Still = Still
 mirrored_step Clockwise Forward = Backward
 
--- a step of the plane on its axis a
+-- the step on axis a
 abbrev pub on_a : PlaneStep → AxisStep
 on_a AddA = Forward
 on_a SubA = Backward
 on_a AddB = Still
 on_a SubB = Still
 
--- on its axis b
+-- the step on axis b
 abbrev pub on_b : PlaneStep → AxisStep
 on_b AddA = Still
 on_b SubA = Still
 on_b AddB = Forward
 on_b SubB = Backward
 
--- a pulse of the machine's axes, of what the plane's axes and the third one do
+-- a pulse of the machine's axes, from the steps of the plane's axes and the third axis
 abbrev pub pulse_of : Plane → AxisStep → AxisStep → AxisStep → AxisSteps
 pulse_of plane a b third = record { x = at_x plane a b third; y = at_y plane a b third; z = at_z plane a b third }
 
--- a pulse with this step of the arc, and what the third axis does in it
+-- a pulse with this step of the arc and this step of the third axis
 abbrev pub pulse_with : Frame → PlaneStep → AxisStep → AxisSteps
 pulse_with frame m third = pulse_of frame.plane (on_a m) (mirrored_step frame.turn (on_b m)) third
 
--- a pulse in which the third axis stands still so far, with what it does
+-- a pulse in which the third axis makes no step yet, with the third axis's step added
 abbrev pub with_third : Plane → AxisSteps → AxisStep → AxisSteps
 with_third plane flat Still = flat
 with_third Xy flat third = record { x = flat.x; y = flat.y; z = third }
 with_third Xz flat third = record { x = flat.x; y = third; z = flat.z }
 with_third Yz flat third = record { x = third; y = flat.y; z = flat.z }
 
--- a pulse in which the arc rests
+-- a pulse in which the arc makes no step
 abbrev pub pulse_without : Frame → AxisStep → AxisSteps
 pulse_without frame third = pulse_of frame.plane Still Still third

@@ -1,4 +1,4 @@
--- The items of a segment (own): what it hands out, from the first to the last.
+-- The items of a segment (own), from the first to the last.
 use Rattle.std.specs.Prelude.{ℕ, ◌+◌, ◌*◌, max, nat_lt, Bool, if◌then◌else◌, ℤ, pos, negsuc, ◌-ℤ◌, ◌*ℤ◌, unsigned_abs, List, [], ◌∷◌, ◌++◌, length, map}
 use Rattle.ng_num.specs.declared.point.Point.{Point}
 use Rattle.ng_canon.specs.declared.geometry.Geometry.{Geometry}
@@ -23,7 +23,7 @@ use Rattle.ng_step.specs.Lines.{in_steps, largest, line_pulses}
 use Rattle.ng_step.specs.ArcPulses.{arc_pulses}
 use Rattle.ng_step.specs.Periods.{root_up, pulse_us}
 
--- a pulse that lasts so long
+-- a pulse with a period
 abbrev pub pulse_item : ℕ → AxisSteps → Item
 pulse_item us p = PulseItem (record { x = p.x; y = p.y; z = p.z; period_us = us })
 
@@ -76,7 +76,7 @@ circle g plane s = record {
   square = unsigned_abs s.a * unsigned_abs s.a + unsigned_abs s.b * unsigned_abs s.b;
 }
 
--- an arc as it is seen from its centre
+-- an arc relative to its centre
 unfoldable pub centred : Geometry → Arc → CentredArc
 centred g arc = record {
   frame = record { plane = arc.plane; turn = arc.turn };
@@ -98,7 +98,7 @@ arc_path c = plane_steps c.circle c.start c.end (quadrants_to_walk c.start c.end
 abbrev pub across : Frame → Distances → ℤ
 across frame d = of_third frame.plane d.x d.y d.z
 
--- what is left of the distances after the arc's steps and the third axis's
+-- what is left of the distances after the steps of the arc and of the third axis
 abbrev pub closing_after : Frame → Distances → ℤ → ℤ → Distances
 closing_after frame d net_a net_b =
     let a = pick_a frame.plane d.x d.y d.z -ℤ net_a in
@@ -108,11 +108,11 @@ closing_after frame d net_a net_b =
 abbrev pub closing : Frame → Distances → List PlaneStep → Distances
 closing frame d ms = closing_after frame d (net_a ms) (net_b ms)
 
--- the pulses of an arc, its closing line's too
+-- the pulses of an arc, including those of its closing line
 abbrev pub arc_total : Frame → Distances → List PlaneStep → ℕ
 arc_total frame d ms = max (length ms) (unsigned_abs (across frame d)) + largest (closing frame d ms)
 
--- the items over these steps in the plane: the arc's with those of the third axis, then a line to the rounded end
+-- the items for these steps in the plane: the arc's pulses with the third axis, then a line to the rounded end
 abbrev pub items_over : Geometry → Pace → Frame → ℕ → Distances → List PlaneStep → List Item
 items_over g pace frame step d ms =
     map (pulse_item (pulse_us g pace (arc_total frame d ms * step) (arc_total frame d ms)))
@@ -128,7 +128,7 @@ arc_items g arc =
 
 -- ---- a segment
 
--- the microseconds of a time in millionths of a second; a time below 0, which no block has, is none
+-- the microseconds of a time in millionths of a second; 0 for a negative time, which no block has
 abbrev pub dwell_us : ℤ → ℕ
 dwell_us (pos n) = n
 dwell_us (negsuc n) = 0

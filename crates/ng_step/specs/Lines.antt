@@ -6,15 +6,15 @@ use Rattle.ng_step.specs.declared.steps.AxisSteps.{AxisSteps}
 use Rattle.ng_canon.specs.declared.item.AxisStep.{AxisStep}
 use Rattle.ng_canon.specs.declared.item.AxisStep.TheVariants.{Backward, Still, Forward}
 
--- the steps that an axis with d of n steps has made after pulse k
+-- how many of d steps an axis has made after pulse k of n
 unfoldable pub made : ℕ → ℕ → ℕ → ℕ
 made n d k = (2 * k * d + n) / (2 * n)
 
--- this many steps from a toward z
+-- a coordinate this many steps from a towards z
 abbrev pub toward : ℤ → ℤ → ℕ → ℤ
 toward a z k = if int_lt z a then a -ℤ pos k else a +ℤ pos k
 
--- where an axis stands after pulse k of n, on a line from a to z in steps
+-- the coordinate after pulse k of n, on a line from a to z, in steps
 unfoldable pub point_on_line : ℕ → ℤ → ℤ → ℕ → ℤ
 point_on_line n a z k = toward a z (made n (unsigned_abs (z -ℤ a)) k)
 
@@ -22,21 +22,21 @@ point_on_line n a z k = toward a z (made n (unsigned_abs (z -ℤ a)) k)
 unfoldable pub in_steps : ℤ → ℕ → ℤ
 in_steps p s = near p s
 
--- twice a coordinate lies in a travel made half a step longer at both ends
+-- a coordinate in steps is within a travel that is extended by half a step at both ends; everything is doubled
 abbrev pub IsByHalfIn : ℤ → ℤ → ℕ → ℤ → Type 0
 IsByHalfIn low high s p = ((low *ℤ pos 2 -ℤ pos s) ≤ℤ (p *ℤ pos s *ℤ pos 2)) × ((p *ℤ pos s *ℤ pos 2) ≤ℤ (high *ℤ pos 2 +ℤ pos s))
 
--- what an axis does that makes this many steps in a pulse
+-- the step of an axis that makes this many steps in a pulse
 abbrev pub step_toward : Bool → ℕ → AxisStep
 step_toward forward zero = Still
 step_toward true (suc m) = Forward
 step_toward false (suc m) = Backward
 
--- what an axis that is to make d steps does in pulse k + 1 of n
+-- the step in pulse k + 1 of n of an axis that has d steps to make
 unfoldable pub axis_step : ℕ → Bool → ℕ → ℕ → AxisStep
 axis_step n forward d k = step_toward forward (made n d (k + 1) - made n d k)
 
--- pulse k + 1 of n on a line over these distances
+-- the step in pulse k + 1 of n, on a line over this distance
 abbrev pub line_step : ℕ → ℤ → ℕ → AxisStep
 line_step n d k = axis_step n (int_le (pos 0) d) (unsigned_abs d) k
 

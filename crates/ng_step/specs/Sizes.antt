@@ -21,7 +21,7 @@ pub record IsSized (c : CentredArc) : Type 0 where
   pub from_a : 2 * unsigned_abs (c.from.a -ℤ c.start.a) ≤ larger c.circle
   pub from_b : 2 * unsigned_abs (c.from.b -ℤ c.start.b) ≤ larger c.circle
 
--- one that can be walked: not a small one
+-- an arc that can be walked: not a small one
 pub record IsWalkable (c : CentredArc) : Type 0 where
   pub arc : IsLargeArc c.circle (unsigned_abs c.start.a + unsigned_abs c.start.b)
   pub start : AreBelowInSize c.start (2 ^ 45)

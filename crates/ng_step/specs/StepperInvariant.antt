@@ -1,4 +1,4 @@
--- The items that are left as a model (own).
+-- The remaining items as a model (own).
 use Rattle.std.specs.Prelude.{Option, Some, None, List, [], ◌∷◌, ◌++◌, map}
 use Rattle.ng_canon.specs.declared.item.Item.{Item}
 use Rattle.ng_step.specs.declared.stepper.Stepper.TheInside.{Inside}
@@ -9,7 +9,7 @@ abbrev pub single_item : Option Item → List Item
 single_item None = []
 single_item (Some i) = i ∷ []
 
--- no pulses of an arc where there is none
+-- no pulses of an arc if there is no arc
 abbrev pub or_none : Option (List AxisSteps) → List AxisSteps
 or_none None = []
 or_none (Some pulses) = pulses

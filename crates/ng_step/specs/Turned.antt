@@ -1,4 +1,5 @@
--- The same in every quadrant (own): a point by the coordinate that inward steps lessen and the one that outward steps make larger.
+-- The rule of an arc in any quadrant (own), with a point given by the coordinate that inward steps decrease and the one
+-- that outward steps increase.
 use Rattle.std.specs.Prelude.{◌≡◌, ℕ, ◌+◌, ◌-◌, ◌*◌, ◌^◌, ◌<◌, ◌≤◌, pos, neg_ℤ, ◌+ℤ◌, ◌-ℤ◌}
 use Rattle.ng_canon.specs.declared.quadrant.Quadrant.{Quadrant}
 use Rattle.ng_canon.specs.declared.quadrant.Quadrant.TheVariants.{First, Second, Third, Fourth}
@@ -31,23 +32,23 @@ out_step c q = in_step c (quadrant_after q)
 abbrev pub norm : ℕ → ℕ → ℕ
 norm i o = i * i + o * o
 
--- what every point keeps
+-- the invariant of every point
 pub record Sound (square radius s k i o : ℕ) : Type 0 where
   pub some : 0 < i
   pub inner : i ≤ k
   pub outer : o ≤ k
 
--- the numbers of a circle, and a length that no coordinate passes
+-- the numbers of a circle, and a bound for every coordinate
 pub record Roomy (square radius s k : ℕ) : Type 0 where
   pub large : 4 * (s * s) ≤ square
   pub within : square ≤ radius * radius
   pub room : radius + s ≤ k
 
--- no radius is larger
+-- a bound for every radius
 abbrev pub farthest : ℕ
 farthest = 2 ^ 47
 
--- no coordinate of a walk is larger
+-- a bound for every coordinate of a walk
 abbrev pub beyond : ℕ
 beyond = 2 ^ 48
 
@@ -69,15 +70,15 @@ pub record Walks (w : ArcWalk) : Type 0 where
   pub inward : w.inward ≡ pos (w.inner_step * w.inner_step) -ℤ pos (2 * (w.inner * w.inner_step))
   pub outward : w.outward ≡ pos (w.outer_step * w.outer_step) +ℤ pos (2 * (w.outer * w.outer_step))
 
--- how much a point has still to go in its quadrant
+-- how far a point still has to go in its quadrant
 abbrev pub room : ℕ → ℕ → ℕ → ℕ
 room k i o = i + (k - o)
 
--- how much it has still to go in all: each step makes it smaller
+-- how far it still has to go in all; each step makes it smaller
 abbrev pub budget : ℕ → ℕ → ℕ → ℕ → ℕ
 budget k left i o = left * (2 * k + 1) + room k i o
 
--- a walk made a step by the rule
+-- a walk has made a step by the rule
 pub record ArcStepSpec (w w' : ArcWalk) (made : AxisSteps) : Type 0 where
   pub walks : Walks w'
   pub frame : w'.frame ≡ w.frame
@@ -85,7 +86,7 @@ pub record ArcStepSpec (w w' : ArcWalk) (made : AxisSteps) : Type 0 where
   pub spot : spot_of w' ≡ next_spot w.circle (spot_of w)
   pub circle : w'.circle ≡ w.circle
 
--- a point seen from a quadrant, as its inner and its outer coordinate
+-- a point relative to a quadrant, as its inner and its outer coordinate
 abbrev pub turned : Quadrant → PlanePoint → PlanePoint
 turned First p = p
 turned Second p = record { a = p.b; b = neg_ℤ p.a }

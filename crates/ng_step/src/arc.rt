@@ -7,7 +7,7 @@ use crate::walk::ArcWalk;
 use ng_canon::AxisStep;
 use std::marker::Model;
 
-/// The pulses of an arc that are still to come, without its closing line.
+/// The remaining pulses of an arc, without its closing line.
 #[derive(Drop)]
 pub struct ArcPulses {
     total: u64,
@@ -36,7 +36,7 @@ impl ArcPulses {
     ghost use Rattle.ng_step.specs.Turned.{Walks, spot_of};
     ghost use Rattle.ng_step.specs.ArcPulses.{pulses_from};
 
-    /// Over the next `count` steps of a walk, while the third axis makes its own.
+    /// The pulses of the next `count` steps of a walk, together with the steps of the third axis.
     pub(crate) fn new(walk: ArcWalk, count: u64, third: i64) -> ArcPulses
         requires walks { Walks walk }
         requires count { count < 2 ^ 60 }

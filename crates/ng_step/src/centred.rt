@@ -1,4 +1,4 @@
-//! An arc as it is seen from its centre.
+//! An arc relative to its centre.
 
 use crate::circle::Circle;
 use crate::frame::{Frame, mirrored};
@@ -6,7 +6,8 @@ use crate::rounding::rounded;
 use ng_canon::{Arc, Geometry, Plane, PlanePoint, pick_a, pick_b};
 use ng_num::Point;
 
-/// An arc in the frame of its plane, all offsets from its centre in nanometres, b negated for a clockwise one.
+/// An arc in the frame of its plane. All points are offsets from its centre in nanometres; b is negated if the arc is
+/// clockwise.
 #[derive(Clone, Copy)]
 pub struct CentredArc {
     pub frame: Frame,
@@ -24,7 +25,7 @@ impl CentredArc {
     ghost use Rattle.ng_step.specs.Hands.{centred};
     ghost use Rattle.ng_step.specs.Sizes.{IsSized};
 
-    /// An arc of the machine.
+    /// An arc of the machine, relative to its centre.
     pub(crate) fn of(geometry: &Geometry, arc: &Arc) -> CentredArc
         ensures value { result ≡ centred geometry.now arc.now }
         ensures sizes { IsSized result }

@@ -1,6 +1,6 @@
 //! What the steps of an arc depend on.
 
-/// What the step from a point of an arc depends on: the steps of the two axes and the square of the radius.
+/// What the step from a point of an arc depends on: the steps of the two axes, and the square of the radius.
 #[derive(Clone, Copy)]
 pub struct Circle {
     pub step_a: u64,

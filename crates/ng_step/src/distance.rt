@@ -1,4 +1,4 @@
-//! How far two machine points lie apart.
+//! The distance between two machine points.
 
 ghost use Rattle.std.specs.Prelude.{◌≡◌, ◌<◌, ◌^◌, ◌*◌, ◌-ℤ◌, unsigned_abs};
 ghost use Rattle.ng_step.specs.Hands.{square_between};

@@ -1,11 +1,11 @@
-//! The axes of an arc's plane, and the side that an arc is seen from.
+//! The axes of an arc's plane, and the side from which an arc is seen.
 
 use crate::quadrant::PlaneStep;
 use crate::steps::{AxisSteps, Distances};
 use ng_canon::{ArcDirection, AxisStep, Plane, pick_a, pick_b};
 
-/// How an arc lies in the machine: its plane, and its way round. A clockwise arc is stepped as a counterclockwise
-/// one with b negated.
+/// The frame of an arc: its plane and its direction. A clockwise arc is stepped as a counterclockwise one with b
+/// negated.
 #[derive(Clone, Copy)]
 pub struct Frame {
     pub plane: Plane,
@@ -18,7 +18,7 @@ impl Frame {
     ghost use Rattle.ng_step.specs.Hands.{across, closing_after};
     ghost use Rattle.ng_step.specs.Sizes.{AreSized};
 
-    /// The pulse with this step of the arc, and what the third axis does in it.
+    /// The pulse with this step of the arc and this step of the third axis.
     pub(crate) fn pulse_with(self, made: PlaneStep, third: AxisStep) -> AxisSteps
         ensures { result ≡ pulse_with self made third }
     {
@@ -26,7 +26,7 @@ impl Frame {
         pulse_of(self.plane, made.on_a(), b, third)
     }
 
-    /// The pulse in which the arc rests.
+    /// The pulse in which the arc makes no step.
     pub(crate) fn pulse_without(self, third: AxisStep) -> AxisSteps
         ensures { result ≡ pulse_without self third }
     {
@@ -42,7 +42,8 @@ impl Frame {
         of_third(self.plane, distance.x, distance.y, distance.z)
     }
 
-    /// What is left of the distances after an arc's steps, this far along a and b, and those of the third axis.
+    /// What is left of the distances after the steps of the arc and of the third axis. The arc's steps go `net_a` along
+    /// a and `net_b` along b.
     pub(crate) fn closing_after(self, distance: &Distances, net_a: i64, net_b: i64) -> Distances
         requires distance { AreSized distance.now (2 ^ 50) }
         requires a { unsigned_abs net_a < 2 ^ 50 }
@@ -63,7 +64,7 @@ impl Frame {
 ghost use Rattle.std.specs.Prelude.{◌≡◌, ◌<◌, ◌^◌, unsigned_abs};
 ghost use Rattle.ng_step.specs.Frames.{of_third, mirrored, mirrored_step, pulse_of, with_third};
 
-/// What belongs to the axis across the plane, of what belongs to X, Y and Z.
+/// Of three values for X, Y and Z: the one for the axis perpendicular to the plane.
 fn of_third<T: Copy>(plane: Plane, x: T, y: T, z: T) -> T
     ensures { result ≡ of_third plane x y z }
 {
@@ -74,7 +75,7 @@ fn of_third<T: Copy>(plane: Plane, x: T, y: T, z: T) -> T
     }
 }
 
-/// A coordinate of the plane's axis b, as the arc is stepped.
+/// A coordinate on the plane's axis b, negated if the arc is clockwise.
 pub(crate) fn mirrored(turn: ArcDirection, b: i64) -> i64
     requires { unsigned_abs b < 2 ^ 58 }
     ensures value { result ≡ mirrored turn b }
@@ -118,7 +119,7 @@ fn pulse_of(plane: Plane, a: AxisStep, b: AxisStep, third: AxisStep) -> AxisStep
     }
 }
 
-/// A pulse in which the third axis stands still so far, with what it does.
+/// A pulse in which the third axis makes no step yet, with the third axis's step added.
 pub(crate) fn with_third(plane: Plane, flat: AxisSteps, third: AxisStep) -> AxisSteps
     ensures { result ≡ with_third plane flat third }
 {

@@ -4,7 +4,7 @@ use crate::spread::Spread;
 use crate::steps::{AxisSteps, Distances};
 use std::marker::Model;
 
-/// The pulses of a line that are still to come.
+/// The remaining pulses of a line.
 #[derive(Drop)]
 pub struct LinePulses {
     total: u64,
@@ -32,7 +32,7 @@ impl LinePulses {
     ghost use Rattle.std.specs.Prelude.{◌≡◌, ◌∷◌, [], MatchOption, ◌^◌, ◌<◌, unsigned_abs};
     ghost use Rattle.ng_step.specs.Lines.{line_pulses};
 
-    /// Over these distances.
+    /// The pulses of a line with these distances.
     pub(crate) fn new(distance: Distances) -> LinePulses
         requires x { unsigned_abs distance.x < 2 ^ 61 }
         requires y { unsigned_abs distance.y < 2 ^ 61 }

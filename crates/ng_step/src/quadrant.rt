@@ -1,4 +1,4 @@
-//! The steps that an arc makes in the quadrants of its plane.
+//! The steps of an arc in the quadrants of its plane.
 
 use ng_canon::{AxisStep, PlanePoint, Quadrant};
 
@@ -16,7 +16,7 @@ impl PlaneStep {
     ghost use Rattle.ng_step.specs.Arcs.{inward, outward};
     ghost use Rattle.ng_step.specs.Frames.{on_a, on_b};
 
-    /// What it does on the plane's axis a.
+    /// The step that it makes on the plane's axis a.
     pub(crate) fn on_a(self) -> AxisStep
         ensures { result ≡ on_a self }
     {
@@ -27,7 +27,7 @@ impl PlaneStep {
         }
     }
 
-    /// What it does on the plane's axis b.
+    /// The step that it makes on the plane's axis b.
     pub(crate) fn on_b(self) -> AxisStep
         ensures { result ≡ on_b self }
     {
@@ -50,7 +50,7 @@ impl PlaneStep {
         }
     }
 
-    /// The outward one.
+    /// The outward step of a quadrant.
     pub(crate) fn outward(quadrant: Quadrant) -> PlaneStep
         ensures { result ≡ outward quadrant }
     {
@@ -68,7 +68,7 @@ ghost use Rattle.ng_canon.specs.Planes.{AreBelowInSize};
 ghost use Rattle.ng_step.specs.Arcs.{quadrants_to_walk};
 ghost use Rattle.ng_step.specs.Turned.{turned};
 
-/// A point turned back by the quadrants before its own, so that this quadrant is the first.
+/// A point rotated back by the quadrants before its own, so that its quadrant becomes the first.
 pub(crate) fn turned(point: PlanePoint, quadrant: Quadrant) -> PlanePoint
     requires a { unsigned_abs point.a < 2 ^ 50 }
     requires b { unsigned_abs point.b < 2 ^ 50 }
@@ -91,7 +91,7 @@ pub(crate) fn turned(point: PlanePoint, quadrant: Quadrant) -> PlanePoint
     }
 }
 
-/// The quadrants to walk in from where the start is rounded to.
+/// How many quadrants to walk in from the rounded start.
 #[tactic(auto, unfolding(crate::specs::Arcs::quadrants_to_walk))]
 pub(crate) fn quadrants_to_walk(start: PlanePoint, end: PlanePoint, from: PlanePoint) -> u64
     requires start { AreBelowInSize start (2 ^ 50) }

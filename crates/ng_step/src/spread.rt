@@ -2,7 +2,7 @@
 
 use ng_canon::AxisStep;
 
-/// An axis on a line, with the error that it has gathered.
+/// One axis of a line, with its accumulated error.
 #[derive(Clone, Copy)]
 pub struct Spread {
     count: u64,
@@ -16,7 +16,7 @@ impl Spread {
     ghost use Rattle.ng_step.specs.Lines.{step_toward};
     ghost use Rattle.ng_step.specs.Axes.{IsSpread, SpreadStepSpec};
 
-    /// At the start of a line of `total` pulses.
+    /// The axis at the start of a line of `total` pulses.
     pub(crate) fn new(distance: i64, total: u64) -> Spread
         requires small { total < 2 ^ 61 }
         requires most { unsigned_abs distance ≤ total }
@@ -33,7 +33,7 @@ impl Spread {
         }
     }
 
-    /// The axis's part of the next pulse; `whole` is twice the number of pulses.
+    /// The axis's step in the next pulse. `whole` is twice the number of pulses.
     pub(crate) fn step(&mut self, whole: u64) -> AxisStep
         requires error { self.old.error < whole }
         requires twice { self.old.twice ≤ whole }

@@ -12,8 +12,8 @@ use ng_canon::{Arc, Geometry, Item, Pace, Pulse, Segment};
 use ng_num::{Num, Point};
 use std::marker::Model;
 
-/// The items of a segment that are still to come, seen as their list. A pulse carries at most one step of each
-/// axis and the microseconds until the next pulse.
+/// The remaining items of a segment; in contracts it is their list. A pulse carries at most one step of each axis, and
+/// the microseconds until the next pulse.
 #[derive(Drop)]
 pub struct Stepper {
     single: Option<Item>,
@@ -40,8 +40,8 @@ impl Stepper {
     ghost use Rattle.ng_step.specs.Sizes.{AreSized, IsWalkable};
     ghost use Rattle.ng_step.specs.StepperInvariant.{or_none};
 
-    /// At the start of a segment: any one, inside the travel or not. It takes no memory and doesn't fail. It takes
-    /// 60 roots at most, also for the longest arc.
+    /// A stepper at the start of a segment, which may be any segment, inside the travel or not. It doesn't allocate and
+    /// doesn't fail. It takes at most 60 square roots, even for the longest arc.
     pub fn new(segment: &Segment, geometry: &Geometry) -> Stepper
         ensures items { result ≡ hand segment.now geometry.now }
         ensures ends { EndsOnItsEnd segment.now geometry.now }
@@ -60,7 +60,7 @@ impl Stepper {
         }
     }
 
-    /// An arc's pulses, then its closing line's.
+    /// The pulses of an arc, if there is one, and then those of a line.
     fn over(arc: Option<ArcPulses>, line: LinePulses, period_us: u64) -> Stepper
         ensures { result ≡ map (pulse_item period_us) (or_none arc ++ line) }
     {
@@ -72,7 +72,7 @@ impl Stepper {
         }
     }
 
-    /// A line's pulses.
+    /// The pulses of a line.
     fn over_line(geometry: &Geometry, pace: Pace, start: &Point, end: &Point) -> Stepper
         ensures { result ≡ line_items geometry.now pace start.now end.now }
     {
@@ -82,7 +82,7 @@ impl Stepper {
         Stepper::over(None, LinePulses::new(distances), period_us)
     }
 
-    /// An arc's pulses and its closing line's, or a line's where the arc is small.
+    /// The pulses of an arc and of its closing line. A small arc is a line.
     fn over_arc(geometry: &Geometry, arc: &Arc) -> Stepper
         ensures { result ≡ arc_items geometry.now arc.now }
     {
@@ -94,7 +94,7 @@ impl Stepper {
         Stepper::over_large_arc(geometry, arc.pace, &centred, &distance)
     }
 
-    /// An arc's pulses, then those of a line to its rounded end.
+    /// The pulses of an arc, and then those of a line to its rounded end.
     fn over_large_arc(
         geometry: &Geometry,
         pace: Pace,
@@ -119,7 +119,7 @@ impl Stepper {
         )
     }
 
-    /// One item alone.
+    /// A single item.
     fn single(item: Item) -> Stepper
         ensures { result ≡ item ∷ [] }
     {
@@ -131,7 +131,7 @@ impl Stepper {
         }
     }
 
-    /// The next item; none once all were given, and none ever after.
+    /// The next item. `None` after the last one, and from then on.
     pub fn next(&mut self) -> Option<Item>
         ensures { MatchOption result ((self.old ≡ []) × (self.new ≡ [])) (λ i. self.old ≡ i ∷ self.new) }
     {
@@ -154,7 +154,7 @@ impl Stepper {
 ghost use Rattle.std.specs.Prelude.{◌≡◌};
 ghost use Rattle.ng_step.specs.Hands.{pulse_item, dwell_us};
 
-/// The microseconds of a time; none where it is below 0.
+/// The microseconds of a time; 0 for a negative time.
 fn dwell_us(time: Num) -> u64
     ensures { result ≡ dwell_us time }
 {

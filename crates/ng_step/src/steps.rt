@@ -4,7 +4,7 @@ use crate::rounding::steps_between;
 use ng_canon::{AxisStep, Geometry};
 use ng_num::Point;
 
-/// One pulse: what each axis does.
+/// One pulse: the step of each axis.
 #[derive(Clone, Copy)]
 pub struct AxisSteps {
     pub x: AxisStep,
@@ -26,7 +26,7 @@ impl Distances {
     ghost use Rattle.ng_step.specs.Lines.{largest};
     ghost use Rattle.ng_step.specs.Sizes.{AreSized};
 
-    /// From one machine point to another, each rounded to whole steps.
+    /// The distances from one machine point to another, each rounded to whole steps.
     pub(crate) fn between(geometry: &Geometry, start: &Point, end: &Point) -> Distances
         ensures value { result ≡ distances geometry.now start.now end.now }
         ensures sizes { AreSized result (2 ^ 50) }
@@ -38,7 +38,7 @@ impl Distances {
         }
     }
 
-    /// The most steps of an axis.
+    /// The largest number of steps of an axis.
     pub(crate) fn largest(self) -> u64
         requires { AreSized self (2 ^ 60) }
         ensures value { result ≡ largest self }

@@ -1,14 +1,13 @@
-//! An arc's sweep through a quadrant, known without walking it.
+//! An arc's sweep through a quadrant, found without walking it.
 //!
-//! A sweep goes down level by level: `inner` less an inward step for each. On a level it goes outward to the first
-//! point outside the circle, and from there inward to the next one; the last level is the one from which an inward
-//! step leads out of the quadrant.
+//! A sweep goes down level by level; each inward step lowers `inner` by one step. On a level it goes outward to the
+//! first point outside the circle, and from there inward to the next level. The last level is the one from which an
+//! inward step leaves the quadrant.
 ghost use Rattle.std.specs.Prelude.{◌≡◌, ◌+◌, ◌*◌, ◌-◌, ◌<◌, ◌≤◌, ◌^◌};
 
 use crate::timing::ceil_div;
 
-/// Where an arc enters a quadrant, in nanometres: `inner` is what inward steps lessen, `outer` what outward ones make
-/// larger.
+/// Where an arc enters a quadrant, in nanometres. Inward steps decrease `inner`, and outward steps increase `outer`.
 #[derive(Clone, Copy)]
 pub struct QuadrantSweep {
     pub square: u128,
@@ -23,14 +22,14 @@ pub struct QuadrantSweep {
     pub ghost outer_step_in_range: { (0 < outer_step) × (outer_step ≤ 2 ^ 47) },
 }
 
-/// A point of a sweep: how many inward and how many outward steps lead there.
+/// A point of a sweep, given by the number of inward and outward steps that lead to it.
 #[derive(Clone, Copy)]
 pub struct SweepSteps {
     pub inward: u64,
     pub outward: u64,
 }
 
-/// An end in a quadrant, by the same two coordinates.
+/// An end in a quadrant, in the same two coordinates.
 #[derive(Clone, Copy)]
 pub struct QuadrantEnd {
     pub inner: u64,
@@ -42,7 +41,7 @@ pub struct QuadrantEnd {
 impl QuadrantEnd {
     ghost use Rattle.std.specs.Prelude.{◌≡◌, ◌<◌, ◌≤◌, ◌*◌, ◌^◌, true, false};
 
-    /// Whether a point is level with it or past it.
+    /// Whether a point is level with the end or past it.
     fn is_passed(&self, inner: u64, outer: u64) -> bool
         requires inner { inner ≤ 2 ^ 48 }
         requires outer { outer ≤ 2 ^ 48 }
@@ -57,7 +56,7 @@ impl QuadrantSweep {
     ghost use Rattle.std.specs.Prelude.{◌≡◌, ◌⊎◌, ◌+◌, ◌*◌, ◌-◌, ◌<◌, ◌≤◌, ◌^◌, true, false};
     ghost use Rattle.ng_step.specs.Sweeps.{IsLeaving, IsLast, LeavesPast, LeavesBefore, IsFirstPast};
 
-    /// How many outward steps lead outside the circle.
+    /// How many outward steps it takes to get outside the circle.
     fn outward_steps(square: u128, inner: u64, outer: u64, step: u64) -> u64
         requires square { square ≤ 2 ^ 94 }
         requires inner { inner ≤ 2 ^ 48 }
@@ -74,7 +73,7 @@ impl QuadrantSweep {
         (root - outer) / step + 1
     }
 
-    /// How many outward steps it has made where it goes inward from a level.
+    /// How many outward steps were made when it goes inward from a level.
     fn outward_to(&self, level: u64) -> u64
         requires { level * self.now.inner_step < self.now.inner }
         ensures leaving { IsLeaving self.now.square (self.now.inner - level * self.now.inner_step) self.now.outer self.now.outer_step result }
@@ -84,7 +83,7 @@ impl QuadrantSweep {
         QuadrantSweep::outward_steps(self.square, inner, self.outer, self.outer_step)
     }
 
-    /// Its last point: from there an inward step leads out of the quadrant.
+    /// Its last point: an inward step from there leaves the quadrant.
     pub(crate) fn last(&self) -> SweepSteps
         ensures last { IsLast self.now result }
         ensures room { self.now.outer + result.outward * self.now.outer_step ≤ 2 ^ 48 }
@@ -96,7 +95,7 @@ impl QuadrantSweep {
         }
     }
 
-    /// Whether it goes inward from a level at an end or past it.
+    /// Whether it is at an end or past it when it goes inward from a level.
     fn leaves_past(&self, level: u64, end: QuadrantEnd) -> bool
         requires { level * self.now.inner_step < self.now.inner }
         ensures past { result ≡ true → LeavesPast self.now end level }
@@ -109,8 +108,7 @@ impl QuadrantSweep {
         )
     }
 
-    /// The first level from which it goes inward at an end or past it. Each turn looks at one level and halves those
-    /// that are left: 48 turns at most.
+    /// The first level from which it goes inward at an end or past it. This is a binary search: at most 48 iterations.
     fn first_level_past(&self, last: u64, end: QuadrantEnd) -> u64
         requires inside { last * self.now.inner_step < self.now.inner }
         requires past { LeavesPast self.now end last }
@@ -132,8 +130,8 @@ impl QuadrantSweep {
         first
     }
 
-    /// The first point that is level with an end or past it, of a sweep that enters before the end and goes inward
-    /// past it from its last level.
+    /// The first point that is level with an end or past it. The sweep must enter before the end, and be past it when
+    /// it goes inward from its last level.
     pub(crate) fn first_past(&self, last: SweepSteps, end: QuadrantEnd) -> SweepSteps
         requires last { IsLast self.now last }
         requires enters { self.now.outer * end.inner < self.now.inner * end.outer }

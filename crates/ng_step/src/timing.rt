@@ -1,11 +1,11 @@
-//! How long a pulse lasts.
+//! The period of a pulse.
 
 ghost use Rattle.std.specs.Prelude.{◌≡◌, ◌+◌, ◌*◌, ◌^◌, ◌<◌, ◌≤◌};
 ghost use Rattle.ng_step.specs.Periods.{root_up, IsRootUp, ceil_div, time_us, pulse_us};
 
 use ng_canon::{Geometry, Pace, Rate};
 
-/// The least whole number whose square isn't below.
+/// The least whole number whose square isn't below a number.
 pub(crate) fn root_up(square: u128) -> u128
     requires { square < 2 ^ 100 }
     ensures value { result ≡ root_up square }
@@ -42,7 +42,8 @@ fn time_us(traverse: Rate, pace: Pace, length: u128) -> u128
     }
 }
 
-/// The microseconds of each of so many pulses over a length; of no pulses any.
+/// The microseconds of each pulse, given the number of pulses and the length of the move. Without pulses any value will
+/// do.
 pub(crate) fn pulse_us(geometry: &Geometry, pace: Pace, length: u128, pulses: u64) -> u64
     requires pulses { pulses < 2 ^ 60 }
     requires length { 0 < pulses → length ≤ pulses * 2 ^ 23 }

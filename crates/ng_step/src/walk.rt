@@ -1,4 +1,4 @@
-//! A walk along an arc: a step at a time, by differences.
+//! A walk along an arc, one step at a time, by differences.
 
 ghost use Rattle.std.specs.Prelude.{◌≡◌};
 
@@ -11,9 +11,8 @@ use crate::steps::AxisSteps;
 use crate::wide::{difference, product, square, sum, twice};
 use ng_canon::{AxisStep, PlanePoint, Quadrant};
 
-/// A point on the way round a circle, seen from its quadrant: `inner` is the coordinate that an inward step
-/// lessens, `outer` the one that an outward step makes larger. The rest are differences, and what the steps of the
-/// quadrant are.
+/// A point on the way around a circle, relative to its quadrant. An inward step decreases `inner`, and an outward step
+/// increases `outer`. The other fields are differences, and the steps that belong to the quadrant.
 #[derive(Clone, Copy)]
 pub struct ArcWalk {
     circle: Circle,
@@ -38,7 +37,7 @@ impl ArcWalk {
     ghost use Rattle.ng_step.specs.Arcs.{stops, IsLargeArc, larger};
     ghost use Rattle.ng_step.specs.Turned.{spot_of, Walks, ArcStepSpec, beyond, farthest, point_of_quadrant, in_step, out_step};
 
-    /// From a point that isn't the centre.
+    /// A walk from a point that isn't the centre.
     pub(crate) fn new(frame: Frame, circle: Circle, from: PlanePoint) -> ArcWalk
         requires arc { IsLargeArc circle farthest }
         requires small { larger circle ≤ 2 ^ 47 }
@@ -140,14 +139,14 @@ impl ArcWalk {
         left == 0 || (left == 1 && self.is_past(end))
     }
 
-    /// How its arc lies in the machine.
+    /// The arc's frame.
     pub(crate) fn frame(&self) -> Frame
         ensures { result ≡ self.now.frame }
     {
         self.frame
     }
 
-    /// The point that it stands at.
+    /// The current point.
     fn spot(&self) -> PlanePoint
         requires { Walks self.now }
         ensures value { result ≡ spot_of self.now }
@@ -172,7 +171,7 @@ impl ArcWalk {
         }
     }
 
-    /// Makes the next step, and says what pulse it is; the third axis stands still in it.
+    /// Makes the next step, and returns its pulse. The third axis makes no step in it.
     pub(crate) fn step(&mut self) -> AxisSteps
         requires { Walks self.old }
         ensures { ArcStepSpec self.old self.new result }

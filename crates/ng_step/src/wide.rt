@@ -1,4 +1,4 @@
-//! Sums and products in wide whole numbers, each by one exact clause.
+//! Sums and products of wide integers, each with one exact clause.
 
 ghost use Rattle.std.specs.Prelude.{◌≡◌, ℕ, ◌^◌, ◌<◌, ◌+ℤ◌, ◌-ℤ◌, ◌*ℤ◌, ◌*◌, ◌≤◌, pos, unsigned_abs};
 

@@ -1,4 +1,4 @@
-//! How many steps an arc has: its sweeps through the quadrants put together, none of them walked.
+//! How many steps an arc has, found from its sweeps through the quadrants without walking any.
 
 use crate::quadrant::turned;
 use crate::rounding::whole_steps;
@@ -6,7 +6,7 @@ use crate::sweep::{QuadrantEnd, QuadrantSweep, SweepSteps};
 use crate::walk::ArcWalk;
 use ng_canon::PlanePoint;
 
-/// How many steps an arc has, and how far they go along each axis, in steps.
+/// The number of steps of an arc, and how far they go along each axis, in steps.
 #[derive(Clone, Copy)]
 pub struct Count {
     pub steps: u64,
@@ -14,7 +14,7 @@ pub struct Count {
     pub b: i64,
 }
 
-/// A walk so many steps on.
+/// A walk after a number of steps.
 #[derive(Clone, Copy)]
 struct Leap {
     walk: ArcWalk,
@@ -29,8 +29,8 @@ impl ArcWalk {
     ghost use Rattle.ng_step.specs.Sweeps.{inner_at, outer_at, IsLast};
     ghost use Rattle.ng_step.specs.Leaps.{WalkLeads, EndsArc, PassesFrom, NeverStopsUntil, NeverStops, IsAhead, StopsAt};
 
-    /// How many steps there are to the end, and how far they go. It takes one root for each quadrant, and as many
-    /// as a search by halves in the last one: 60 at most.
+    /// The number of steps to the end, and how far they go. It takes one square root for each quadrant, and one for
+    /// each step of the binary search in the last quadrant: at most 60.
     pub(crate) fn count(&self, end: PlanePoint, quadrants: u64) -> Count
         requires walks { Walks self.now }
         requires end_a { unsigned_abs end.a < 2 ^ 50 }
@@ -62,7 +62,7 @@ impl ArcWalk {
         }
     }
 
-    /// Its sweep through the quadrant.
+    /// The sweep through the current quadrant.
     fn passage(&self) -> QuadrantSweep
         requires { Walks self.now }
         ensures { PassesFrom self.now result }
@@ -76,7 +76,7 @@ impl ArcWalk {
         }
     }
 
-    /// Across the rest of the quadrant into the next one.
+    /// Goes through the rest of the quadrant into the next one.
     fn across(&self, passage: QuadrantSweep, last: SweepSteps) -> Leap
         requires walks { Walks self.now }
         requires from { PassesFrom self.now passage }
@@ -102,7 +102,7 @@ impl ArcWalk {
         }
     }
 
-    /// To a point of the quadrant.
+    /// Goes to a point of the quadrant.
     fn onward(&self, passage: QuadrantSweep, way: SweepSteps) -> Leap
         requires walks { Walks self.now }
         requires from { PassesFrom self.now passage }
@@ -130,7 +130,7 @@ impl ArcWalk {
         }
     }
 
-    /// To the end of an arc that has at most the present quadrant left.
+    /// Goes to the end of an arc that has at most the current quadrant left.
     fn to_end(&self, end: PlanePoint, left: u64) -> Leap
         requires walks { Walks self.now }
         requires end_a { unsigned_abs end.a < 2 ^ 50 }
@@ -153,7 +153,7 @@ impl ArcWalk {
         }
     }
 
-    /// The first point of the quadrant at which an arc stops; none where it goes on to the next quadrant.
+    /// The first point of the quadrant at which an arc stops. `None` if it goes on to the next quadrant.
     fn stop(&self, passage: QuadrantSweep, last: SweepSteps, end: PlanePoint) -> Option<SweepSteps>
         requires walks { Walks self.now }
         requires from { PassesFrom self.now passage }
@@ -176,7 +176,7 @@ impl ArcWalk {
         }
     }
 
-    /// An end by its coordinates in the quadrant; none where the arc doesn't stop there.
+    /// An end in coordinates of the quadrant. `None` if the arc doesn't stop there.
     fn ahead(&self, end: PlanePoint) -> Option<QuadrantEnd>
         requires walks { Walks self.now }
         requires end_a { unsigned_abs end.a < 2 ^ 50 }

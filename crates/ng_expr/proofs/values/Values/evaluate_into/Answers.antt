@@ -1,4 +1,4 @@
--- One piece more.
+-- One more piece.
 use Rattle.std.proofs.Common.{ap, arith, length}
 use Rattle.ng_words.specs.Kept.{pieces_by}
 use Rattle.ng_words.specs.Lines.{piece_of}

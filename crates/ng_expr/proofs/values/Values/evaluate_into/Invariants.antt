@@ -3,7 +3,7 @@ use Rattle.ng_words.specs.Kept.{pieces_by}
 use Rattle.ng_expr.specs.Settle.{followed_if_ok, settled_pieces, settled_of}
 use Rattle.ng_expr.proofs.values.Values.evaluate_into.Given as goal
 
--- what is there and what the pieces left give is what the line gives; each piece adds one at most
+-- the values so far, followed by those of the remaining pieces, are those of the line; each piece adds at most one
 abbrev pub invariant-loop-piece : goal.invariant-loop-piece
 invariant-loop-piece g l = record {
   found : followed_if_ok (settled_of l.self) (settled_pieces (pieces_by l.pieces) l.params) ≡ settled_pieces (pieces_by l.line.places) l.params;

@@ -2,7 +2,7 @@ use Rattle.std.proofs.Common.{◌≡◌, ◌+◌, drop}
 use Rattle.ng_modal.specs.Sorted.{sorted}
 use Rattle.ng_modal.proofs.sorted.Sorted.sort.Given as goal
 
--- the words after the one taken
+-- the words after the added one
 abbrev pub ghost-take_at : goal.ghost-take_at
 ghost-take_at a = drop (a.i + 1) a.words.now
 
