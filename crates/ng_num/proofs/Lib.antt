@@ -7,3 +7,4 @@ pub mod Roots
 pub mod Powers
 pub mod Lengths
 pub mod Texts
+pub mod Pairs

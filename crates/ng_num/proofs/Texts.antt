@@ -1,6 +1,6 @@
 -- A number's text, written from its end to its start.
-use Rattle.std.proofs.Common.{ℕ, ◌/◌, ◌≡◌, List, [], ◌∷◌, ◌++◌, drop, ℤ, unsigned_abs, codes, ap, sym, ◌∙◌}
-use Rattle.std.proofs.lemmas.List.{append_assoc, append-nil}
+use Rattle.std.proofs.Common.{ℕ, ◌/◌, ◌≡◌, List, ◌∷◌, ◌++◌, drop, ℤ, unsigned_abs, codes, ap, sym, ◌∙◌}
+use Rattle.std.proofs.lemmas.List.{append_assoc}
 use Rattle.std.specs.Fmt.{decimal}
 use Rattle.ng_num.specs.declared.point.Point.{Point}
 use Rattle.ng_num.specs.Text.{minus, number_text, point_text, six_digits}
@@ -26,20 +26,19 @@ written_then z size point whole start end after filled decimals digits text same
     ∙ ap (λ n. minus z ++ (decimal (n / 1_000_000) ++ (46 ∷ (six_digits n ++ after)))) same
     ∙ sym (number_then z after)
 
--- three coordinates, the last first, at the end of a buffer of 51 bytes
+-- three coordinates, the last first, before what stands in a buffer from its 51st byte on
 pub point_then : (p : Point) (x y z : ℤ) (at_x at_y at_z : ℕ) (after empty last two all : List ℕ) → x ≡ p.x → y ≡ p.y → z ≡ p.z
-    → drop 51 empty ≡ []
     → drop at_z last ≡ number_text z ++ (after ++ drop 51 empty)
     → drop at_y two ≡ number_text y ++ (codes ", " ++ drop at_z last)
     → drop at_x all ≡ number_text x ++ (codes ", " ++ drop at_y two)
-    → drop at_x all ≡ point_text p ++ after
-point_then p x y z at_x at_y at_z after empty last two all xs ys zs none lz ly lx =
+    → drop at_x all ≡ (point_text p ++ after) ++ drop 51 empty
+point_then p x y z at_x at_y at_z after empty last two all xs ys zs lz ly lx =
     lx
-    ∙ ap (λ l. number_text x ++ (codes ", " ++ l)) (ly ∙ ap (λ l. number_text y ++ (codes ", " ++ l)) (lz ∙ ap (λ l. number_text z ++ (after ++ l)) none))
-    ∙ ap (λ n. number_text n ++ (codes ", " ++ (number_text y ++ (codes ", " ++ (number_text z ++ (after ++ [])))))) xs
-    ∙ ap (λ n. number_text p.x ++ (codes ", " ++ (number_text n ++ (codes ", " ++ (number_text z ++ (after ++ [])))))) ys
-    ∙ ap (λ n. number_text p.x ++ (codes ", " ++ (number_text p.y ++ (codes ", " ++ (number_text n ++ (after ++ [])))))) zs
+    ∙ ap (λ l. number_text x ++ (codes ", " ++ l)) (ly ∙ ap (λ l. number_text y ++ (codes ", " ++ l)) lz)
+    ∙ ap (λ n. number_text n ++ (codes ", " ++ (number_text y ++ (codes ", " ++ (number_text z ++ (after ++ drop 51 empty)))))) xs
+    ∙ ap (λ n. number_text p.x ++ (codes ", " ++ (number_text n ++ (codes ", " ++ (number_text z ++ (after ++ drop 51 empty)))))) ys
+    ∙ ap (λ n. number_text p.x ++ (codes ", " ++ (number_text p.y ++ (codes ", " ++ (number_text n ++ (after ++ drop 51 empty)))))) zs
     ∙ joined
   where
-    joined : number_text p.x ++ (codes ", " ++ (number_text p.y ++ (codes ", " ++ (number_text p.z ++ (after ++ []))))) ≡ point_text p ++ after
-    joined = simp (append_assoc, append-nil)
+    joined : number_text p.x ++ (codes ", " ++ (number_text p.y ++ (codes ", " ++ (number_text p.z ++ (after ++ drop 51 empty))))) ≡ (point_text p ++ after) ++ drop 51 empty
+    joined = simp append_assoc

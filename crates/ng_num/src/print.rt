@@ -1,6 +1,6 @@
 //! The canonical text of numbers. Each text is built on the stack, with the two bytes that follow it, and appended at
 //! once. So if the caller's text can't grow, it is left as it was.
-ghost use Rattle.std.specs.Prelude.{◌≡◌, ◌+◌, ◌++◌, ◌∷◌, ◌<◌, ◌≤◌, ◌^◌, ◌/◌, ◌%◌, drop, length, OnOk, OnErr, unsigned_abs};
+ghost use Rattle.std.specs.Prelude.{◌≡◌, ◌+◌, ◌++◌, ◌∷◌, ◌<◌, ◌≤◌, ◌^◌, ◌/◌, ◌%◌, ◌-◌, drop, take, length, OnOk, OnErr, unsigned_abs};
 ghost use Rattle.std.specs.Fmt.{decimal};
 ghost use Rattle.ng_num.specs.Text.{minus, number_text, point_text, six_digits};
 ghost use Rattle.ng_num.specs.Range.{IsCount, greatest};
@@ -16,6 +16,14 @@ const NUMBER: usize = 17;
 
 /// The room for three numbers, each with two bytes after it.
 const POINT: usize = 51;
+
+/// Twice that room: from each place of its first half on there are `POINT` bytes.
+const TWO_POINTS: usize = 102;
+
+/// The two digits of each number below 100.
+static PAIRS: [u8; 200] =
+    *b"0001020304050607080910111213141516171819202122232425262728293031323334353637383940414243444546474849\
+       5051525354555657585960616263646566676869707172737475767778798081828384858687888990919293949596979899";
 
 /// Stores a byte at a place.
 #[inline(always)]
@@ -36,15 +44,16 @@ fn put_after(after: [u8; 2], buffer: &mut [u8], at: usize)
     put(after[0], buffer, at);
 }
 
-/// Stores the two digits of a number below 100.
+/// Stores the two digits of a number below 100. Looking them up is cheaper than two divisions.
 #[inline(always)]
 fn put_pair(pair: u32, buffer: &mut [u8], at: usize)
     requires small { pair < 100 }
     requires room { at + 2 ≤ length buffer.old }
     ensures { drop at buffer.new ≡ (48 + pair / 10) ∷ (48 + pair % 10) ∷ drop (at + 2) buffer.old }
 {
-    put(b'0' + (pair % 10) as u8, buffer, at + 1);
-    put(b'0' + (pair / 10) as u8, buffer, at);
+    let from = pair as usize * 2;
+    put(PAIRS[from + 1], buffer, at + 1);
+    put(PAIRS[from], buffer, at);
 }
 
 /// Writes the decimal point and six decimals of a size in millionths, so that they end at `end`. Returns where the
@@ -144,15 +153,34 @@ pub fn print_length<A: Allocator + Copy + Drop>(
 }
 
 /// Writes the three coordinates of a point in millimetres, with a comma and a blank between them, and the two bytes
-/// after them, at the end of a buffer. Returns where they start.
+/// after them, so that they end at the buffer's middle. Returns where they start.
 #[inline(always)]
-fn write_point(point: Point, after: [u8; 2], buffer: &mut [u8; POINT]) -> usize
+fn write_point(point: Point, after: [u8; 2], buffer: &mut [u8; TWO_POINTS]) -> usize
     ensures within { result ≤ 51 }
-    ensures text { drop result buffer.new ≡ point_text point ++ after }
+    ensures text { drop result buffer.new ≡ (point_text point ++ after) ++ drop 51 buffer.old }
 {
     let z = write_count(point.z.nm(), after, buffer, POINT);
     let y = write_count(point.y.nm(), *b", ", buffer, z);
     write_count(point.x.nm(), *b", ", buffer, y)
+}
+
+/// Appends the bytes from `start` up to the buffer's middle. It copies a fixed number of bytes and cuts off those past
+/// the middle: a copy of a fixed length takes a few instructions, one of another length is a call. If the text can't
+/// grow, it is left as it was.
+#[inline(always)]
+fn push_first_half<A: Allocator + Copy + Drop>(
+    text: &mut Vec<u8, A>,
+    buffer: &[u8; TWO_POINTS],
+    start: usize,
+) -> Result<(), AllocError>
+    requires { start ≤ 51 }
+    ensures ok { OnOk result (text.new.items ≡ text.old.items ++ take (51 - start) (drop start buffer.now)) }
+    ensures err { OnErr result (text.new.items ≡ text.old.items) }
+{
+    let end = text.len() + (POINT - start);
+    text.extend_from_slice(&buffer[start..start + POINT])?;
+    text.truncate(end);
+    Ok(())
 }
 
 /// Appends the three coordinates of a point in millimetres, each in the form of `print_length`, with a comma and a
@@ -165,9 +193,9 @@ pub fn print_point<A: Allocator + Copy + Drop>(
     ensures ok { OnOk result (text.new.items ≡ text.old.items ++ (point_text point ++ after)) }
     ensures err { OnErr result (text.new.items ≡ text.old.items) }
 {
-    let mut buffer = [b'0'; POINT];
+    let mut buffer = [b'0'; TWO_POINTS];
     let start = write_point(point, after, &mut buffer);
-    text.extend_from_slice(&buffer[start..])
+    push_first_half(text, &buffer, start)
 }
 
 /// Appends a whole number without leading zeros (own). If the text can't grow, it is left as it was.

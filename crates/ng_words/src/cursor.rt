@@ -3,8 +3,9 @@ ghost use Rattle.ng_words.specs.Plain.{plain, is_blank, capital, StartsWithByte,
 ghost use Rattle.ng_words.specs.Values.{strip_prefix};
 ghost use Rattle.ng_words.specs.Pieces.{comment_at};
 ghost use Rattle.ng_words.specs.Walks.{ClosesAt};
+ghost use Rattle.ng_words.specs.Scan.{front_digits, after_digits, is_empty, sign_at};
 
-use crate::digits::Digits;
+use crate::digits::{Digits, is_digit};
 use std::marker::Model;
 
 /// The rest of a line, seen as the bytes that count. The cursor is outside comments, and the next byte isn't a blank.
@@ -159,6 +160,47 @@ impl<'a> Cursor<'a> {
         ensures { result ≡ self.now }
     {
         Digits { rest: self.rest }
+    }
+
+    /// Whether a digit comes next.
+    #[inline]
+    pub(crate) fn is_at_digit(&self) -> bool
+        ensures { MatchBool result (is_empty (front_digits self.now) ≡ false) ((front_digits self.now ≡ []) × (after_digits self.now ≡ self.now)) }
+    {
+        match self.rest.first() {
+            None => false,
+            Some(first) => is_digit(*first),
+        }
+    }
+
+    /// Whether a minus comes next, and the bytes after the sign, if there is one.
+    #[inline(always)]
+    pub(crate) fn after_sign(&self) -> (bool, Digits<'a>)
+        ensures { (result.0, result.1) ≡ sign_at self.now }
+    {
+        match self.rest.split_first() {
+            Some((b'-', others)) => (true, Digits { rest: others }),
+            Some((b'+', others)) => (false, Digits { rest: others }),
+            _ => (false, Digits { rest: self.rest }),
+        }
+    }
+
+    /// A cursor after the digits that were read.
+    #[inline(always)]
+    pub(crate) fn after(digits: &Digits<'a>) -> Cursor<'a>
+        ensures { result ≡ digits.now }
+    {
+        Cursor {
+            rest: skip_blanks(digits.rest),
+        }
+    }
+
+    /// Moves to the place of another cursor.
+    #[inline]
+    pub(crate) fn go_to(&mut self, other: &Cursor<'a>)
+        ensures { self.new ≡ other.now }
+    {
+        self.rest = other.rest;
     }
 
     /// Moves past digits that were read.

@@ -1,5 +1,5 @@
 //! The digits that come next on a line, one by one.
-ghost use Rattle.std.specs.Prelude.{◌≡◌, [], ◌∷◌, false, Some, None, MatchOption, IsTrue};
+ghost use Rattle.std.specs.Prelude.{◌≡◌, [], ◌∷◌, false, Some, None, MatchOption, MatchBool, IsTrue};
 ghost use Rattle.ng_words.specs.Plain.{plain, AtPlain};
 ghost use Rattle.ng_words.specs.Grammar.{is_digit};
 ghost use Rattle.ng_words.specs.Scan.{front_digits, after_digits};
@@ -24,7 +24,7 @@ impl<'a> Model for Digits<'a> {
 }
 
 #[inline]
-fn is_digit(byte: u8) -> bool
+pub(crate) fn is_digit(byte: u8) -> bool
     ensures { result ≡ is_digit byte }
 {
     b'0' <= byte && byte <= b'9'
@@ -43,6 +43,30 @@ fn first_digit(bytes: &[u8]) -> Option<(u8, &[u8])>
 }
 
 impl<'a> Digits<'a> {
+    /// The next digit, if it is the next byte: blanks are not skipped.
+    #[inline(always)]
+    pub(crate) fn next_together(&mut self) -> Option<u8>
+        ensures { MatchOption result (self.new ≡ self.old) (λ b. (self.old ≡ b ∷ self.new) × IsTrue (is_digit b)) }
+    {
+        let (digit, others) = first_digit(self.rest)?;
+        self.rest = others;
+        Some(digit)
+    }
+
+    /// Skips a point, if it is the next byte. Returns whether it is.
+    #[inline(always)]
+    pub(crate) fn skip_point(&mut self) -> bool
+        ensures { MatchBool result (self.old ≡ 46 ∷ self.new) (self.new ≡ self.old) }
+    {
+        match self.rest.split_first() {
+            Some((b'.', others)) => {
+                self.rest = others;
+                true
+            }
+            _ => false,
+        }
+    }
+
     /// The next digit. `None` if another byte comes first, or no byte is left. Blanks are rare, so they are looked for
     /// only when the next byte isn't a digit.
     #[inline]

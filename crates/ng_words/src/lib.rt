@@ -17,6 +17,7 @@ mod piece_entry;
 mod pieces;
 mod reading;
 mod start;
+mod together;
 mod tree;
 mod value;
 

@@ -33,13 +33,11 @@ impl Head {
 pub(crate) fn slash(cursor: &mut Cursor<'_>) -> bool
     ensures { (result, cursor.new) ≡ slash_at cursor.old }
 {
-    match cursor.peek() {
-        Some(b'/') => {
-            cursor.advance();
-            true
-        }
-        _ => false,
+    if cursor.is_at(b'/') {
+        cursor.advance();
+        return true;
     }
+    false
 }
 
 /// Whether a line begins with the slash of block delete, after any blanks (NISTIR 6556, 3.3).
@@ -110,8 +108,8 @@ fn block_digits(cursor: &mut Cursor<'_>) -> Option<u32>
 pub(crate) fn block_number(cursor: &mut Cursor<'_>) -> Option<Option<u32>>
     ensures { MatchOption result (block_number_at cursor.old ≡ None) (λ n. block_number_at cursor.old ≡ Some (n, cursor.new)) }
 {
-    match cursor.peek() {
-        Some(b'N') => {
+    match cursor.first() {
+        Some(b'N') | Some(b'n') => {
             cursor.advance();
             let number = block_digits(cursor)?;
             Some(Some(number))

@@ -1,13 +1,16 @@
 //! Values: one walk over the bytes, with a list of what waits for a value to its right.
 ghost use Rattle.std.specs.Prelude.{◌≡◌, ◌+◌, ◌<◌, ◌≤◌, ◌↔◌, [], ◌∷◌, ◌++◌, false, true, length, None, Some, IsTrue, OnSome, MatchOption};
 ghost use Rattle.ng_words.specs.Grammar.{level};
+ghost use Rattle.ng_words.specs.Scan.{number_at};
 ghost use Rattle.ng_words.specs.Values.{operations, entry_at};
 ghost use Rattle.ng_words.specs.Walks.{nearest, is_index, operation_within, closing, IsOpening, IsFunction, TakesValue, WalkStepSpec, Settles, Gathers, ClosesBrackets, BeginsNumber};
 
 use crate::cursor::Cursor;
 use crate::number::number;
+use crate::together::number_together;
 use crate::tree::{Function, NODES, Node, Operation};
 use arrayvec::ArrayVec;
+use ng_num::Num;
 
 /// What waits for the value to its right.
 #[derive(Clone, Copy)]
@@ -322,6 +325,18 @@ fn begins_number(cursor: &Cursor<'_>) -> bool
     }
 }
 
+/// Takes a value that is a number alone, its digits together. If there is none, the cursor stays.
+#[inline(always)]
+fn plain_number(cursor: &mut Cursor<'_>) -> Option<Option<Num>>
+    ensures { MatchOption result (cursor.new ≡ cursor.old) (λ v. (number_at cursor.old ≡ Some (v, cursor.new)) × BeginsNumber cursor.old) }
+{
+    if begins_number(cursor) {
+        number_together(cursor)
+    } else {
+        None
+    }
+}
+
 /// Takes a value. Pushes its nodes and returns how many there are. `stack` is used for its list of what waits.
 #[inline(always)]
 pub(crate) fn value(
@@ -334,10 +349,11 @@ pub(crate) fn value(
     ensures room { OnSome result (length nodes.new.items + length cursor.new ≤ length nodes.old.items + length cursor.old) }
     ensures shorter { OnSome result (length cursor.new < length cursor.old) }
 {
-    if begins_number(cursor) {
-        let count = number(cursor)?;
-        nodes.push(Node::Number(count));
-        return Some(1);
+    match plain_number(cursor) {
+        Some(count) => {
+            nodes.push(Node::Number(count));
+            Some(1)
+        }
+        None => walk(cursor, stack, nodes),
     }
-    walk(cursor, stack, nodes)
 }
