@@ -77,8 +77,8 @@ fn unsigned_together<'a>(start: Digits<'a>) -> Option<(u64, Cursor<'a>)>
     Some((whole as u64 * 1_000_000 + (tenths as u64 + 5) / 10, rest))
 }
 
-/// Takes a number with no blank between its digits, and returns its count of millionths. The inner `None` says that it is
-/// out of range. After an outer `None` the cursor stays, and a number may still come next.
+/// Takes a number with no blank between its digits, and returns its count of millionths. The inner `None` says that it
+/// is out of range. After an outer `None` the cursor stays, and a number may still come next.
 #[inline(always)]
 pub(crate) fn number_together(cursor: &mut Cursor<'_>) -> Option<Option<Num>>
     ensures { MatchOption result (cursor.new ≡ cursor.old) (λ v. number_at cursor.old ≡ Some (v, cursor.new)) }
