@@ -63,9 +63,9 @@ impl Num {
         Num { count }
     }
 
-    /// The number of a size and a sign; E3 where the size is beyond the range.
+    /// The number of a size in millionths and a sign; E3 where the size is beyond the range (own).
     #[inline(always)]
-    pub(crate) fn of_size(is_negative: bool, size: u64) -> Result<Num, Fault>
+    pub fn of_size(is_negative: bool, size: u64) -> Result<Num, Fault>
         ensures { result ≡ in_range (signed is_negative size) }
     {
         if size > GREATEST {

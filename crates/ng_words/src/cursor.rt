@@ -173,7 +173,7 @@ impl<'a> Cursor<'a> {
         }
     }
 
-    /// Whether a minus comes next, and the bytes after the sign, where one comes next.
+    /// Whether a minus comes next, and the bytes after the sign, where a sign comes next.
     #[inline(always)]
     pub(crate) fn after_sign(&self) -> (bool, Digits<'a>)
         ensures { (result.0, result.1) ≡ sign_at self.now }

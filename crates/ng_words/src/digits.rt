@@ -43,7 +43,7 @@ fn first_digit(bytes: &[u8]) -> Option<(u8, &[u8])>
 }
 
 impl<'a> Digits<'a> {
-    /// The next digit, where it stands at the front: blanks are not looked for.
+    /// The next digit, where it stands at the front; blanks aren't looked for.
     #[inline(always)]
     pub(crate) fn next_together(&mut self) -> Option<u8>
         ensures { MatchOption result (self.new ≡ self.old) (λ b. (self.old ≡ b ∷ self.new) × IsTrue (is_digit b)) }
@@ -53,7 +53,7 @@ impl<'a> Digits<'a> {
         Some(digit)
     }
 
-    /// Steps over a point that stands at the front; answers whether one does.
+    /// Steps over a point, where one stands at the front; answers whether it does.
     #[inline(always)]
     pub(crate) fn skip_point(&mut self) -> bool
         ensures { MatchBool result (self.old ≡ 46 ∷ self.new) (self.new ≡ self.old) }

@@ -2,9 +2,8 @@
 ghost use Rattle.std.specs.Prelude.{◌≡◌, ◌⊎◌, ◌↔◌, ◌+◌, ◌-◌, ◌*◌, ◌≤◌, [], ◌∷◌, ℤ, Some, None, MatchOption, IfSome, IfOk, IfErr, IsErrOf, IsTrue, min};
 ghost use Rattle.std.specs.List.{list_any};
 ghost use Rattle.ng_num.specs.Range.{in_range};
-ghost use Rattle.ng_num.specs.Rounding.{signed};
 ghost use Rattle.ng_words.specs.Plain.{is_blank};
-ghost use Rattle.ng_words.specs.Grammar.{IsNumber, is_digit, count_of};
+ghost use Rattle.ng_words.specs.Grammar.{IsNumber, is_digit};
 ghost use Rattle.ng_words.specs.Scan.{fraction_from, front_digits, after_digits, whole_after, is_empty, unsigned_at, sign_at, number_at};
 
 use crate::cursor::{Cursor, is_blank};
@@ -101,25 +100,14 @@ fn minus(cursor: &mut Cursor<'_>) -> bool
     false
 }
 
-/// The number of a size in millionths and a sign; nothing where it is out of range.
-#[inline]
-pub(crate) fn signed_number(negative: bool, size: u64) -> Option<Num>
-    requires { size ≤ 10_000_001_000_001 }
-    ensures { result ≡ count_of (signed negative size) }
-{
-    let size = size as i128;
-    Num::of(if negative { -size } else { size }).ok()
-}
-
 /// Takes a number: its count of millionths, or nothing within where that is out of range.
-#[cold]
 #[inline(never)]
 pub(crate) fn number(cursor: &mut Cursor<'_>) -> Option<Option<Num>>
     ensures { MatchOption result (number_at cursor.old ≡ None) (λ v. number_at cursor.old ≡ Some (v, cursor.new)) }
 {
     let negative = minus(cursor);
     let size = unsigned(cursor)?;
-    Some(signed_number(negative, size))
+    Some(Num::of_size(negative, size).ok())
 }
 
 /// Whether a blank or a tab is among some bytes.
