@@ -7,6 +7,7 @@ ghost use Rattle.ng_words.specs.Grammar.{IsNumber, is_digit};
 ghost use Rattle.ng_words.specs.Scan.{fraction_from, front_digits, after_digits, whole_after, is_empty, unsigned_at, sign_at, number_at};
 
 use crate::cursor::{Cursor, is_blank};
+use crate::together::number_together;
 use ng_num::{Fault, Num};
 
 /// The whole part past which every number is out of range.
@@ -100,14 +101,25 @@ fn minus(cursor: &mut Cursor<'_>) -> bool
     false
 }
 
-/// Takes a number: its count of millionths, or nothing within where that is out of range.
-#[inline(never)]
-pub(crate) fn number(cursor: &mut Cursor<'_>) -> Option<Option<Num>>
+/// Takes a number whose digits may have blanks between them: its count of millionths, or nothing within where that is
+/// out of range.
+#[cold]
+fn number_apart(cursor: &mut Cursor<'_>) -> Option<Option<Num>>
     ensures { MatchOption result (number_at cursor.old ≡ None) (λ v. number_at cursor.old ≡ Some (v, cursor.new)) }
 {
     let negative = minus(cursor);
     let size = unsigned(cursor)?;
     Some(Num::of_size(negative, size).ok())
+}
+
+/// Takes a number: its count of millionths, or nothing within where that is out of range.
+pub(crate) fn number(cursor: &mut Cursor<'_>) -> Option<Option<Num>>
+    ensures { MatchOption result (number_at cursor.old ≡ None) (λ v. number_at cursor.old ≡ Some (v, cursor.new)) }
+{
+    match number_together(cursor) {
+        Some(count) => Some(count),
+        None => number_apart(cursor),
+    }
 }
 
 /// Whether a blank or a tab is among some bytes.

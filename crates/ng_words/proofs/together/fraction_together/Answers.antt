@@ -32,8 +32,8 @@ loop-preserved c =
     let front : front_digits c.loop.digits ≡ b ∷ front_digits c.next_together.new.self = search rules in
     let value = subst (λ (l : List ℕ). c.loop.sum * 10 + fraction_from (10 ^ (6 - c.loop.counter)) l ≡ total) front c.loop.invariant.value in
     let added = digit_added k c.loop.sum b c.loop.unit total (front_digits c.next_together.new.self) small
-        (c.loop.invariant.unit ∙ ap (λ n. 10 ^ n / 10) next)
-        (subst (λ n. c.loop.sum + 10 ^ n ≤ 1000000) next c.loop.invariant.bound)
-        (subst (λ n. c.loop.sum * 10 + fraction_from (10 ^ n) (b ∷ front_digits c.next_together.new.self) ≡ total) next value)
+    (c.loop.invariant.unit ∙ ap (λ n. 10 ^ n / 10) next)
+    (subst (λ n. c.loop.sum + 10 ^ n ≤ 1000000) next c.loop.invariant.bound)
+    (subst (λ n. c.loop.sum * 10 + fraction_from (10 ^ n) (b ∷ front_digits c.next_together.new.self) ≡ total) next value)
     in
     record { rest = search rules; value = added.value; unit = added.unit_after; bound = added.bound; none = search rules }
