@@ -63,9 +63,9 @@ impl Num {
         Num { count }
     }
 
-    /// The number with an absolute value and a sign. E3 if the absolute value is out of range.
+    /// The number with an absolute value in millionths and a sign (own). E3 if the absolute value is out of range.
     #[inline(always)]
-    pub(crate) fn of_size(is_negative: bool, size: u64) -> Result<Num, Fault>
+    pub fn of_size(is_negative: bool, size: u64) -> Result<Num, Fault>
         ensures { result ≡ in_range (signed is_negative size) }
     {
         if size > GREATEST {

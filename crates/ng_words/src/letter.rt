@@ -26,31 +26,43 @@ pub enum Letter {
     Z,
 }
 
-/// The letter of a capital's byte, if it is one.
+/// The letter of each capital from A to Z.
+static LETTERS: [Option<Letter>; 26] = [
+    Some(Letter::A),
+    Some(Letter::B),
+    Some(Letter::C),
+    Some(Letter::D),
+    None,
+    Some(Letter::F),
+    Some(Letter::G),
+    Some(Letter::H),
+    Some(Letter::I),
+    Some(Letter::J),
+    Some(Letter::K),
+    Some(Letter::L),
+    Some(Letter::M),
+    None,
+    None,
+    Some(Letter::P),
+    Some(Letter::Q),
+    Some(Letter::R),
+    Some(Letter::S),
+    Some(Letter::T),
+    None,
+    None,
+    None,
+    Some(Letter::X),
+    Some(Letter::Y),
+    Some(Letter::Z),
+];
+
+/// The letter of a capital's byte, if it is one. A table costs less than a match with an arm for each letter.
+#[inline]
 pub(crate) fn letter_of(byte: u8) -> Option<Letter>
     ensures { result ≡ letter_of byte }
 {
-    match byte {
-        b'A' => Some(Letter::A),
-        b'B' => Some(Letter::B),
-        b'C' => Some(Letter::C),
-        b'D' => Some(Letter::D),
-        b'F' => Some(Letter::F),
-        b'G' => Some(Letter::G),
-        b'H' => Some(Letter::H),
-        b'I' => Some(Letter::I),
-        b'J' => Some(Letter::J),
-        b'K' => Some(Letter::K),
-        b'L' => Some(Letter::L),
-        b'M' => Some(Letter::M),
-        b'P' => Some(Letter::P),
-        b'Q' => Some(Letter::Q),
-        b'R' => Some(Letter::R),
-        b'S' => Some(Letter::S),
-        b'T' => Some(Letter::T),
-        b'X' => Some(Letter::X),
-        b'Y' => Some(Letter::Y),
-        b'Z' => Some(Letter::Z),
-        _ => None,
+    if byte < b'A' || b'Z' < byte {
+        return None;
     }
+    LETTERS[(byte - b'A') as usize]
 }

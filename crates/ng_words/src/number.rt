@@ -2,12 +2,12 @@
 ghost use Rattle.std.specs.Prelude.{◌≡◌, ◌⊎◌, ◌↔◌, ◌+◌, ◌-◌, ◌*◌, ◌≤◌, [], ◌∷◌, ℤ, Some, None, MatchOption, IfSome, IfOk, IfErr, IsErrOf, IsTrue, min};
 ghost use Rattle.std.specs.List.{list_any};
 ghost use Rattle.ng_num.specs.Range.{in_range};
-ghost use Rattle.ng_num.specs.Rounding.{signed};
 ghost use Rattle.ng_words.specs.Plain.{is_blank};
-ghost use Rattle.ng_words.specs.Grammar.{IsNumber, is_digit, count_of};
+ghost use Rattle.ng_words.specs.Grammar.{IsNumber, is_digit};
 ghost use Rattle.ng_words.specs.Scan.{fraction_from, front_digits, after_digits, whole_after, is_empty, unsigned_at, sign_at, number_at};
 
 use crate::cursor::{Cursor, is_blank};
+use crate::together::number_together;
 use ng_num::{Fault, Num};
 
 /// From this whole part on, every number is out of range.
@@ -101,25 +101,25 @@ fn minus(cursor: &mut Cursor<'_>) -> bool
     false
 }
 
-/// The number with a size in millionths and a sign. `None` if it is out of range.
-#[inline]
-pub(crate) fn signed_number(negative: bool, size: u64) -> Option<Num>
-    requires { size ≤ 10_000_001_000_001 }
-    ensures { result ≡ count_of (signed negative size) }
-{
-    let size = size as i128;
-    Num::of(if negative { -size } else { size }).ok()
-}
-
-/// Takes a number, and returns its count of millionths. The inner `None` says that it is out of range.
+/// Takes a number that may have blanks between its digits, and returns its count of millionths. The inner `None` says
+/// that it is out of range.
 #[cold]
-#[inline(never)]
-pub(crate) fn number(cursor: &mut Cursor<'_>) -> Option<Option<Num>>
+fn number_apart(cursor: &mut Cursor<'_>) -> Option<Option<Num>>
     ensures { MatchOption result (number_at cursor.old ≡ None) (λ v. number_at cursor.old ≡ Some (v, cursor.new)) }
 {
     let negative = minus(cursor);
     let size = unsigned(cursor)?;
-    Some(signed_number(negative, size))
+    Some(Num::of_size(negative, size).ok())
+}
+
+/// Takes a number, and returns its count of millionths. The inner `None` says that it is out of range.
+pub(crate) fn number(cursor: &mut Cursor<'_>) -> Option<Option<Num>>
+    ensures { MatchOption result (number_at cursor.old ≡ None) (λ v. number_at cursor.old ≡ Some (v, cursor.new)) }
+{
+    match number_together(cursor) {
+        Some(count) => Some(count),
+        None => number_apart(cursor),
+    }
 }
 
 /// Whether some bytes contain a blank or a tab.

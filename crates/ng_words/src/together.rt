@@ -4,8 +4,14 @@ ghost use Rattle.ng_words.specs.Scan.{fraction_from, front_digits, after_digits,
 
 use crate::cursor::Cursor;
 use crate::digits::Digits;
-use crate::number::{signed_number, with_digit};
+use crate::number::with_digit;
 use ng_num::Num;
+
+/// The most digits of a whole part that are read here. A number in range has no more.
+const WHOLE_DIGITS: u32 = 7;
+
+/// The most decimals that are read here. With more, the number is rounded.
+const DECIMALS: u32 = 6;
 
 /// Takes up to seven digits of a whole part. Returns their value, and whether there are none.
 #[inline(always)]
@@ -17,7 +23,7 @@ fn whole_together(digits: &mut Digits<'_>) -> (u32, bool)
 {
     let mut whole: u32 = 0;
     let mut none = true;
-    for _ in 0..7 {
+    for _ in 0..WHOLE_DIGITS {
         match digits.next_together() {
             Some(digit) => {
                 whole = with_digit(whole, digit);
@@ -29,18 +35,18 @@ fn whole_together(digits: &mut Digits<'_>) -> (u32, bool)
     (whole, none)
 }
 
-/// Takes up to seven digits after a point. Returns their value in ten-millionths, and whether there are none.
+/// Takes up to six digits after a point. Returns their value in millionths, and whether there are none.
 #[inline(always)]
 fn fraction_together(digits: &mut Digits<'_>) -> (u32, bool)
     ensures rest { after_digits digits.new ≡ after_digits digits.old }
-    ensures value { is_empty (front_digits digits.new) ≡ true → result.0 ≡ fraction_from 1_000_000 (front_digits digits.old) }
-    ensures bound { result.0 ≤ 10_000_000 }
+    ensures value { is_empty (front_digits digits.new) ≡ true → result.0 * 10 ≡ fraction_from 1_000_000 (front_digits digits.old) }
+    ensures bound { result.0 ≤ 1_000_000 }
     ensures none { cond result.1 (is_empty (front_digits digits.new)) false ≡ is_empty (front_digits digits.old) }
 {
     let mut sum: u32 = 0;
-    let mut unit: u32 = 1_000_000;
+    let mut unit: u32 = 100_000;
     let mut none = true;
-    for _ in 0..7 {
+    for _ in 0..DECIMALS {
         match digits.next_together() {
             Some(digit) => {
                 none = false;
@@ -54,11 +60,10 @@ fn fraction_together(digits: &mut Digits<'_>) -> (u32, bool)
 }
 
 /// The millionths of an unsigned number with no blank between its digits, and the rest after it. `None` if there is no
-/// digit, or if the number may go on after a blank or with an eighth digit.
+/// digit, or if the number may go on: after a blank, with an eighth digit or with a seventh decimal.
 #[inline(always)]
 fn unsigned_together<'a>(start: Digits<'a>) -> Option<(u64, Cursor<'a>)>
-    ensures bound { IfSome result (λ x. x.0 ≤ 10_000_001_000_001) }
-    ensures value { IfSome result (λ x. unsigned_at start.entry ≡ Some (x.0, x.1)) }
+    ensures { IfSome result (λ x. unsigned_at start.entry ≡ Some (x.0, x.1)) }
 {
     let mut digits = start;
     let (whole, no_whole) = whole_together(&mut digits);
@@ -69,12 +74,12 @@ fn unsigned_together<'a>(start: Digits<'a>) -> Option<(u64, Cursor<'a>)>
         }
         return Some((whole as u64 * 1_000_000, rest));
     }
-    let (tenths, no_fraction) = fraction_together(&mut digits);
+    let (millionths, no_fraction) = fraction_together(&mut digits);
     let rest = Cursor::after(&digits);
     if (no_whole & no_fraction) || rest.is_at_digit() {
         return None;
     }
-    Some((whole as u64 * 1_000_000 + (tenths as u64 + 5) / 10, rest))
+    Some((whole as u64 * 1_000_000 + millionths as u64, rest))
 }
 
 /// Takes a number with no blank between its digits, and returns its count of millionths. The inner `None` says that it
@@ -86,5 +91,5 @@ pub(crate) fn number_together(cursor: &mut Cursor<'_>) -> Option<Option<Num>>
     let (negative, digits) = cursor.after_sign();
     let (size, rest) = unsigned_together(digits)?;
     cursor.go_to(&rest);
-    Some(signed_number(negative, size))
+    Some(Num::of_size(negative, size).ok())
 }
