@@ -22,12 +22,12 @@ mod replacing;
 
 use counting::Counting;
 
-/// The sector of a header of format 2 and this epoch, with this program area and length.
+/// The sector of a header of format 2 with this epoch, program area and length.
 pub fn header(epoch: i64, area: i64, length: i64) -> [u8; 512] {
     header_of(2, epoch, area, length)
 }
 
-/// The same of this format.
+/// The sector of a header of this format.
 pub fn header_of(format: i64, epoch: i64, area: i64, length: i64) -> [u8; 512] {
     sector_with(&[
         (0, 8, MARK),
@@ -38,7 +38,7 @@ pub fn header_of(format: i64, epoch: i64, area: i64, length: i64) -> [u8; 512] {
     ])
 }
 
-/// Makes what a device holds once it is formatted: the fresh state as epoch 1, in area 1, no program and no slots.
+/// Writes what a device holds after a format: the fresh state as epoch 1, in area 1, no program and no slots.
 fn lay_formatted<R: Rig>(rig: &mut R) -> bool {
     let one = sector_with(&[(280, 8, 1_000_000)]);
     store(rig, 88, &sector_with(&FRESH))
@@ -47,8 +47,8 @@ fn lay_formatted<R: Rig>(rig: &mut R) -> bool {
         && rig.sync().is_ok()
 }
 
-/// Devices by their sectors, whether they are formatted, and the bytes of the heap: what power on answers, and how many
-/// calls it makes. A table of parameters has 43,192 bytes, and power on wants two.
+/// The sectors of a device, whether it is formatted, and the bytes of the heap; what power on returns, and how many
+/// calls it makes. A table of parameters has 43,192 bytes, and power on needs two.
 const DEVICES: &[(usize, bool, usize, Option<Fault>, usize)] = &[
     (0, false, 100_000, Some(Fault::NotFormatted), 0),
     (1, false, 100_000, Some(Fault::NotFormatted), 0),
@@ -66,7 +66,7 @@ const DEVICES: &[(usize, bool, usize, Option<Fault>, usize)] = &[
     (5_806, true, 100_000, None, 92),
 ];
 
-/// A device of so many sectors, formatted or not.
+/// A device with this many sectors, formatted or not.
 pub fn device<A: Allocator + Copy + Drop>(
     alloc: A,
     sectors: usize,
@@ -85,7 +85,7 @@ pub fn formatted<A: Allocator + Copy + Drop>(alloc: A) -> Result<MemoryRig<A>, F
     device(alloc, 1_710, true)
 }
 
-/// What power on answers with so many bytes of heap, how many calls it makes, and the device's sectors and failures.
+/// What power on returns with this many bytes of heap, how many calls it makes, and the device's sectors and failures.
 fn power_on(
     alloc: Global,
     rig: MemoryRig<Global>,
@@ -112,17 +112,17 @@ fn devices_that_power_on_refuses(rt: HostRuntime) -> Result<(), Fail> {
     Ok(())
 }
 
-/// Lays the state of a fresh controller with so many entries, in this area.
+/// Writes the state of a fresh controller with this many entries to this area.
 pub fn lay_state<R: Rig>(rig: &mut R, first: usize, entries: i64) -> bool {
     let mut state = sector_with(&FRESH);
     put(&mut state, 0, 8, entries);
     store(rig, first, &state)
 }
 
-/// The format and the epoch of a header; there is none where the epoch is 0.
+/// The format and the epoch of a header; epoch 0 means that there is none.
 type Head = (i64, i64);
 
-/// A device with these headers, whose state has 7 entries in area 0 and 8 in area 1.
+/// A device with these headers. Its state has 7 entries in area 0 and 8 in area 1.
 fn two_headers<A: Allocator + Copy + Drop>(
     alloc: A,
     even: Head,
@@ -139,7 +139,7 @@ fn two_headers<A: Allocator + Copy + Drop>(
     }
 }
 
-/// Where a header of this epoch stands.
+/// The sector of a header with this epoch.
 fn header_sector(epoch: i64) -> usize {
     if epoch % 2 == 0 { 0 } else { 1 }
 }
@@ -160,8 +160,8 @@ pub fn entries_found<A: Allocator + Copy + Drop, R: Rig + Drop>(
     }
 }
 
-/// The two headers: the entries of the area in force (7 in area 0, 8 in area 1), or why there is none, and the epoch
-/// that power on ends in: the next one, or after format 1 the one after that.
+/// The two headers; the entries of the area in force (7 in area 0, 8 in area 1), or the fault if there is none; and the
+/// epoch in which power on ends: the next one, or over format 1 the one after that.
 const HEADERS: &[(Head, Head, Result<u64, Fault>, i64)] = &[
     ((2, 0), (2, 0), Err(Fault::NotFormatted), 0),
     ((2, 2), (2, 0), Ok(7), 3),
@@ -172,9 +172,9 @@ const HEADERS: &[(Head, Head, Result<u64, Fault>, i64)] = &[
     ((2, 256), (2, 257), Ok(8), 258),
     ((2, LAST), (2, 1), Err(Fault::CountersUsed), 0),
     ((2, LAST - 2), (2, LAST - 1), Ok(8), LAST),
-    // headers in each other's sector
+    // each header in the other's sector
     ((2, 1), (2, 2), Err(Fault::NotFormatted), 0),
-    // past the limit, so the other one counts
+    // past the limit, so the other one is used
     ((2, LAST + 2), (2, 3), Ok(8), 4),
     ((1, 2), (1, 0), Ok(7), 4),
     ((1, 0), (1, 1), Ok(8), 3),
@@ -188,7 +188,7 @@ const HEADERS: &[(Head, Head, Result<u64, Fault>, i64)] = &[
     ((1, LAST), (2, 1), Err(Fault::CountersUsed), 0),
     ((2, LAST - 2), (1, LAST - 1), Err(Fault::CountersUsed), 0),
     ((1, LAST - 2), (2, LAST - 1), Ok(8), LAST),
-    // of no format, so the other one counts
+    // no valid format, so the other one is used
     ((3, 4), (2, 3), Ok(8), 4),
     ((3, 4), (1, 3), Ok(8), 5),
     ((0, 4), (3, 3), Err(Fault::NotFormatted), 0),
@@ -211,18 +211,18 @@ fn the_header_of_the_greater_epoch_is_in_force(rt: HostRuntime) -> Result<(), Fa
     Ok(())
 }
 
-/// What is done to a journal once it is recovered.
+/// An operation on a journal after it was recovered.
 #[derive(Clone, Copy, Debug, PartialEq, Eq)]
 enum Deed {
     Nothing,
-    /// An entry by which parameter 1 becomes 5.
+    /// An entry that sets parameter 1 to 5.
     Commit,
-    /// An entry by which slot 1 is 5,000 nm long.
+    /// An entry that sets the length of slot 1 to 5,000 nm.
     Tool,
     /// The first segment of an Mdi block, `G0X5`, is open.
     Open,
     HandOut,
-    /// An entry by which the program becomes `G0 X0.002` and `M2`.
+    /// An entry that makes the program `G0 X0.002` and `M2`.
     Load,
 }
 
@@ -242,7 +242,7 @@ pub fn open_half() -> Half
     }
 }
 
-/// A tool's length; none where it isn't within its limits.
+/// A tool's length. `None` if it isn't within its limits.
 fn tool_length(nm: i64) -> Option<Len>
     ensures { IfSome result IsToolLength }
 {
@@ -253,8 +253,8 @@ fn tool_length(nm: i64) -> Option<Len>
     }
 }
 
-/// The change of a table of so many slots by which this one, or the one after its last, is so long; none where there is
-/// no such slot or length.
+/// The change of a table with this many slots that sets the length of this slot, or of the one after its last. `None`
+/// if there is no such slot or length.
 fn slot_change(slots: usize, slot: u8, nm: i64) -> Option<SlotChange>
     requires { slots ≤ SLOTS }
     ensures slot { IfSome result (λ change. (1 ≤ change.slot) × (change.slot ≤ slots + 1) × (change.slot ≤ SLOTS)) }
@@ -268,7 +268,7 @@ fn slot_change(slots: usize, slot: u8, nm: i64) -> Option<SlotChange>
     }
 }
 
-/// Makes such a change, where there is one.
+/// Makes such a change, if there is one.
 #[tactic(auto, using(crate::proofs::Slots::one_slot))]
 fn change_slot(tools: &mut Tools, slot: u8, nm: i64)
     ensures one { IsOneSlotFrom tools.old tools.new }
@@ -279,8 +279,8 @@ fn change_slot(tools: &mut Tools, slot: u8, nm: i64)
     }
 }
 
-/// A slot of a table becomes this long, or the one after its last is added; nothing changes where there is no such slot
-/// or length.
+/// Sets the length of a slot in a table, or adds the slot after its last. Nothing changes if there is no such slot or
+/// length.
 pub fn set_slot(tools: &mut Tools, slot: u8, nm: i64)
     ensures one { IsOneSlotFrom tools.old tools.new }
     ensures are { AreTools tools.new }
@@ -290,7 +290,7 @@ pub fn set_slot(tools: &mut Tools, slot: u8, nm: i64)
     let _ = tools.slots();
 }
 
-/// Does it; an entry is then the one of this number.
+/// Does the operation; an entry gets this number.
 fn make<A: Allocator + Copy + Drop, R: Rig>(
     journal: &mut Journal<R, A>,
     stored: &mut Stored<A>,
@@ -323,7 +323,7 @@ fn make<A: Allocator + Copy + Drop, R: Rig>(
     }
 }
 
-/// Powers on and does it: what is answered, whether the journal is broken then, and the device.
+/// Powers on and does the operation. Returns the result, whether the journal is broken then, and the device.
 fn after<A: Allocator + Copy + Drop, R: Rig>(
     alloc: A,
     rig: R,
@@ -339,15 +339,15 @@ fn after<A: Allocator + Copy + Drop, R: Rig>(
     }
 }
 
-/// The entries of a device, parameter 1, the bytes of its program, of a half-done block whether something is open, and
-/// whether it is known where the machine stands, and the length of slot 1; or why power on refuses it.
+/// What a device stands for: its entries, parameter 1, the bytes of its program, for a half-done block whether
+/// something is open and whether the machine's position is known, and the length of slot 1; or why power on refuses it.
 type Standing = Result<(u64, i64, u64, Option<(bool, bool)>, Option<i64>), Fault>;
 
 const NOTHING_DONE: Standing = Ok((0, 0, 0, None, None));
 
 const COMMITTED: Standing = Ok((1, 5_000_000, 0, None, None));
 
-/// The length of slot 1; none where a table has no slots.
+/// The length of slot 1. `None` if a table has no slots.
 fn first_tool(tools: &Tools) -> Option<i64> {
     if tools.slots() == 0 {
         None
@@ -374,16 +374,16 @@ fn standing<A: Allocator + Copy + Drop, R: Rig + Drop>(alloc: A, rig: R) -> Stan
     }
 }
 
-/// What a sector holds after a deed.
+/// What a sector holds after an operation.
 #[derive(Clone, Copy)]
 enum Holds {
     /// The modes of a fresh state.
     Fresh,
     /// The second of two parts of the first record of epoch 2, which has one change: parameter 1 is 5.
     Five,
-    /// The one part of the first record of epoch 2, by which slot 1 is 5,000 nm long.
+    /// The only part of the first record of epoch 2, which sets the length of slot 1 to 5,000 nm.
     Tool,
-    /// The one part of the first record of epoch 2: a fresh state with the block `G0X5` open.
+    /// The only part of the first record of epoch 2: a fresh state with the block `G0X5` open.
     Open,
     Text,
 }
@@ -415,8 +415,8 @@ fn content(holds: Holds) -> [u8; 512] {
     }
 }
 
-/// How many writes and syncs power on makes and then each deed, the header that is then in force, and what a sector
-/// holds.
+/// An operation, how many writes and syncs power on and the operation make, the header in force after it, and what a
+/// sector holds.
 type Row = (Deed, u64, u64, (i64, i64, i64), usize, Holds);
 
 const DEEDS: &[Row] = &[
@@ -428,8 +428,8 @@ const DEEDS: &[Row] = &[
     (Deed::Load, 179, 6, (3, 1, 13), 430, Holds::Text),
 ];
 
-/// What a deed on a formatted device answers, whether the journal is broken then, how many writes and syncs there are
-/// from power on, and the device.
+/// What an operation on a formatted device returns, whether the journal is broken then, how many writes and syncs there
+/// are from power on, and the device.
 fn counted<A: Allocator + Copy + Drop>(
     alloc: A,
     deed: Deed,
@@ -441,8 +441,8 @@ fn counted<A: Allocator + Copy + Drop>(
     Ok(((done, is_broken, writes, syncs), rig))
 }
 
-/// What the deed of a row answers, whether the journal is broken then, the writes and syncs, and whether the row's
-/// header is in force and its sector holds what it says.
+/// What the operation of a row returns, whether the journal is broken then, the writes and syncs, and whether the row's
+/// header is in force and its sector holds what the row says.
 fn deed_of(
     alloc: Global,
     row: &Row,
@@ -492,10 +492,10 @@ fn a_header_is_written_and_read(rt: HostRuntime) {
     }
 }
 
-/// What a deed answers, whether the journal is broken then, and the failures.
+/// What an operation returns, whether the journal is broken then, and the failures.
 type Done = (Result<(), Fault>, bool, u64);
 
-/// Does it on a formatted device of which one call after so many fails with no effect.
+/// Does the operation on a formatted device of which one call after this many fails without effect.
 fn done_failing<A: Allocator + Copy + Drop>(
     alloc: A,
     deed: Deed,
@@ -506,7 +506,7 @@ fn done_failing<A: Allocator + Copy + Drop>(
     Ok(((done, is_broken, rig.failures()), rig))
 }
 
-/// The same, and what stands then.
+/// The same, and what the device stands for then.
 fn failing<A: Allocator + Copy + Drop>(
     alloc: A,
     deed: Deed,
@@ -516,8 +516,8 @@ fn failing<A: Allocator + Copy + Drop>(
     Ok((done, standing(alloc, rig.into_inner())))
 }
 
-/// The deeds that call the device, how many calls each makes, and what stands after it. Only the last sync can fail
-/// with the new state in place.
+/// The operations that call the device, how many calls each makes, and what the device stands for after it. Only the
+/// last sync can fail with the new state in place.
 const FAILED: &[(Deed, u64, Standing)] = &[
     (Deed::Commit, 3, COMMITTED),
     (Deed::Tool, 2, Ok((1, 0, 0, None, Some(5_000)))),
@@ -526,8 +526,9 @@ const FAILED: &[(Deed, u64, Standing)] = &[
     (Deed::Load, 93, Ok((1, 0, 13, None, None))),
 ];
 
-/// The calls of power on (183) that fail, by how many there are before: the first sync, two headers, 86 sectors of a
-/// snapshot, two of a tool area and one of the log are read, then 88 are written; a sync, a header and a sync.
+/// The calls of power on (183) that fail, by how many come before. First a sync, two headers, 86 sectors of a snapshot,
+/// two of a tool area and one of the log are read; then 88 sectors are written, and there is a sync, a header and a
+/// sync.
 const CALLS_OF_POWER_ON: &[u64] = &[
     0, 1, 2, 3, 4, 88, 89, 90, 91, 92, 177, 178, 179, 180, 181, 182,
 ];
@@ -543,11 +544,12 @@ fn each_call_of_power_on_fails_once(rt: HostRuntime) -> Result<(), Fail> {
     Ok(())
 }
 
-/// The calls of a deed that fail, by how many of its own there are before.
+/// The calls of an operation that fail, by how many of its calls come before.
 const CALLS_OF_DEEDS: &[u64] = &[0, 1, 2, 43, 87, 88, 89, 90, 91, 92];
 
-/// The first of those calls of a deed, which makes so many and leaves what stands after them, whose failure isn't
-/// answered and counted once, doesn't break the journal or leaves something else; and what is found there.
+/// The first of those calls of an operation for which a failure goes wrong, and what is found then. The operation makes
+/// this many calls and leaves what is expected after them. A failure goes wrong if it isn't returned and counted once,
+/// doesn't break the journal or leaves something else.
 fn first_unlike_failure<A: Allocator + Copy + Drop>(
     alloc: A,
     (deed, calls, new): (Deed, u64, Standing),
@@ -582,7 +584,8 @@ fn a_deed_makes_so_many_calls(rt: HostRuntime) -> Result<(), Fail> {
     Ok(())
 }
 
-/// What stands after a stop after so many calls, with none of the unsynced writes kept and with all of them.
+/// What the device stands for after a stop after this many calls, with none of the unsynced writes kept and with all of
+/// them.
 fn cut<A: Allocator + Copy + Drop>(
     alloc: A,
     rig: &MemoryRig<A>,
@@ -593,7 +596,7 @@ fn cut<A: Allocator + Copy + Drop>(
     Ok([standing(alloc, none), standing(alloc, all)])
 }
 
-/// What stands after a cut after each call of an entry that changes a parameter: two writes and a sync.
+/// What the device stands for after a cut after each call of an entry that changes a parameter: two writes and a sync.
 #[test]
 fn a_cut_leaves_the_old_or_the_new(rt: HostRuntime) -> Result<(), Fail> {
     let (_, rig) = powered(rt.alloc(), formatted(rt.alloc())?);
@@ -614,9 +617,9 @@ fn a_cut_leaves_the_old_or_the_new(rt: HostRuntime) -> Result<(), Fail> {
 
 const USED_UP: Result<(), Fault> = Err(Fault::CountersUsed);
 
-/// The epoch in force before power on, a deed and its entry: what is answered, and how many calls there are. Where the
-/// epoch or the entry count is used up nothing is called, and the journal isn't broken. A record takes no epoch while
-/// the log has room.
+/// The epoch in force before power on, an operation and its entry; what it returns, and how many calls there are. If
+/// the epoch or the entry count is used up, the device isn't called, and the journal isn't broken. A record doesn't use
+/// an epoch while the log has room.
 const LIMITS: &[(i64, Deed, u64, Result<(), Fault>, usize)] = &[
     (999_999_999_997, Deed::Commit, 1_000_000_000_000, Ok(()), 3),
     (999_999_999_997, Deed::Commit, 1_000_000_000_001, USED_UP, 0),
@@ -632,8 +635,8 @@ const LIMITS: &[(i64, Deed, u64, Result<(), Fault>, usize)] = &[
     (999_999_999_999, Deed::HandOut, 1, Ok(()), 1),
 ];
 
-/// What a deed with an entry of this number answers where this epoch is in force, whether the journal is broken then,
-/// and how many calls the deed makes.
+/// What an operation whose entry has this number returns if this epoch is in force, whether the journal is broken then,
+/// and how many calls the operation makes.
 fn limited<A: Allocator + Copy + Drop>(
     alloc: A,
     epoch: i64,
@@ -662,11 +665,10 @@ fn deeds_past_a_limit(rt: HostRuntime) -> Result<(), Fail> {
     Ok(())
 }
 
-/// A line as it is read: how many bytes there are, the last of them (0 where there is none), and where the next line
-/// begins.
+/// A line as it is read: how many bytes it has, the last of them (0 if there is none), and where the next line begins.
 type Read = Result<Option<(usize, u8, u64)>, Fault>;
 
-/// So many bytes `x` of one line as a program: how many of them are read, the last of them, and where the next line
+/// A number of bytes `x` in one line as a program: how many of them are read, the last of them, and where the next line
 /// begins. More than 131,072 are refused.
 const LENGTHS: &[(usize, Read)] = &[
     (0, Ok(None)),
@@ -674,7 +676,7 @@ const LENGTHS: &[(usize, Read)] = &[
     (131_073, Err(Fault::ProgramTooLong)),
 ];
 
-/// Loads so many bytes `x` and reads the line at its beginning.
+/// Loads this many bytes `x` and reads the first line.
 fn line_of_length(alloc: Global, length: usize) -> Result<Read, Fail> {
     let mut text = Vec::new(alloc);
     text.resize(length, b'x')?;
@@ -740,7 +742,7 @@ const ENDS: &[(usize, u8)] = &[
     (1_099, b'\r'),
 ];
 
-/// A program whose bytes are all `x` but for these ends.
+/// A program whose bytes are all `x` except for these ends.
 fn program() -> [u8; 1_100] {
     let mut text = [b'x'; 1_100];
     for (place, end) in ENDS {
@@ -751,7 +753,7 @@ fn program() -> [u8; 1_100] {
     text
 }
 
-/// Its lines, by the places at which they begin: how many bytes there are, the last of them, and where the next one
+/// Its lines, by the places at which they begin: how many bytes they have, the last of them, and where the next line
 /// begins.
 const LINES: &[(u64, Option<(usize, u8, u64)>)] = &[
     (0, Some((9, b'x', 10))),
@@ -768,7 +770,7 @@ const LINES: &[(u64, Option<(usize, u8, u64)>)] = &[
     (1_000, Some((23, b'x', 1_025))),
     (1_023, Some((0, 0, 1_025))),
     (1_024, Some((0, 0, 1_025))),
-    // a carriage return at the program's end belongs to the line
+    // a carriage return at the program's end is part of the line
     (1_025, Some((75, b'\r', 1_100))),
     (1_100, None),
 ];

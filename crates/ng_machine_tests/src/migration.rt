@@ -1,4 +1,4 @@
-//! Power on over a device of format 1: it writes what stands once more in format 1, then in format 2 with the tools of
+//! Power on over a device of format 1. It writes the state once more in format 1, then in format 2 with the tools of
 //! the settings.
 use crate::images::{FRESH, put, sector_of, sector_with, store};
 use crate::journal::counting::Counting;
@@ -13,7 +13,7 @@ use ng_rig::{FailRig, MemoryRig, Rig};
 use std::alloc::Global;
 use std::test::Fail;
 
-/// A table of so many slots, of which slot n is n times as long as the first.
+/// A table with this many slots; slot n is n times as long as the first.
 fn table(slots: u8, first_nm: i64) -> Tools {
     let mut tools = Tools::new();
     let mut nm = first_nm;
@@ -41,7 +41,7 @@ fn parameter_sectors() -> [[u8; 512]; 2] {
     ]
 }
 
-/// The first sector of a snapshot with one entry and so many slots.
+/// The first sector of a snapshot with one entry and this many slots.
 fn one_entry(slots: i64) -> [u8; 512] {
     let mut sector = sector_with(&FRESH);
     put(&mut sector, 0, 8, 1);
@@ -49,8 +49,8 @@ fn one_entry(slots: i64) -> [u8; 512] {
     sector
 }
 
-/// Makes a device of format 1 and epoch 2 with one entry in its log, by which parameter 1 became 5. Bytes of its
-/// snapshot and its record that format 1 doesn't name are these.
+/// Writes a device of format 1 and epoch 2 with one entry in its log, which set parameter 1 to 5. The bytes of its
+/// snapshot and its record that format 1 doesn't name have this value.
 fn lay_old<R: Rig>(rig: &mut R, unnamed: i64) -> bool {
     let [_, first_system] = parameter_sectors();
     let mut state = sector_with(&FRESH);
@@ -79,7 +79,7 @@ fn lengths(first: i64, last: i64, first_nm: i64) -> [u8; 512] {
     sector
 }
 
-/// Writes over it what power on writes with a table of so many slots, of which slot n is n times as long as the first:
+/// Writes over it what power on writes with a table of this many slots, where slot n is n times as long as the first:
 /// epoch 3 in format 1, and epoch 4 in format 2.
 fn lay_migrated<R: Rig>(rig: &mut R, slots: i64, first_nm: i64) -> bool {
     let [five, first_system] = parameter_sectors();
@@ -98,7 +98,7 @@ fn lay_migrated<R: Rig>(rig: &mut R, slots: i64, first_nm: i64) -> bool {
     lay(rig, &sectors)
 }
 
-/// Writes over that what the next power on writes, where the table has one slot of 50,000,000 nm: epoch 5.
+/// Writes over that what the next power on writes if the table has one slot of 50,000,000 nm: epoch 5.
 fn lay_next<R: Rig>(rig: &mut R) -> bool {
     let [five, first_system] = parameter_sectors();
     let sectors = [
@@ -111,7 +111,7 @@ fn lay_next<R: Rig>(rig: &mut R) -> bool {
     lay(rig, &sectors)
 }
 
-/// The first sector of 1,710 that differs.
+/// The first of 1,710 sectors that differs.
 fn first_unlike(rig: &mut MemoryRig<Global>, wanted: &mut MemoryRig<Global>) -> Option<usize> {
     for sector in 0..1_710 {
         if sector_of(rig, sector) != sector_of(wanted, sector) {
@@ -121,10 +121,11 @@ fn first_unlike(rig: &mut MemoryRig<Global>, wanted: &mut MemoryRig<Global>) -> 
     None
 }
 
-/// The entries that power on finds, a parameter, and the length of slot 1, none where there are no slots.
+/// The entries that power on finds, a parameter, and the length of slot 1, `None` if there are no slots.
 type Standing = (u64, i64, Option<i64>);
 
-/// Powers on with these tools in the settings: what stands then, or why it is refused, and the device.
+/// Powers on with these tools in the settings. Returns what the device stands for then, or why it is refused, and the
+/// device.
 fn stands<R: Rig + Drop>(
     alloc: Global,
     rig: R,
@@ -156,7 +157,8 @@ fn old(alloc: Global, unnamed: i64) -> Result<MemoryRig<Global>, Fail> {
     }
 }
 
-/// What stands after a power on, its writes and syncs, and the first sector that is then unlike one made by hand.
+/// What the device stands for after a power on, its writes and syncs, and the first sector that differs from one made
+/// by hand.
 type Powered = (Result<Standing, Fault>, [u64; 2], Option<usize>);
 
 /// Powers on with these tools.
@@ -172,8 +174,8 @@ fn powered(
     (standing, [writes, syncs], unlike)
 }
 
-/// The settings' number of slots, the length of the first, what stands in bytes that format 1 doesn't name, and the
-/// length of slot 1 then.
+/// The settings' number of slots, the length of the first, the value of the bytes that format 1 doesn't name, and the
+/// length of slot 1 after power on.
 const MIGRATIONS: &[(u8, i64, i64, Option<i64>)] = &[
     (1, 50_000_000, 0, Some(50_000_000)),
     (1, 50_000_000, -1, Some(50_000_000)),
@@ -204,7 +206,7 @@ fn a_device_of_format_1_is_migrated(rt: HostRuntime) -> Result<(), Fail> {
     Ok(())
 }
 
-/// The power on after it, with so many tools in the settings.
+/// The power on after it, with this many tools in the settings.
 fn powered_again(alloc: Global, slots: u8) -> Result<Powered, Fail> {
     let mut rig = old(alloc, 0)?;
     let mut wanted = old(alloc, 0)?;
@@ -219,7 +221,7 @@ fn powered_again(alloc: Global, slots: u8) -> Result<Powered, Fail> {
     }
 }
 
-/// The settings' tools aren't looked at.
+/// The settings' tools are ignored.
 #[test]
 fn a_migrated_device_keeps_its_tools(rt: HostRuntime) -> Result<(), Fail> {
     for slots in [0, 1, 2] {
@@ -229,8 +231,8 @@ fn a_migrated_device_keeps_its_tools(rt: HostRuntime) -> Result<(), Fail> {
     Ok(())
 }
 
-/// A device of format 1 and epoch 1 whose log is full: 1,022 records of one part and one of two, which ends in sector
-/// 1709. It has no calls.
+/// A device of format 1 and epoch 1 whose log is full: 1,022 records of one part and one of two, ending in sector 1709.
+/// It has no calls.
 fn full(alloc: Global) -> Result<MemoryRig<Global>, Fail> {
     let mut rig = MemoryRig::new(alloc, 1_710)?;
     if store(&mut rig, 1, &header_of(1, 1, 0, 0))
@@ -254,12 +256,12 @@ fn full_migrated(alloc: Global) -> Result<MemoryRig<Global>, Fail> {
     }
 }
 
-/// Which unsynced writes a stop keeps, by how many of each sector: none, or all; and how many calls a stop is after at
-/// least where the header of format 2 is there. It is written by the call before the last.
+/// Which unsynced writes a stop keeps, by how many of each sector: none, or all; and after how many calls at least the
+/// header of format 2 is there. It is written by the last call but one.
 const KEPT: &[(&[usize], usize)] = &[(&[], 181), (&[1; 1_710], 180)];
 
 /// The first stop of the migration that stands for anything else. A power on after a stop has a tool of 8 nm in the
-/// settings: that is the table's until the header of format 2 is there.
+/// settings; the table has that tool until the header of format 2 is there.
 fn first_bad_stop(alloc: Global, keep: &[usize], first: usize) -> Result<Option<usize>, Fail> {
     let rig = full_migrated(alloc)?;
     for calls in 0..182 {
@@ -289,8 +291,8 @@ fn calls_of_migration(alloc: Global) -> Result<u64, Fail> {
     Ok(reads.saturating_add(writes).saturating_add(syncs))
 }
 
-/// What a migration answers of which one call after so many fails, how many failures there are, and what stands at the
-/// next power on, which has a tool of 8 nm in the settings in place of one of 7.
+/// What a migration returns if one call after this many fails, how many failures there are, and what the next power on
+/// finds. That has a tool of 8 nm in the settings in place of one of 7.
 fn failing(
     alloc: Global,
     calls: u64,
@@ -302,7 +304,7 @@ fn failing(
     Ok((answer, failures, again))
 }
 
-/// Only where the last sync fails is the header of format 2 there.
+/// The header of format 2 is there only if the last sync fails.
 #[test]
 fn each_call_of_a_migration_fails_once(rt: HostRuntime) -> Result<(), Fail> {
     let calls = calls_of_migration(rt.alloc())?;

@@ -3,7 +3,7 @@ use ng_num::{Num, print_number, print_whole};
 use std::alloc::Global;
 use std::test::Fail;
 
-/// No text of a program has a whole number as great as this.
+/// No program prints a whole number as great as this.
 #[test]
 fn the_greatest_whole_number_prints(rt: HostRuntime) -> Result<(), Fail> {
     let mut text = Vec::new(rt.alloc());
@@ -12,8 +12,7 @@ fn the_greatest_whole_number_prints(rt: HostRuntime) -> Result<(), Fail> {
     Ok(())
 }
 
-/// Prints the least number over a heap of a size until a growth is refused, at most nine times; answers the
-/// text that then stands.
+/// Prints the least number over a heap with this size until a growth is refused, at most nine times. Returns the text.
 fn printed(alloc: Global, size: usize) -> Result<Vec<u8>, Fail> {
     let heap = LocalHeap::new(alloc, size)?;
     let mut text = Vec::new(&heap);

@@ -13,12 +13,12 @@ pub const POWER_ON: usize = 92;
 /// How many it makes over a device of format 1.
 pub const MIGRATION: usize = 181;
 
-/// What a stop may leave.
+/// The states that a stop may leave.
 #[derive(Drop)]
 pub struct Choice {
-    /// What stood before the event under way.
+    /// The state before the event under way.
     before: Standing,
-    /// What stands after it.
+    /// The state after it.
     after: Standing,
 }
 
@@ -51,12 +51,12 @@ impl Choice {
         Ok(())
     }
 
-    /// What stands after the event.
+    /// The state after the event.
     pub fn after(&self) -> &Standing {
         &self.after
     }
 
-    /// The one that was found; once the event is over it can be the latter alone.
+    /// Which of the two was found; once the event is over only the latter is allowed.
     pub fn found(&self, found: &Found, is_over: bool) -> Result<Option<&Standing>, AllocError> {
         if self.after.is_found(found)? {
             return Ok(Some(&self.after));
@@ -73,13 +73,13 @@ impl Choice {
 pub enum Depth {
     /// A stop with all unsynced sectors lost, and one with all kept.
     Whole,
-    /// Besides, one with each alone kept, and one with each alone lost.
+    /// In addition, one with only each sector kept, and one with only each sector lost.
     Alone,
-    /// Besides, stops of the power on after them.
+    /// In addition, stops of the power on after them.
     Deep,
 }
 
-/// The stops that are tried, by the calls that they come after.
+/// The stops that are tried, by how many calls come before.
 #[derive(Clone, Copy, Drop)]
 pub struct Cuts {
     pub first: usize,
@@ -98,8 +98,8 @@ impl Cuts {
     }
 }
 
-/// The stop after which something else stands: after how many calls, and what it keeps; and the same of a stop in the
-/// power on after that, if it is that one.
+/// The stop after which the device stands for something else: after how many calls, and what it keeps; and, if it is a
+/// stop in the power on after that, how many calls come before that one.
 pub type Astray = Option<(usize, Kept, Option<usize>)>;
 
 /// A device with its calls, and the stops that are tried.
@@ -111,11 +111,12 @@ pub struct Played {
 }
 
 impl Played {
-    /// The first stop after so many calls, with which an event is over or not, that leaves something else: with all
-    /// unsynced sectors lost, with all kept, with each alone kept, with each alone lost.
+    /// The first stop after this many calls, with which an event is over or not, that leaves something else: with all
+    /// unsynced sectors lost, with all kept, with only each one kept, with only each one lost.
     ///
-    /// Power on is stopped too where the image is new. Where all are lost, it is that of an earlier stop with all kept;
-    /// where all are kept and the last call is no write, it is that of the stop before that call.
+    /// Power on is stopped too if the image is new. It isn't new if all are lost, since an earlier stop with all kept
+    /// leaves the same; nor if all are kept and the last call isn't a write, since the stop before that call leaves the
+    /// same.
     fn first_astray_after(
         &self,
         alloc: Global,
@@ -137,8 +138,8 @@ impl Played {
         self.first_astray_alone(alloc, calls, choice, is_over)
     }
 
-    /// The first stop after so many calls that keeps one unsynced sector alone, or loses it alone, and leaves something
-    /// else.
+    /// The first stop after this many calls that keeps only one unsynced sector, or loses only one, and leaves
+    /// something else.
     fn first_astray_alone(
         &self,
         alloc: Global,
@@ -158,7 +159,7 @@ impl Played {
         Ok(None)
     }
 
-    /// This stop, if it leaves something else; if not, and power on is to be stopped too, the first stop there that
+    /// This stop, if it leaves something else. If not, and if power on is to be stopped too, the first stop there that
     /// leaves something else.
     fn astray(
         &self,
@@ -181,11 +182,10 @@ impl Played {
     }
 }
 
-/// The first stop in power on, which made these calls of this device, that leaves something else: after so many calls,
-/// with all kept.
+/// The first stop in power on, which made these calls of this device, that leaves something else: after this many
+/// calls, with all kept.
 ///
-/// A new image comes with each write alone: where all unsynced sectors are lost, it is that of an earlier stop with all
-/// kept.
+/// Only writes make a new image: if all unsynced sectors are lost, an earlier stop with all kept leaves the same.
 fn first_astray_in_power_on(
     alloc: Global,
     rig: &Device,
@@ -202,8 +202,8 @@ fn first_astray_in_power_on(
     Ok(None)
 }
 
-/// The first stop that leaves something else, of those that are tried after `first` to `over` calls, with the last of
-/// which the event is over.
+/// The first stop that leaves something else, out of those that are tried after `first` to `over` calls. The event is
+/// over with the last of these calls.
 pub fn first_astray_between(
     alloc: Global,
     played: &Played,
@@ -220,8 +220,8 @@ pub fn first_astray_between(
     Ok(None)
 }
 
-/// The first stop that leaves something else, where power on and these events come over a device that stands for what
-/// is wanted.
+/// The first stop that leaves something else during power on and these events, over a device that stands for what is
+/// expected.
 pub fn first_astray(
     alloc: Global,
     rig: Device,
@@ -251,14 +251,14 @@ pub fn first_astray_in_migration(
     first_astray_from(alloc, rig, power, rows, cuts)
 }
 
-/// A power on: what a stop in it may leave, and how many calls it makes.
+/// A power on: which states a stop in it may leave, and how many calls it makes.
 #[derive(Drop)]
 struct PowerOn {
     choice: Choice,
     calls: usize,
 }
 
-/// The first stop that leaves something else, where this power on and these events come over a device.
+/// The first stop that leaves something else during this power on and these events, over a device.
 fn first_astray_from(
     alloc: Global,
     rig: Device,

@@ -1,4 +1,4 @@
-//! A log that is full is left after a checkpoint.
+//! A full log is continued after a checkpoint.
 use crate::devices::formatted;
 use crate::scripts::filling_the_log;
 use crate::standing::Standing;
@@ -7,11 +7,11 @@ use ng_num::Fault;
 use std::alloc::Global;
 use std::test::Fail;
 
-/// How many calls come before the last entry: power on, the first entry, 509 moves, and what comes before the entry of
-/// the last.
+/// How many calls come before the last entry: power on, the first entry, 509 moves, and those of the last move before
+/// its entry.
 const BEFORE: usize = 92 + 2 + 509 * 5 + 3;
 
-/// The first stop in the last entry that leaves something else, of those after so many of its calls.
+/// The first stop in the last entry that leaves something else, out of those after this many of its calls.
 fn first_astray_at_the_end(alloc: Global, first: usize, last: usize) -> Result<Astray, Fault> {
     let rows = filling_the_log(alloc)?;
     let cuts = Cuts::deep(BEFORE.saturating_add(first), BEFORE.saturating_add(last));

@@ -24,7 +24,7 @@ fn loaded(alloc: Global) -> Result<(Device, Standing), Fault> {
     left_by(alloc, formatted(alloc)?, Standing::fresh(alloc)?, BEFORE)
 }
 
-/// How many calls, reads too, come before the last call of power on and these events.
+/// How many calls, reads included, come before the last call of power on and these events.
 fn calls_before_the_last(alloc: Global, rows: &[Row]) -> Result<u64, Fault> {
     let (rig, wanted) = loaded(alloc)?;
     let (rig, notes) = played(alloc, rig, rows, wanted.entries())?;
@@ -35,7 +35,7 @@ fn calls_before_the_last(alloc: Global, rows: &[Row]) -> Result<u64, Fault> {
     )
 }
 
-/// A device of which the last sync of power on fails, its header's.
+/// A device on which the last sync of power on fails, which is that of its header.
 fn failed_in_power_on(alloc: Global) -> Result<Recorder<Device>, Fault> {
     let (rig, _) = loaded(alloc)?;
     let calls = calls_before_the_last(alloc, &[])?;
@@ -50,7 +50,7 @@ fn failed_in_power_on(alloc: Global) -> Result<Recorder<Device>, Fault> {
     }
 }
 
-/// A device of which the last sync of a load fails, its header's.
+/// A device on which the last sync of a load fails, which is that of its header.
 fn failed_in_load(alloc: Global) -> Result<Recorder<Device>, Fault> {
     let (rig, _) = loaded(alloc)?;
     let calls = calls_before_the_last(alloc, LOADS)?;
@@ -64,7 +64,7 @@ fn failed_in_load(alloc: Global) -> Result<Recorder<Device>, Fault> {
     }
 }
 
-/// The device is powered on again, with no cut before it.
+/// The device is powered on again, without a cut before that.
 fn powered_again(alloc: Global, rig: Recorder<Device>) -> Result<Played, Fault> {
     let controller = started(alloc, rig)?;
     let (rig, notes) = rig_of(controller).into_parts();
@@ -77,7 +77,7 @@ fn powered_again(alloc: Global, rig: Recorder<Device>) -> Result<Played, Fault> 
 }
 
 /// The first stop in that power on that leaves something else. Once its first sync is over, what was written before it
-/// stands.
+/// is durable.
 fn first_astray_again(
     alloc: Global,
     rig: Recorder<Device>,
@@ -93,7 +93,7 @@ fn first_astray_again(
     first_astray_between(alloc, &played, synced, played.cuts.last, choice)
 }
 
-/// That after a load.
+/// The same after a load.
 fn first_astray_after_load(alloc: Global) -> Result<Astray, Fault> {
     let (_, wanted) = loaded(alloc)?;
     let mut choice = Choice::one(wanted)?;
@@ -101,7 +101,7 @@ fn first_astray_after_load(alloc: Global) -> Result<Astray, Fault> {
     first_astray_again(alloc, failed_in_load(alloc)?, &mut choice)
 }
 
-/// That after power on.
+/// The same after power on.
 fn first_astray_after_power_on(alloc: Global) -> Result<Astray, Fault> {
     let (_, wanted) = loaded(alloc)?;
     let mut choice = Choice::one(wanted)?;

@@ -1,4 +1,4 @@
-//! Power on over a device of format 1 makes it one of format 2.
+//! Power on over a device of format 1 converts it to format 2.
 //!
 //! The settings of the power on after a stop have no tools. So a stop leaves the device without tools until the header
 //! of format 2 is stored, and from then on with those of the settings under which it was written.
@@ -10,8 +10,8 @@ use ng_num::Fault;
 use std::alloc::Global;
 use std::test::Fail;
 
-/// What the first power on over a device of format 1 makes, and the one after it: writes, syncs, hand-outs and calls
-/// that weren't noted.
+/// How many calls the first power on over a device of format 1 makes, and the one after it: writes, syncs, hand-outs
+/// and calls that weren't recorded.
 fn counts(alloc: Global) -> Result<[[usize; 4]; 2], Fault> {
     let (rig, wanted) = of_format_1(alloc, 0)?;
     let (rig, first) = played(alloc, rig, &[], wanted.entries())?;
@@ -26,7 +26,7 @@ fn calls_of_a_migration_and_of_the_next_power_on(rt: HostRuntime) -> Result<(), 
     Ok(())
 }
 
-/// The first of these stops, in a migration or as a half-done line goes on after it, that leaves something else.
+/// The first of these stops that leaves something else, in a migration or while a half-done line is resumed after it.
 fn first_astray_of(alloc: Global, first: usize, last: usize) -> Result<Astray, Fault> {
     let (rig, wanted) = of_format_1(alloc, 0)?;
     let cuts = Cuts::deep(first, last);

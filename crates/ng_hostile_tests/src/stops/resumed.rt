@@ -1,4 +1,4 @@
-//! A block that was cut is told where the machine stands, and goes on.
+//! After a cut within a block the machine's position is entered, and the block is resumed.
 use crate::devices::formatted;
 use crate::rows::{BEGUN, Does, IDLE, MOVED, Order, Row};
 use crate::standing::Standing;
@@ -25,7 +25,7 @@ const CUT: &[Row] = &[
     (Order::Tick, Does::Opens(MOVES, Source::Mdi, 0), 2),
 ];
 
-/// The machine stands at X0.001: the approach is the switch and a pulse back, and then the move comes whole.
+/// The machine is at X0.001: the approach is the switch and a pulse back, and then the whole move is repeated.
 const GOES_ON: &[Row] = &[
     (Order::Reference(1_000), Does::Stands(1_000), 2),
     (Order::Resume, Does::Goes, 0),

@@ -8,7 +8,7 @@ use ng_num::Fault;
 use std::alloc::Global;
 use std::test::Fail;
 
-/// How many writes, syncs and hand-outs are made, power on included.
+/// How many writes, syncs and hand-outs there are, including power on.
 #[test]
 fn calls_of_a_session(rt: HostRuntime) -> Result<(), Fail> {
     let Ok(rig) = formatted(rt.alloc()) else {

@@ -1,4 +1,4 @@
-//! Tools' lengths are given, between lines of the operator and as a program has stopped.
+//! Tools' lengths are set, between lines of the operator and after a program has stopped.
 use crate::devices::formatted;
 use crate::rows::Row;
 use crate::scripts::{TOOLS, TOOLS_OF_A_PROGRAM};
@@ -8,14 +8,14 @@ use ng_num::Fault;
 use std::alloc::Global;
 use std::test::Fail;
 
-/// Sessions, and how many calls come before the first stop: power on; and after it two tools' lengths, one of them
-/// twice, and a load.
+/// Sessions, and how many calls come before the first stop: power on; and power on followed by two tools' lengths, one
+/// of them twice, and a load.
 const SESSIONS: &[(&[Row], usize)] = &[
     (TOOLS, POWER_ON),
     (TOOLS_OF_A_PROGRAM, POWER_ON + 3 * 2 + 93),
 ];
 
-/// The first stop in a session, after so many calls, that leaves something else.
+/// The first stop in a session, after this many calls, that leaves something else.
 fn first_astray_of(alloc: Global, rows: &[Row], first: usize) -> Result<Astray, Fault> {
     let cuts = Cuts::deep(first, usize::MAX);
     first_astray(

@@ -1,4 +1,4 @@
-//! The state field of a record: each number of it at its limits and past them, as in a snapshot.
+//! The state field of a record: each of its numbers at its limits and past them, as in a snapshot.
 use crate::images::{
     Answer, Base, CASES, Case, FRESH, header_and_area, powered, put, sector_of, sector_with,
     state_of, store, wanted, written,
@@ -8,7 +8,7 @@ use ng_rig::{MemoryRig, Rig};
 use std::alloc::{AllocError, Allocator};
 use std::test::Fail;
 
-/// Makes a device of epoch 1 of this kind with a fresh state in the snapshot, and one record of one part with this
+/// Writes a device of this kind under epoch 1, with a fresh state in the snapshot and one record of one part with this
 /// state.
 fn lay<R: Rig>(rig: &mut R, base: Base, state: &[u8; 512]) -> bool {
     let mut part = part_with((1, 0, 0, 1, 0), &[]);
@@ -20,8 +20,8 @@ fn lay<R: Rig>(rig: &mut R, base: Base, state: &[u8; 512]) -> bool {
         && rig.sync().is_ok()
 }
 
-/// Whether power on makes of a record with a number changed what a row says: its answer, its calls, and the whole state
-/// that it writes, unless other numbers of that don't last.
+/// Whether power on does with a changed record what a row says: its result, its calls, and the whole state that it
+/// writes, unless other numbers of the state aren't kept.
 fn answers<A: Allocator + Copy + Drop>(
     alloc: A,
     case: &Case,
@@ -45,7 +45,7 @@ fn answers<A: Allocator + Copy + Drop>(
     Ok(is_laid && fault == refusal && is_called && (fault.is_some() || found == want))
 }
 
-/// The first of a row's numbers of which power on makes something else.
+/// The first number of a row with which power on does something else.
 fn first_unlike<A: Allocator + Copy + Drop>(
     alloc: A,
     case: &Case,
@@ -58,7 +58,7 @@ fn first_unlike<A: Allocator + Copy + Drop>(
     Ok(None)
 }
 
-/// Whether a number has a place in a record too: one of a state, in the snapshot of epoch 1.
+/// Whether a number has a place in a record too: it is a number of a state, in the snapshot of epoch 1.
 fn is_in_record(sector: usize, byte: usize) -> bool {
     sector == 88 && byte < 456
 }

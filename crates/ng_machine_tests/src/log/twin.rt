@@ -1,4 +1,4 @@
-//! The journal beside a plain one, which writes a whole snapshot for each entry and each opened segment: what both
+//! The journal compared with a plain one that writes a whole snapshot for each entry and each opened segment: what both
 //! devices stand for.
 ghost use Rattle.std.specs.Prelude.{◌≡◌, ◌≤◌, IsSome, IsNone, IfSome};
 ghost use Rattle.std.proofs.Props.{props};
@@ -18,20 +18,20 @@ use std::test::Fail;
 /// What is stored next.
 #[derive(Clone, Copy)]
 enum Deed {
-    /// An entry: so many parameters from this one on become this value, the machine stands at X, the next line begins
+    /// An entry: this many parameters from this one on are set to this value, the machine is at X, the next line begins
     /// at this byte, and no block is half-done.
     Entry(i64, i64, i64, i64, u64),
-    /// An entry: this slot is so many nanometres long.
+    /// An entry: this slot has this length in nanometres.
     Tool(u8, i64),
-    /// The segment of this number is open.
+    /// The segment with this number is open.
     Segment(u64),
     /// The approach to it is open.
     Approach(u64),
-    /// An entry: a block is half-done before the segment of this number, and the machine stands at X.
+    /// An entry: a block is half-done before the segment with this number, and the machine is at X.
     HalfDone(u64, i64),
-    /// An entry by which the program becomes this.
+    /// An entry: this is the program.
     Load(&'static [u8; 13]),
-    /// Power is on anew.
+    /// Power comes on again.
     PowerOn,
 }
 
@@ -42,7 +42,7 @@ fn point_at(x: i64) -> Point {
     point
 }
 
-/// A line of the operator's that is half-done before this segment, or within it where something is open.
+/// A line of the operator that is half-done before this segment, or within it if something is open.
 fn half_of(index: u64, at: Option<Point>, opened: Option<Opened>) -> Half
     requires { IsSome opened → IsNone at }
     ensures waits { IsStorableHalf result }
@@ -57,7 +57,7 @@ fn half_of(index: u64, at: Option<Point>, opened: Option<Opened>) -> Half
     }
 }
 
-/// Makes an entry of what is stored.
+/// Makes an entry in what is stored.
 fn enter(stored: &mut Stored<Global>, entry: (i64, i64, i64, i64, u64), half: Option<Half>)
     requires storable { IsStorable stored.old }
     requires waits { IfSome half IsStorableHalf }
@@ -105,8 +105,8 @@ fn renew(rig: &mut MemoryRig<Global>, header: Header, stored: &Stored<Global>) -
     is_written && rig.sync().is_ok() && store(rig, sector, &header.write()) && rig.sync().is_ok()
 }
 
-/// Where a load writes that comes while this area is in force, on a device of so many sectors: the area, and its first
-/// sector.
+/// The area, with its first sector, that a load writes to while this area is in force, on a device with this many
+/// sectors.
 fn next_area(sectors: usize, area: u64) -> (u64, usize) {
     let is_large = sectors >= 5_806;
     if is_large && area == 2 {
@@ -121,7 +121,7 @@ fn next_area(sectors: usize, area: u64) -> (u64, usize) {
 }
 
 impl Plain {
-    /// Over a device of so many sectors and of this format that is fresh.
+    /// A plain journal over a fresh device with this many sectors and of this format.
     fn on(alloc: Global, sectors: usize, format: Format) -> Result<Plain, Fail> {
         let mut rig = device(alloc, sectors, true)?;
         let is_laid = format == Format::Two
@@ -152,7 +152,7 @@ impl Plain {
         renew(&mut self.rig, self.header, &self.stored)
     }
 
-    /// Writes a text of one sector to the other program area, and then what is stored with it.
+    /// Writes a text of one sector to the other program area, and then what is stored with that program.
     fn load(&mut self, text: &[u8; 13]) -> bool {
         self.stored.place = 0;
         self.stored.length = 13;
@@ -253,7 +253,7 @@ const TURN: &[u8; 13] = b"M3\nG1 X1\nM2\n\n";
 
 const MOVE: &[u8; 13] = b"G0 X0.002\nM2\n";
 
-/// The script. Records of 1, 2, 3, 8 and 114 parts; ten of the last kind, of which the log has room for eight.
+/// The operations. There are records of 1, 2, 3, 8 and 114 parts; the log has room for eight of the ten with 114.
 const DEEDS: &[Deed] = &[
     Deed::Entry(1, 0, 0, 1_000, 0),
     Deed::Entry(1, 1, 5_000_000, 0, 0),
@@ -295,7 +295,7 @@ const DEEDS: &[Deed] = &[
     Deed::Load(TURN),
 ];
 
-/// The device of so many sectors that the journal leaves after these deeds.
+/// The device with this many sectors that the journal leaves after these operations.
 fn logged(alloc: Global, sectors: usize, deeds: &[Deed]) -> Result<MemoryRig<Global>, Fail> {
     let mut mill = Mill::on(alloc, device(alloc, sectors, true)?)?;
     for deed in deeds {
@@ -304,7 +304,7 @@ fn logged(alloc: Global, sectors: usize, deeds: &[Deed]) -> Result<MemoryRig<Glo
     Ok(mill.off())
 }
 
-/// The device of so many sectors and of this format that the plain journal leaves, and what is stored on it, with
+/// The device with this many sectors and of this format that the plain journal leaves, and what is stored on it, with
 /// nothing open. In format 1 no slot is stored.
 fn snapshotted(
     alloc: Global,
@@ -328,11 +328,11 @@ fn snapshotted(
     Ok((rig, stored))
 }
 
-/// What a device stands for that power left with nothing unsynced, and the program's line at its place and at the
+/// What a device stands for after power was lost with nothing unsynced, and the program's line at its place and at the
 /// beginning.
 type Found = (Stored<Global>, [Option<ProgramLine>; 2]);
 
-/// What it stands for beside these tools in the settings.
+/// What it stands for, given these tools in the settings.
 fn found(alloc: Global, rig: &MemoryRig<Global>, tools: &Tools) -> Result<Found, Fault> {
     let (stored, next) = line_at(alloc, rig, tools, false)?;
     let (_, first) = line_at(alloc, rig, tools, true)?;
@@ -397,8 +397,8 @@ fn are_lines_alike(one: &Option<ProgramLine>, other: &Option<ProgramLine>) -> bo
     }
 }
 
-/// Whether both journals stand for what is stored, and for the same lines of the program, after these deeds on devices
-/// of so many sectors.
+/// Whether both journals stand for what is stored, and for the same lines of the program, after these operations on
+/// devices with this many sectors.
 fn stand_for_the_same(alloc: Global, sectors: usize, deeds: &[Deed]) -> Result<bool, Fail> {
     let (rig, stored) = snapshotted(alloc, sectors, Format::Two, deeds)?;
     let (wanted, wanted_lines) = found(alloc, &rig, &Tools::new())?;
@@ -412,7 +412,7 @@ fn stand_for_the_same(alloc: Global, sectors: usize, deeds: &[Deed]) -> Result<b
     )
 }
 
-/// The first number of deeds after which they don't.
+/// The first number of operations after which they don't.
 fn first_unlike(alloc: Global, sectors: usize) -> Result<Option<usize>, Fail> {
     for n in 0..=DEEDS.len() {
         let deeds = DEEDS.get(..n).unwrap_or_default();
@@ -432,7 +432,7 @@ fn a_journal_of_snapshots_stands_for_the_same(rt: HostRuntime) -> Result<(), Fai
 }
 
 /// Whether a plain journal of format 1 stands for what is stored, with the settings' tools in place of its own, after
-/// these deeds.
+/// these operations.
 fn stands_beside_tools(alloc: Global, deeds: &[Deed]) -> Result<bool, Fail> {
     let mut tools = Tools::new();
     set_slot(&mut tools, 1, 50_000_000);

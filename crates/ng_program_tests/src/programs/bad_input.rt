@@ -1,4 +1,4 @@
-//! Lines that nobody would write: each is answered by a fault, or read, at once.
+//! Lines that nobody would write. Each is refused or read, at once.
 use super::{dry_text, executed};
 use ng_dry::Ended;
 use ng_num::Fault;
@@ -6,14 +6,14 @@ use ng_state::State;
 use std::alloc::Global;
 use std::test::Fail;
 
-/// The next of a row of numbers that look as if by chance (Marsaglia's shift register).
+/// The next of a sequence of pseudo-random numbers (Marsaglia's xorshift).
 fn next_chance(chance: u64) -> u64 {
     let a = chance ^ (chance << 13);
     let b = a ^ (a >> 7);
     b ^ (b << 17)
 }
 
-/// Lines that hold much of the grammar.
+/// Lines with much of the grammar.
 const ROWS: &[&str] = &[
     "N12 G0 X[2.0/3*1.5-5.5/11.0] Y##2 (MSG, a) (b)",
     "G0 XFIX[-2.8] YFUP[-2.8] Z[-7MOD3]",
@@ -25,7 +25,7 @@ const ROWS: &[&str] = &[
     "%",
 ];
 
-/// How a program of one line ends: whether it is refused in its first or second line, with a last line that says so.
+/// How a program with one line ends: whether it is refused in its first or second line, with a last line that says so.
 fn is_refused(alloc: Global, line: &[u8]) -> bool {
     let (text, ended) = dry_text(alloc, line, false);
     match ended {
@@ -57,7 +57,7 @@ fn broken_lines_are_refused_by_name(rt: HostRuntime) -> Result<(), Fail> {
             *byte = (chance % 256) as u8;
         }
         let done = executed(&state, &line);
-        // by chance a line may be one comment
+        // a random line may be one comment
         assert!(rt;
             matches!(done, Err(Fault::Unreadable)) || line[0] == b'(',
             "line {i}"
