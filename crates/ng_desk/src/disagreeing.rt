@@ -83,7 +83,7 @@ fn closed<W: Wait>(rt: &W, alloc: Global, told: Reply) -> Result<(), Fault> {
 }
 
 #[test]
-fn a_list_that_tells_another_reply(rt: HostRuntime) -> Result<(), Fail> {
+fn a_list_with_another_reply(rt: HostRuntime) -> Result<(), Fail> {
     assert_eq!(rt; closed(&rt, rt.alloc(), Reply::Idle), Ok(()));
     assert_eq!(rt;
         closed(&rt, rt.alloc(), Reply::Held),

@@ -170,7 +170,7 @@ fn is_answered(role: Role, calls: &[Call<Global>]) -> bool {
 }
 
 /// The first caller that got other replies.
-fn first_astray<O: Ledger>(seats: &[Seat<Global, O>]) -> Option<Role> {
+fn first_mismatch<O: Ledger>(seats: &[Seat<Global, O>]) -> Option<Role> {
     for (index, seat) in seats.iter().enumerate() {
         let role = Role::of(index, seats.len());
         if !is_answered(role, seat.calls()) {
@@ -203,10 +203,10 @@ fn day<R: Rig + Drop + Send, O: Origin<R> + Send + Sync, W: Threads + Wait + Syn
         Err((fault, controller)) => return (controller, Err(fault)),
     };
     work_all(rt, &desk, seats.as_mut_slice(), load);
-    let astray = first_astray(seats.as_slice());
+    let mismatch = first_mismatch(seats.as_slice());
     let (controller, history, _, agreed) = desk.close(seats);
     match agreed {
-        Ok(()) => (controller, Ok((astray, history))),
+        Ok(()) => (controller, Ok((mismatch, history))),
         Err(fault) => (controller, Err(fault)),
     }
 }
@@ -245,8 +245,8 @@ fn day_at_a_fresh_desk<W: Threads + Wait + Sync>(
         rt, alloc, blank, controller, callers, &load,
     );
     drop(controller.into_rig());
-    let (astray, history) = came?;
-    Ok((astray, runs_alike(alloc, history)?))
+    let (mismatch, history) = came?;
+    Ok((mismatch, runs_alike(alloc, history)?))
 }
 
 /// How many days there are at most. If the system doesn't run a caller for long, another one may make all its calls
@@ -263,9 +263,9 @@ fn best_day<W: Threads + Wait + Sync>(
     requires { 1 ≤ callers }
 {
     for _day in 1..MOST_DAYS {
-        let (astray, is_alike) = day_at_a_fresh_desk(rt, alloc, callers)?;
-        if astray.is_none() || !is_alike {
-            return Ok((astray, is_alike));
+        let (mismatch, is_alike) = day_at_a_fresh_desk(rt, alloc, callers)?;
+        if mismatch.is_none() || !is_alike {
+            return Ok((mismatch, is_alike));
         }
     }
     day_at_a_fresh_desk(rt, alloc, callers)

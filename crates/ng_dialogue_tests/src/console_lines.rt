@@ -61,7 +61,7 @@ fn a_line_gives_a_tool_its_length(rt: HostRuntime) -> Result<(), Fail> {
 
 /// Without memory there is an error, and not a line that reads as another one.
 #[test]
-fn a_refusal_without_memory_is_not_told(rt: HostRuntime) -> Result<(), Fail> {
+fn a_refusal_without_memory_is_not_written(rt: HostRuntime) -> Result<(), Fail> {
     let heap = LocalHeap::new(rt.alloc(), 64)?;
     let mut lines = Vec::new(&heap);
     lines.extend_from_slice(&[b'x'; 16])?;

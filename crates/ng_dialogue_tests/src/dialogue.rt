@@ -127,7 +127,7 @@ const TEXTS: &[(&str, &str)] = &[
 ];
 
 /// The first size of reads, from 1 to 9 bytes, with which a text asks something else, and why it ended early then.
-fn first_astray(
+fn first_mismatch(
     alloc: Global,
     text: &str,
     asked: &str,
@@ -149,7 +149,7 @@ fn first_astray(
 #[test]
 fn a_text_asks_line_by_line(rt: HostRuntime) -> Result<(), Fail> {
     for (text, asked) in TEXTS {
-        assert_eq!(rt; first_astray(rt.alloc(), text, asked)?, None, "{text:?}");
+        assert_eq!(rt; first_mismatch(rt.alloc(), text, asked)?, None, "{text:?}");
     }
     Ok(())
 }
@@ -190,7 +190,7 @@ fn long_order(alloc: Global, length: usize) -> Result<Vec<u8>, AllocError> {
 }
 
 /// Whether such a line and a hold are read as they should be, and why the text ended early, if it did.
-fn long_line_heard(
+fn long_line_read(
     alloc: Global,
     (length, is_long, at_most): (usize, bool, usize),
 ) -> Result<(bool, Option<InputError>), AllocError> {
@@ -213,7 +213,7 @@ fn long_line_heard(
 #[test]
 fn a_line_that_is_too_long_is_one_refusal(rt: HostRuntime) -> Result<(), Fail> {
     for row in LENGTHS {
-        let found = long_line_heard(rt.alloc(), *row)?;
+        let found = long_line_read(rt.alloc(), *row)?;
         assert_eq!(rt; found, (true, None), "{} {}", row.0, row.2);
     }
     Ok(())
@@ -227,7 +227,7 @@ const FAILING: (&str, &str) = (
 
 /// That text, a byte at a read, if this many reads succeed: why it ended early, if it did, and whether everything that
 /// it asks is read, or a beginning if it ended early.
-fn heard_after(alloc: Global, reads_left: usize) -> Result<(Option<InputError>, bool), AllocError> {
+fn read_after(alloc: Global, reads_left: usize) -> Result<(Option<InputError>, bool), AllocError> {
     let (text, asked) = FAILING;
     let mut reader = Drip {
         bytes: text.as_bytes(),
@@ -251,7 +251,7 @@ fn a_reader_that_fails_ends_the_dialogue(rt: HostRuntime) -> Result<(), Fail> {
         } else {
             None
         };
-        let found = heard_after(rt.alloc(), reads_left)?;
+        let found = read_after(rt.alloc(), reads_left)?;
         assert_eq!(rt; found, (wanted, true), "{reads_left}");
     }
     Ok(())
@@ -267,7 +267,7 @@ fn greedy_text(alloc: Global) -> Result<Vec<u8>, AllocError> {
 }
 
 #[test]
-fn a_program_without_memory_is_passed_over(rt: HostRuntime) -> Result<(), Fail> {
+fn a_program_without_memory_is_skipped(rt: HostRuntime) -> Result<(), Fail> {
     let text = greedy_text(rt.alloc())?;
     let heap = LocalHeap::new(rt.alloc(), 256)?;
     let mut reader = text.as_slice();
@@ -344,7 +344,7 @@ const ANSWERS: &str = "begun\ndone 7\nticks 12\nrefused K1 Busy\n";
 
 /// Writes them to a writer of which this many calls succeed: the result, whether everything is written, or a beginning
 /// if there is an error, and how many calls are left.
-fn told_after(
+fn written_after(
     alloc: Global,
     calls_left: usize,
     takes_none: bool,
@@ -374,8 +374,8 @@ fn an_answer_is_written_and_flushed_or_a_beginning_of_it(rt: HostRuntime) -> Res
             Ok(())
         };
         let found = [
-            told_after(rt.alloc(), calls_left, false),
-            told_after(rt.alloc(), calls_left, true),
+            written_after(rt.alloc(), calls_left, false),
+            written_after(rt.alloc(), calls_left, true),
         ];
         let wanted = (ended, true, calls_left.saturating_sub(calls));
         assert_eq!(rt; found, [wanted; 2], "{calls_left}");

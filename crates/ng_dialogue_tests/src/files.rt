@@ -327,7 +327,7 @@ fn a_hand_out_is_writes_and_a_flush_and_fails_with_each(rt: HostRuntime) -> Resu
 }
 
 #[test]
-fn a_device_without_memory_for_a_line_is_none(rt: HostRuntime) -> Result<(), Fail> {
+fn opening_a_device_fails_without_memory(rt: HostRuntime) -> Result<(), Fail> {
     let heap = LocalHeap::new(rt.alloc(), 16)?;
     assert!(rt; FileRig::over(&heap, disk_with(rt.alloc(), 0, 0)?, io::sink()).is_err());
     Ok(())
@@ -378,7 +378,7 @@ impl OpenFile for Unlasting {
 }
 
 #[test]
-fn a_sync_is_the_files_own(rt: HostRuntime) -> Result<(), Fail> {
+fn sync_reaches_the_file(rt: HostRuntime) -> Result<(), Fail> {
     let mut rig = FileRig::over(rt.alloc(), OpenedFile::of(Unlasting), io::sink())?;
     assert_eq!(rt; (rig.sync(), rig.failures()), (Err(Failed), 1));
     Ok(())

@@ -60,7 +60,7 @@ fn first_part(record: u64, parts: u64, changes: u64, entries: u64) -> [u8; 512] 
 
 /// A device with this many sectors under the header of epoch 2, with that of epoch 1 in the other header sector. It
 /// holds a fresh controller: of the parameters only 5220 isn't 0.
-fn headed(alloc: Global, sectors: usize) -> Result<Device, Fault> {
+fn device_with_headers(alloc: Global, sectors: usize) -> Result<Device, Fault> {
     let mut rig = MemoryRig::new(alloc, sectors)?;
     let mut state = [0; 512];
     put_state(&mut state, 0, 0);
@@ -109,7 +109,7 @@ pub fn of_format_1_with(
     sectors: usize,
     blanks: usize,
 ) -> Result<(Device, Standing), Fault> {
-    let mut rig = headed(alloc, sectors)?;
+    let mut rig = device_with_headers(alloc, sectors)?;
     let mut standing = Standing::fresh_on(alloc, sectors)?;
     let mut sector = 686usize;
     let mut record = 0u64;

@@ -135,7 +135,7 @@ pub fn begins_a_line(order: Order, does: Does) -> bool {
 }
 
 /// Whether an event resumes a half-done block.
-pub fn goes_on(order: Order, does: Does) -> bool {
+pub fn resumes(order: Order, does: Does) -> bool {
     matches!(order, Order::Resume) && matches!(does, Does::Goes)
 }
 

@@ -166,7 +166,7 @@ fn four_calls_each(alloc: Global) -> Result<([Four; 4], [usize; 2], u64), AllocE
 }
 
 #[test]
-fn the_three_devices_are_called_as_one(rt: HostRuntime) -> Result<(), Fail> {
+fn the_three_devices_behave_alike(rt: HostRuntime) -> Result<(), Fail> {
     let (found, calls, failures) = four_calls_each(rt.alloc())?;
     let good = ([true; 4], true, 1, 0);
     // the fuse has one call left, and before that the outer device fails one
@@ -204,7 +204,7 @@ fn eight_calls_of_a_fuse(alloc: Global, passed: u64) -> Result<(Eight, usize, u6
 }
 
 #[test]
-fn a_fuse_passes_so_many_calls(rt: HostRuntime) -> Result<(), Fail> {
+fn a_fuse_passes_a_number_of_calls(rt: HostRuntime) -> Result<(), Fail> {
     for (passed, succeed, fail, calls) in FUSES {
         let want = ([*succeed, [false; 4]], [*fail, fail.saturating_add(4)]);
         let found = eight_calls_of_a_fuse(rt.alloc(), *passed)?;
@@ -304,7 +304,7 @@ fn failures_of_all_devices_are_counted(rt: HostRuntime) {
 }
 
 /// Writes each sector and syncs, three times.
-fn fill_thrice<R: Rig>(rig: &mut R) -> bool {
+fn fill_three_times<R: Rig>(rig: &mut R) -> bool {
     fill(rig, 9)
         && rig.sync().is_ok()
         && fill(rig, 9)
@@ -314,9 +314,9 @@ fn fill_thrice<R: Rig>(rig: &mut R) -> bool {
 }
 
 #[test]
-fn as_many_sectors_as_a_full_journal(rt: HostRuntime) -> Result<(), Fail> {
+fn a_device_of_the_size_of_a_full_journal(rt: HostRuntime) -> Result<(), Fail> {
     let mut rig = MemoryRig::new(rt.alloc(), 5_806)?;
-    assert!(rt; fill_thrice(&mut rig));
+    assert!(rt; fill_three_times(&mut rig));
     assert_eq!(rt; (rig.calls(), rig.size()), (17_421, 5_806));
     for n in [0, 9_000, 17_420, 17_421] {
         assert_eq!(rt; rig.stopped(n, &[1; 5_806])?.size(), 5_806);

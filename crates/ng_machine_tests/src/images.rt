@@ -436,7 +436,7 @@ fn header_and_area(base: Base) -> ([u8; 512], usize) {
 }
 
 /// Writes the device of a row, with this number in the row's place.
-fn lay<R: Rig>(rig: &mut R, case: &Case, number: i64) -> bool {
+fn write_device<R: Rig>(rig: &mut R, case: &Case, number: i64) -> bool {
     let (header, area) = header_and_area(case.1);
     let sector = if area == 2 { 0 } else { 1 };
     let is_laid = store(rig, sector, &header) && store(rig, area, &state_of(case.1));
@@ -504,7 +504,7 @@ fn answers<A: Allocator + Copy + Drop>(
     number: i64,
 ) -> Result<bool, AllocError> {
     let mut rig = MemoryRig::new(alloc, 1_710)?;
-    let is_laid = lay(&mut rig, case, number);
+    let is_laid = write_device(&mut rig, case, number);
     let before = rig.calls();
     let (fault, mut rig) = powered(alloc, rig);
     let (refusal, again, calls) = wanted(case, number);
@@ -521,7 +521,7 @@ fn answers<A: Allocator + Copy + Drop>(
 }
 
 /// The first number of a row with which power on does something else.
-fn first_unlike<A: Allocator + Copy + Drop>(
+fn first_mismatch<A: Allocator + Copy + Drop>(
     alloc: A,
     case: &Case,
     numbers: &[i64],
@@ -537,7 +537,7 @@ fn first_unlike<A: Allocator + Copy + Drop>(
 #[test]
 fn each_field_at_its_limits_and_past_them(rt: HostRuntime) -> Result<(), Fail> {
     for case in CASES {
-        let unlike = first_unlike(rt.alloc(), case, case.5)?;
+        let unlike = first_mismatch(rt.alloc(), case, case.5)?;
         assert_eq!(rt; unlike, None, "{}", case.0);
     }
     Ok(())

@@ -39,7 +39,7 @@ pub fn header_of(format: i64, epoch: i64, area: i64, length: i64) -> [u8; 512] {
 }
 
 /// Writes what a device holds after a format: the fresh state as epoch 1, in area 1, no program and no slots.
-fn lay_formatted<R: Rig>(rig: &mut R) -> bool {
+fn write_formatted<R: Rig>(rig: &mut R) -> bool {
     let one = sector_with(&[(280, 8, 1_000_000)]);
     store(rig, 88, &sector_with(&FRESH))
         && store(rig, 170, &one)
@@ -73,7 +73,7 @@ pub fn device<A: Allocator + Copy + Drop>(
     is_laid: bool,
 ) -> Result<MemoryRig<A>, Fail> {
     let mut rig = MemoryRig::new(alloc, sectors)?;
-    if !is_laid || lay_formatted(&mut rig) {
+    if !is_laid || write_formatted(&mut rig) {
         Ok(rig)
     } else {
         Err(Fail::from("a device isn't laid"))
@@ -113,7 +113,7 @@ fn devices_that_power_on_refuses(rt: HostRuntime) -> Result<(), Fail> {
 }
 
 /// Writes the state of a fresh controller with this many entries to this area.
-pub fn lay_state<R: Rig>(rig: &mut R, first: usize, entries: i64) -> bool {
+pub fn write_state<R: Rig>(rig: &mut R, first: usize, entries: i64) -> bool {
     let mut state = sector_with(&FRESH);
     put(&mut state, 0, 8, entries);
     store(rig, first, &state)
@@ -129,7 +129,7 @@ fn two_headers<A: Allocator + Copy + Drop>(
     odd: Head,
 ) -> Result<MemoryRig<A>, Fail> {
     let mut rig = MemoryRig::new(alloc, 1_710)?;
-    let are_states = lay_state(&mut rig, 2, 7) && lay_state(&mut rig, 88, 8);
+    let are_states = write_state(&mut rig, 2, 7) && write_state(&mut rig, 88, 8);
     let is_even = even.1 == 0 || store(&mut rig, 0, &header_of(even.0, even.1, 0, 0));
     let is_odd = odd.1 == 0 || store(&mut rig, 1, &header_of(odd.0, odd.1, 0, 0));
     if are_states && is_even && is_odd {
@@ -213,7 +213,7 @@ fn the_header_of_the_greater_epoch_is_in_force(rt: HostRuntime) -> Result<(), Fa
 
 /// An operation on a journal after it was recovered.
 #[derive(Clone, Copy, Debug, PartialEq, Eq)]
-enum Deed {
+enum Operation {
     Nothing,
     /// An entry that sets parameter 1 to 5.
     Commit,
@@ -294,7 +294,7 @@ pub fn set_slot(tools: &mut Tools, slot: u8, nm: i64)
 fn make<A: Allocator + Copy + Drop, R: Rig>(
     journal: &mut Journal<R, A>,
     stored: &mut Stored<A>,
-    deed: Deed,
+    operation: Operation,
     entries: u64,
 ) -> Result<(), Fault>
     requires whole { journal.old.broken ≡ false }
@@ -302,20 +302,20 @@ fn make<A: Allocator + Copy + Drop, R: Rig>(
     requires same { stored.old ≡ journal.old.saved }
 {
     stored.entries = entries;
-    match deed {
-        Deed::Nothing => Ok(()),
-        Deed::Commit => {
+    match operation {
+        Operation::Nothing => Ok(()),
+        Operation::Commit => {
             let five = Num::of(5_000_000).unwrap_or_default();
             stored.state.params.set(Index::known(1), five);
             journal.commit(stored)
         }
-        Deed::Tool => {
+        Operation::Tool => {
             set_slot(&mut stored.tools, 1, 5_000);
             journal.commit(stored)
         }
-        Deed::Open => journal.open_segment(&open_half()),
-        Deed::HandOut => journal.hand_out(Item::Dwell { us: 7 }),
-        Deed::Load => {
+        Operation::Open => journal.open_segment(&open_half()),
+        Operation::HandOut => journal.hand_out(Item::Dwell { us: 7 }),
+        Operation::Load => {
             stored.place = 0;
             stored.length = 13;
             journal.load_program(PROGRAM, stored)
@@ -327,12 +327,12 @@ fn make<A: Allocator + Copy + Drop, R: Rig>(
 fn after<A: Allocator + Copy + Drop, R: Rig>(
     alloc: A,
     rig: R,
-    deed: Deed,
+    operation: Operation,
     entries: u64,
 ) -> (Result<(), Fault>, bool, R) {
     match recover(alloc, rig, &Tools::new()) {
         Ok((mut journal, mut stored)) => {
-            let done = make(&mut journal, &mut stored, deed, entries);
+            let done = make(&mut journal, &mut stored, operation, entries);
             (done, journal.broken(), journal.into_rig())
         }
         Err((fault, rig)) => (Err(fault), false, rig),
@@ -417,33 +417,33 @@ fn content(holds: Holds) -> [u8; 512] {
 
 /// An operation, how many writes and syncs power on and the operation make, the header in force after it, and what a
 /// sector holds.
-type Row = (Deed, u64, u64, (i64, i64, i64), usize, Holds);
+type Row = (Operation, u64, u64, (i64, i64, i64), usize, Holds);
 
-const DEEDS: &[Row] = &[
-    (Deed::Nothing, 89, 3, (2, 0, 0), 2, Holds::Fresh),
-    (Deed::Commit, 91, 4, (2, 0, 0), 687, Holds::Five),
-    (Deed::Tool, 90, 4, (2, 0, 0), 686, Holds::Tool),
-    (Deed::Open, 90, 4, (2, 0, 0), 686, Holds::Open),
-    (Deed::HandOut, 89, 3, (2, 0, 0), 2, Holds::Fresh),
-    (Deed::Load, 179, 6, (3, 1, 13), 430, Holds::Text),
+const OPERATIONS: &[Row] = &[
+    (Operation::Nothing, 89, 3, (2, 0, 0), 2, Holds::Fresh),
+    (Operation::Commit, 91, 4, (2, 0, 0), 687, Holds::Five),
+    (Operation::Tool, 90, 4, (2, 0, 0), 686, Holds::Tool),
+    (Operation::Open, 90, 4, (2, 0, 0), 686, Holds::Open),
+    (Operation::HandOut, 89, 3, (2, 0, 0), 2, Holds::Fresh),
+    (Operation::Load, 179, 6, (3, 1, 13), 430, Holds::Text),
 ];
 
 /// What an operation on a formatted device returns, whether the journal is broken then, how many writes and syncs there
 /// are from power on, and the device.
 fn counted<A: Allocator + Copy + Drop>(
     alloc: A,
-    deed: Deed,
+    operation: Operation,
 ) -> Result<((Result<(), Fault>, bool, u64, u64), MemoryRig<A>), Fail> {
     let mut rig = MemoryRig::new(alloc, 1_710)?;
     format(&mut rig)?;
-    let (done, is_broken, counting) = after(alloc, Counting::new(rig), deed, 1);
+    let (done, is_broken, counting) = after(alloc, Counting::new(rig), operation, 1);
     let ([_, writes, syncs], rig) = counting.counted();
     Ok(((done, is_broken, writes, syncs), rig))
 }
 
 /// What the operation of a row returns, whether the journal is broken then, the writes and syncs, and whether the row's
 /// header is in force and its sector holds what the row says.
-fn deed_of(
+fn operation_of(
     alloc: Global,
     row: &Row,
 ) -> Result<(Result<(), Fault>, bool, u64, u64, bool, bool), Fail> {
@@ -455,10 +455,10 @@ fn deed_of(
 }
 
 #[test]
-fn writes_and_syncs_of_each_deed(rt: HostRuntime) -> Result<(), Fail> {
-    for row in DEEDS {
+fn writes_and_syncs_of_each_operation(rt: HostRuntime) -> Result<(), Fail> {
+    for row in OPERATIONS {
         let wanted = (Ok(()), false, row.1, row.2, true, true);
-        assert_eq!(rt; deed_of(rt.alloc(), row)?, wanted, "{:?}", row.0);
+        assert_eq!(rt; operation_of(rt.alloc(), row)?, wanted, "{:?}", row.0);
     }
     Ok(())
 }
@@ -498,32 +498,36 @@ type Done = (Result<(), Fault>, bool, u64);
 /// Does the operation on a formatted device of which one call after this many fails without effect.
 fn done_failing<A: Allocator + Copy + Drop>(
     alloc: A,
-    deed: Deed,
+    operation: Operation,
     calls: u64,
 ) -> Result<(Done, FailRig<MemoryRig<A>>), Fail> {
     let rig = FailRig::new(formatted(alloc)?, calls);
-    let (done, is_broken, rig) = after(alloc, rig, deed, 1);
+    let (done, is_broken, rig) = after(alloc, rig, operation, 1);
     Ok(((done, is_broken, rig.failures()), rig))
 }
 
 /// The same, and what the device stands for then.
 fn failing<A: Allocator + Copy + Drop>(
     alloc: A,
-    deed: Deed,
+    operation: Operation,
     calls: u64,
 ) -> Result<(Done, Standing), Fail> {
-    let (done, rig) = done_failing(alloc, deed, calls)?;
+    let (done, rig) = done_failing(alloc, operation, calls)?;
     Ok((done, standing(alloc, rig.into_inner())))
 }
 
 /// The operations that call the device, how many calls each makes, and what the device stands for after it. Only the
 /// last sync can fail with the new state in place.
-const FAILED: &[(Deed, u64, Standing)] = &[
-    (Deed::Commit, 3, COMMITTED),
-    (Deed::Tool, 2, Ok((1, 0, 0, None, Some(5_000)))),
-    (Deed::Open, 2, Ok((0, 0, 0, Some((false, false)), None))),
-    (Deed::HandOut, 1, NOTHING_DONE),
-    (Deed::Load, 93, Ok((1, 0, 13, None, None))),
+const FAILED: &[(Operation, u64, Standing)] = &[
+    (Operation::Commit, 3, COMMITTED),
+    (Operation::Tool, 2, Ok((1, 0, 0, None, Some(5_000)))),
+    (
+        Operation::Open,
+        2,
+        Ok((0, 0, 0, Some((false, false)), None)),
+    ),
+    (Operation::HandOut, 1, NOTHING_DONE),
+    (Operation::Load, 93, Ok((1, 0, 13, None, None))),
 ];
 
 /// The calls of power on (183) that fail, by how many come before. First a sync, two headers, 86 sectors of a snapshot,
@@ -536,28 +540,32 @@ const CALLS_OF_POWER_ON: &[u64] = &[
 #[test]
 fn each_call_of_power_on_fails_once(rt: HostRuntime) -> Result<(), Fail> {
     let wanted = ((Err(Fault::DeviceFailed), false, 1), NOTHING_DONE);
-    for (deed, _, _) in FAILED {
+    for (operation, _, _) in FAILED {
         for k in CALLS_OF_POWER_ON {
-            assert_eq!(rt; failing(rt.alloc(), *deed, *k)?, wanted, "{deed:?} {k}");
+            assert_eq!(rt;
+                failing(rt.alloc(), *operation, *k)?,
+                wanted,
+                "{operation:?} {k}"
+            );
         }
     }
     Ok(())
 }
 
 /// The calls of an operation that fail, by how many of its calls come before.
-const CALLS_OF_DEEDS: &[u64] = &[0, 1, 2, 43, 87, 88, 89, 90, 91, 92];
+const CALLS_OF_OPERATIONS: &[u64] = &[0, 1, 2, 43, 87, 88, 89, 90, 91, 92];
 
 /// The first of those calls of an operation for which a failure goes wrong, and what is found then. The operation makes
 /// this many calls and leaves what is expected after them. A failure goes wrong if it isn't returned and counted once,
 /// doesn't break the journal or leaves something else.
-fn first_unlike_failure<A: Allocator + Copy + Drop>(
+fn first_wrong_failure<A: Allocator + Copy + Drop>(
     alloc: A,
-    (deed, calls, new): (Deed, u64, Standing),
+    (operation, calls, new): (Operation, u64, Standing),
 ) -> Result<Option<(u64, Done, Standing)>, Fail> {
-    for k in CALLS_OF_DEEDS {
+    for k in CALLS_OF_OPERATIONS {
         if *k < calls {
             let stands = if *k + 1 == calls { new } else { NOTHING_DONE };
-            let (done, found) = failing(alloc, deed, 183 + *k)?;
+            let (done, found) = failing(alloc, operation, 183 + *k)?;
             if done != (Err(Fault::DeviceFailed), true, 1) || found != stands {
                 return Ok(Some((*k, done, found)));
             }
@@ -567,19 +575,19 @@ fn first_unlike_failure<A: Allocator + Copy + Drop>(
 }
 
 #[test]
-fn each_call_of_a_deed_fails_once(rt: HostRuntime) -> Result<(), Fail> {
+fn each_call_of_an_operation_fails_once(rt: HostRuntime) -> Result<(), Fail> {
     for row in FAILED {
-        assert_eq!(rt; first_unlike_failure(rt.alloc(), *row)?, None, "{row:?}");
+        assert_eq!(rt; first_wrong_failure(rt.alloc(), *row)?, None, "{row:?}");
     }
     Ok(())
 }
 
 #[test]
-fn a_deed_makes_so_many_calls(rt: HostRuntime) -> Result<(), Fail> {
-    for (deed, calls, new) in FAILED {
-        let (done, rig) = done_failing(rt.alloc(), *deed, 183u64.saturating_add(*calls))?;
+fn an_operation_makes_a_number_of_calls(rt: HostRuntime) -> Result<(), Fail> {
+    for (operation, calls, new) in FAILED {
+        let (done, rig) = done_failing(rt.alloc(), *operation, 183u64.saturating_add(*calls))?;
         let stands = standing(rt.alloc(), rig.into_inner());
-        assert_eq!(rt; (done, stands), ((Ok(()), false, 0), *new), "{deed:?}");
+        assert_eq!(rt; (done, stands), ((Ok(()), false, 0), *new), "{operation:?}");
     }
     Ok(())
 }
@@ -601,7 +609,7 @@ fn cut<A: Allocator + Copy + Drop>(
 fn a_cut_leaves_the_old_or_the_new(rt: HostRuntime) -> Result<(), Fail> {
     let (_, rig) = powered(rt.alloc(), formatted(rt.alloc())?);
     let before = rig.calls().saturating_add(92);
-    let (done, _, rig) = after(rt.alloc(), rig, Deed::Commit, 1);
+    let (done, _, rig) = after(rt.alloc(), rig, Operation::Commit, 1);
     assert_eq!(rt; (done, rig.calls()), (Ok(()), before.saturating_add(3)));
     for n in 0..=3 {
         let wanted = match n {
@@ -620,19 +628,61 @@ const USED_UP: Result<(), Fault> = Err(Fault::CountersUsed);
 /// The epoch in force before power on, an operation and its entry; what it returns, and how many calls there are. If
 /// the epoch or the entry count is used up, the device isn't called, and the journal isn't broken. A record doesn't use
 /// an epoch while the log has room.
-const LIMITS: &[(i64, Deed, u64, Result<(), Fault>, usize)] = &[
-    (999_999_999_997, Deed::Commit, 1_000_000_000_000, Ok(()), 3),
-    (999_999_999_997, Deed::Commit, 1_000_000_000_001, USED_UP, 0),
-    (999_999_999_997, Deed::Load, 1_000_000_000_000, Ok(()), 93),
-    (999_999_999_997, Deed::Load, 1_000_000_000_001, USED_UP, 0),
-    (999_999_999_997, Deed::Open, 0, Ok(()), 2),
-    (999_999_999_999, Deed::Commit, 1, Ok(()), 3),
-    (999_999_999_999, Deed::Commit, 1_000_000_000_001, USED_UP, 0),
-    (999_999_999_999, Deed::Tool, 1_000_000_000_000, Ok(()), 2),
-    (999_999_999_999, Deed::Tool, 1_000_000_000_001, USED_UP, 0),
-    (999_999_999_999, Deed::Load, 1, USED_UP, 0),
-    (999_999_999_999, Deed::Open, 1, Ok(()), 2),
-    (999_999_999_999, Deed::HandOut, 1, Ok(()), 1),
+const LIMITS: &[(i64, Operation, u64, Result<(), Fault>, usize)] = &[
+    (
+        999_999_999_997,
+        Operation::Commit,
+        1_000_000_000_000,
+        Ok(()),
+        3,
+    ),
+    (
+        999_999_999_997,
+        Operation::Commit,
+        1_000_000_000_001,
+        USED_UP,
+        0,
+    ),
+    (
+        999_999_999_997,
+        Operation::Load,
+        1_000_000_000_000,
+        Ok(()),
+        93,
+    ),
+    (
+        999_999_999_997,
+        Operation::Load,
+        1_000_000_000_001,
+        USED_UP,
+        0,
+    ),
+    (999_999_999_997, Operation::Open, 0, Ok(()), 2),
+    (999_999_999_999, Operation::Commit, 1, Ok(()), 3),
+    (
+        999_999_999_999,
+        Operation::Commit,
+        1_000_000_000_001,
+        USED_UP,
+        0,
+    ),
+    (
+        999_999_999_999,
+        Operation::Tool,
+        1_000_000_000_000,
+        Ok(()),
+        2,
+    ),
+    (
+        999_999_999_999,
+        Operation::Tool,
+        1_000_000_000_001,
+        USED_UP,
+        0,
+    ),
+    (999_999_999_999, Operation::Load, 1, USED_UP, 0),
+    (999_999_999_999, Operation::Open, 1, Ok(()), 2),
+    (999_999_999_999, Operation::HandOut, 1, Ok(()), 1),
 ];
 
 /// What an operation whose entry has this number returns if this epoch is in force, whether the journal is broken then,
@@ -640,7 +690,7 @@ const LIMITS: &[(i64, Deed, u64, Result<(), Fault>, usize)] = &[
 fn limited<A: Allocator + Copy + Drop>(
     alloc: A,
     epoch: i64,
-    deed: Deed,
+    operation: Operation,
     entries: u64,
 ) -> Result<(Result<(), Fault>, bool, usize), Fail> {
     let mut rig = formatted(alloc)?;
@@ -648,18 +698,18 @@ fn limited<A: Allocator + Copy + Drop>(
         return Err(Fail::from("a header isn't laid"));
     }
     let before = rig.calls().saturating_add(92);
-    let (done, is_broken, rig) = after(alloc, rig, deed, entries);
+    let (done, is_broken, rig) = after(alloc, rig, operation, entries);
     Ok((done, is_broken, rig.calls().wrapping_sub(before)))
 }
 
 #[test]
-fn deeds_past_a_limit(rt: HostRuntime) -> Result<(), Fail> {
-    for (epoch, deed, entries, wanted, calls) in LIMITS {
-        let found = limited(rt.alloc(), *epoch, *deed, *entries)?;
+fn calls_past_a_limit(rt: HostRuntime) -> Result<(), Fail> {
+    for (epoch, operation, entries, wanted, calls) in LIMITS {
+        let found = limited(rt.alloc(), *epoch, *operation, *entries)?;
         assert_eq!(rt;
             found,
             (*wanted, false, *calls),
-            "{epoch} {deed:?} {entries}"
+            "{epoch} {operation:?} {entries}"
         );
     }
     Ok(())

@@ -2,8 +2,8 @@
 //! the settings.
 use crate::images::{FRESH, put, sector_of, sector_with, store};
 use crate::journal::counting::Counting;
-use crate::journal::{header, header_of, lay_state, set_slot};
-use crate::log::reading::{lay_to_the_end, state_part};
+use crate::journal::{header, header_of, set_slot, write_state};
+use crate::log::reading::{state_part, write_to_the_end};
 use crate::parts::part_with;
 use ng_journal::recover;
 use ng_num::Fault;
@@ -25,7 +25,7 @@ fn table(slots: u8, first_nm: i64) -> Tools {
 }
 
 /// Writes these sectors.
-fn lay<R: Rig>(rig: &mut R, sectors: &[(usize, [u8; 512])]) -> bool {
+fn write_sectors<R: Rig>(rig: &mut R, sectors: &[(usize, [u8; 512])]) -> bool {
     let mut is_laid = true;
     for (sector, bytes) in sectors {
         is_laid = is_laid && store(rig, *sector, bytes);
@@ -51,7 +51,7 @@ fn one_entry(slots: i64) -> [u8; 512] {
 
 /// Writes a device of format 1 and epoch 2 with one entry in its log, which set parameter 1 to 5. The bytes of its
 /// snapshot and its record that format 1 doesn't name have this value.
-fn lay_old<R: Rig>(rig: &mut R, unnamed: i64) -> bool {
+fn write_old<R: Rig>(rig: &mut R, unnamed: i64) -> bool {
     let [_, first_system] = parameter_sectors();
     let mut state = sector_with(&FRESH);
     put(&mut state, 456, 2, unnamed);
@@ -66,7 +66,7 @@ fn lay_old<R: Rig>(rig: &mut R, unnamed: i64) -> bool {
         (686, part),
         (687, change),
     ];
-    lay(rig, &sectors) && rig.sync().is_ok()
+    write_sectors(rig, &sectors) && rig.sync().is_ok()
 }
 
 /// A sector of a tool area with the lengths from this slot to that one; slot n is n times as long as the first.
@@ -81,7 +81,7 @@ fn lengths(first: i64, last: i64, first_nm: i64) -> [u8; 512] {
 
 /// Writes over it what power on writes with a table of this many slots, where slot n is n times as long as the first:
 /// epoch 3 in format 1, and epoch 4 in format 2.
-fn lay_migrated<R: Rig>(rig: &mut R, slots: i64, first_nm: i64) -> bool {
+fn write_migrated<R: Rig>(rig: &mut R, slots: i64, first_nm: i64) -> bool {
     let [five, first_system] = parameter_sectors();
     let sectors = [
         (1, header_of(1, 3, 0, 0)),
@@ -95,11 +95,11 @@ fn lay_migrated<R: Rig>(rig: &mut R, slots: i64, first_nm: i64) -> bool {
         (1_706, lengths(1, slots.min(64), first_nm)),
         (1_707, lengths(65, slots, first_nm)),
     ];
-    lay(rig, &sectors)
+    write_sectors(rig, &sectors)
 }
 
 /// Writes over that what the next power on writes if the table has one slot of 50,000,000 nm: epoch 5.
-fn lay_next<R: Rig>(rig: &mut R) -> bool {
+fn write_next<R: Rig>(rig: &mut R) -> bool {
     let [five, first_system] = parameter_sectors();
     let sectors = [
         (1, header(5, 0, 0)),
@@ -108,11 +108,11 @@ fn lay_next<R: Rig>(rig: &mut R) -> bool {
         (170, first_system),
         (1_708, sector_with(&[(0, 8, 50_000_000)])),
     ];
-    lay(rig, &sectors)
+    write_sectors(rig, &sectors)
 }
 
 /// The first of 1,710 sectors that differs.
-fn first_unlike(rig: &mut MemoryRig<Global>, wanted: &mut MemoryRig<Global>) -> Option<usize> {
+fn first_mismatch(rig: &mut MemoryRig<Global>, wanted: &mut MemoryRig<Global>) -> Option<usize> {
     for sector in 0..1_710 {
         if sector_of(rig, sector) != sector_of(wanted, sector) {
             return Some(sector);
@@ -150,7 +150,7 @@ fn stands<R: Rig + Drop>(
 /// A device of format 1 with one entry, with no calls.
 fn old(alloc: Global, unnamed: i64) -> Result<MemoryRig<Global>, Fail> {
     let mut rig = MemoryRig::new(alloc, 1_710)?;
-    if lay_old(&mut rig, unnamed) {
+    if write_old(&mut rig, unnamed) {
         Ok(rig.stopped(usize::MAX, &[])?)
     } else {
         Err(Fail::from("a device isn't laid"))
@@ -170,7 +170,7 @@ fn powered(
 ) -> Powered {
     let (standing, counting) = stands(alloc, Counting::new(rig), tools, 1);
     let ([_, writes, syncs], mut rig) = counting.counted();
-    let unlike = first_unlike(&mut rig, wanted);
+    let unlike = first_mismatch(&mut rig, wanted);
     (standing, [writes, syncs], unlike)
 }
 
@@ -189,7 +189,7 @@ const MIGRATIONS: &[(u8, i64, i64, Option<i64>)] = &[
 /// The migration of a device with one entry under these settings.
 fn migrated(alloc: Global, slots: u8, first_nm: i64, unnamed: i64) -> Result<Powered, Fail> {
     let mut wanted = old(alloc, unnamed)?;
-    if !lay_migrated(&mut wanted, i64::from(slots), first_nm) {
+    if !write_migrated(&mut wanted, i64::from(slots), first_nm) {
         return Err(Fail::from("a device isn't laid"));
     }
     let tools = table(slots, first_nm);
@@ -210,10 +210,10 @@ fn a_device_of_format_1_is_migrated(rt: HostRuntime) -> Result<(), Fail> {
 fn powered_again(alloc: Global, slots: u8) -> Result<Powered, Fail> {
     let mut rig = old(alloc, 0)?;
     let mut wanted = old(alloc, 0)?;
-    if lay_migrated(&mut rig, 1, 50_000_000)
+    if write_migrated(&mut rig, 1, 50_000_000)
         && rig.sync().is_ok()
-        && lay_migrated(&mut wanted, 1, 50_000_000)
-        && lay_next(&mut wanted)
+        && write_migrated(&mut wanted, 1, 50_000_000)
+        && write_next(&mut wanted)
     {
         Ok(powered(alloc, rig, &table(slots, 9), &mut wanted))
     } else {
@@ -236,8 +236,8 @@ fn a_migrated_device_keeps_its_tools(rt: HostRuntime) -> Result<(), Fail> {
 fn full(alloc: Global) -> Result<MemoryRig<Global>, Fail> {
     let mut rig = MemoryRig::new(alloc, 1_710)?;
     if store(&mut rig, 1, &header_of(1, 1, 0, 0))
-        && lay_state(&mut rig, 88, 0)
-        && lay_to_the_end(&mut rig, 1_022)
+        && write_state(&mut rig, 88, 0)
+        && write_to_the_end(&mut rig, 1_022)
         && rig.sync().is_ok()
     {
         Ok(rig.stopped(usize::MAX, &[])?)

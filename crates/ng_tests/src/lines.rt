@@ -287,7 +287,7 @@ fn read_words(
 }
 
 #[test]
-fn lines_are_read_as_they_stand(rt: HostRuntime) {
+fn lines_are_read(rt: HostRuntime) {
     let mut line = Line::new();
     for (i, (text, deletable, number, words)) in LINES.iter().enumerate() {
         let found = read_words(&mut line, text, words);
@@ -316,7 +316,7 @@ fn read_value(line: &mut Line, text: &[u8], codes: &[u8]) -> Result<(bool, bool)
 }
 
 #[test]
-fn values_are_read_as_they_stand(rt: HostRuntime) {
+fn values_are_read(rt: HostRuntime) {
     let mut line = Line::new();
     for (i, (text, codes)) in VALUES.iter().enumerate() {
         assert_eq!(rt;
@@ -328,7 +328,7 @@ fn values_are_read_as_they_stand(rt: HostRuntime) {
 }
 
 #[test]
-fn settings_are_read_as_they_stand(rt: HostRuntime) {
+fn settings_are_read(rt: HostRuntime) {
     let mut line = Line::new();
     for (i, (text, index, value)) in SETTINGS.iter().enumerate() {
         assert!(rt; line.read(text).is_ok(), "setting {i}");

@@ -237,7 +237,7 @@ const ANSWERS: &[(Operation, Answer)] = &[
 ];
 
 #[test]
-fn operations_answer_what_exact_fractions_say(rt: HostRuntime) {
+fn operations_match_exact_fractions(rt: HostRuntime) {
     for (operation, answer) in ANSWERS {
         let found = answered(*operation);
         assert!(rt; found == *answer, "{found:?} in place of {answer:?}");

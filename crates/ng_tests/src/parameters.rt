@@ -69,7 +69,7 @@ fn filled<A: Allocator + Copy + Drop>(params: &Params<A>) -> u32 {
 }
 
 #[test]
-fn what_outlives_a_program(rt: HostRuntime) -> Result<(), Fail> {
+fn parameters_kept_after_a_program(rt: HostRuntime) -> Result<(), Fail> {
     let mut params = Params::new(rt.alloc())?;
     let fresh = [
         count(&params, 1),
@@ -173,7 +173,7 @@ fn changes_set_their_parameters(rt: HostRuntime) -> Result<(), Fail> {
 }
 
 /// Whether a table can be made, copied, changed, compared and updated, all in one heap.
-fn lives<A: Allocator + Copy + Drop>(alloc: A) -> Result<bool, AllocError> {
+fn works<A: Allocator + Copy + Drop>(alloc: A) -> Result<bool, AllocError> {
     let old = Params::new(alloc)?;
     let mut new = old.copy()?;
     put(&mut new, 5399, 3);
@@ -204,12 +204,12 @@ const SIZES: &[usize] = &[
 #[test]
 fn each_growth_may_be_refused(rt: HostRuntime) -> Result<(), Fail> {
     let alloc: Global = rt.alloc();
-    assert!(rt; lives(alloc)?);
+    assert!(rt; works(alloc)?);
     let mut refused = 0;
     let mut lived = 0;
     for size in SIZES {
         let heap = LocalHeap::new(alloc, *size)?;
-        match lives(&heap) {
+        match works(&heap) {
             Ok(whole) => {
                 assert!(rt; whole);
                 lived = 1;

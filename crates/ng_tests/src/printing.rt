@@ -26,7 +26,7 @@ fn printed(alloc: Global, size: usize) -> Result<Vec<u8>, Fail> {
 }
 
 /// The first number of a text that isn't the whole least one.
-fn broken(text: &[u8]) -> Option<&[u8]> {
+fn first_other_number(text: &[u8]) -> Option<&[u8]> {
     for number in text.chunks(17) {
         if number != b"-9999999.999999, ".as_slice() {
             return Some(number);
@@ -41,7 +41,7 @@ fn a_refused_growth_leaves_the_text(rt: HostRuntime) -> Result<(), Fail> {
     for size in 0..55usize {
         let text = printed(rt.alloc(), 16 * size)?;
         assert_eq!(rt;
-            (broken(&text), text.len() >= most),
+            (first_other_number(&text), text.len() >= most),
             (None, true),
             "over a heap of {size} blocks"
         );

@@ -81,7 +81,7 @@ fn moved_over_failing(alloc: Global, calls: u64) -> Result<(usize, u8, u64), Fau
 /// Each call of the device fails in turn. The answers are those above, in that order, and the status is 0 if no call
 /// failed.
 #[test]
-fn goes_on_over_a_device_that_failed(rt: HostRuntime) -> Result<(), Fail> {
+fn continues_over_a_device_that_failed(rt: HostRuntime) -> Result<(), Fail> {
     let whole = FAILING.len().saturating_sub(1);
     let mut last = 0;
     for calls in 0..400 {
@@ -165,7 +165,7 @@ fn text_after(reads: usize) -> &'static str {
 }
 
 /// A console whose reader fails after this many reads: its status, and whether what was asked before is answered.
-fn dripped(alloc: Global, reads: usize) -> Result<(u8, bool), Fault> {
+fn read_in_part(alloc: Global, reads: usize) -> Result<(u8, bool), Fault> {
     let mut reader = Drip {
         bytes: DRIPPING.as_bytes(),
         reads_left: reads,
@@ -178,9 +178,9 @@ fn dripped(alloc: Global, reads: usize) -> Result<(u8, bool), Fault> {
 
 /// The reader fails in the middle: what was asked before is answered in full, and the status is 2.
 #[test]
-fn ends_where_the_reader_fails(rt: HostRuntime) -> Result<(), Fail> {
+fn ends_when_the_reader_fails(rt: HostRuntime) -> Result<(), Fail> {
     for reads in 0..60 {
-        let (status, is_told) = dripped(rt.alloc(), reads)?;
+        let (status, is_told) = read_in_part(rt.alloc(), reads)?;
         // the end after the last line, which has no newline, is read too
         assert_eq!(rt; (status == 2, is_told), (reads < 33, true), "{reads}");
     }
@@ -191,7 +191,11 @@ fn ends_where_the_reader_fails(rt: HostRuntime) -> Result<(), Fail> {
 const MOVED: &str = "begun\ndone 1\nidle\nticks 5\n";
 
 /// What a console does with these lines over a writer with this much room: the status, what is written, and the device.
-fn told_in_room(alloc: Global, lines: &str, room: usize) -> Result<(u8, Vec<u8>, Device), Fault> {
+fn written_in_room(
+    alloc: Global,
+    lines: &str,
+    room: usize,
+) -> Result<(u8, Vec<u8>, Device), Fault> {
     let mut reader = lines.as_bytes();
     let mut writer = Full {
         taken: Vec::new(alloc),
@@ -211,7 +215,7 @@ fn told_in_room(alloc: Global, lines: &str, room: usize) -> Result<(u8, Vec<u8>,
 /// That move over a writer with this much room: the status, whether a beginning is written, its length, and the items
 /// handed out.
 fn moved_in_room(alloc: Global, room: usize) -> Result<(u8, bool, usize, usize), Fault> {
-    let (status, text, rig) = told_in_room(alloc, "mdi G0 X0.002\ntick 9\nquit\n", room)?;
+    let (status, text, rig) = written_in_room(alloc, "mdi G0 X0.002\ntick 9\nquit\n", room)?;
     let items = rig.handed(rig.calls())?;
     Ok((
         status,
@@ -223,7 +227,7 @@ fn moved_in_room(alloc: Global, room: usize) -> Result<(u8, bool, usize, usize),
 
 /// The writer fails in the middle: a beginning is written, the device isn't called any more, and the status is 2.
 #[test]
-fn ends_where_the_writer_fails(rt: HostRuntime) -> Result<(), Fail> {
+fn ends_when_the_writer_fails(rt: HostRuntime) -> Result<(), Fail> {
     for room in 0..30 {
         let (status, is_beginning, length, items) = moved_in_room(rt.alloc(), room)?;
         let handed = if room < 6 { 0 } else { 2 };
@@ -251,7 +255,7 @@ const BEHIND_MOVES: &[&str] = &[
 /// The same over a writer with this much room: the status, whether a beginning is written, its length, the items handed
 /// out, and the place of what the status says once power is on again.
 fn two_moves_in_room(alloc: Global, room: usize) -> Result<(u8, bool, usize, usize, usize), Fault> {
-    let (status, text, rig) = told_in_room(alloc, TWO_MOVES, room)?;
+    let (status, text, rig) = written_in_room(alloc, TWO_MOVES, room)?;
     let items = rig.handed(rig.calls())?;
     let (_, shown, _) = answered(alloc, "status\n", rig);
     Ok((

@@ -24,7 +24,7 @@ const MIGRATION: usize = 181;
 
 /// What is wrong after a device failed.
 #[derive(Clone, Copy, Debug, PartialEq, Eq)]
-pub enum Astray {
+pub enum Mismatch {
     /// The number of failures, or which event met the failure.
     Failures,
     /// A reply after it, or the status.
@@ -209,7 +209,7 @@ impl<'a> Choice<'a> {
     }
 
     /// What is wrong after a session that ended in this event.
-    fn astray(&self, alloc: Global, played: Played) -> Result<Option<Astray>, Fault> {
+    fn mismatch(&self, alloc: Global, played: Played) -> Result<Option<Mismatch>, Fault> {
         let Played {
             met: _,
             is_refused,
@@ -217,16 +217,16 @@ impl<'a> Choice<'a> {
             rig,
         } = played;
         if failures != 1 || !self.has_calls(rig.calls()) {
-            return Ok(Some(Astray::Failures));
+            return Ok(Some(Mismatch::Failures));
         }
         if !is_refused {
-            return Ok(Some(Astray::Later));
+            return Ok(Some(Mismatch::Later));
         }
         if rig.handed(usize::MAX)?.as_slice() != self.before.items() {
-            return Ok(Some(Astray::Items));
+            return Ok(Some(Mismatch::Items));
         }
         if !self.is_standing(alloc, rig)? {
-            return Ok(Some(Astray::Standing));
+            return Ok(Some(Mismatch::Standing));
         }
         Ok(None)
     }
@@ -249,7 +249,7 @@ fn each_from(first: u64) -> Sweep {
 
 /// The result of a sweep: how many calls a session makes that met no failure, none if each met one; or the first
 /// failure after which something is wrong.
-type Swept = Result<Option<usize>, (u64, Astray)>;
+type Swept = Result<Option<usize>, (u64, Mismatch)>;
 
 /// The result of a sweep over this device.
 fn swept(
@@ -266,8 +266,8 @@ fn swept(
             return Ok(Ok(Some(played.rig.calls())));
         };
         choice.go_to(event)?;
-        if let Some(astray) = choice.astray(alloc, played)? {
-            return Ok(Err((calls, astray)));
+        if let Some(mismatch) = choice.mismatch(alloc, played)? {
+            return Ok(Err((calls, mismatch)));
         }
         calls = calls.saturating_add(1);
         if calls > sweep.last {
@@ -433,10 +433,10 @@ fn each_call_from_move_444_on(rt: HostRuntime) -> Result<(), Fail> {
 type Shown = (usize, u64, u64, bool, Option<HalfShown>);
 
 /// Events, after how many calls one fails, the number of the event that meets it, and what is found then. Power on
-/// makes 183 calls. In the first rows an item isn't handed out: the first of a line, which two calls open. In the
-/// others a line isn't read: a load makes 93 calls, and the first tick after it reads three lines, of which the second
-/// or the third fails; five calls later the tick that begins the second line reads the fourth and the fifth, of which
-/// either fails.
+/// makes 183 calls. In the first row an item isn't handed out: the first of a line, which two calls open. In the others
+/// a line isn't read: a load makes 93 calls, and the first tick after it reads three lines, of which the second or the
+/// third fails; five calls later the tick that begins the second line reads the fourth and the fifth, of which either
+/// fails.
 const MET: &[(&[Row], u64, usize, Shown)] = &[
     (
         BEFORE_A_CUT,

@@ -3,7 +3,7 @@
 use crate::devices::{Device, formatted, give, rig_of, started};
 use crate::failures::counting::Counting;
 use crate::failures::failing::half_done;
-use crate::rows::{Does, Order, Row, begins_a_line, entries_after, event_of, goes_on, reply_to};
+use crate::rows::{Does, Order, Row, begins_a_line, entries_after, event_of, reply_to, resumes};
 use crate::scripts::{
     AFTER_A_CUT_OF_A_PROGRAM, BEFORE_A_CUT_OF_A_PROGRAM, READ_AHEAD, STORED_AND_RUN, many_lines,
 };
@@ -18,7 +18,7 @@ type Machine<'a> = Controller<Counting<'a>, Global>;
 
 /// Whether an event may read the program: a tick that begins a line, or a half-done line that is resumed.
 fn may_read(order: Order, does: Does) -> bool {
-    begins_a_line(order, does) || goes_on(order, does)
+    begins_a_line(order, does) || resumes(order, does)
 }
 
 /// How many reads an event makes, if its reply is as it should be.

@@ -2,7 +2,7 @@
 use crate::devices::{Device, LARGE, copy_of};
 use crate::images::chance::Chance;
 use crate::images::generations::generations;
-use crate::images::powered::{Astray, Outcome, outcome_of};
+use crate::images::powered::{Mismatch, Outcome, outcome_of};
 use crate::sectors::{GREATEST, number_at, put, sector_of, store, sync};
 use ng_num::Fault;
 use std::alloc::Global;
@@ -187,7 +187,7 @@ struct Tally {
 
 impl Tally {
     /// Counts an outcome. Returns what isn't as it has to be, if anything.
-    fn count(&mut self, outcome: Outcome) -> Option<Astray> {
+    fn count(&mut self, outcome: Outcome) -> Option<Mismatch> {
         let counted = match outcome {
             Outcome::Recovered => &mut self.recovered,
             Outcome::Migrated => &mut self.migrated,
@@ -195,7 +195,7 @@ impl Tally {
             Outcome::Damaged => &mut self.damaged,
             Outcome::CountersUsed => &mut self.counters_used,
             Outcome::Ahead => return None,
-            Outcome::Astray(astray) => return Some(astray),
+            Outcome::Mismatch(mismatch) => return Some(mismatch),
         };
         *counted = counted.saturating_add(1);
         None
@@ -215,7 +215,7 @@ impl Tally {
 const IMAGES: u64 = 2_500;
 
 /// The first of this many images for which something is wrong, and what; and how often each outcome came.
-fn outcomes(alloc: Global, seed: u64) -> Result<(Option<(u64, Astray)>, Tally), Fault> {
+fn outcomes(alloc: Global, seed: u64) -> Result<(Option<(u64, Mismatch)>, Tally), Fault> {
     outcomes_of(alloc, seed, 1_710, IMAGES)
 }
 
@@ -225,7 +225,7 @@ fn outcomes_of(
     seed: u64,
     sectors: usize,
     images: u64,
-) -> Result<(Option<(u64, Astray)>, Tally), Fault> {
+) -> Result<(Option<(u64, Mismatch)>, Tally), Fault> {
     let mut chance = Chance::new(seed);
     let mut all = generations(alloc, sectors)?;
     let mut tally = Tally {
@@ -237,8 +237,8 @@ fn outcomes_of(
     };
     for image in 0..images {
         let rig = changed(&mut chance, &mut all)?;
-        if let Some(astray) = tally.count(outcome_of(alloc, rig)?) {
-            return Ok((Some((image, astray)), tally));
+        if let Some(mismatch) = tally.count(outcome_of(alloc, rig)?) {
+            return Ok((Some((image, mismatch)), tally));
         }
     }
     Ok((None, tally))
@@ -246,32 +246,32 @@ fn outcomes_of(
 
 #[test]
 fn images_of_the_first_seed(rt: HostRuntime) -> Result<(), Fail> {
-    let (astray, tally) = outcomes(rt.alloc(), 0x9e37_79b9_7f4a_7c15)?;
-    assert_eq!(rt; astray, None);
+    let (mismatch, tally) = outcomes(rt.alloc(), 0x9e37_79b9_7f4a_7c15)?;
+    assert_eq!(rt; mismatch, None);
     assert!(rt; tally.has_each(1), "{tally:?}");
     Ok(())
 }
 
 #[test]
 fn images_of_the_second_seed(rt: HostRuntime) -> Result<(), Fail> {
-    let (astray, tally) = outcomes(rt.alloc(), 0xd1b5_4a32_d192_ed03)?;
-    assert_eq!(rt; astray, None);
+    let (mismatch, tally) = outcomes(rt.alloc(), 0xd1b5_4a32_d192_ed03)?;
+    assert_eq!(rt; mismatch, None);
     assert!(rt; tally.has_each(1), "{tally:?}");
     Ok(())
 }
 
 #[test]
 fn images_of_the_third_seed(rt: HostRuntime) -> Result<(), Fail> {
-    let (astray, tally) = outcomes(rt.alloc(), 0x2545_f491_4f6c_dd1d)?;
-    assert_eq!(rt; astray, None);
+    let (mismatch, tally) = outcomes(rt.alloc(), 0x2545_f491_4f6c_dd1d)?;
+    assert_eq!(rt; mismatch, None);
     assert!(rt; tally.has_each(1), "{tally:?}");
     Ok(())
 }
 
 #[test]
 fn images_of_the_fourth_seed(rt: HostRuntime) -> Result<(), Fail> {
-    let (astray, tally) = outcomes(rt.alloc(), 0x0123_4567_89ab_cdef)?;
-    assert_eq!(rt; astray, None);
+    let (mismatch, tally) = outcomes(rt.alloc(), 0x0123_4567_89ab_cdef)?;
+    assert_eq!(rt; mismatch, None);
     assert!(rt; tally.has_each(1), "{tally:?}");
     Ok(())
 }
@@ -280,8 +280,8 @@ fn images_of_the_fourth_seed(rt: HostRuntime) -> Result<(), Fail> {
 #[test]
 fn images_of_large_devices(rt: HostRuntime) -> Result<(), Fail> {
     let seed = 0x5851_f42d_4c95_7f2d;
-    let (astray, tally) = outcomes_of(rt.alloc(), seed, LARGE, IMAGES / 10)?;
-    assert_eq!(rt; astray, None);
+    let (mismatch, tally) = outcomes_of(rt.alloc(), seed, LARGE, IMAGES / 10)?;
+    assert_eq!(rt; mismatch, None);
     assert!(rt; tally.has_each(10), "{tally:?}");
     Ok(())
 }

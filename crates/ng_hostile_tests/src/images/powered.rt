@@ -22,12 +22,12 @@ pub enum Outcome {
     /// Recovered, although the log begins with a part of an epoch to come. No device that this controller formatted has
     /// one. Once that epoch is in force the part counts, so what is found again may be another state.
     Ahead,
-    Astray(Astray),
+    Mismatch(Mismatch),
 }
 
 /// What isn't as it has to be.
 #[derive(Clone, Copy, Debug, PartialEq, Eq)]
-pub enum Astray {
+pub enum Mismatch {
     /// The number of calls.
     Calls,
     /// The epoch of the header in force.
@@ -168,16 +168,16 @@ fn is_shown(alloc: Global, rig: Device, epoch: u64, stored: &Stored<Global>) -> 
 
 /// What is wrong with a device that was powered on, which has to be of format 2 under this epoch: it has to stand for
 /// this state again, under the next epoch and with the same program.
-fn stands_not(
+fn recovered_mismatch(
     alloc: Global,
     rig: Device,
     epoch: u64,
     stored: &Stored<Global>,
-) -> Result<Option<Astray>, AllocError> {
+) -> Result<Option<Mismatch>, AllocError> {
     let mut rig = rig;
     let next = epoch.saturating_add(1);
     if in_force(&mut rig) != (epoch, 2) {
-        return Ok(Some(Astray::Epoch));
+        return Ok(Some(Mismatch::Epoch));
     }
     let wanted = header_as_of(&mut rig, epoch, next);
     let (again, mut rig) = match recovered(alloc, rig) {
@@ -185,24 +185,24 @@ fn stands_not(
         Err((fault, _)) => return Ok(not_used_up(fault, epoch)),
     };
     if header_as_of(&mut rig, next, next) != wanted {
-        return Ok(Some(Astray::Header));
+        return Ok(Some(Mismatch::Header));
     }
     if !is_same(stored, &again)? {
-        return Ok(Some(Astray::State));
+        return Ok(Some(Mismatch::State));
     }
     Ok(if is_shown(alloc, rig, next, &again) {
         None
     } else {
-        Some(Astray::Status)
+        Some(Mismatch::Status)
     })
 }
 
 /// What is wrong with a refusal that is allowed only under the last epoch, since the epochs are used up.
-fn not_used_up(fault: Fault, epoch: u64) -> Option<Astray> {
+fn not_used_up(fault: Fault, epoch: u64) -> Option<Mismatch> {
     if fault == Fault::CountersUsed && epoch == GREATEST {
         None
     } else {
-        Some(Astray::Again)
+        Some(Mismatch::Again)
     }
 }
 
@@ -213,7 +213,7 @@ fn refusal(fault: Fault, epoch: u64, format: u64) -> Outcome {
         Fault::NotFormatted if epoch == 0 => Outcome::NotFormatted,
         Fault::Damaged if epoch != 0 => Outcome::Damaged,
         Fault::CountersUsed if is_used_up => Outcome::CountersUsed,
-        _ => Outcome::Astray(Astray::Name),
+        _ => Outcome::Mismatch(Mismatch::Name),
     }
 }
 
@@ -231,19 +231,19 @@ fn recovery(
     stored: &Stored<Global>,
 ) -> Result<Outcome, AllocError> {
     if !has_tools(format, stored) {
-        return Ok(Outcome::Astray(Astray::Tools));
+        return Ok(Outcome::Mismatch(Mismatch::Tools));
     }
-    Ok(match stands_not(alloc, rig, epoch, stored)? {
+    Ok(match recovered_mismatch(alloc, rig, epoch, stored)? {
         None if format == 1 => Outcome::Migrated,
         None => Outcome::Recovered,
-        Some(astray) => Outcome::Astray(astray),
+        Some(mismatch) => Outcome::Mismatch(mismatch),
     })
 }
 
 /// The outcome for an image that is recovered, whose log may begin with a part of an epoch to come.
 fn unless_ahead(outcome: Outcome, is_ahead: bool) -> Outcome {
     match outcome {
-        Outcome::Astray(Astray::Again | Astray::State | Astray::Status) if is_ahead => {
+        Outcome::Mismatch(Mismatch::Again | Mismatch::State | Mismatch::Status) if is_ahead => {
             Outcome::Ahead
         }
         _ => outcome,
@@ -260,7 +260,7 @@ pub fn outcome_of(alloc: Global, rig: Device) -> Result<Outcome, AllocError> {
     match recovered(alloc, rig) {
         Ok((stored, rig)) => {
             if rig.calls() != before.saturating_add(calls(format)) {
-                return Ok(Outcome::Astray(Astray::Calls));
+                return Ok(Outcome::Mismatch(Mismatch::Calls));
             }
             let after = (epoch.saturating_add(epochs(format)), format);
             let outcome = recovery(alloc, rig, after, &stored)?;
@@ -268,7 +268,7 @@ pub fn outcome_of(alloc: Global, rig: Device) -> Result<Outcome, AllocError> {
         }
         Err((fault, rig)) => {
             if rig.calls() != before.saturating_add(1) {
-                return Ok(Outcome::Astray(Astray::Calls));
+                return Ok(Outcome::Mismatch(Mismatch::Calls));
             }
             Ok(refused_again(alloc, rig, fault, (epoch, format)))
         }
@@ -279,6 +279,6 @@ pub fn outcome_of(alloc: Global, rig: Device) -> Result<Outcome, AllocError> {
 fn refused_again(alloc: Global, rig: Device, fault: Fault, (epoch, format): (u64, u64)) -> Outcome {
     match recovered(alloc, rig) {
         Err((again, _)) if again == fault => refusal(fault, epoch, format),
-        _ => Outcome::Astray(Astray::Again),
+        _ => Outcome::Mismatch(Mismatch::Again),
     }
 }

@@ -73,9 +73,9 @@ impl Choice {
 pub enum Depth {
     /// A stop with all unsynced sectors lost, and one with all kept.
     Whole,
-    /// In addition, one with only each sector kept, and one with only each sector lost.
+    /// In addition, for each unsynced sector, a stop that keeps only that one, and a stop that loses only that one.
     Alone,
-    /// In addition, stops of the power on after them.
+    /// In addition, stops of the power on after these.
     Deep,
 }
 
@@ -100,7 +100,7 @@ impl Cuts {
 
 /// The stop after which the device stands for something else: after how many calls, and what it keeps; and, if it is a
 /// stop in the power on after that, how many calls come before that one.
-pub type Astray = Option<(usize, Kept, Option<usize>)>;
+pub type Mismatch = Option<(usize, Kept, Option<usize>)>;
 
 /// A device with its calls, and the stops that are tried.
 #[derive(Drop)]
@@ -111,46 +111,54 @@ pub struct Played {
 }
 
 impl Played {
-    /// The first stop after this many calls, with which an event is over or not, that leaves something else: with all
-    /// unsynced sectors lost, with all kept, with only each one kept, with only each one lost.
+    /// The first stop after this many calls, with which an event is over or not, that leaves something else. The stops
+    /// are one with all unsynced sectors lost, one with all kept, and for each sector one that keeps only that one and
+    /// one that loses only that one.
     ///
     /// Power on is stopped too if the image is new. It isn't new if all are lost, since an earlier stop with all kept
     /// leaves the same; nor if all are kept and the last call isn't a write, since the stop before that call leaves the
     /// same.
-    fn first_astray_after(
+    fn first_mismatch_after(
         &self,
         alloc: Global,
         calls: usize,
         choice: &Choice,
         is_over: bool,
-    ) -> Result<Astray, Fault> {
+    ) -> Result<Mismatch, Fault> {
         let is_new = self.notes.ends_in_write(calls);
         let is_deep = self.cuts.depth == Depth::Deep;
         let is_first = is_deep && calls == self.cuts.first;
-        let astray = self.astray(alloc, calls, Kept::None, choice, is_over, is_first)?;
-        if astray.is_some() {
-            return Ok(astray);
+        let mismatch = self.mismatch(alloc, calls, Kept::None, choice, is_over, is_first)?;
+        if mismatch.is_some() {
+            return Ok(mismatch);
         }
-        let astray = self.astray(alloc, calls, Kept::All, choice, is_over, is_deep && is_new)?;
-        if astray.is_some() || !is_new || self.cuts.depth == Depth::Whole {
-            return Ok(astray);
+        let mismatch = self.mismatch(alloc, calls, Kept::All, choice, is_over, is_deep && is_new)?;
+        if mismatch.is_some() || !is_new || self.cuts.depth == Depth::Whole {
+            return Ok(mismatch);
         }
-        self.first_astray_alone(alloc, calls, choice, is_over)
+        self.first_mismatch_alone(alloc, calls, choice, is_over)
     }
 
     /// The first stop after this many calls that keeps only one unsynced sector, or loses only one, and leaves
     /// something else.
-    fn first_astray_alone(
+    fn first_mismatch_alone(
         &self,
         alloc: Global,
         calls: usize,
         choice: &Choice,
         is_over: bool,
-    ) -> Result<Astray, Fault> {
+    ) -> Result<Mismatch, Fault> {
         for call in self.notes.synced(calls)..calls {
             if let Some(sector) = self.notes.sector(call) {
-                let only = self.astray(alloc, calls, Kept::Only(sector), choice, is_over, false)?;
-                let but = self.astray(alloc, calls, Kept::AllBut(sector), choice, is_over, false)?;
+                let only = self.mismatch(alloc, calls, Kept::Only(sector), choice, is_over, false)?;
+                let but = self.mismatch(
+                    alloc,
+                    calls,
+                    Kept::AllBut(sector),
+                    choice,
+                    is_over,
+                    false,
+                )?;
                 if only.is_some() || but.is_some() {
                     return Ok(only.or(but));
                 }
@@ -161,7 +169,7 @@ impl Played {
 
     /// This stop, if it leaves something else. If not, and if power on is to be stopped too, the first stop there that
     /// leaves something else.
-    fn astray(
+    fn mismatch(
         &self,
         alloc: Global,
         calls: usize,
@@ -169,7 +177,7 @@ impl Played {
         choice: &Choice,
         is_over: bool,
         is_deep: bool,
-    ) -> Result<Astray, Fault> {
+    ) -> Result<Mismatch, Fault> {
         let (found, notes, rig) = found(alloc, stopped(&self.rig, calls, kept)?)?;
         let Some(wanted) = choice.found(&found, is_over)? else {
             return Ok(Some((calls, kept, None)));
@@ -177,8 +185,8 @@ impl Played {
         if !is_deep {
             return Ok(None);
         }
-        let astray = first_astray_in_power_on(alloc, &rig, &notes, wanted)?;
-        Ok(astray.map(|stop| (calls, kept, Some(stop))))
+        let mismatch = first_mismatch_in_power_on(alloc, &rig, &notes, wanted)?;
+        Ok(mismatch.map(|stop| (calls, kept, Some(stop))))
     }
 }
 
@@ -186,7 +194,7 @@ impl Played {
 /// calls, with all kept.
 ///
 /// Only writes make a new image: if all unsynced sectors are lost, an earlier stop with all kept leaves the same.
-fn first_astray_in_power_on(
+fn first_mismatch_in_power_on(
     alloc: Global,
     rig: &Device,
     notes: &Notes,
@@ -204,17 +212,17 @@ fn first_astray_in_power_on(
 
 /// The first stop that leaves something else, out of those that are tried after `first` to `over` calls. The event is
 /// over with the last of these calls.
-pub fn first_astray_between(
+pub fn first_mismatch_between(
     alloc: Global,
     played: &Played,
     first: usize,
     over: usize,
     choice: &Choice,
-) -> Result<Astray, Fault> {
+) -> Result<Mismatch, Fault> {
     for calls in first.max(played.cuts.first)..=over.min(played.cuts.last) {
-        let astray = played.first_astray_after(alloc, calls, choice, calls == over)?;
-        if astray.is_some() {
-            return Ok(astray);
+        let mismatch = played.first_mismatch_after(alloc, calls, choice, calls == over)?;
+        if mismatch.is_some() {
+            return Ok(mismatch);
         }
     }
     Ok(None)
@@ -222,33 +230,33 @@ pub fn first_astray_between(
 
 /// The first stop that leaves something else during power on and these events, over a device that stands for what is
 /// expected.
-pub fn first_astray(
+pub fn first_mismatch(
     alloc: Global,
     rig: Device,
     wanted: Standing,
     rows: &[Row],
     cuts: Cuts,
-) -> Result<Astray, Fault> {
+) -> Result<Mismatch, Fault> {
     let power = PowerOn {
         choice: Choice::one(wanted)?,
         calls: POWER_ON,
     };
-    first_astray_from(alloc, rig, power, rows, cuts)
+    first_mismatch_from(alloc, rig, power, rows, cuts)
 }
 
 /// The same over a device of format 1.
-pub fn first_astray_in_migration(
+pub fn first_mismatch_in_migration(
     alloc: Global,
     rig: Device,
     wanted: Standing,
     rows: &[Row],
     cuts: Cuts,
-) -> Result<Astray, Fault> {
+) -> Result<Mismatch, Fault> {
     let power = PowerOn {
         choice: Choice::in_migration(wanted)?,
         calls: MIGRATION,
     };
-    first_astray_from(alloc, rig, power, rows, cuts)
+    first_mismatch_from(alloc, rig, power, rows, cuts)
 }
 
 /// A power on: which states a stop in it may leave, and how many calls it makes.
@@ -259,29 +267,29 @@ struct PowerOn {
 }
 
 /// The first stop that leaves something else during this power on and these events, over a device.
-fn first_astray_from(
+fn first_mismatch_from(
     alloc: Global,
     rig: Device,
     power: PowerOn,
     rows: &[Row],
     cuts: Cuts,
-) -> Result<Astray, Fault> {
+) -> Result<Mismatch, Fault> {
     let PowerOn { choice, calls } = power;
     let mut choice = choice;
     let (rig, notes) = played(alloc, rig, rows, choice.after().entries())?;
     let played = Played { rig, notes, cuts };
     let mut over = calls;
-    let mut astray = first_astray_between(alloc, &played, 0, over, &choice)?;
+    let mut mismatch = first_mismatch_between(alloc, &played, 0, over, &choice)?;
     for (_, does, calls) in rows {
         let begin = over.saturating_add(1);
         over = over.saturating_add(*calls);
         choice.take(*does)?;
-        if astray.is_none() {
-            astray = first_astray_between(alloc, &played, begin, over, &choice)?;
+        if mismatch.is_none() {
+            mismatch = first_mismatch_between(alloc, &played, begin, over, &choice)?;
         }
     }
     if over == played.rig.calls() {
-        Ok(astray)
+        Ok(mismatch)
     } else {
         // an event made other calls than its row says
         Err(Fault::Broken)

@@ -115,7 +115,7 @@ fn cycle(
 
 /// The first of 64 power cycles, each cut one call later than the one before, that leaves something else; and the
 /// entries then.
-fn first_astray(alloc: Global, first: u64) -> Result<(Option<u64>, u64), Fault> {
+fn first_mismatch(alloc: Global, first: u64) -> Result<(Option<u64>, u64), Fault> {
     let mut rig = formatted(alloc)?;
     let mut wanted = Standing::fresh(alloc)?;
     for calls in first..first.saturating_add(64) {
@@ -134,10 +134,10 @@ fn first_astray(alloc: Global, first: u64) -> Result<(Option<u64>, u64), Fault> 
 /// end in work.
 #[test]
 fn power_comes_and_goes(rt: HostRuntime) -> Result<(), Fail> {
-    let Ok((astray, entries)) = first_astray(rt.alloc(), 154) else {
+    let Ok((mismatch, entries)) = first_mismatch(rt.alloc(), 154) else {
         panic!(rt; "an event is answered otherwise")
     };
-    assert_eq!(rt; astray, None);
+    assert_eq!(rt; mismatch, None);
     assert!(rt; entries >= 20, "{entries}");
     Ok(())
 }

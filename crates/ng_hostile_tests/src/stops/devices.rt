@@ -59,7 +59,7 @@ pub fn stands_for(alloc: Global, rig: Device, wanted: &Standing) -> Result<bool,
 }
 
 /// The first of these events, after this many entries, with another reply.
-pub fn first_astray<R: Rig>(
+pub fn first_mismatch<R: Rig>(
     alloc: Global,
     controller: &mut Controller<R, Global>,
     rows: &[Row],
@@ -84,9 +84,9 @@ pub fn played(
     entries: u64,
 ) -> Result<(Device, Notes), Fault> {
     let mut controller = started(alloc, Recorder::new(alloc, rig))?;
-    let astray = first_astray(alloc, &mut controller, rows, entries);
+    let mismatch = first_mismatch(alloc, &mut controller, rows, entries);
     let (rig, notes) = rig_of(controller).into_parts();
-    match astray? {
+    match mismatch? {
         None => Ok((rig, notes)),
         Some(_) => Err(Fault::Broken),
     }

@@ -2,8 +2,8 @@
 use crate::devices::{Device, formatted, give, powered, rig_of, started};
 use crate::rows::{Does, Order, Row, event_of};
 use crate::standing::Standing;
-use crate::stops::cuts::{Astray, Choice, Cuts, Depth, POWER_ON, Played, first_astray_between};
-use crate::stops::devices::{first_astray, left_by, played};
+use crate::stops::cuts::{Choice, Cuts, Depth, Mismatch, POWER_ON, Played, first_mismatch_between};
+use crate::stops::devices::{first_mismatch, left_by, played};
 use crate::stops::recorder::{Notes, Recorder};
 use ng_core::Reply;
 use ng_num::Fault;
@@ -78,44 +78,44 @@ fn powered_again(alloc: Global, rig: Recorder<Device>) -> Result<Played, Fault> 
 
 /// The first stop in that power on that leaves something else. Once its first sync is over, what was written before it
 /// is durable.
-fn first_astray_again(
+fn first_mismatch_again(
     alloc: Global,
     rig: Recorder<Device>,
     choice: &mut Choice,
-) -> Result<Astray, Fault> {
+) -> Result<Mismatch, Fault> {
     let played = powered_again(alloc, rig)?;
     let synced = played.cuts.first.saturating_add(1);
-    let astray = first_astray_between(alloc, &played, 0, synced, choice)?;
-    if astray.is_some() {
-        return Ok(astray);
+    let mismatch = first_mismatch_between(alloc, &played, 0, synced, choice)?;
+    if mismatch.is_some() {
+        return Ok(mismatch);
     }
     choice.end()?;
-    first_astray_between(alloc, &played, synced, played.cuts.last, choice)
+    first_mismatch_between(alloc, &played, synced, played.cuts.last, choice)
 }
 
 /// The same after a load.
-fn first_astray_after_load(alloc: Global) -> Result<Astray, Fault> {
+fn first_mismatch_after_load(alloc: Global) -> Result<Mismatch, Fault> {
     let (_, wanted) = loaded(alloc)?;
     let mut choice = Choice::one(wanted)?;
     choice.take(Does::Loads(NEW))?;
-    first_astray_again(alloc, failed_in_load(alloc)?, &mut choice)
+    first_mismatch_again(alloc, failed_in_load(alloc)?, &mut choice)
 }
 
 /// The same after power on.
-fn first_astray_after_power_on(alloc: Global) -> Result<Astray, Fault> {
+fn first_mismatch_after_power_on(alloc: Global) -> Result<Mismatch, Fault> {
     let (_, wanted) = loaded(alloc)?;
     let mut choice = Choice::one(wanted)?;
-    first_astray_again(alloc, failed_in_power_on(alloc)?, &mut choice)
+    first_mismatch_again(alloc, failed_in_power_on(alloc)?, &mut choice)
 }
 
 #[test]
 fn a_header_of_a_load_whose_sync_failed(rt: HostRuntime) -> Result<(), Fail> {
-    assert_eq!(rt; first_astray_after_load(rt.alloc()), Ok(None));
+    assert_eq!(rt; first_mismatch_after_load(rt.alloc()), Ok(None));
     Ok(())
 }
 
 #[test]
 fn a_header_of_power_on_whose_sync_failed(rt: HostRuntime) -> Result<(), Fail> {
-    assert_eq!(rt; first_astray_after_power_on(rt.alloc()), Ok(None));
+    assert_eq!(rt; first_mismatch_after_power_on(rt.alloc()), Ok(None));
     Ok(())
 }

@@ -2,7 +2,7 @@
 use crate::devices::{LARGE, formatted_of};
 use crate::rows::{Does, Order, Row};
 use crate::standing::Standing;
-use crate::stops::cuts::{Astray, Cuts, Depth, first_astray};
+use crate::stops::cuts::{Cuts, Depth, Mismatch, first_mismatch};
 use crate::stops::devices::left_by;
 use ng_num::Fault;
 use std::alloc::Global;
@@ -28,20 +28,20 @@ const LOADS: &[Row] = &[(Order::Load(NEW), Does::Loads(NEW), 94)];
 
 /// The first of these stops in a load, after power on, that leaves something else, over a device with this many
 /// sectors, after these events.
-fn first_astray_in_load(
+fn first_mismatch_in_load(
     alloc: Global,
     sectors: usize,
     before: &[Row],
     cuts: Cuts,
-) -> Result<Astray, Fault> {
+) -> Result<Mismatch, Fault> {
     let wanted = Standing::fresh_on(alloc, sectors)?;
     let (rig, wanted) = left_by(alloc, formatted_of(alloc, sectors)?, wanted, before)?;
-    first_astray(alloc, rig, wanted, LOADS, cuts)
+    first_mismatch(alloc, rig, wanted, LOADS, cuts)
 }
 
 #[test]
 fn a_stop_at_each_call_of_a_load_over_a_program(rt: HostRuntime) -> Result<(), Fail> {
-    let found = first_astray_in_load(rt.alloc(), 1_710, BEFORE, Cuts::deep(92, 186));
+    let found = first_mismatch_in_load(rt.alloc(), 1_710, BEFORE, Cuts::deep(92, 186));
     assert_eq!(rt; found, Ok(None));
     Ok(())
 }
@@ -77,11 +77,11 @@ const CUTS: &[Cuts] = &[
 ];
 
 /// The first of those stops that leaves something else.
-fn first_astray_in_large_load(alloc: Global, before: &[Row]) -> Result<Astray, Fault> {
+fn first_mismatch_in_large_load(alloc: Global, before: &[Row]) -> Result<Mismatch, Fault> {
     for cuts in CUTS {
-        let astray = first_astray_in_load(alloc, LARGE, before, *cuts)?;
-        if astray.is_some() {
-            return Ok(astray);
+        let mismatch = first_mismatch_in_load(alloc, LARGE, before, *cuts)?;
+        if mismatch.is_some() {
+            return Ok(mismatch);
         }
     }
     Ok(None)
@@ -90,7 +90,7 @@ fn first_astray_in_large_load(alloc: Global, before: &[Row]) -> Result<Astray, F
 #[test]
 fn a_stop_at_each_call_of_a_load_on_a_large_device(rt: HostRuntime) -> Result<(), Fail> {
     for before in BEFORE_LARGE {
-        assert_eq!(rt; first_astray_in_large_load(rt.alloc(), before), Ok(None));
+        assert_eq!(rt; first_mismatch_in_large_load(rt.alloc(), before), Ok(None));
     }
     Ok(())
 }

@@ -4,7 +4,7 @@
 //! of format 2 is stored, and from then on with those of the settings under which it was written.
 use crate::old::of_format_1;
 use crate::scripts::AFTER_A_MIGRATION;
-use crate::stops::cuts::{Astray, Cuts, first_astray_in_migration};
+use crate::stops::cuts::{Cuts, Mismatch, first_mismatch_in_migration};
 use crate::stops::devices::{Kept, played, stopped};
 use ng_num::Fault;
 use std::alloc::Global;
@@ -27,27 +27,27 @@ fn calls_of_a_migration_and_of_the_next_power_on(rt: HostRuntime) -> Result<(), 
 }
 
 /// The first of these stops that leaves something else, in a migration or while a half-done line is resumed after it.
-fn first_astray_of(alloc: Global, first: usize, last: usize) -> Result<Astray, Fault> {
+fn first_mismatch_of(alloc: Global, first: usize, last: usize) -> Result<Mismatch, Fault> {
     let (rig, wanted) = of_format_1(alloc, 0)?;
     let cuts = Cuts::deep(first, last);
-    first_astray_in_migration(alloc, rig, wanted, AFTER_A_MIGRATION, cuts)
+    first_mismatch_in_migration(alloc, rig, wanted, AFTER_A_MIGRATION, cuts)
 }
 
 #[test]
 fn a_stop_in_the_first_half_of_the_checkpoint_of_format_1(rt: HostRuntime) -> Result<(), Fail> {
-    assert_eq!(rt; first_astray_of(rt.alloc(), 0, 45), Ok(None));
+    assert_eq!(rt; first_mismatch_of(rt.alloc(), 0, 45), Ok(None));
     Ok(())
 }
 
 #[test]
 fn a_stop_in_the_second_half_of_the_checkpoint_of_format_1(rt: HostRuntime) -> Result<(), Fail> {
-    assert_eq!(rt; first_astray_of(rt.alloc(), 46, 90), Ok(None));
+    assert_eq!(rt; first_mismatch_of(rt.alloc(), 46, 90), Ok(None));
     Ok(())
 }
 
 #[test]
 fn a_stop_in_the_first_half_of_the_checkpoint_of_format_2(rt: HostRuntime) -> Result<(), Fail> {
-    assert_eq!(rt; first_astray_of(rt.alloc(), 91, 136), Ok(None));
+    assert_eq!(rt; first_mismatch_of(rt.alloc(), 91, 136), Ok(None));
     Ok(())
 }
 
@@ -55,6 +55,6 @@ fn a_stop_in_the_first_half_of_the_checkpoint_of_format_2(rt: HostRuntime) -> Re
 fn a_stop_in_the_second_half_of_the_checkpoint_of_format_2_and_after_it(
     rt: HostRuntime,
 ) -> Result<(), Fail> {
-    assert_eq!(rt; first_astray_of(rt.alloc(), 137, usize::MAX), Ok(None));
+    assert_eq!(rt; first_mismatch_of(rt.alloc(), 137, usize::MAX), Ok(None));
     Ok(())
 }

@@ -10,7 +10,7 @@ use std::test::Fail;
 
 /// Writes a device of this kind under epoch 1, with a fresh state in the snapshot and one record of one part with this
 /// state.
-fn lay<R: Rig>(rig: &mut R, base: Base, state: &[u8; 512]) -> bool {
+fn write_device<R: Rig>(rig: &mut R, base: Base, state: &[u8; 512]) -> bool {
     let mut part = part_with((1, 0, 0, 1, 0), &[]);
     part[32..488].copy_from_slice(&state[..456]);
     let (header, _) = header_and_area(base);
@@ -30,7 +30,7 @@ fn answers<A: Allocator + Copy + Drop>(
     let mut state = state_of(case.1);
     put(&mut state, case.3, case.4, number);
     let mut rig = MemoryRig::new(alloc, 1_710)?;
-    let is_laid = lay(&mut rig, case.1, &state);
+    let is_laid = write_device(&mut rig, case.1, &state);
     let before = rig.calls();
     let (fault, mut rig) = powered(alloc, rig);
     let (refusal, again, calls) = wanted(case, number);
@@ -46,7 +46,7 @@ fn answers<A: Allocator + Copy + Drop>(
 }
 
 /// The first number of a row with which power on does something else.
-fn first_unlike<A: Allocator + Copy + Drop>(
+fn first_mismatch<A: Allocator + Copy + Drop>(
     alloc: A,
     case: &Case,
 ) -> Result<Option<i64>, AllocError> {
@@ -67,7 +67,7 @@ fn is_in_record(sector: usize, byte: usize) -> bool {
 fn each_field_of_a_record_at_its_limits_and_past_them(rt: HostRuntime) -> Result<(), Fail> {
     for case in CASES {
         if is_in_record(case.2, case.3) {
-            assert_eq!(rt; first_unlike(rt.alloc(), case)?, None, "{}", case.0);
+            assert_eq!(rt; first_mismatch(rt.alloc(), case)?, None, "{}", case.0);
         }
     }
     Ok(())

@@ -10,7 +10,7 @@ use std::test::Fail;
 
 /// Writes what a device holds after it was formatted and powered on, with 7 entries, as far as it is within the
 /// device's size. The epoch in force and the system in the state are these.
-fn lay<R: Rig>(rig: &mut R, epoch: i64, system: i64) -> bool {
+fn write_device<R: Rig>(rig: &mut R, epoch: i64, system: i64) -> bool {
     let mut state = sector_with(&FRESH);
     put(&mut state, 0, 8, 7);
     put(&mut state, 150, 1, system);
@@ -54,12 +54,12 @@ const ROWS: &[Row] = &[
 ];
 
 /// The first size up to 1,711 sectors at which power on does something else.
-fn first_unlike(alloc: Global, row: &Row) -> Result<Option<usize>, Fail> {
+fn first_mismatch(alloc: Global, row: &Row) -> Result<Option<usize>, Fail> {
     for sectors in 0..1_712 {
         let mut rig = MemoryRig::new(alloc, sectors)?;
         let is_laid = row
             .0
-            .is_none_or(|(epoch, system)| lay(&mut rig, epoch, system));
+            .is_none_or(|(epoch, system)| write_device(&mut rig, epoch, system));
         let wanted = if sectors < 1_710 {
             (Err(Fault::NotFormatted), 0, sectors)
         } else {
@@ -75,7 +75,7 @@ fn first_unlike(alloc: Global, row: &Row) -> Result<Option<usize>, Fail> {
 #[test]
 fn devices_of_each_size(rt: HostRuntime) -> Result<(), Fail> {
     for row in ROWS {
-        assert_eq!(rt; first_unlike(rt.alloc(), row)?, None, "{row:?}");
+        assert_eq!(rt; first_mismatch(rt.alloc(), row)?, None, "{row:?}");
     }
     Ok(())
 }

@@ -2,7 +2,7 @@
 //! read.
 use crate::images::{FRESH, put, sector_of, sector_with, store};
 use crate::journal::counting::Counting;
-use crate::journal::{header, header_of, lay_state};
+use crate::journal::{header, header_of, write_state};
 use crate::log::Mill;
 use ng_journal::{ProgramLine, recover};
 use ng_num::Fault;
@@ -58,8 +58,8 @@ const HEADERS: &[Named] = &[
 fn named(alloc: Global, row: &Named, is_beside: bool) -> Result<MemoryRig<Global>, Fail> {
     let (sectors, format, area, length, _) = *row;
     let mut rig = MemoryRig::new(alloc, sectors)?;
-    let is_laid = lay_state(&mut rig, 2, 7)
-        && lay_state(&mut rig, 88, 8)
+    let is_laid = write_state(&mut rig, 2, 7)
+        && write_state(&mut rig, 88, 8)
         && store(&mut rig, 0, &header_of(format, 2, area, length))
         && (!is_beside || store(&mut rig, 1, &header_of(format, 1, 0, 0)));
     if is_laid && rig.sync().is_ok() {
@@ -240,7 +240,7 @@ pub fn text_sector(before: usize, length: usize) -> [u8; 512] {
 
 /// The first sector of all program areas that doesn't hold its part of this many bytes in this area, or that isn't 0
 /// elsewhere.
-fn first_unlike(rig: &mut MemoryRig<Global>, area: i64, length: usize) -> Option<usize> {
+fn first_mismatch(rig: &mut MemoryRig<Global>, area: i64, length: usize) -> Option<usize> {
     let first = first_of(area);
     for sector in 174..rig.size() {
         let wanted = if sector < first {
@@ -269,7 +269,7 @@ type Found = (Result<(), Fault>, bool, [u64; 3], bool, Option<usize>);
 fn loaded(alloc: Global, row: &Loaded) -> Result<Found, Fail> {
     let (sectors, before, length, answer, _, area) = *row;
     let mut rig = MemoryRig::new(alloc, sectors)?;
-    if !lay_state(&mut rig, 88, 0) || !store(&mut rig, 1, &header(1, before, 0)) {
+    if !write_state(&mut rig, 88, 0) || !store(&mut rig, 1, &header(1, before, 0)) {
         return Err(Fail::from("a device isn't laid"));
     }
     let (done, is_broken, counting) = load(alloc, Counting::new(rig), length)?;
@@ -280,7 +280,7 @@ fn loaded(alloc: Global, row: &Loaded) -> Result<Found, Fail> {
         (1, header(1, before, 0), 0)
     };
     let is_named = sector_of(&mut rig, sector) == wanted;
-    let unlike = first_unlike(&mut rig, area, held);
+    let unlike = first_mismatch(&mut rig, area, held);
     Ok((done, is_broken, counts, is_named, unlike))
 }
 
@@ -323,7 +323,7 @@ pub fn lines(before: u64) -> [u8; 512] {
 }
 
 /// Writes that text to this many sectors from this one on.
-fn lay_lines<R: Rig>(rig: &mut R, first: usize, sectors: usize) -> bool {
+fn write_lines<R: Rig>(rig: &mut R, first: usize, sectors: usize) -> bool {
     let mut is_laid = true;
     let mut before = 0u64;
     for sector in first..first.saturating_add(sectors) {
@@ -334,7 +334,7 @@ fn lay_lines<R: Rig>(rig: &mut R, first: usize, sectors: usize) -> bool {
 }
 
 /// Writes another text to all program areas.
-fn lay_others<R: Rig>(rig: &mut R) -> bool {
+fn write_others<R: Rig>(rig: &mut R) -> bool {
     let mut is_laid = true;
     for sector in 174..rig.size() {
         let is_program = sector < 686 || sector >= 1_710;
@@ -348,8 +348,8 @@ fn lay_others<R: Rig>(rig: &mut R) -> bool {
 pub fn written(alloc: Global, area: i64, length: i64) -> Result<MemoryRig<Global>, Fail> {
     let mut rig = MemoryRig::new(alloc, 5_806)?;
     let sectors = if area < 2 { 256 } else { 2_048 };
-    if lay_others(&mut rig)
-        && lay_lines(&mut rig, first_of(area), sectors)
+    if write_others(&mut rig)
+        && write_lines(&mut rig, first_of(area), sectors)
         && store(&mut rig, 88, &sector_with(&FRESH))
         && store(&mut rig, 1, &header(1, area, length))
         && rig.sync().is_ok()
@@ -428,7 +428,7 @@ fn lines_of_a_large_program(rt: HostRuntime) -> Result<(), Fail> {
 
 /// The first of the lines with these numbers, 16 bytes each, that a journal reads differently, or after which it
 /// returns another place for the next line.
-fn first_unlike_line<R: Rig + Drop>(
+fn first_wrong_line<R: Rig + Drop>(
     mill: Mill<R>,
     first: u64,
     end: u64,
@@ -459,15 +459,15 @@ fn is_line(read: &Option<ProgramLine>, place: u64) -> bool {
 
 /// The first such line in a program of 1,048,576 bytes in this area, starting with the last line for which a smaller
 /// area has room.
-fn first_unlike_in(alloc: Global, area: i64) -> Result<Option<u64>, Fail> {
+fn first_wrong_line_in(alloc: Global, area: i64) -> Result<Option<u64>, Fail> {
     let mill = Mill::on(alloc, written(alloc, area, 1_048_576)?)?;
-    Ok(first_unlike_line(mill, 8_191, 65_536)?)
+    Ok(first_wrong_line(mill, 8_191, 65_536)?)
 }
 
 #[test]
 fn each_line_of_a_large_program(rt: HostRuntime) -> Result<(), Fail> {
     for area in [2, 3] {
-        assert_eq!(rt; first_unlike_in(rt.alloc(), area)?, None, "{area}");
+        assert_eq!(rt; first_wrong_line_in(rt.alloc(), area)?, None, "{area}");
     }
     Ok(())
 }

@@ -36,7 +36,7 @@ fn is_formatted(sector: usize) -> bool {
 }
 
 /// The first of 1,711 sectors that isn't as expected if format writes it, or isn't as before if it doesn't.
-fn first_unlike<R: Rig>(rig: &mut R, wanted: &mut R, old: u8) -> Option<usize> {
+fn first_mismatch<R: Rig>(rig: &mut R, wanted: &mut R, old: u8) -> Option<usize> {
     for sector in 0..1_711 {
         let want = if is_formatted(sector) {
             sector_of(wanted, sector)
@@ -74,7 +74,7 @@ fn format_old(alloc: Global) -> Result<(Result<(), Fault>, u64, u64, Option<usiz
     let mut counting = Counting::new(old_device(alloc)?);
     let done = format(&mut counting);
     let ([_, writes, syncs], mut rig) = counting.counted();
-    let unlike = first_unlike(&mut rig, &mut wanted, OLD);
+    let unlike = first_mismatch(&mut rig, &mut wanted, OLD);
     Ok((done, writes, syncs, unlike))
 }
 
@@ -93,12 +93,12 @@ const KEPT: &[(&[usize], usize)] = &[(&[], 1), (&[1; 1_711], 2), (&[0, 1], 2)];
 
 /// The first sector of a device with the header of epoch 1 that differs from one made by hand. `None` also if the
 /// header isn't there.
-fn unlike_beside_header(
+fn mismatch_with_header(
     rig: &mut MemoryRig<Global>,
     wanted: &mut MemoryRig<Global>,
 ) -> Option<Option<usize>> {
     if sector_of(rig, 1) == header(1, 0, 0) {
-        Some(first_unlike(rig, wanted, OLD))
+        Some(first_mismatch(rig, wanted, OLD))
     } else {
         None
     }
@@ -116,7 +116,7 @@ fn stops_with_header(
     let mut stops: usize = 0;
     for calls in 0..=rig.calls() {
         let mut stop = rig.stopped(calls, keep)?;
-        match unlike_beside_header(&mut stop, &mut wanted) {
+        match mismatch_with_header(&mut stop, &mut wanted) {
             Some(Some(sector)) => return Ok((stops, Some((calls, sector)))),
             Some(None) => stops = stops.saturating_add(1),
             None => {}

@@ -113,7 +113,7 @@ fn writes_kept((is_even, is_odd): Kept) -> [usize; 5_806] {
 /// The first choice of sectors for which a stop after this many calls of a device, 92 of them by power on, doesn't
 /// stand for what it should. The header of epoch 3, in sector 1, is written by the last call but one; the last is its
 /// sync.
-fn first_astray_after(
+fn first_mismatch_after(
     alloc: Global,
     rig: &MemoryRig<Global>,
     row: &Row,
@@ -132,7 +132,7 @@ fn first_astray_after(
 }
 
 /// The first such stop of a load.
-fn first_astray(alloc: Global, row: &Row) -> Result<Option<(usize, Kept)>, Fail> {
+fn first_mismatch(alloc: Global, row: &Row) -> Result<Option<(usize, Kept)>, Fail> {
     let (area, length, _, next) = *row;
     let rig = written(alloc, area, bytes_of(length))?.stopped(usize::MAX, &[])?;
     let (done, _, rig) = load(alloc, rig, next)?;
@@ -140,7 +140,7 @@ fn first_astray(alloc: Global, row: &Row) -> Result<Option<(usize, Kept)>, Fail>
         return Err(Fail::from("a program isn't loaded"));
     }
     for calls in calls(next.div_ceil(512)) {
-        if let Some(kept) = first_astray_after(alloc, &rig, row, calls)? {
+        if let Some(kept) = first_mismatch_after(alloc, &rig, row, calls)? {
             return Ok(Some((calls, kept)));
         }
     }
@@ -150,7 +150,7 @@ fn first_astray(alloc: Global, row: &Row) -> Result<Option<(usize, Kept)>, Fail>
 #[test]
 fn a_cut_leaves_the_old_program_or_the_new(rt: HostRuntime) -> Result<(), Fail> {
     for row in ROWS {
-        assert_eq!(rt; first_astray(rt.alloc(), row)?, None, "{row:?}");
+        assert_eq!(rt; first_mismatch(rt.alloc(), row)?, None, "{row:?}");
     }
     Ok(())
 }
@@ -172,7 +172,7 @@ fn failing(alloc: Global, row: &Row, calls: usize) -> Result<Done, Fail> {
 
 /// The first number of calls after which a failure does something else. The new program is in force if the header was
 /// written.
-fn first_unlike_failure(alloc: Global, row: &Row) -> Result<Option<(usize, Done)>, Fail> {
+fn first_wrong_failure(alloc: Global, row: &Row) -> Result<Option<(usize, Done)>, Fail> {
     let sectors = row.3.div_ceil(512);
     for calls in calls(sectors) {
         let wanted = match calls.saturating_sub(sectors) {
@@ -191,7 +191,7 @@ fn first_unlike_failure(alloc: Global, row: &Row) -> Result<Option<(usize, Done)
 #[test]
 fn a_failure_leaves_the_old_program_or_the_new(rt: HostRuntime) -> Result<(), Fail> {
     for row in ROWS {
-        assert_eq!(rt; first_unlike_failure(rt.alloc(), row)?, None, "{row:?}");
+        assert_eq!(rt; first_wrong_failure(rt.alloc(), row)?, None, "{row:?}");
     }
     Ok(())
 }

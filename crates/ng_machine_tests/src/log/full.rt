@@ -115,7 +115,7 @@ const ROWS: &[Row] = &[
 const LAST: i64 = 999_999_999_999;
 
 #[test]
-fn a_record_that_finds_no_room(rt: HostRuntime) -> Result<(), Fail> {
+fn a_record_without_room_in_the_log(rt: HostRuntime) -> Result<(), Fail> {
     for (epoch, ninth, last, answer, writes, syncs, odd) in ROWS {
         let (_, _, before, _) = ended(rt.alloc(), *epoch, *ninth, Last::Nothing)?;
         let wanted = [

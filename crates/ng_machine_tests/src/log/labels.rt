@@ -1,6 +1,6 @@
 //! The labels of a record's parts at their limits: epochs, and how many changes a record may have.
 use crate::images::{put, store};
-use crate::journal::{entries_found, header_of, lay_state};
+use crate::journal::{entries_found, header_of, write_state};
 use crate::log::reading::state_part;
 use crate::parts::{Label, part_with};
 use ng_journal::recover;
@@ -42,14 +42,14 @@ fn changes_part(part: i64, changes: i64) -> [u8; 512] {
 
 /// A device of this format under this odd epoch with 3 entries in its snapshot, and this first part in its log. It has
 /// two sectors more than it needs.
-fn laid(
+fn device_with_part(
     alloc: Global,
     format: i64,
     epoch: i64,
     first: &[u8; 512],
 ) -> Result<MemoryRig<Global>, Fail> {
     let mut rig = MemoryRig::new(alloc, 1_712)?;
-    if lay_state(&mut rig, 88, 3)
+    if write_state(&mut rig, 88, 3)
         && store(&mut rig, 1, &header_of(format, epoch, 0, 0))
         && store(&mut rig, 686, first)
         && rig.sync().is_ok()
@@ -63,7 +63,7 @@ fn laid(
 /// A device of this format under epoch 1 with 7 entries and one record of this many changes, as far as its counts can
 /// express them. It may extend into the sectors after the log.
 fn with_changes(alloc: Global, format: i64, changes: i64) -> Result<MemoryRig<Global>, Fail> {
-    let mut rig = laid(alloc, format, 1, &state_part(label(0, changes), 7))?;
+    let mut rig = device_with_part(alloc, format, 1, &state_part(label(0, changes), 7))?;
     let mut is_laid = true;
     for (sector, part) in (687..1_712).zip(1..parts_of(changes).saturating_add(1)) {
         is_laid = is_laid && store(&mut rig, sector, &changes_part(part, changes));
@@ -86,7 +86,7 @@ fn value_after(number: i64, changes: i64) -> i64 {
 }
 
 /// The first parameter without the value that this many changes give it.
-fn first_unlike(params: &Params<Global>, changes: i64) -> Option<i64> {
+fn first_mismatch(params: &Params<Global>, changes: i64) -> Option<i64> {
     for number in 1..5_400 {
         match Index::of(number) {
             Some(index) if params.get(index).count() == value_after(number, changes) => {}
@@ -102,7 +102,7 @@ fn found(alloc: Global, rig: MemoryRig<Global>, changes: i64) -> (Result<u64, Fa
     match recover(alloc, rig, &Tools::new()) {
         Ok((journal, stored)) => {
             drop(journal.into_rig());
-            let unlike = first_unlike(&stored.state.params, changes);
+            let unlike = first_mismatch(&stored.state.params, changes);
             (Ok(stored.entries), unlike)
         }
         Err((fault, _)) => (Err(fault), None),
@@ -159,7 +159,7 @@ const EPOCHS: &[(i64, i64, u64)] = &[
 #[test]
 fn a_record_counts_under_its_own_epoch(rt: HostRuntime) -> Result<(), Fail> {
     for (epoch, of_record, entries) in EPOCHS {
-        let rig = laid(
+        let rig = device_with_part(
             rt.alloc(),
             2,
             *epoch,

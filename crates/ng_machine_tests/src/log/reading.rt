@@ -1,6 +1,6 @@
 //! What power on does with a log that another program wrote.
 use crate::images::{FRESH, put, sector_of, store};
-use crate::journal::{formatted, header_of, lay_state};
+use crate::journal::{formatted, header_of, write_state};
 use crate::parts::{Label, part_with};
 use ng_journal::recover;
 use ng_num::Fault;
@@ -30,7 +30,7 @@ fn ones(label: Label, first: i64, count: i64) -> [u8; 512] {
 
 /// Writes two records to the log of a formatted device: one of one part, with 7 entries, and one of three parts, with 8
 /// entries, which sets parameters 1 to 49 to 1.
-fn lay_records<R: Rig>(rig: &mut R) -> bool {
+fn write_records<R: Rig>(rig: &mut R) -> bool {
     store(rig, 686, &state_part((1, 0, 0, 1, 0), 7))
         && store(rig, 687, &state_part((1, 1, 0, 3, 49), 8))
         && store(rig, 688, &ones((1, 1, 1, 3, 49), 1, 48))
@@ -59,7 +59,7 @@ type Change = (usize, usize, usize, i64);
 /// What power on finds in those records with these numbers changed.
 fn changed(alloc: Global, changes: &[Change]) -> Result<Found, Fail> {
     let mut rig = formatted(alloc)?;
-    let mut is_laid = lay_records(&mut rig);
+    let mut is_laid = write_records(&mut rig);
     for (sector, at, width, number) in changes {
         let mut bytes = sector_of(&mut rig, *sector);
         put(&mut bytes, *at, *width, *number);
@@ -193,7 +193,7 @@ fn records_with_a_number_changed(rt: HostRuntime) -> Result<(), Fail> {
 
 /// Writes this many records of one part, each with one entry more, and after them one record of two parts that sets
 /// parameter 49 to 1.
-pub fn lay_to_the_end<R: Rig>(rig: &mut R, records: usize) -> bool {
+pub fn write_to_the_end<R: Rig>(rig: &mut R, records: usize) -> bool {
     let mut is_laid = true;
     let mut number = 0;
     for sector in 686..records.saturating_add(686) {
@@ -213,9 +213,9 @@ pub fn lay_to_the_end<R: Rig>(rig: &mut R, records: usize) -> bool {
 /// What power on finds of them, on a device of this format under epoch 1.
 fn found_to_the_end(alloc: Global, format: i64, records: usize) -> Result<Found, Fail> {
     let mut rig = MemoryRig::new(alloc, 1_712)?;
-    if lay_state(&mut rig, 88, 0)
+    if write_state(&mut rig, 88, 0)
         && store(&mut rig, 1, &header_of(format, 1, 0, 0))
-        && lay_to_the_end(&mut rig, records)
+        && write_to_the_end(&mut rig, records)
         && rig.sync().is_ok()
     {
         Ok(found(alloc, rig))

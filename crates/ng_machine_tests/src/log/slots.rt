@@ -45,7 +45,7 @@ fn changed_lengths(slots: i64, changes: &[Change]) -> [[u8; 512]; 2] {
 }
 
 /// A device of epoch 1 with this many slots, and a record of one part for each of these changes.
-fn laid(alloc: Global, slots: i64, changes: &[Change]) -> Result<MemoryRig<Global>, Fail> {
+fn device_with(alloc: Global, slots: i64, changes: &[Change]) -> Result<MemoryRig<Global>, Fail> {
     let mut rig = MemoryRig::new(alloc, 1_710)?;
     let [first, second] = lengths(slots);
     let mut is_laid = store(&mut rig, 1, &header(1, 0, 0))
@@ -130,7 +130,7 @@ const ROWS: &[Row] = &[
 /// Whether power on does with a device what its row says: it writes the whole table, or refuses the device before any
 /// write.
 fn is_as_wanted(alloc: Global, row: &Row) -> Result<bool, Fail> {
-    let rig = laid(alloc, row.0, row.1)?;
+    let rig = device_with(alloc, row.0, row.1)?;
     let before = rig.calls();
     let (fault, mut rig) = powered(alloc, rig);
     let calls = rig.calls().wrapping_sub(before);

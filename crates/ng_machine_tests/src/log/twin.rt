@@ -17,7 +17,7 @@ use std::test::Fail;
 
 /// What is stored next.
 #[derive(Clone, Copy)]
-enum Deed {
+enum Operation {
     /// An entry: this many parameters from this one on are set to this value, the machine is at X, the next line begins
     /// at this byte, and no block is half-done.
     Entry(i64, i64, i64, i64, u64),
@@ -162,27 +162,27 @@ impl Plain {
         store(&mut self.rig, first, &text_sector(text, 0)) && self.renew(area)
     }
 
-    fn make(&mut self, deed: Deed) -> bool {
-        match deed {
-            Deed::Entry(first, count, value, x, place) => {
+    fn make(&mut self, operation: Operation) -> bool {
+        match operation {
+            Operation::Entry(first, count, value, x, place) => {
                 enter(&mut self.stored, (first, count, value, x, place), None);
             }
-            Deed::Tool(slot, nm) => {
+            Operation::Tool(slot, nm) => {
                 self.stored.entries = self.stored.entries.saturating_add(1);
                 set_slot(&mut self.stored.tools, slot, nm);
             }
-            Deed::Segment(index) => {
+            Operation::Segment(index) => {
                 self.stored.half = Some(half_of(index, None, Some(Opened::Segment)));
             }
-            Deed::Approach(index) => {
+            Operation::Approach(index) => {
                 self.stored.half = Some(half_of(index, None, Some(Opened::Approach)));
             }
-            Deed::HalfDone(index, x) => {
+            Operation::HalfDone(index, x) => {
                 let half = half_of(index, Some(point_at(x)), None);
                 enter(&mut self.stored, (1, 0, 0, x, 0), Some(half));
             }
-            Deed::Load(text) => return self.load(text),
-            Deed::PowerOn => self.stored.close(),
+            Operation::Load(text) => return self.load(text),
+            Operation::PowerOn => self.stored.close(),
         }
         self.renew(self.header.area)
     }
@@ -228,23 +228,23 @@ impl Mill<MemoryRig<Global>> {
         }
     }
 
-    fn make(self, alloc: Global, deed: Deed) -> Result<Self, Fault> {
+    fn make(self, alloc: Global, operation: Operation) -> Result<Self, Fault> {
         let mut mill = self;
-        match deed {
-            Deed::Entry(first, count, value, x, place) => {
+        match operation {
+            Operation::Entry(first, count, value, x, place) => {
                 enter(&mut mill.stored, (first, count, value, x, place), None);
                 mill.store()
             }
-            Deed::Tool(slot, nm) => mill.set_tool(slot, nm),
-            Deed::Segment(index) => mill.open(half_of(index, None, Some(Opened::Segment))),
-            Deed::Approach(index) => mill.open(half_of(index, None, Some(Opened::Approach))),
-            Deed::HalfDone(index, x) => {
+            Operation::Tool(slot, nm) => mill.set_tool(slot, nm),
+            Operation::Segment(index) => mill.open(half_of(index, None, Some(Opened::Segment))),
+            Operation::Approach(index) => mill.open(half_of(index, None, Some(Opened::Approach))),
+            Operation::HalfDone(index, x) => {
                 let half = half_of(index, Some(point_at(x)), None);
                 enter(&mut mill.stored, (1, 0, 0, x, 0), Some(half));
                 mill.store()
             }
-            Deed::Load(text) => mill.load(text),
-            Deed::PowerOn => Mill::on(alloc, mill.off()),
+            Operation::Load(text) => mill.load(text),
+            Operation::PowerOn => Mill::on(alloc, mill.off()),
         }
     }
 }
@@ -254,52 +254,56 @@ const TURN: &[u8; 13] = b"M3\nG1 X1\nM2\n\n";
 const MOVE: &[u8; 13] = b"G0 X0.002\nM2\n";
 
 /// The operations. There are records of 1, 2, 3, 8 and 114 parts; the log has room for eight of the ten with 114.
-const DEEDS: &[Deed] = &[
-    Deed::Entry(1, 0, 0, 1_000, 0),
-    Deed::Entry(1, 1, 5_000_000, 0, 0),
-    Deed::Tool(1, 50_000_000),
-    Deed::Tool(2, 0),
-    Deed::Segment(0),
-    Deed::Entry(1, 49, 1_000_000, -7, 0),
-    Deed::Entry(1, 49, 1_000_000, -7, 0),
-    Deed::Load(TURN),
-    Deed::Tool(2, 1_000_000_000),
-    Deed::Segment(0),
-    Deed::Entry(5_220, 1, 2_000_000, 8, 3),
-    Deed::Segment(0),
-    Deed::PowerOn,
-    Deed::HalfDone(0, 3),
-    Deed::Approach(0),
-    Deed::Segment(0),
-    Deed::Entry(100, 300, -1, 9_999_999_999_999, 12),
-    Deed::Entry(1, 5_399, 2, 0, 13),
-    Deed::Entry(1, 5_399, 3, 0, 13),
-    Deed::Load(MOVE),
-    Deed::Entry(1, 5_399, 4, 0, 10),
-    Deed::Entry(1, 5_399, 5, 0, 10),
-    Deed::Entry(1, 5_399, 6, 0, 10),
-    Deed::Entry(1, 5_399, 7, 0, 10),
-    Deed::Entry(1, 5_399, 8, 0, 10),
-    Deed::Entry(1, 5_399, 9, 0, 10),
-    Deed::Entry(1, 5_399, 10, 0, 10),
-    Deed::Entry(1, 5_399, 11, 0, 10),
-    Deed::Tool(1, 7),
-    Deed::Tool(1, 7),
-    Deed::Tool(3, 9),
-    Deed::Segment(7),
-    Deed::Entry(1, 5_399, 12, 0, 10),
-    Deed::Entry(1, 48, 13, 1, 0),
-    Deed::Segment(1),
-    Deed::PowerOn,
-    Deed::Entry(2, 1, 14, 2, 0),
-    Deed::Load(TURN),
+const OPERATIONS: &[Operation] = &[
+    Operation::Entry(1, 0, 0, 1_000, 0),
+    Operation::Entry(1, 1, 5_000_000, 0, 0),
+    Operation::Tool(1, 50_000_000),
+    Operation::Tool(2, 0),
+    Operation::Segment(0),
+    Operation::Entry(1, 49, 1_000_000, -7, 0),
+    Operation::Entry(1, 49, 1_000_000, -7, 0),
+    Operation::Load(TURN),
+    Operation::Tool(2, 1_000_000_000),
+    Operation::Segment(0),
+    Operation::Entry(5_220, 1, 2_000_000, 8, 3),
+    Operation::Segment(0),
+    Operation::PowerOn,
+    Operation::HalfDone(0, 3),
+    Operation::Approach(0),
+    Operation::Segment(0),
+    Operation::Entry(100, 300, -1, 9_999_999_999_999, 12),
+    Operation::Entry(1, 5_399, 2, 0, 13),
+    Operation::Entry(1, 5_399, 3, 0, 13),
+    Operation::Load(MOVE),
+    Operation::Entry(1, 5_399, 4, 0, 10),
+    Operation::Entry(1, 5_399, 5, 0, 10),
+    Operation::Entry(1, 5_399, 6, 0, 10),
+    Operation::Entry(1, 5_399, 7, 0, 10),
+    Operation::Entry(1, 5_399, 8, 0, 10),
+    Operation::Entry(1, 5_399, 9, 0, 10),
+    Operation::Entry(1, 5_399, 10, 0, 10),
+    Operation::Entry(1, 5_399, 11, 0, 10),
+    Operation::Tool(1, 7),
+    Operation::Tool(1, 7),
+    Operation::Tool(3, 9),
+    Operation::Segment(7),
+    Operation::Entry(1, 5_399, 12, 0, 10),
+    Operation::Entry(1, 48, 13, 1, 0),
+    Operation::Segment(1),
+    Operation::PowerOn,
+    Operation::Entry(2, 1, 14, 2, 0),
+    Operation::Load(TURN),
 ];
 
 /// The device with this many sectors that the journal leaves after these operations.
-fn logged(alloc: Global, sectors: usize, deeds: &[Deed]) -> Result<MemoryRig<Global>, Fail> {
+fn logged(
+    alloc: Global,
+    sectors: usize,
+    operations: &[Operation],
+) -> Result<MemoryRig<Global>, Fail> {
     let mut mill = Mill::on(alloc, device(alloc, sectors, true)?)?;
-    for deed in deeds {
-        mill = mill.make(alloc, *deed)?;
+    for operation in operations {
+        mill = mill.make(alloc, *operation)?;
     }
     Ok(mill.off())
 }
@@ -310,12 +314,12 @@ fn snapshotted(
     alloc: Global,
     sectors: usize,
     format: Format,
-    deeds: &[Deed],
+    operations: &[Operation],
 ) -> Result<(MemoryRig<Global>, Stored<Global>), Fail> {
     let mut plain = Plain::on(alloc, sectors, format)?;
-    for deed in deeds {
-        let is_stored = format == Format::Two || !matches!(deed, Deed::Tool(_, _));
-        if is_stored && !plain.make(*deed) {
+    for operation in operations {
+        let is_stored = format == Format::Two || !matches!(operation, Operation::Tool(_, _));
+        if is_stored && !plain.make(*operation) {
             return Err(Fail::from("a sector isn't written"));
         }
     }
@@ -399,10 +403,14 @@ fn are_lines_alike(one: &Option<ProgramLine>, other: &Option<ProgramLine>) -> bo
 
 /// Whether both journals stand for what is stored, and for the same lines of the program, after these operations on
 /// devices with this many sectors.
-fn stand_for_the_same(alloc: Global, sectors: usize, deeds: &[Deed]) -> Result<bool, Fail> {
-    let (rig, stored) = snapshotted(alloc, sectors, Format::Two, deeds)?;
+fn stand_for_the_same(
+    alloc: Global,
+    sectors: usize,
+    operations: &[Operation],
+) -> Result<bool, Fail> {
+    let (rig, stored) = snapshotted(alloc, sectors, Format::Two, operations)?;
     let (wanted, wanted_lines) = found(alloc, &rig, &Tools::new())?;
-    let logged = logged(alloc, sectors, deeds)?;
+    let logged = logged(alloc, sectors, operations)?;
     let (other, lines) = found(alloc, &logged, &Tools::new())?;
     Ok(
         are_alike(&wanted, &stored)?
@@ -413,10 +421,10 @@ fn stand_for_the_same(alloc: Global, sectors: usize, deeds: &[Deed]) -> Result<b
 }
 
 /// The first number of operations after which they don't.
-fn first_unlike(alloc: Global, sectors: usize) -> Result<Option<usize>, Fail> {
-    for n in 0..=DEEDS.len() {
-        let deeds = DEEDS.get(..n).unwrap_or_default();
-        if !stand_for_the_same(alloc, sectors, deeds)? {
+fn first_mismatch(alloc: Global, sectors: usize) -> Result<Option<usize>, Fail> {
+    for n in 0..=OPERATIONS.len() {
+        let operations = OPERATIONS.get(..n).unwrap_or_default();
+        if !stand_for_the_same(alloc, sectors, operations)? {
             return Ok(Some(n));
         }
     }
@@ -426,28 +434,28 @@ fn first_unlike(alloc: Global, sectors: usize) -> Result<Option<usize>, Fail> {
 #[test]
 fn a_journal_of_snapshots_stands_for_the_same(rt: HostRuntime) -> Result<(), Fail> {
     for sectors in [1_710, 5_806] {
-        assert_eq!(rt; first_unlike(rt.alloc(), sectors)?, None, "{sectors}");
+        assert_eq!(rt; first_mismatch(rt.alloc(), sectors)?, None, "{sectors}");
     }
     Ok(())
 }
 
 /// Whether a plain journal of format 1 stands for what is stored, with the settings' tools in place of its own, after
 /// these operations.
-fn stands_beside_tools(alloc: Global, deeds: &[Deed]) -> Result<bool, Fail> {
+fn takes_settings_tools(alloc: Global, operations: &[Operation]) -> Result<bool, Fail> {
     let mut tools = Tools::new();
     set_slot(&mut tools, 1, 50_000_000);
     set_slot(&mut tools, 2, 7);
-    let (rig, mut stored) = snapshotted(alloc, 1_710, Format::One, deeds)?;
+    let (rig, mut stored) = snapshotted(alloc, 1_710, Format::One, operations)?;
     stored.take_tools(&tools);
     let (found, _) = found(alloc, &rig, &tools)?;
     Ok(are_alike(&found, &stored)?)
 }
 
 #[test]
-fn a_journal_of_format_1_stands_beside_the_settings_tools(rt: HostRuntime) -> Result<(), Fail> {
-    for n in 0..=DEEDS.len() {
-        let deeds = DEEDS.get(..n).unwrap_or_default();
-        assert!(rt; stands_beside_tools(rt.alloc(), deeds)?, "{n}");
+fn a_journal_of_format_1_takes_the_settings_tools(rt: HostRuntime) -> Result<(), Fail> {
+    for n in 0..=OPERATIONS.len() {
+        let operations = OPERATIONS.get(..n).unwrap_or_default();
+        assert!(rt; takes_settings_tools(rt.alloc(), operations)?, "{n}");
     }
     Ok(())
 }

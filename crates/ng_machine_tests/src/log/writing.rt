@@ -44,7 +44,7 @@ fn stands(alloc: Global, rig: MemoryRig<Global>, changes: i64) -> Result<(bool, 
 
 /// An entry makes a write for each part and one sync, and reads nothing.
 #[test]
-fn an_entry_is_a_write_a_part_and_a_sync(rt: HostRuntime) -> Result<(), Fail> {
+fn an_entry_makes_a_write_for_each_part_and_a_sync(rt: HostRuntime) -> Result<(), Fail> {
     let ([reads, writes, syncs], _) = counted(rt.alloc(), None)?;
     for (changes, parts) in ENTRIES {
         let (found, rig) = counted(rt.alloc(), Some(*changes))?;
@@ -85,7 +85,7 @@ const PARTS: &[(usize, Label, i64, i64)] = &[
 ];
 
 /// The device after those entries.
-fn grouped(alloc: Global) -> Result<MemoryRig<Global>, Fail> {
+fn device_with_groups(alloc: Global) -> Result<MemoryRig<Global>, Fail> {
     let mut mill = Mill::on(alloc, formatted(alloc)?)?;
     let mut first: i64 = 1;
     let mut value: i64 = 0;
@@ -122,7 +122,7 @@ fn wanted_part(label: Label, first: i64, count: i64) -> [u8; 512] {
 
 #[test]
 fn seven_entries_are_seven_records(rt: HostRuntime) -> Result<(), Fail> {
-    let mut rig = grouped(rt.alloc())?;
+    let mut rig = device_with_groups(rt.alloc())?;
     for (sector, label, first, count) in PARTS {
         let wanted = wanted_part(*label, *first, *count);
         assert!(rt; sector_of(&mut rig, *sector) == wanted, "{sector}");
@@ -132,8 +132,8 @@ fn seven_entries_are_seven_records(rt: HostRuntime) -> Result<(), Fail> {
 }
 
 #[test]
-fn what_seven_records_change_stands(rt: HostRuntime) -> Result<(), Fail> {
-    let mill = Mill::on(rt.alloc(), grouped(rt.alloc())?)?;
+fn seven_records_are_read_back(rt: HostRuntime) -> Result<(), Fail> {
+    let mill = Mill::on(rt.alloc(), device_with_groups(rt.alloc())?)?;
     let mut first: i64 = 1;
     let mut value: i64 = 0;
     let mut are_right = mill.stored.entries == 7;
@@ -161,7 +161,7 @@ const TOOLS: &[((u8, i64), (i64, i64))] = &[
 ];
 
 /// The device after those entries.
-fn tooled(alloc: Global) -> Result<MemoryRig<Global>, Fail> {
+fn device_with_tools(alloc: Global) -> Result<MemoryRig<Global>, Fail> {
     let mut mill = Mill::on(alloc, formatted(alloc)?)?;
     for ((slot, nm), _) in TOOLS {
         mill = mill.set_tool(*slot, *nm)?;
@@ -194,7 +194,7 @@ fn first_other_part(rig: &mut MemoryRig<Global>) -> Option<usize> {
 
 #[test]
 fn a_record_names_the_slot_that_its_entry_changes(rt: HostRuntime) -> Result<(), Fail> {
-    let mut rig = tooled(rt.alloc())?;
+    let mut rig = device_with_tools(rt.alloc())?;
     assert_eq!(rt; first_other_part(&mut rig), None);
     Ok(())
 }

@@ -7,7 +7,7 @@ use std::alloc::Global;
 use std::test::Fail;
 
 /// The next of a sequence of pseudo-random numbers (Marsaglia's xorshift).
-fn next_chance(chance: u64) -> u64 {
+fn next_random(chance: u64) -> u64 {
     let a = chance ^ (chance << 13);
     let b = a ^ (a >> 7);
     b ^ (b << 17)
@@ -47,13 +47,13 @@ fn ends_with(text: &[u8], before: &[u8], fault: Fault) -> bool {
 }
 
 #[test]
-fn broken_lines_are_refused_by_name(rt: HostRuntime) -> Result<(), Fail> {
+fn broken_lines_are_refused_with_a_fault(rt: HostRuntime) -> Result<(), Fail> {
     let mut chance: u64 = 0x9e37_79b9_7f4a_7c15;
     let state = State::fresh(rt.alloc())?;
     for i in 0..10_000 {
         let mut line = [0u8; 40];
         for byte in &mut line {
-            chance = next_chance(chance);
+            chance = next_random(chance);
             *byte = (chance % 256) as u8;
         }
         let done = executed(&state, &line);
@@ -67,7 +67,7 @@ fn broken_lines_are_refused_by_name(rt: HostRuntime) -> Result<(), Fail> {
 }
 
 #[test]
-fn a_byte_alone_is_no_program(rt: HostRuntime) {
+fn one_byte_is_not_a_program(rt: HostRuntime) {
     for byte in b"[#-0123456789]*+/(.)=%GXN \t" {
         let line = [*byte; 256];
         assert!(rt; is_refused(rt.alloc(), &line), "byte {byte}");
@@ -75,7 +75,7 @@ fn a_byte_alone_is_no_program(rt: HostRuntime) {
 }
 
 #[test]
-fn cut_lines_are_refused_by_name(rt: HostRuntime) {
+fn cut_lines_are_refused_with_a_fault(rt: HostRuntime) {
     for row in ROWS {
         let line = row.as_bytes();
         for n in 0..=line.len() {

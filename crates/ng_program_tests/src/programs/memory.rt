@@ -48,7 +48,7 @@ impl Write for Counted {
 }
 
 #[test]
-fn runs_in_flat_memory_and_writes_a_beginning_without_it(rt: HostRuntime) -> Result<(), Fail> {
+fn runs_in_constant_memory_and_writes_a_beginning_without_it(rt: HostRuntime) -> Result<(), Fail> {
     let mut whole = 0u32;
     let mut cut = 0u32;
     for step in 0..64usize {
@@ -116,7 +116,7 @@ const MILLION: &str = "G83 X0 Z-1000 R0 Q0.003 F100\nM2";
 const ENDLESS: &str = "G91 G83 X0.0001 Z-1000 R0 Q0.0001 L9999999 F100\nM2";
 
 #[test]
-fn cycles_run_in_flat_memory_and_begin_at_once(rt: HostRuntime) -> Result<(), Fail> {
+fn cycles_run_in_constant_memory_and_begin_at_once(rt: HostRuntime) -> Result<(), Fail> {
     let (_, ended) = lines_in(
         rt.alloc(),
         HEAP,

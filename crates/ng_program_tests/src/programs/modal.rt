@@ -68,7 +68,7 @@ const COOLANTS: &[(&[u8], bool, bool, ProgramFlow)] = &[
 ];
 
 #[test]
-fn coolants_add_up_and_stops_are_told_apart(rt: HostRuntime) -> Result<(), Fail> {
+fn coolants_add_up_and_stops_are_distinguished(rt: HostRuntime) -> Result<(), Fail> {
     let mut state = State::fresh(rt.alloc())?;
     for (line, mist, flood, stop) in COOLANTS {
         let effect = executed(&state, line)?;

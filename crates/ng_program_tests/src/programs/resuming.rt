@@ -256,7 +256,7 @@ fn resumed(alloc: Global, line: &str, n: u64) -> Text {
 }
 
 #[test]
-fn blocks_go_on_at_any_segment(rt: HostRuntime) -> Result<(), Fail> {
+fn blocks_resume_at_any_segment(rt: HostRuntime) -> Result<(), Fail> {
     for (line, n, wanted) in ROWS {
         let found = resumed(rt.alloc(), line, *n)?;
         assert!(rt; found.as_str() == *wanted, "{line:?} {n}: {found}");

@@ -81,7 +81,7 @@ fn is_broken(ended: &Result<Ended, DryFault>, by_reader: bool) -> bool {
 }
 
 #[test]
-fn stops_where_the_reader_or_the_writer_fails(rt: HostRuntime) -> Result<(), Fail> {
+fn stops_when_the_reader_or_the_writer_fails(rt: HostRuntime) -> Result<(), Fail> {
     for (read_most, write_most, by_reader, takes_none) in LIMITS {
         let mut whole = 0u32;
         let mut cut = 0u32;
@@ -119,7 +119,7 @@ fn stops_where_the_reader_or_the_writer_fails(rt: HostRuntime) -> Result<(), Fai
 }
 
 #[test]
-fn writes_a_beginning_where_its_second_write_fails(rt: HostRuntime) -> Result<(), Fail> {
+fn writes_a_beginning_when_its_second_write_fails(rt: HostRuntime) -> Result<(), Fail> {
     let mut reader = b"g0x +0. 12 34y 7\nM2\n".as_slice();
     let mut writer = Full {
         taken: Vec::new(rt.alloc()),
