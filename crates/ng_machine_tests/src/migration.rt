@@ -284,7 +284,7 @@ fn a_stopped_migration_keeps_all_records(rt: HostRuntime) -> Result<(), Fail> {
     Ok(())
 }
 
-/// How many calls a migration makes of a device with one entry.
+/// How many calls a migration of a device with one entry makes.
 fn calls_of_migration(alloc: Global) -> Result<u64, Fail> {
     let (_, counting) = stands(alloc, Counting::new(old(alloc, 0)?), &table(1, 7), 1);
     let ([reads, writes, syncs], _) = counting.counted();
