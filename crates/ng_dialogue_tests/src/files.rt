@@ -235,7 +235,7 @@ fn what_is_handed_out_is_a_line_after_those_before(rt: HostRuntime) -> Result<()
     Ok(())
 }
 
-/// A writer that accepts at most this many bytes at a call, and whose calls fail after the first ones, this many.
+/// A writer that accepts a limited number of bytes at a call, and fails after a number of calls.
 #[derive(Drop)]
 struct Short {
     taken: Vec<u8>,
